@@ -1,0 +1,83 @@
+-- What several calls of a device do, from what each did.
+use Rattle.std.proofs.Common.{◌≡◌, ◌<◌, ℕ, suc, get_or, drop, drop-cons, length, subst, List, [], ◌∷◌, ◌++◌, Option, None, Some, Result, Ok, Err, IsErr, take, refl, sym, ap, ◌∙◌, append_assoc, append-nil}
+use Rattle.std.proofs.lemmas.List.{take-append-drop}
+use Rattle.std.proofs.lemmas.List.Concat.{flat_map-append}
+use Rattle.std.specs.Prelude.{flat_map}
+use Rattle.std.specs.Io.KnownBytes.{Consumes, Appends, Keeps}
+use Rattle.cyc_words.proofs.PrefixLemmas.{IsPrefix-nil, IsPrefix-append, IsPrefix-append_both, IsPrefix-trans}
+use Rattle.cyc_words.specs.Device.{AppendsPrefix, Takes, TakesText}
+
+pub Keeps-refl : (a : Option (List ℕ)) → Keeps a a
+Keeps-refl None = tt
+Keeps-refl (Some xs) = refl
+
+pub Keeps-trans : (a b c : Option (List ℕ)) → Keeps a b → Keeps b c → Keeps a c
+Keeps-trans None b c h k = tt
+Keeps-trans (Some xs) None c h k = absurd h
+Keeps-trans (Some xs) (Some ys) None h k = absurd k
+Keeps-trans (Some xs) (Some ys) (Some zs) h k = k ∙ h
+
+pub Appends-nil : (a b : Option (List ℕ)) → Keeps a b → Appends a b []
+Appends-nil None b h = tt
+Appends-nil (Some xs) None h = absurd h
+Appends-nil (Some xs) (Some ys) h = h ∙ sym (append-nil xs)
+
+pub Appends-append : (a b c : Option (List ℕ)) (xs ys : List ℕ) → Appends a b xs → Appends b c ys → Appends a c (xs ++ ys)
+Appends-append None b c xs ys h k = tt
+Appends-append (Some w) None c xs ys h k = absurd h
+Appends-append (Some w) (Some v) None xs ys h k = absurd k
+Appends-append (Some w) (Some v) (Some u) xs ys h k = k ∙ ap (λ (l : List ℕ). l ++ ys) h ∙ append_assoc w xs ys
+
+pub Consumes-nil : (a b : Option (List ℕ)) → Keeps a b → Consumes a b []
+Consumes-nil None b h = tt
+Consumes-nil (Some xs) None h = absurd h
+Consumes-nil (Some xs) (Some ys) h = sym h
+
+pub Consumes-append : (a b c : Option (List ℕ)) (xs ys : List ℕ) → Consumes a b xs → Consumes b c ys → Consumes a c (xs ++ ys)
+Consumes-append None b c xs ys h k = tt
+Consumes-append (Some w) None c xs ys h k = absurd h
+Consumes-append (Some w) (Some v) None xs ys h k = absurd k
+Consumes-append (Some w) (Some v) (Some u) xs ys h k =
+    h ∙ ap (λ (l : List ℕ). xs ++ l) k ∙ sym (append_assoc xs ys u)
+
+-- a text that was taken whole, and then another: the two are one text
+pub TakesText-append : {A E : Type 0} (a b c : Option (List ℕ)) (xs ys : List ℕ) (r : Result A E) → Appends a b xs → TakesText b ys r c → TakesText a (xs ++ ys) r c
+TakesText-append a b c xs ys (Ok v) h k = Appends-append a b c xs ys h k
+TakesText-append a b c xs ys (Err e) h k =
+    (xs ++ k.0, IsPrefix-append_both xs k.0 ys k.1, Appends-append a b c xs k.0 h k.2)
+
+-- a failure within a text is one within each longer text
+pub TakesText-fails : {A E : Type 0} (a b : Option (List ℕ)) (xs ys : List ℕ) (r : Result A E) → IsErr r → TakesText a xs r b → TakesText a (xs ++ ys) r b
+TakesText-fails a b xs ys (Ok v) err h = cc
+TakesText-fails a b xs ys (Err e) err h =
+    (h.0, IsPrefix-trans h.0 xs (xs ++ ys) h.1 (IsPrefix-append xs ys), h.2)
+
+-- one byte is a text of one byte
+pub TakesText-byte : {A E : Type 0} (a b : Option (List ℕ)) (byte : ℕ) (r : Result A E) → Takes a byte r b → TakesText a (byte ∷ []) r b
+TakesText-byte a b byte (Ok v) h = h
+TakesText-byte a b byte (Err e) h = ([], IsPrefix-nil (byte ∷ []), Appends-nil a b h)
+
+-- a part of a text that fails after the bytes before it
+pub TakesText_exit : {A E : Type 0} (a b c : Option (List ℕ)) (xs ys more : List ℕ) (r : Result A E) → IsErr r → Appends a b xs → AppendsPrefix b c ys → TakesText a (xs ++ (ys ++ more)) r c
+TakesText_exit a b c xs ys more (Ok v) err taken then = cc
+TakesText_exit a b c xs ys more (Err e) err taken then = (
+  xs ++ then.0,
+  IsPrefix-append_both xs then.0 (ys ++ more) (IsPrefix-trans then.0 ys (ys ++ more) then.1 (IsPrefix-append ys more)),
+  Appends-append a b c xs then.0 taken then.2,
+)
+
+-- a byte that fails after the first i of a text
+pub TakesText_byte_exit : {A E : Type 0} (a b c : Option (List ℕ)) (text : List ℕ) (i : ℕ) (r : Result A E) → IsErr r → Appends a b (take i text) → Keeps b c → TakesText a text r c
+TakesText_byte_exit a b c text i r err taken kept =
+    let nothing : AppendsPrefix b c [] = ([], IsPrefix-nil [], Appends-nil b c kept) in
+    let P : List ℕ → Type 0 = λ t. TakesText a t r c in
+    subst P (take-append-drop i text) (TakesText_exit a b c (take i text) [] (drop i text) r err taken nothing)
+
+-- a part that fails after the first i of several
+pub TakesText_part_exit : {X A E : Type 0} (f : X → List ℕ) (a b c : Option (List ℕ)) (parts : List X) (i : ℕ) (d : X) (r : Result A E) → i < length parts → IsErr r → Appends a b (flat_map f (take i parts)) → AppendsPrefix b c (f (get_or parts i d)) → TakesText a (flat_map f parts) r c
+TakesText_part_exit {X} f a b c parts i d r below err taken then =
+    let split : flat_map f (take i parts) ++ (f (get_or parts i d) ++ flat_map f (drop (suc i) parts)) ≡ flat_map f parts =
+    ap (λ (l : List X). flat_map f (take i parts) ++ flat_map f l) (sym (drop-cons parts i d below))
+    ∙ sym (flat_map-append f (take i parts) (drop i parts)) ∙ ap (flat_map f) (take-append-drop i parts) in
+    let P : List ℕ → Type 0 = λ t. TakesText a t r c in
+    subst P split (TakesText_exit a b c (flat_map f (take i parts)) (f (get_or parts i d)) (flat_map f (drop (suc i) parts)) r err taken then)

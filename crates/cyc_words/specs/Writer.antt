@@ -1,0 +1,11 @@
+-- What a `Writer` holds.
+use Rattle.std.specs.Prelude.{Bool}
+use Rattle.cyc_words.specs.declared.writer.Writer.{Writer}
+
+-- the writer that it writes to
+abbrev pub writer_inner : {W : Type 0} → Writer W → W
+writer_inner s = s.inner
+
+-- whether it has answered `Failed`
+abbrev pub writer_has_failed : {W : Type 0} → Writer W → Bool
+writer_has_failed s = s.has_failed

@@ -1,0 +1,84 @@
+//! Arithmetic on words of 32 bits, signed ones in two's complement.
+
+ghost use Rattle.std.specs.Prelude.{◌≡◌, ◌≢◌};
+ghost use Rattle.cyc_words.specs.Word.{add_of, sub_of, mul_of, shl_of, shr_of, sar_of, slt_of, sltu_of, div_of, rem_of};
+
+/// The sum, wrapped to 32 bits.
+pub fn add(a: u32, b: u32) -> u32
+    ensures { result ≡ add_of a b }
+{
+    a.wrapping_add(b)
+}
+
+/// The difference, wrapped to 32 bits.
+pub fn sub(a: u32, b: u32) -> u32
+    ensures { result ≡ sub_of a b }
+{
+    a.wrapping_sub(b)
+}
+
+/// The product, wrapped to 32 bits.
+pub fn mul(a: u32, b: u32) -> u32
+    ensures { result ≡ mul_of a b }
+{
+    a.wrapping_mul(b)
+}
+
+/// `a` shifted left by `count` modulo 32, with zeros coming in.
+pub fn shl(a: u32, count: u32) -> u32
+    ensures { result ≡ shl_of a count }
+{
+    a << (count % 32)
+}
+
+/// `a` shifted right by `count` modulo 32, with zeros coming in.
+pub fn shr(a: u32, count: u32) -> u32
+    ensures { result ≡ shr_of a count }
+{
+    a >> (count % 32)
+}
+
+/// `a` shifted right by `count` modulo 32 as a signed number, with its sign coming in.
+#[tactic(auto, unfolding(crate::specs::Word::sar_of))]
+pub fn sar(a: u32, count: u32) -> u32
+    ensures { result ≡ sar_of a count }
+{
+    (a.cast_signed() >> (count % 32)).cast_unsigned()
+}
+
+/// 1 where `a` is less than `b` as signed numbers, and 0 elsewhere.
+#[tactic(auto, unfolding(crate::specs::Word::slt_of))]
+pub fn slt(a: u32, b: u32) -> u32
+    ensures { result ≡ slt_of a b }
+{
+    u32::from(a.cast_signed() < b.cast_signed())
+}
+
+/// 1 where `a` is less than `b` as unsigned numbers, and 0 elsewhere.
+pub fn sltu(a: u32, b: u32) -> u32
+    ensures { result ≡ sltu_of a b }
+{
+    u32::from(a < b)
+}
+
+/// The quotient of signed numbers, rounded toward zero. -2147483648 by -1 wraps to -2147483648.
+#[tactic(auto, unfolding(crate::specs::Word::div_of))]
+pub fn div(a: u32, b: u32) -> u32
+    requires { b ≢ 0 }
+    ensures { result ≡ div_of a b }
+{
+    a.cast_signed()
+        .wrapping_div(b.cast_signed())
+        .cast_unsigned()
+}
+
+/// The remainder of signed numbers, with the dividend's sign. Of -2147483648 by -1 it is 0.
+#[tactic(auto, unfolding(crate::specs::Word::rem_of))]
+pub fn rem(a: u32, b: u32) -> u32
+    requires { b ≢ 0 }
+    ensures { result ≡ rem_of a b }
+{
+    a.cast_signed()
+        .wrapping_rem(b.cast_signed())
+        .cast_unsigned()
+}

@@ -1,0 +1,72 @@
+//! Devices that give and take bytes one at a time.
+
+ghost use Rattle.std.specs.Prelude.{◌≡◌, ℕ, List, Bool, true, Option, is_err, IsTrue, IsErr, OnOk, OnErr, flat_map};
+ghost use Rattle.cyc_words.specs.Device.{Gives, Takes, TakesText};
+
+/// A device's one answer when it could not give or take a byte.
+#[derive(Clone, Copy, Debug, PartialEq, Eq)]
+pub struct Failed;
+
+/// A device that gives bytes.
+///
+/// It tells the bytes that are still to be read, or `None` where it tells nothing. Told bytes stay told, and go
+/// one at a time from the front.
+pub trait ByteIn {
+    ghost remaining: { Self → Option (List ℕ) };
+
+    ghost failed: { Self → Bool };
+
+    /// The next byte, or `None` at the end.
+    ///
+    /// `Failed` may come at any call, and from then on it is the only answer. It leaves the told bytes.
+    fn next(&mut self) -> Result<Option<u8>, Failed>
+        ensures bytes { Gives (remaining self.old) result (remaining self.new) }
+        ensures fails { failed self.new ≡ is_err result }
+        ensures stays { IsTrue (failed self.old) → IsErr result };
+}
+
+/// A device that takes bytes.
+///
+/// It tells the bytes that it took, or `None` where it tells nothing. Told bytes stay told, and grow at the end.
+pub trait ByteOut {
+    ghost written: { Self → Option (List ℕ) };
+
+    ghost failed: { Self → Bool };
+
+    /// Takes one byte.
+    ///
+    /// `Failed` may come at any call, and from then on it is the only answer. It leaves the told bytes.
+    fn put(&mut self, byte: u8) -> Result<(), Failed>
+        ensures bytes { Takes (written self.old) byte result (written self.new) }
+        ensures fails { failed self.new ≡ is_err result }
+        ensures stays { IsTrue (failed self.old) → IsErr result };
+
+    /// Takes the bytes of a text in order, up to the first failure.
+    final fn put_all(&mut self, text: &[u8]) -> Result<(), Failed>
+    where
+        Self: Sized,
+        ensures bytes { TakesText (written self.old) text.now result (written self.new) }
+        ensures works { OnOk result (failed self.new ≡ failed self.old) }
+        ensures fails { OnErr result (failed self.new ≡ true) }
+    {
+        for byte in text {
+            self.put(*byte)?;
+        }
+        Ok(())
+    }
+
+    /// Takes several texts in order, up to the first failure.
+    final fn put_parts(&mut self, parts: &[&[u8]]) -> Result<(), Failed>
+    where
+        Self: Sized,
+        ensures bytes { TakesText (written self.old) (flat_map (λ part. part.now) parts.now) result
+            (written self.new) }
+        ensures works { OnOk result (failed self.new ≡ failed self.old) }
+        ensures fails { OnErr result (failed self.new ≡ true) }
+    {
+        for part in parts {
+            self.put_all(part)?;
+        }
+        Ok(())
+    }
+}

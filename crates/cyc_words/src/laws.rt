@@ -1,0 +1,64 @@
+//! Laws of the definitions in `specs/`. Each function does nothing: its contract is the law, and so it is proved
+//! with the crate. The lemmas behind them stand in `proofs/` for other proofs to cite.
+
+ghost use Rattle.std.specs.Prelude.{◌≡◌, ◌≢◌, ℕ, ◌+◌, ◌-◌, ◌*◌, ◌/◌, ◌%◌, ◌^◌, ◌<◌, ◌≤◌, ◌⊎◌, ◌↔◌, ℤ, pos, ◌+ℤ◌, ◌-ℤ◌, ◌*ℤ◌, ◌<ℤ◌, List, length, All, FitsSigned, int_div, int_rem, bit_or};
+ghost use Rattle.std.specs.Int.{w16, w32, bit_at};
+ghost use Rattle.cyc_words.specs.Word.{IsWord, IsHalf, signed, unsigned, signed_half, sign_extended, floor_div, add_of, sub_of, mul_of, shl_of, sar_of, div_of, rem_of};
+ghost use Rattle.cyc_words.specs.Bytes.{IsByte, bytes_of_word, word_of_bytes};
+ghost use Rattle.cyc_words.specs.Prefix.{IsPrefix};
+ghost use Rattle.cyc_words.specs.Ending.{Ending, Alike};
+
+/// The signed and the unsigned meaning of a word agree modulo 2^32, and each leads back to the other.
+pub fn word_views()
+    ensures agree { (w : ℕ) → IsWord w → (signed w ≡ pos w) ⊎ (signed w ≡ pos w -ℤ pos (2 ^ 32)) }
+    ensures back { (w : ℕ) → IsWord w → unsigned (signed w) ≡ w }
+    ensures forth { (z : ℤ) → FitsSigned w32 z → signed (unsigned z) ≡ z }
+    ensures signed_fits { (w : ℕ) → IsWord w → FitsSigned w32 (signed w) }
+    ensures unsigned_fits { (z : ℤ) → IsWord (unsigned z) }
+{}
+
+/// Sum, difference and product of words are those of their signed meanings, wrapped.
+pub fn word_sums()
+    ensures sum { (a b : ℕ) → IsWord a → IsWord b → add_of a b ≡ unsigned (signed a +ℤ signed b) }
+    ensures difference { (a b : ℕ) → IsWord a → IsWord b → sub_of a b ≡ unsigned (signed a -ℤ signed b) }
+    ensures product { (a b : ℕ) → IsWord a → IsWord b → mul_of a b ≡ unsigned (signed a *ℤ signed b) }
+{}
+
+/// Quotient, remainder and arithmetic shift mean what they mean of whole numbers, but for the one quotient that
+/// wraps.
+pub fn word_quotients()
+    ensures dividend { (a b : ℕ) → IsWord a → IsWord b → add_of (mul_of (div_of a b) b) (rem_of a b) ≡ a }
+    ensures quotient { (a b : ℕ) → IsWord a → IsWord b → (a ≡ 2 ^ 31 → b ≢ 2 ^ 32 - 1) →
+        signed (div_of a b) ≡ int_div (signed a) (signed b) }
+    ensures remainder { (a b : ℕ) → IsWord a → signed (rem_of a b) ≡ int_rem (signed a) (signed b) }
+    ensures wraps { (div_of (2 ^ 31) (2 ^ 32 - 1) ≡ 2 ^ 31) × (rem_of (2 ^ 31) (2 ^ 32 - 1) ≡ 0) }
+    ensures shift { (a k : ℕ) → IsWord a → signed (sar_of a k) ≡ floor_div (signed a) (2 ^ (k % 32)) }
+{}
+
+/// A word is its bits, and its two halves. A half that is extended keeps its signed meaning.
+pub fn word_parts()
+    ensures bits { (a b : ℕ) → IsWord a → IsWord b →
+        ((i : ℕ) → i < 32 → bit_at a i ≡ bit_at b i) → a ≡ b }
+    ensures sign { (w : ℕ) → IsWord w → (bit_at w 31 ≡ 1) ↔ (signed w <ℤ pos 0) }
+    ensures halves { (w : ℕ) → IsWord w → bit_or (shl_of (w / 2 ^ 16) 16) (w % 2 ^ 16) ≡ w }
+    ensures extended { (h : ℕ) → IsHalf h → signed (sign_extended h) ≡ signed_half h }
+    ensures low_half { (w : ℕ) → IsWord w → FitsSigned w16 (signed w) → sign_extended (w % 2 ^ 16) ≡ w }
+{}
+
+/// Four bytes and a word are each other's inverses.
+pub fn word_bytes()
+    ensures word { (w : ℕ) → IsWord w → word_of_bytes (bytes_of_word w) ≡ w }
+    ensures bytes { (bs : List ℕ) → length bs ≡ 4 → All IsByte bs → bytes_of_word (word_of_bytes bs) ≡ bs }
+{}
+
+/// Being a prefix is an order.
+pub fn prefixes()
+    ensures reflexive { (xs : List ℕ) → IsPrefix xs xs }
+    ensures transitive { (xs ys zs : List ℕ) → IsPrefix xs ys → IsPrefix ys zs → IsPrefix xs zs }
+    ensures antisymmetric { (xs ys : List ℕ) → IsPrefix xs ys → IsPrefix ys xs → xs ≡ ys }
+{}
+
+/// Endings are alike exactly where they are equal. So being alike is reflexive, symmetric and transitive.
+pub fn endings()
+    ensures { (e f : Ending) → Alike e f ↔ (e ≡ f) }
+{}

@@ -1,0 +1,20 @@
+//! The ground of the compiler: 32-bit words and their arithmetic, the refusals of a source text, and devices
+//! that give and take bytes.
+#![tactic(auto)]
+
+mod arith;
+mod bytes;
+mod device;
+mod fault;
+pub mod laws;
+mod reader;
+#[cfg(test)]
+mod tests;
+mod writer;
+
+pub use arith::{add, div, mul, rem, sar, shl, shr, slt, sltu, sub};
+pub use bytes::{bytes_of, word_at};
+pub use device::{ByteIn, ByteOut, Failed};
+pub use fault::{Code, Fault};
+pub use reader::Reader;
+pub use writer::Writer;

@@ -1,0 +1,50 @@
+//! A device over std's `Write`.
+
+ghost use Rattle.std.specs.Prelude.{◌≡◌, false};
+
+use super::device::{ByteOut, Failed};
+use std::io::Write;
+
+/// A device that gives its bytes to a writer, and tells them where the writer tells what it holds.
+///
+/// Each call makes one write of one byte. A write that takes no byte is a failure, and so is an error of the
+/// writer, also `Interrupted`. After a failure the writer is never asked again. Nothing is flushed.
+#[derive(Drop)]
+pub struct Writer<W> {
+    inner: W,
+    has_failed: bool,
+}
+
+impl<W> Writer<W> {
+    ghost use Rattle.cyc_words.specs.Writer.{writer_inner, writer_has_failed};
+
+    /// A device over `inner` that has not failed.
+    pub fn new(inner: W) -> Self
+        ensures inner { writer_inner result ≡ inner }
+        ensures works { writer_has_failed result ≡ false }
+    {
+        Writer {
+            inner,
+            has_failed: false,
+        }
+    }
+}
+
+impl<W: Write> ByteOut for Writer<W> {
+    ghost written = { λ s. W.contents s.inner };
+
+    ghost failed = { λ s. s.has_failed };
+
+    fn put(&mut self, byte: u8) -> Result<(), Failed> {
+        if self.has_failed {
+            return Err(Failed);
+        }
+        match self.inner.write(&[byte]) {
+            Ok(1) => Ok(()),
+            Ok(_) | Err(_) => {
+                self.has_failed = true;
+                Err(Failed)
+            }
+        }
+    }
+}
