@@ -1,0 +1,11 @@
+pub mod Fields
+pub mod Operands
+pub mod Selected
+pub mod Numbers
+pub mod RoundTrip
+pub mod AnyLemmas
+pub mod Instances
+pub mod Listed
+pub mod Sound
+pub mod TextLemmas
+pub mod EffectLemmas

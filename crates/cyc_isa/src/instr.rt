@@ -1,0 +1,161 @@
+//! The instructions of the machine, by format.
+
+use crate::operand::{JumpIndex, Register, ShiftAmount, TrapCode};
+
+/// An operation on a register and a 16-bit immediate.
+#[derive(Clone, Copy, Debug, PartialEq, Eq)]
+pub enum ImmediateOp {
+    AddUnsigned,
+    SetLess,
+    SetLessUnsigned,
+    And,
+    Or,
+    Xor,
+}
+
+/// A load or a store of a word.
+#[derive(Clone, Copy, Debug, PartialEq, Eq)]
+pub enum MemoryOp {
+    LoadWord,
+    StoreWord,
+}
+
+/// A branch on two registers.
+#[derive(Clone, Copy, Debug, PartialEq, Eq)]
+pub enum BranchOp {
+    Equal,
+    NotEqual,
+}
+
+/// A branch on the sign of one register.
+#[derive(Clone, Copy, Debug, PartialEq, Eq)]
+pub enum BranchZeroOp {
+    LessOrEqual,
+    Greater,
+    Less,
+    GreaterOrEqual,
+}
+
+/// A jump to a constant target, plain or with the return address in register 31.
+#[derive(Clone, Copy, Debug, PartialEq, Eq)]
+pub enum JumpOp {
+    Plain,
+    AndLink,
+}
+
+/// A shift; `RightLogical` shifts zeros in, `RightArithmetic` the sign.
+#[derive(Clone, Copy, Debug, PartialEq, Eq)]
+pub enum ShiftOp {
+    Left,
+    RightLogical,
+    RightArithmetic,
+}
+
+/// An instruction that leaves the program: to a service of the system, or a breakpoint.
+#[derive(Clone, Copy, Debug, PartialEq, Eq)]
+pub enum ExceptionOp {
+    Syscall,
+    Break,
+}
+
+/// Which half of a product, or which result of a division, is read.
+#[derive(Clone, Copy, Debug, PartialEq, Eq)]
+pub enum MoveFromOp {
+    High,
+    Low,
+}
+
+/// A signed operation whose two words of result go to the registers HI and LO.
+#[derive(Clone, Copy, Debug, PartialEq, Eq)]
+pub enum MultiplyDivideOp {
+    Multiply,
+    Divide,
+}
+
+/// An operation on two registers whose result goes to a third.
+#[derive(Clone, Copy, Debug, PartialEq, Eq)]
+pub enum ArithmeticOp {
+    AddUnsigned,
+    SubtractUnsigned,
+    And,
+    Or,
+    Xor,
+    Nor,
+    SetLess,
+    SetLessUnsigned,
+}
+
+/// An instruction. An immediate, and the offset of a load, a store or a branch, is the 16 bits of its field; whether
+/// they are read as a signed number is the operation's.
+#[derive(Clone, Copy, Debug, PartialEq, Eq)]
+pub enum Instr {
+    Immediate {
+        op: ImmediateOp,
+        target: Register,
+        source: Register,
+        immediate: u16,
+    },
+    LoadUpper {
+        target: Register,
+        immediate: u16,
+    },
+    Memory {
+        op: MemoryOp,
+        target: Register,
+        base: Register,
+        offset: u16,
+    },
+    Branch {
+        op: BranchOp,
+        left: Register,
+        right: Register,
+        offset: u16,
+    },
+    BranchZero {
+        op: BranchZeroOp,
+        source: Register,
+        offset: u16,
+    },
+    Jump {
+        op: JumpOp,
+        index: JumpIndex,
+    },
+    Shift {
+        op: ShiftOp,
+        destination: Register,
+        source: Register,
+        amount: ShiftAmount,
+    },
+    ShiftVariable {
+        op: ShiftOp,
+        destination: Register,
+        source: Register,
+        by: Register,
+    },
+    JumpRegister {
+        source: Register,
+    },
+    JumpRegisterLink {
+        destination: Register,
+        source: Register,
+    },
+    Exception {
+        op: ExceptionOp,
+        code: TrapCode,
+    },
+    MoveFrom {
+        op: MoveFromOp,
+        destination: Register,
+    },
+    MultiplyDivide {
+        op: MultiplyDivideOp,
+        left: Register,
+        right: Register,
+    },
+    Arithmetic {
+        op: ArithmeticOp,
+        destination: Register,
+        left: Register,
+        right: Register,
+    },
+}

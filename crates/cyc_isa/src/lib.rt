@@ -1,0 +1,21 @@
+//! The instruction set: what an instruction is, its word, and its text.
+#![tactic(auto)]
+
+mod decoding;
+mod encoding;
+pub mod instr;
+pub mod laws;
+pub mod operand;
+mod table;
+#[cfg(test)]
+mod tests;
+mod text;
+
+pub use decoding::decode;
+pub use encoding::encode;
+pub use instr::{
+    ArithmeticOp, BranchOp, BranchZeroOp, ExceptionOp, ImmediateOp, Instr, JumpOp, MemoryOp,
+    MoveFromOp, MultiplyDivideOp, ShiftOp,
+};
+pub use operand::{JumpIndex, Register, ShiftAmount, TrapCode};
+pub use text::write_text;

@@ -1,0 +1,32 @@
+//! What an instruction names besides its operation: registers and the numbers that stand in a field of fewer bits
+//! than a Rust type has.
+
+ghost use Rattle.std.specs.Prelude.{◌<◌, ◌^◌};
+
+/// A general register, by its number: 0 (which always reads 0) to 31.
+#[derive(Clone, Copy, Debug, PartialEq, Eq)]
+pub struct Register {
+    pub number: u8,
+    pub ghost in_range: { number < 32 },
+}
+
+/// How many bits a shift by a constant moves: 0 to 31, the five bits of the field `sa`.
+#[derive(Clone, Copy, Debug, PartialEq, Eq)]
+pub struct ShiftAmount {
+    pub bits: u8,
+    pub ghost in_range: { bits < 32 },
+}
+
+/// The low 26 bits of a jump: the target's words from the start of its region of 256 megabytes.
+#[derive(Clone, Copy, Debug, PartialEq, Eq)]
+pub struct JumpIndex {
+    pub index: u32,
+    pub ghost in_range: { index < 2 ^ 26 },
+}
+
+/// The 20 bits of a system call or a breakpoint that the machine hands to software and does not read itself.
+#[derive(Clone, Copy, Debug, PartialEq, Eq)]
+pub struct TrapCode {
+    pub code: u32,
+    pub ghost in_range: { code < 2 ^ 20 },
+}
