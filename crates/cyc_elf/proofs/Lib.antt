@@ -1,0 +1,9 @@
+pub mod Again
+pub mod Answering
+pub mod Apart
+pub mod Appends
+pub mod Few
+pub mod Rules
+pub mod Sound
+pub mod Walks
+pub mod Writes

@@ -1,0 +1,33 @@
+use Rattle.std.proofs.Common.{◌≡◌, ◌++◌, ◌∷◌, [], cond, map, sym, ap, ◌∙◌, arith}
+use Rattle.std.proofs.lemmas.List.{map_push}
+use Rattle.cyc_elf.specs.Reading.{is_load}
+use Rattle.cyc_elf.specs.Parts.{fields_of}
+use Rattle.cyc_elf.proofs.Walks.{goes_on, ends, is_done}
+use Rattle.cyc_elf.proofs.table.walk_table.Goals as goal
+use Rattle.cyc_elf.proofs.table.walk_table.Goals.{then-is_load+in_ok-push, else-is_load}
+
+pub returns-in-Some : goal.returns-in-Some
+returns-in-Some c =
+    ends (map fields_of c.loop.loads.items) c.args.file.now c.args.count c.loop.counter c.loop.place (fields_of c.at-header.result) c.in-Some.fault _ c.loop-test.true c.at-header.ensures c.in-Some.ensures c.loop.invariant.1
+
+pub loop-preserved : goal.loop-preserved
+loop-preserved c =
+    let front = map fields_of c.loop.loads.items in
+    let h = fields_of c.at-header.result in
+    let found : map fields_of c.if-is_load.loads.items ≡ cond (is_load h) (front ++ h ∷ []) front =
+    elim c.if-is_load.branch [
+      | then-is_load+in_ok-push w ↦
+          ap (λ v. map fields_of v.items) w.loads-is
+          ∙ ap (map fields_of) w.in_ok-push.ensures.items
+          ∙ map_push fields_of c.loop.loads.items c.at-header.result
+          ∙ ap (λ b. cond b (front ++ h ∷ []) front) (sym w.if-is_load.true ∙ c.is_load.ensures)
+      | else-is_load w ↦
+          ap (λ v. map fields_of v.items) w.loads-is
+          ∙ ap (λ b. cond b (front ++ h ∷ []) front) (sym w.if-is_load.false ∙ c.is_load.ensures)
+    ] in
+    let keeps = sym c.in_default.is ∙ c.own_fault.ensures in
+    let so_far = goes_on front c.args.file.now c.args.count c.loop.counter c.loop.place h _ c.loop-test.true c.at-header.ensures keeps c.loop.invariant.1 in
+    (omega arith, rw found so_far)
+
+pub returns : goal.returns
+returns c = is_done (map fields_of c.loop.loads.items) c.args.file.now c.args.count c.loop.counter c.loop.place _ c.loop-test.false c.loop.invariant.1

@@ -1,0 +1,13 @@
+-- The numbers of the faults: this project's own choice.
+use Rattle.std.specs.Prelude.{ℕ}
+use Rattle.cyc_elf.specs.declared.fault.ElfFault.{ElfFault}
+use Rattle.cyc_elf.specs.declared.fault.ElfFault.TheVariants as faults
+
+abbrev pub number_of : ElfFault → ℕ
+number_of faults.Truncated = 1
+number_of faults.NotElf32Big = 2
+number_of faults.NotMipsExec = 3
+number_of faults.BadSegment = 4
+number_of faults.Interp = 5
+number_of faults.BadEntry = 6
+number_of faults.Memory = 7

@@ -1,0 +1,78 @@
+-- The fields of the file header and of a program header, by offset and width. (System V ABI, chapter 4,
+-- "ELF Header", and chapter 5, "Program Header", for 32-bit objects. The ABI's own names stand beside.)
+use Rattle.std.specs.Prelude.{ℕ, zero, suc, ◌+◌, List, [], ◌∷◌, drop}
+use Rattle.byteorder.specs.Endian.{big_number}
+
+-- the number in the `width` bytes at an offset from the start of the file, the highest byte first
+unfoldable pub field : (width offset : ℕ) → List ℕ → ℕ
+field width offset file = big_number width (drop offset file)
+
+-- ---- the file header
+
+-- e_ident: the magic number, the class (1: 32-bit), the data encoding (2: the highest byte first) and the
+-- version of the header
+abbrev pub ident : List ℕ
+ident = 127 ∷ 69 ∷ 76 ∷ 70 ∷ 1 ∷ 2 ∷ 1 ∷ []
+
+abbrev pub file_header_size : ℕ
+file_header_size = 52
+
+-- e_type, e_machine and e_version
+abbrev pub object_type : List ℕ → ℕ
+object_type = field 2 16
+
+abbrev pub machine : List ℕ → ℕ
+machine = field 2 18
+
+abbrev pub version : List ℕ → ℕ
+version = field 4 20
+
+-- e_entry: the address of the first instruction
+abbrev pub entry : List ℕ → ℕ
+entry = field 4 24
+
+-- e_phoff, e_phentsize and e_phnum: where the table of program headers begins, the size of one of them, and
+-- how many there are
+abbrev pub table_offset : List ℕ → ℕ
+table_offset = field 4 28
+
+abbrev pub header_size : List ℕ → ℕ
+header_size = field 2 42
+
+abbrev pub header_count : List ℕ → ℕ
+header_count = field 2 44
+
+-- ---- a program header
+
+abbrev pub program_header_size : ℕ
+program_header_size = 32
+
+-- The fields that the reader looks at: p_type, p_offset, p_vaddr, p_filesz, p_memsz and p_flags. (At 12 and
+-- 28 stand p_paddr and p_align.)
+pub record ProgramHeader : Type 0 where
+  pub kind : ℕ
+  pub offset : ℕ
+  pub vaddr : ℕ
+  pub file_size : ℕ
+  pub memory_size : ℕ
+  pub flags : ℕ
+
+-- the program header at a place in the file
+unfoldable pub program_header_at : List ℕ → ℕ → ProgramHeader
+program_header_at file place = record {
+  kind = field 4 place file;
+  offset = field 4 (place + 4) file;
+  vaddr = field 4 (place + 8) file;
+  file_size = field 4 (place + 16) file;
+  memory_size = field 4 (place + 20) file;
+  flags = field 4 (place + 24) file;
+}
+
+-- `count` program headers, one behind the other from a place on
+unfoldable pub headers_from : List ℕ → (place count : ℕ) → List ProgramHeader
+headers_from file place zero = []
+headers_from file place (suc count) = program_header_at file place ∷ headers_from file (place + program_header_size) count
+
+-- the file's table of program headers
+abbrev pub program_headers : List ℕ → List ProgramHeader
+program_headers file = headers_from file (table_offset file) (header_count file)

@@ -1,0 +1,58 @@
+-- What the parts of the reader answer. The reader's own contract cites none of this: `proofs/` shows that
+-- the parts together answer as the rules do.
+use Rattle.std.specs.Prelude.{ℕ, ◌+◌, ◌^◌, ◌<◌, Bool, true, not, ◌&&◌, nat_le, ◌==◌, if◌then◌else◌, Option, Some, None, List, [], ◌∷◌, ◌++◌, map}
+use Rattle.std.specs.List.{list_any}
+use Rattle.cyc_elf.specs.declared.fault.ElfFault.{ElfFault}
+use Rattle.cyc_elf.specs.declared.program_header.ProgramHeader as raw
+use Rattle.cyc_elf.specs.declared.table.Walk as table
+use Rattle.cyc_elf.specs.Header.{ProgramHeader}
+use Rattle.cyc_elf.specs.Reading.{first_fault, own_rules, is_load, overlap}
+
+-- a program header as the code keeps it
+abbrev pub fields_of : raw.ProgramHeader → ProgramHeader
+fields_of h = record {
+  kind = h.kind;
+  offset = h.offset;
+  vaddr = h.vaddr;
+  file_size = h.file_size;
+  memory_size = h.memory_size;
+  flags = h.flags;
+}
+
+-- the loadable program headers before the first header that breaks a rule on its own, and its fault
+pub record Walk : Type 0 where
+  pub loads : List ProgramHeader
+  pub fault : Option ElfFault
+
+abbrev pub walk_of : table.Walk → Walk
+walk_of w = record { loads = map fields_of w.loads.items; fault = w.fault }
+
+abbrev pub step : ProgramHeader → Option ElfFault → Walk → Walk
+step h (Some f) rest = record { loads = []; fault = Some f }
+step h None rest = record { loads = if is_load h then h ∷ rest.loads else rest.loads; fault = rest.fault }
+
+abbrev pub walk : ℕ → List ProgramHeader → Walk
+walk len [] = record { loads = []; fault = None }
+walk len (h ∷ rest) = step h (first_fault (own_rules len h)) (walk len rest)
+
+-- none of the headers overlaps one before it, where `earlier` stand before them all
+abbrev pub are_apart : (earlier headers : List ProgramHeader) → Bool
+are_apart earlier [] = true
+are_apart earlier (h ∷ rest) = not (list_any (overlap h) earlier) && are_apart (earlier ++ h ∷ []) rest
+
+-- each header that has memory begins where the one before it ends, or later
+abbrev pub in_order : ℕ → List ProgramHeader → Bool
+in_order high [] = true
+in_order high (h ∷ rest) =
+    if h.memory_size == 0
+    then in_order high rest
+    else (nat_le high h.vaddr && in_order (h.vaddr + h.memory_size) rest)
+
+-- the numbers of a program header, as its fields keep them
+pub record IsInWords (h : ProgramHeader) : Type 0 where
+  pub kind : h.kind < 2 ^ 32
+  pub offset : h.offset < 2 ^ 32
+  pub vaddr : h.vaddr < 2 ^ 32
+  pub file_size : h.file_size < 2 ^ 32
+  pub memory_size : h.memory_size < 2 ^ 32
+  pub flags : h.flags < 2 ^ 32

@@ -1,0 +1,123 @@
+-- Which image a file is, or what is wrong with it: the rules of the format in the order in which a broken
+-- one is named, each with the fault that it is named by. Sums are of whole numbers and do not wrap.
+use Rattle.std.specs.Prelude.{◌≡◌, ℕ, ◌+◌, ◌*◌, ◌%◌, ◌^◌, Bool, true, not, ◌&&◌, nat_lt, nat_le, nat_eq, ◌==◌, if◌then◌else◌, min, max, Option, Some, None, Result, Ok, Err, List, [], ◌∷◌, ◌++◌, length, map, filter, take, drop}
+use Rattle.std.specs.List.{list_any, starts_with}
+use Rattle.cyc_elf.specs.declared.fault.ElfFault.{ElfFault}
+use Rattle.cyc_elf.specs.declared.fault.ElfFault.TheVariants as faults
+use Rattle.cyc_elf.specs.Header.{ident, file_header_size, object_type, machine, version, entry, table_offset, header_size, header_count, program_header_size, ProgramHeader, program_headers}
+use Rattle.cyc_elf.specs.declared.image.Image.{Image}
+use Rattle.cyc_elf.specs.Image.{SegmentContents, ImageContents, contents_of}
+
+-- a rule of the format: whether the file breaks it, and the fault that says so
+pub record Rule : Type 0 where
+  pub is_broken : Bool
+  pub fault : ElfFault
+
+abbrev pub broken : Bool → ElfFault → Rule
+broken b f = record { is_broken = b; fault = f }
+
+-- the fault of the first rule that is broken
+abbrev pub first_fault : List Rule → Option ElfFault
+first_fault [] = None
+first_fault (r ∷ rest) = if r.is_broken then Some r.fault else first_fault rest
+
+-- The file header is there, it is that of a 32-bit, big-endian executable for MIPS, and the table of
+-- program headers lies in the file. The other fields may have any value.
+unfoldable pub file_rules : List ℕ → List Rule
+file_rules file =
+    broken (nat_lt (length file) file_header_size) faults.Truncated
+    ∷ broken (not (starts_with nat_eq file ident)) faults.NotElf32Big
+    ∷ broken (not (object_type file == 2)) faults.NotMipsExec
+    ∷ broken (not (machine file == 8)) faults.NotMipsExec
+    ∷ broken (not (version file == 1)) faults.NotMipsExec
+    ∷ broken (not (header_size file == program_header_size)) faults.BadSegment
+    ∷ broken (nat_lt (length file) (table_offset file + program_header_size * header_count file)) faults.Truncated
+    ∷ []
+
+-- the kinds of a program header that are looked at: PT_LOAD and PT_INTERP
+abbrev pub is_load : ProgramHeader → Bool
+is_load h = h.kind == 1
+
+abbrev pub is_interpreter : ProgramHeader → Bool
+is_interpreter h = h.kind == 3
+
+-- the loadable ones, which describe segments
+abbrev pub loads : List ProgramHeader → List ProgramHeader
+loads = filter is_load
+
+-- an address is one of the segment's
+abbrev pub covers : ProgramHeader → ℕ → Bool
+covers h address = nat_le h.vaddr address && nat_lt address (h.vaddr + h.memory_size)
+
+-- two segments share an address: the later of their starts lies before the earlier of their ends
+abbrev pub overlap : ProgramHeader → ProgramHeader → Bool
+overlap g h = nat_lt (max g.vaddr h.vaddr) (min (g.vaddr + g.memory_size) (h.vaddr + h.memory_size))
+
+-- A loadable program header of a file of `len` bytes: it has no more bytes in the file than in memory, ends
+-- within the address space, begins at a word, and has its bytes in the file.
+abbrev pub load_rules : ℕ → ProgramHeader → List Rule
+load_rules len h =
+    broken (nat_lt h.memory_size h.file_size) faults.BadSegment
+    ∷ broken (nat_lt (2 ^ 32) (h.vaddr + h.memory_size)) faults.BadSegment
+    ∷ broken (not (h.vaddr % 4 == 0)) faults.BadSegment
+    ∷ broken (nat_lt len (h.offset + h.file_size)) faults.Truncated
+    ∷ []
+
+-- a program header on its own: none may ask for an interpreter, and other kinds are ignored
+unfoldable pub own_rules : ℕ → ProgramHeader → List Rule
+own_rules len h =
+    if is_interpreter h
+    then broken true faults.Interp ∷ []
+    else (if is_load h
+    then load_rules len h
+    else [])
+
+-- a program header beside those before it: a loadable one overlaps none that is loadable
+abbrev pub overlap_rule : List ProgramHeader → ProgramHeader → Rule
+overlap_rule earlier h = broken (is_load h && list_any (overlap h) (loads earlier)) faults.BadSegment
+
+-- all of a list of program headers, in their order, each with those before it
+abbrev pub table_rules : ℕ → (earlier headers : List ProgramHeader) → List Rule
+table_rules len earlier [] = []
+table_rules len earlier (h ∷ rest) = own_rules len h ++ overlap_rule earlier h ∷ table_rules len (earlier ++ h ∷ []) rest
+
+-- the entry is a word's address in one of the segments
+unfoldable pub entry_rules : List ProgramHeader → ℕ → List Rule
+entry_rules headers address =
+    broken (not (list_any (λ h. covers h address) (loads headers))) faults.BadEntry
+    ∷ broken (not (address % 4 == 0)) faults.BadEntry
+    ∷ []
+
+-- all of the rules
+abbrev pub rules : List ℕ → List Rule
+rules file =
+    file_rules file
+    ++ table_rules (length file) [] (program_headers file)
+    ++ entry_rules (program_headers file) (entry file)
+
+-- the segment that a program header describes, with its bytes of the file
+abbrev pub segment_of : List ℕ → ProgramHeader → SegmentContents
+segment_of file h = record {
+  vaddr = h.vaddr;
+  flags = h.flags;
+  bytes = take h.file_size (drop h.offset file);
+  size = h.memory_size;
+}
+
+-- what the file's fields name
+abbrev pub named_image : List ℕ → ImageContents
+named_image file = record { entry = entry file; segments = map (segment_of file) (loads (program_headers file)) }
+
+abbrev pub unless : Option ElfFault → ImageContents → Result ImageContents ElfFault
+unless (Some f) image = Err f
+unless None image = Ok image
+
+-- The image that a file is, or the fault of the first rule that it breaks.
+unfoldable pub reading : List ℕ → Result ImageContents ElfFault
+reading file = unless (first_fault (rules file)) (named_image file)
+
+-- An answer of the reader, where `read` is what a file denotes: that, unless memory ran out.
+abbrev pub Answers : Result Image ElfFault → Result ImageContents ElfFault → Type 0
+Answers (Ok image) read = read ≡ Ok (contents_of image)
+Answers (Err faults.Memory) read = Unit {0}
+Answers (Err f) read = read ≡ Err f

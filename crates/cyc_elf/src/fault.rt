@@ -1,0 +1,68 @@
+//! Why a file is not an image.
+
+ghost use Rattle.std.specs.Prelude.{◌≡◌};
+ghost use Rattle.cyc_elf.specs.declared.fault.ElfFault.TheVariants.{Memory};
+
+use std::alloc::{AllocError, AllocFailed};
+use thiserror::Error;
+
+/// Why a file is not an image, or that memory ran out.
+#[derive(Clone, Copy, Debug, PartialEq, Eq, Error)]
+pub enum ElfFault {
+    /// The file ends before something that its headers name.
+    #[error("the file is cut short")]
+    Truncated,
+    /// The file's first bytes are not those of a 32-bit, big-endian ELF file.
+    #[error("not a 32-bit big-endian ELF file")]
+    NotElf32Big,
+    /// The file is no executable, not for MIPS, or of another version.
+    #[error("not an executable for MIPS")]
+    NotMipsExec,
+    /// The size of a program header, or a loadable segment, breaks the format's rules.
+    #[error("a segment breaks the rules of the format")]
+    BadSegment,
+    /// The file asks for a program interpreter, as dynamically linked programs do.
+    #[error("the file asks for an interpreter")]
+    Interp,
+    /// The entry is in no segment, or no multiple of 4.
+    #[error("the entry is not an instruction's address")]
+    BadEntry,
+    /// Memory ran out.
+    #[error("out of memory")]
+    Memory,
+}
+
+impl ElfFault {
+    ghost use Rattle.cyc_elf.specs.Fault.{number_of};
+
+    /// The number that stands for the fault in a program's messages, from 1 to 7.
+    pub fn number(self) -> u32
+        ensures { result ≡ number_of self }
+    {
+        match self {
+            ElfFault::Truncated => 1,
+            ElfFault::NotElf32Big => 2,
+            ElfFault::NotMipsExec => 3,
+            ElfFault::BadSegment => 4,
+            ElfFault::Interp => 5,
+            ElfFault::BadEntry => 6,
+            ElfFault::Memory => 7,
+        }
+    }
+}
+
+impl From<AllocError> for ElfFault {
+    ghost from_gives = { λ _ e. e ≡ Memory };
+
+    fn from(_e: AllocError) -> ElfFault {
+        ElfFault::Memory
+    }
+}
+
+impl<T: Drop> From<AllocFailed<T>> for ElfFault {
+    ghost from_gives = { λ _ e. e ≡ Memory };
+
+    fn from(_e: AllocFailed<T>) -> ElfFault {
+        ElfFault::Memory
+    }
+}

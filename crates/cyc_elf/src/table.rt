@@ -1,0 +1,115 @@
+//! The table of program headers as a whole.
+
+ghost use Rattle.std.specs.Prelude.{◌≡◌, ◌+◌, ◌*◌, ◌≤◌, [], length, map, All, IfOk};
+ghost use Rattle.std.specs.List.Sorted.{IsPermutation, IsNonDecreasingBy};
+ghost use Rattle.cyc_elf.specs.Header.{program_header_size, headers_from};
+ghost use Rattle.cyc_elf.specs.Image.{segment_contents};
+ghost use Rattle.cyc_elf.specs.Parts.{fields_of, walk, walk_of, in_order, are_apart};
+ghost use Rattle.cyc_elf.specs.Reading.{segment_of};
+
+use crate::fault::ElfFault;
+use crate::file_header::PROGRAM_HEADER_SIZE;
+use crate::image::Segment;
+use crate::program_header::ProgramHeader;
+use std::alloc::{AllocError, Global};
+
+/// The loadable program headers before the first header that breaks a rule on its own, and its fault.
+#[derive(Drop)]
+pub struct Walk {
+    pub loads: Vec<ProgramHeader>,
+    pub fault: Option<ElfFault>,
+}
+
+/// Walks the `count` program headers from the place `table` on.
+pub fn walk_table(alloc: Global, file: &[u8], table: u32, count: u16) -> Result<Walk, AllocError>
+    requires { table + program_header_size * count ≤ length file.now }
+    ensures { IfOk result (λ w. walk_of w ≡ walk (length file.now) (headers_from file.now table count)) }
+{
+    let mut loads = Vec::new(alloc);
+    let mut place = table as usize;
+    for _ in 0..count {
+        let header = ProgramHeader::at(file, place);
+        if let Some(fault) = header.own_fault(file.len()) {
+            return Ok(Walk {
+                loads,
+                fault: Some(fault),
+            });
+        }
+        if header.is_load() {
+            loads.push(header)?;
+        }
+        place += PROGRAM_HEADER_SIZE;
+    }
+    Ok(Walk { loads, fault: None })
+}
+
+/// The headers in the order of their addresses.
+fn sorted_by_address(
+    alloc: Global,
+    loads: &[ProgramHeader],
+) -> Result<Vec<ProgramHeader>, AllocError>
+    ensures permutation { IfOk result (λ v. IsPermutation loads.now v.items) }
+    ensures sorted { IfOk result (λ v. IsNonDecreasingBy (λ h. h.vaddr) v.items) }
+{
+    let mut sorted = Vec::from_slice(alloc, loads)?;
+    sorted.sort_unstable_by_key(|h| h.vaddr);
+    Ok(sorted)
+}
+
+/// Whether each header that has memory begins where the one before it ends, or later.
+fn in_order(sorted: &[ProgramHeader]) -> bool
+    ensures { result ≡ in_order 0 (map fields_of sorted.now) }
+{
+    let mut high = 0;
+    for h in sorted {
+        if h.memory_size == 0 {
+            continue;
+        }
+        if u64::from(h.vaddr) < high {
+            return false;
+        }
+        high = h.end();
+    }
+    true
+}
+
+/// Whether no two of the segments share an address.
+///
+/// A table may have 65,535 headers, so this sorts them in place of comparing each with each.
+pub fn are_apart(alloc: Global, loads: &[ProgramHeader]) -> Result<bool, AllocError>
+    ensures { IfOk result (λ apart. apart ≡ are_apart [] (map fields_of loads.now)) }
+{
+    let sorted = sorted_by_address(alloc, loads)?;
+    Ok(in_order(&sorted))
+}
+
+/// The segment that a header describes.
+fn segment_of(alloc: Global, file: &[u8], header: ProgramHeader) -> Result<Segment, AllocError>
+    requires { header.offset + header.file_size ≤ length file.now }
+    ensures { IfOk result (λ s. segment_contents s ≡ segment_of file.now (fields_of header)) }
+{
+    let start = header.offset as usize;
+    let end = start + header.file_size as usize;
+    Ok(Segment {
+        vaddr: header.vaddr,
+        flags: header.flags,
+        bytes: Vec::from_slice(alloc, &file[start..end])?,
+        size: header.memory_size,
+    })
+}
+
+/// The segments that loadable headers describe, in their order.
+pub fn segments_of(
+    alloc: Global,
+    file: &[u8],
+    loads: &[ProgramHeader],
+) -> Result<Vec<Segment>, AllocError>
+    requires { All (λ h. h.offset + h.file_size ≤ length file.now) loads.now }
+    ensures { IfOk result (λ v. map segment_contents v.items ≡ map (segment_of file.now) (map fields_of loads.now)) }
+{
+    let mut segments = Vec::with_capacity(alloc, loads.len())?;
+    for header in loads {
+        segments.push(segment_of(alloc, file, *header)?)?;
+    }
+    Ok(segments)
+}

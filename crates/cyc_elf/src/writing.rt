@@ -1,0 +1,147 @@
+//! The writer.
+
+ghost use Rattle.std.specs.Prelude.{◌≡◌, ◌+◌, ◌-◌, ◌^◌, ◌<◌, ◌≤◌, ◌++◌, length, map, All, Ok, OnOk, IfOk};
+ghost use Rattle.std.specs.List.{flat_map};
+ghost use Rattle.cyc_elf.specs.Image.{IsWellFormed, contents_of, segment_contents, padded};
+ghost use Rattle.cyc_elf.specs.Layout.{halves, words, file_header, program_header, laid_headers, stored, layout, FitsFields};
+ghost use Rattle.cyc_elf.specs.Parts.{fields_of, IsInWords};
+ghost use Rattle.cyc_elf.specs.Reading.{reading};
+
+use crate::file_header::{EXECUTABLE, FILE_HEADER_SIZE, IDENT, MIPS, PROGRAM_HEADER_SIZE, VERSION};
+use crate::image::{Image, Segment};
+use crate::program_header::ProgramHeader;
+use byteorder::{BigEndian, ByteOrder};
+use std::alloc::{AllocError, Global};
+
+/// How a segment is aligned, in the file and in memory.
+const ALIGNMENT: u32 = 4;
+
+/// The size of the file header, as its own field.
+const FILE_HEADER: u16 = 52;
+
+/// The size of a program header, as the file header's field.
+const PROGRAM_HEADER: u16 = 32;
+
+/// Where the program headers begin: right behind the file header.
+const TABLE_OFFSET: u32 = 52;
+
+/// Appends numbers of two bytes each.
+fn put_halves(out: &mut Vec<u8>, numbers: &[u16]) -> Result<(), AllocError>
+    ensures { OnOk result (out.new.items ≡ out.old.items ++ halves numbers.now) }
+{
+    for number in numbers {
+        let mut bytes = [0; 2];
+        BigEndian::write_u16(&mut bytes, *number);
+        out.extend_from_slice(&bytes)?;
+    }
+    Ok(())
+}
+
+/// Appends numbers of four bytes each.
+fn put_words(out: &mut Vec<u8>, numbers: &[u32]) -> Result<(), AllocError>
+    ensures { OnOk result (out.new.items ≡ out.old.items ++ words numbers.now) }
+{
+    for number in numbers {
+        let mut bytes = [0; 4];
+        BigEndian::write_u32(&mut bytes, *number);
+        out.extend_from_slice(&bytes)?;
+    }
+    Ok(())
+}
+
+/// Appends the file header. The fields that point to sections are 0, since there are none.
+#[tactic(auto, unfolding(crate::specs::Layout::file_header))]
+fn put_file_header(out: &mut Vec<u8>, entry: u32, count: u16) -> Result<(), AllocError>
+    ensures bytes { OnOk result (out.new.items ≡ out.old.items ++ file_header entry count) }
+    ensures word { entry < 2 ^ 32 }
+{
+    out.extend_from_slice(&IDENT)?;
+    out.extend_from_slice(&[0; 9])?;
+    put_halves(out, &[EXECUTABLE, MIPS])?;
+    put_words(out, &[VERSION, entry, TABLE_OFFSET, 0, 0])?;
+    put_halves(out, &[FILE_HEADER, PROGRAM_HEADER, count, 0, 0, 0])?;
+    Ok(())
+}
+
+/// Appends a program header.
+#[tactic(auto, unfolding(crate::specs::Layout::program_header))]
+fn put_program_header(out: &mut Vec<u8>, header: ProgramHeader) -> Result<(), AllocError>
+    ensures bytes { OnOk result (out.new.items ≡ out.old.items ++ program_header (fields_of header)) }
+    ensures words { IsInWords (fields_of header) }
+{
+    put_words(
+        out,
+        &[
+            header.kind,
+            header.offset,
+            header.vaddr,
+            header.vaddr,
+            header.file_size,
+            header.memory_size,
+            header.flags,
+            ALIGNMENT,
+        ],
+    )
+}
+
+/// How many zeros follow `len` bytes up to a whole word.
+fn padding(len: usize) -> usize
+    ensures { result ≡ padded len - len }
+{
+    (4 - len % 4) % 4
+}
+
+/// Appends a segment's bytes, and zeros up to a whole word.
+fn put_bytes(out: &mut Vec<u8>, s: &Segment) -> Result<(), AllocError>
+    ensures { OnOk result (out.new.items ≡ out.old.items ++ stored (segment_contents s.now)) }
+{
+    out.extend_from_slice(&s.bytes)?;
+    let zeros = [0; 3];
+    out.extend_from_slice(&zeros[..padding(s.bytes.len())])?;
+    Ok(())
+}
+
+/// Appends the program headers of an image's segments.
+fn put_headers(out: &mut Vec<u8>, segments: &[Segment]) -> Result<(), AllocError>
+    requires each { All (λ s. length s.bytes.items ≤ s.size) segments.now }
+    requires offsets { All (λ h. h.offset < 2 ^ 32) (laid_headers (map segment_contents segments.now)) }
+    ensures bytes { OnOk result (out.new.items
+        ≡ out.old.items ++ flat_map program_header (laid_headers (map segment_contents segments.now))) }
+    ensures words { OnOk result (All IsInWords (laid_headers (map segment_contents segments.now))) }
+{
+    let mut offset = FILE_HEADER_SIZE + PROGRAM_HEADER_SIZE * segments.len();
+    for s in segments {
+        put_program_header(out, ProgramHeader::of(s, offset as u32))?;
+        offset += s.bytes.len() + padding(s.bytes.len());
+    }
+    Ok(())
+}
+
+/// Appends the bytes of an image's segments, each up to a whole word.
+fn put_all_bytes(out: &mut Vec<u8>, segments: &[Segment]) -> Result<(), AllocError>
+    ensures { OnOk result (out.new.items ≡ out.old.items ++ flat_map stored (map segment_contents segments.now)) }
+{
+    for s in segments {
+        put_bytes(out, s)?;
+    }
+    Ok(())
+}
+
+/// Writes an image as a file: the file header, a program header for each segment, and the segments' bytes in
+/// order, each padded with zeros to whole words. There are no section headers.
+///
+/// The file has 52 bytes, 32 for each segment, and each segment's bytes rounded up to words: zeros that a
+/// segment has past its bytes are not written.
+pub fn write_image(alloc: Global, image: &Image) -> Result<Vec<u8>, AllocError>
+    requires well_formed { IsWellFormed (contents_of image.now) }
+    requires fits { FitsFields (contents_of image.now) }
+    ensures exact { IfOk result (λ file. file.items ≡ layout (contents_of image.now)) }
+    // What is written is read as the same image.
+    ensures read_again { IfOk result (λ file. reading file.items ≡ Ok (contents_of image.now)) }
+{
+    let mut file = Vec::new(alloc);
+    put_file_header(&mut file, image.entry, image.segments.len() as u16)?;
+    put_headers(&mut file, &image.segments)?;
+    put_all_bytes(&mut file, &image.segments)?;
+    Ok(file)
+}
