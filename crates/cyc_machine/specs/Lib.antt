@@ -1,0 +1,7 @@
+pub mod Arrays
+pub mod Bounds
+pub mod Run
+pub mod Shape
+pub mod Start
+pub mod State
+pub mod Step

@@ -1,0 +1,21 @@
+//! A MIPS32 machine for user programs: loading an image, and executing its instructions one at a time.
+#![tactic(auto)]
+
+mod event;
+mod fault;
+pub mod laws;
+mod limits;
+mod machine;
+mod memory;
+mod phase;
+mod registers;
+mod results;
+mod start;
+#[cfg(test)]
+mod tests;
+mod text;
+
+pub use event::{Cause, End, Event};
+pub use fault::LoadFault;
+pub use limits::Limits;
+pub use machine::Machine;

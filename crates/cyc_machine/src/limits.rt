@@ -1,0 +1,56 @@
+//! What a run may take.
+
+ghost use Rattle.std.specs.Prelude.{◌≡◌, ◌≤◌, ◌↔◌, IsSome, IfSome};
+ghost use Rattle.cyc_machine.specs.Bounds.{AreAllowed};
+
+use std::marker::Model;
+
+/// The limits of a run: pages of the store, from 3 to 65,536, and calls under way at once, from 1 to 4,096.
+#[derive(Clone, Copy, Debug, PartialEq, Eq)]
+pub struct Limits {
+    pages: u32,
+    calls: u32,
+}
+
+// Clauses see both numbers.
+impl Model for Limits {
+    ghost use Rattle.cyc_machine.specs.Bounds.{Bounds, AreAllowed};
+
+    ghost Value = { Bounds };
+
+    ghost view = { λ l. record { pages = l.pages; calls = l.calls } };
+
+    ghost invariant = { λ l. AreAllowed l.pages l.calls };
+
+    ghost inverse = { λ b. record { pages = b.pages; calls = b.calls } };
+}
+
+impl Limits {
+    /// The limits, or `None` exactly where one of the numbers is out of its range.
+    pub fn new(pages: u32, calls: u32) -> Option<Limits>
+        ensures allowed { IsSome result ↔ AreAllowed pages calls }
+        ensures values { IfSome result (λ l. l ≡ record { pages = pages; calls = calls }) }
+    {
+        if 3 <= pages && pages <= 65_536 && 1 <= calls && calls <= 4096 {
+            Some(Limits { pages, calls })
+        } else {
+            None
+        }
+    }
+
+    /// How many pages of 4,096 bytes the store has.
+    pub fn pages(&self) -> u32
+        ensures value { result ≡ self.now.pages }
+        ensures allowed { AreAllowed self.now.pages self.now.calls }
+    {
+        self.pages
+    }
+
+    /// How many calls may be under way at once. The stack has 256 words for each.
+    pub fn calls(&self) -> u32
+        ensures value { result ≡ self.now.calls }
+        ensures allowed { AreAllowed self.now.pages self.now.calls }
+    {
+        self.calls
+    }
+}

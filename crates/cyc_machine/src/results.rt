@@ -1,0 +1,129 @@
+//! What the instructions compute of words.
+
+ghost use Rattle.std.specs.Prelude.{◌≡◌, ◌<◌, ◌^◌};
+ghost use Rattle.cyc_words.specs.Word.{sign_extended};
+ghost use Rattle.cyc_isa.specs.Effect.{immediate_result, load_upper_result, shift_result, arithmetic_result, high_result, low_result, branch_taken, branch_zero_taken, branch_target, jump_target, return_address};
+
+use cyc_isa::{ArithmeticOp, BranchOp, BranchZeroOp, ImmediateOp, MultiplyDivideOp, ShiftOp};
+use cyc_words::{add, mul, sar, shl, shr, slt, sltu, sub};
+
+/// A 16-bit immediate or offset as a word, extended by its sign.
+#[inline]
+#[tactic(auto, unfolding(cyc_words::specs::Word::sign_extended))]
+pub fn sign_extend(half: u16) -> u32
+    ensures { result ≡ sign_extended half }
+{
+    i32::from(half.cast_signed()).cast_unsigned()
+}
+
+/// The result of an operation on a register and an immediate.
+#[inline]
+pub fn immediate(op: ImmediateOp, a: u32, half: u16) -> u32
+    ensures { result ≡ immediate_result op a half }
+{
+    match op {
+        ImmediateOp::AddUnsigned => add(a, sign_extend(half)),
+        ImmediateOp::SetLess => slt(a, sign_extend(half)),
+        ImmediateOp::SetLessUnsigned => sltu(a, sign_extend(half)),
+        ImmediateOp::And => a & u32::from(half),
+        ImmediateOp::Or => a | u32::from(half),
+        ImmediateOp::Xor => a ^ u32::from(half),
+    }
+}
+
+/// An immediate in the upper half of a word.
+#[inline]
+pub fn upper(half: u16) -> u32
+    ensures { result ≡ load_upper_result half }
+{
+    u32::from(half) << 16
+}
+
+/// The result of a shift by the low five bits of a count.
+#[inline]
+pub fn shift(op: ShiftOp, a: u32, count: u32) -> u32
+    ensures { result ≡ shift_result op a count }
+{
+    match op {
+        ShiftOp::Left => shl(a, count),
+        ShiftOp::RightLogical => shr(a, count),
+        ShiftOp::RightArithmetic => sar(a, count),
+    }
+}
+
+/// The result of an operation on two registers.
+#[inline]
+pub fn arithmetic(op: ArithmeticOp, a: u32, b: u32) -> u32
+    ensures { result ≡ arithmetic_result op a b }
+{
+    match op {
+        ArithmeticOp::AddUnsigned => add(a, b),
+        ArithmeticOp::SubtractUnsigned => sub(a, b),
+        ArithmeticOp::And => a & b,
+        ArithmeticOp::Or => a | b,
+        ArithmeticOp::Xor => a ^ b,
+        ArithmeticOp::Nor => !(a | b),
+        ArithmeticOp::SetLess => slt(a, b),
+        ArithmeticOp::SetLessUnsigned => sltu(a, b),
+    }
+}
+
+/// The upper and the lower word of the signed product.
+#[inline]
+pub fn product(a: u32, b: u32) -> (u32, u32)
+    ensures high { result.0 ≡ high_result MultiplyDivideOp.Multiply a b }
+    ensures low { result.1 ≡ low_result MultiplyDivideOp.Multiply a b }
+{
+    let bits = (i64::from(a.cast_signed()) * i64::from(b.cast_signed())).cast_unsigned();
+    ((bits >> 32) as u32, (bits % 0x1_0000_0000) as u32)
+}
+
+/// Whether a branch on two registers is taken.
+#[inline]
+pub fn taken(op: BranchOp, a: u32, b: u32) -> bool
+    ensures { result ≡ branch_taken op a b }
+{
+    match op {
+        BranchOp::Equal => a == b,
+        BranchOp::NotEqual => a != b,
+    }
+}
+
+/// Whether a branch on the sign of a register is taken.
+#[inline]
+pub fn taken_by_sign(op: BranchZeroOp, a: u32) -> bool
+    ensures { result ≡ branch_zero_taken op a }
+{
+    let a = a.cast_signed();
+    match op {
+        BranchZeroOp::LessOrEqual => a <= 0,
+        BranchZeroOp::Greater => a > 0,
+        BranchZeroOp::Less => a < 0,
+        BranchZeroOp::GreaterOrEqual => a >= 0,
+    }
+}
+
+/// Where a branch at an address goes to.
+#[inline]
+pub fn branch_goes_to(address: u32, offset: u16) -> u32
+    ensures { result ≡ branch_target address offset }
+{
+    add(add(address, 4), mul(4, sign_extend(offset)))
+}
+
+/// Where a jump at an address goes to.
+#[inline]
+pub fn jump_goes_to(address: u32, index: u32) -> u32
+    requires { index < 2 ^ 26 }
+    ensures { result ≡ jump_target address index }
+{
+    add(address, 4) / 0x1000_0000 * 0x1000_0000 + index * 4
+}
+
+/// The address behind the delay slot of a call.
+#[inline]
+pub fn link(address: u32) -> u32
+    ensures { result ≡ return_address address }
+{
+    add(address, 8)
+}
