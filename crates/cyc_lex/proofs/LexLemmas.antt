@@ -1,0 +1,168 @@
+-- Reading on: what is read of a text so far, and one piece more.
+use Rattle.std.proofs.Common.{◌≡◌, ◌≢◌, ℕ, ◌+◌, ◌-◌, ◌<◌, ◌≤◌, ⊎_elim, Option, Some, None, List, [], ◌∷◌, ◌++◌, length, take, drop, map, refl, sym, ap, subst, ◌∙◌, append-nil, arith}
+use Rattle.std.specs.Prelude.{All, slice_range}
+use Rattle.std.proofs.lemmas.Bool.{cases_lt}
+use Rattle.std.proofs.lemmas.List.{take-append-drop, length-drop, length_push, length-map, drop-drop, drop_all, map_push}
+use Rattle.std.proofs.Math.Seq.{take-add}
+use Rattle.std.proofs.lemmas.List.Elements.{All-push, All-append, All-cons, All-nil}
+use Rattle.cyc_syntax.specs.declared.tokens.Span.{Span}
+use Rattle.cyc_syntax.specs.declared.tokens.Token.{Token as CodeToken}
+use Rattle.cyc_syntax.specs.declared.tokens.TokenKind.{TokenKind}
+use Rattle.cyc_syntax.specs.Spelling.{Piece, Lexeme, Space, Comment, OpenComment, SpellsToken}
+use Rattle.cyc_syntax.specs.Tokens.{kind_of, token_of}
+use Rattle.cyc_syntax.specs.TokenRule.{IsRead, Part, IsCut, bytes_of, part_tokens, tokens_of, IsSmall, IsWithinLimits, LiesIn, line_behind, column_behind, max_bytes, max_tokens}
+use Rattle.cyc_syntax.proofs.CutLemmas.{piece_nonempty, IsCut-push, bytes_of-push, tokens_of-append}
+use Rattle.cyc_lex.specs.Found.{IsReadAs, IsFound}
+use Rattle.cyc_lex.specs.Place.{IsBehind}
+use Rattle.cyc_lex.specs.Refusals.{IsAccepted}
+
+-- a piece that was found has bytes
+pub found_some : (text : List ℕ) (kind : Option TokenKind) (len : ℕ) → IsFound text kind len → 0 < len
+found_some text kind len found =
+    ⊎_elim (λ some. some) (λ none. absurd (by kind (subst (λ n. IsReadAs kind (take n text) (drop n text)) (let zero : len ≡ 0 = omega arith in zero) found.piece))) (cases_lt 0 len)
+  where
+    by : (kind : Option TokenKind) → IsReadAs kind [] text → ⊥
+    by None read = ⊎_elim (λ space. piece_nonempty Space space.spelled) (λ comment. piece_nonempty Comment comment.spelled) read
+    by (Some k) read = piece_nonempty (Lexeme (kind_of [] k)) read.0.spelled
+
+-- what is read of a text: all before `start`, with these tokens
+pub record IsReadUpTo (text : List ℕ) (tokens : List CodeToken) (start : ℕ) (place : Span) : Type 0 where
+  pub parts : List Part
+  pub cut : IsCut parts text (drop start text)
+  pub front : bytes_of parts ≡ take start text
+  pub views : map (token_of text) tokens ≡ tokens_of [] parts
+  pub within : IsWithinLimits (tokens_of [] parts)
+  pub lie : All (LiesIn text) tokens
+  pub behind : IsBehind place (take start text)
+  pub inside : start ≤ length text
+
+pub nothing_read : (text : List ℕ) → IsReadUpTo text [] 0 (record { line = 1; column = 1 })
+nothing_read text = record {
+  parts = [];
+  cut = refl;
+  front = refl;
+  views = refl;
+  within = record { count = omega arith; numbers = λ k d less. absurd (omega arith) };
+  lie = λ k d less. absurd (omega arith);
+  behind = record { line = refl; column = refl };
+  inside = omega arith;
+}
+
+-- so many tokens are read at most
+pub tokens_within : (text : List ℕ) (tokens : List CodeToken) (start : ℕ) (place : Span) → IsReadUpTo text tokens start place → length tokens ≤ max_tokens
+tokens_within text tokens start place done =
+    let count : length tokens ≡ length (tokens_of [] done.parts) = sym (length-map tokens (token_of text)) ∙ ap length done.views in
+    let most = done.within.count in
+    omega (arith, count, most)
+
+-- the bytes of the next piece, and what follows them
+rest_is : (text : List ℕ) (start len : ℕ) → drop start text ≡ take len (drop start text) ++ drop (start + len) text
+rest_is text start len =
+    sym (take-append-drop len (drop start text)) ∙ ap (λ l. take len (drop start text) ++ l) (drop-drop len start text)
+
+tokens_push : (ps : List Part) (p : Part) → tokens_of [] (ps ++ p ∷ []) ≡ tokens_of [] ps ++ part_tokens (bytes_of ps) p.piece
+tokens_push ps p = tokens_of-append [] ps (p ∷ []) ∙ ap (λ l. tokens_of [] ps ++ l) (append-nil (part_tokens (bytes_of ps) p.piece))
+
+-- the next part of a text, and the token of the code that it may be
+abbrev part_at : List ℕ → ℕ → ℕ → Piece → Part
+part_at text start len m = record { piece = m; bytes = take len (drop start text) }
+
+abbrev pub token_at : TokenKind → Span → ℕ → ℕ → CodeToken
+token_at kind place start end = record { kind = kind; span = place; start = start; end = end }
+
+module _ (text : List ℕ) (tokens : List CodeToken) (start len : ℕ) (place next : Span) (done : IsReadUpTo text tokens start place)
+    (fits : len ≤ length (drop start text)) (behind : IsBehind next (take start text ++ take len (drop start text))) where
+  inside : start + len ≤ length text
+  inside = let known = done.inside in omega (arith, fits, length-drop start text, known)
+
+  next_behind : IsBehind next (take (start + len) text)
+  next_behind = subst (IsBehind next) (sym (take-add start len text)) behind
+
+  next_cut : (m : Piece) → IsRead m (take len (drop start text)) (drop len (drop start text)) → m ≢ OpenComment
+      → IsCut (done.parts ++ part_at text start len m ∷ []) text (drop (start + len) text)
+  next_cut m read closed =
+      IsCut-push done.parts (part_at text start len m) text (drop (start + len) text)
+      (subst (IsCut done.parts text) (rest_is text start len) done.cut)
+      (subst (IsRead m (take len (drop start text))) (drop-drop len start text) read)
+      closed
+
+  next_front : (m : Piece) → bytes_of (done.parts ++ part_at text start len m ∷ []) ≡ take (start + len) text
+  next_front m =
+      bytes_of-push done.parts (part_at text start len m)
+      ∙ ap (λ l. l ++ take len (drop start text)) done.front
+      ∙ sym (take-add start len text)
+
+  next_tokens : (m : Piece) → tokens_of [] (done.parts ++ part_at text start len m ∷ []) ≡ tokens_of [] done.parts ++ part_tokens (bytes_of done.parts) m
+  next_tokens m = tokens_push done.parts (part_at text start len m)
+
+  -- a space or a comment
+  blank : (m : Piece) → IsRead m (take len (drop start text)) (drop len (drop start text)) → m ≢ OpenComment → part_tokens (bytes_of done.parts) m ≡ []
+      → IsReadUpTo text tokens (start + len) next
+  blank m read closed none =
+      let same : tokens_of [] done.parts ≡ tokens_of [] (done.parts ++ part_at text start len m ∷ []) =
+      sym (next_tokens m ∙ ap (λ l. tokens_of [] done.parts ++ l) none ∙ append-nil (tokens_of [] done.parts)) in
+      record {
+        parts = done.parts ++ part_at text start len m ∷ [];
+        cut = next_cut m read closed;
+        front = next_front m;
+        views = done.views ∙ same;
+        within = subst IsWithinLimits same done.within;
+        lie = done.lie;
+        behind = next_behind;
+        inside = inside;
+      }
+
+  pub blank_read : IsReadAs None (take len (drop start text)) (drop len (drop start text)) → IsReadUpTo text tokens (start + len) next
+  blank_read read =
+      ⊎_elim (λ space. blank Space space (λ e. cc) refl) (λ comment. blank Comment comment (λ e. cc) refl) read
+
+  -- a token
+  module _ (kind : TokenKind) (room : length tokens < max_tokens) (some : 0 < len)
+      (read : IsReadAs (Some kind) (take len (drop start text)) (drop len (drop start text))) where
+    spelling : slice_range text start (start + len) ≡ take len (drop start text)
+    spelling = let count : start + len - start ≡ len = omega arith in ap (λ n. take n (drop start text)) count
+
+    view : token_of text (token_at kind place start (start + len)) ∷ [] ≡ part_tokens (bytes_of done.parts) (Lexeme (kind_of (take len (drop start text)) kind))
+    view =
+        let line = done.behind.line ∙ ap line_behind (sym done.front) in
+        let column = done.behind.column ∙ ap column_behind (sym done.front) in
+        (λ i. record { kind = kind_of (spelling i) kind; line = line i; column = column i } ∷ [])
+
+    lies : LiesIn text (token_at kind place start (start + len))
+    lies = record {
+      starts = omega arith;
+      ends = inside;
+      line = done.behind.line;
+      column = done.behind.column;
+      spelled = subst (λ l. SpellsToken (kind_of l kind) l) (sym spelling) read.0.spelled;
+    }
+
+    pub token_read : IsReadUpTo text (tokens ++ token_at kind place start (start + len) ∷ []) (start + len) next
+    token_read =
+        let m = Lexeme (kind_of (take len (drop start text)) kind) in
+        let views : map (token_of text) (tokens ++ token_at kind place start (start + len) ∷ []) ≡ tokens_of [] (done.parts ++ part_at text start len m ∷ []) =
+        map_push (token_of text) tokens (token_at kind place start (start + len)) ∙ (λ i. done.views i ++ view i) ∙ sym (next_tokens m) in
+        let count : length (tokens_of [] (done.parts ++ part_at text start len m ∷ [])) ≡ length tokens + 1 =
+        ap length (sym views) ∙ length-map _ (token_of text) ∙ length_push tokens (token_at kind place start (start + len)) in
+        record {
+          parts = done.parts ++ part_at text start len m ∷ [];
+          cut = next_cut m read.0 (λ e. cc);
+          front = next_front m;
+          views = views;
+          within = record {
+            count = omega (arith, count);
+            numbers = subst (All (λ t. IsSmall t.kind)) (sym (next_tokens m)) (All-append (λ t. IsSmall t.kind) (tokens_of [] done.parts) (part_tokens (bytes_of done.parts) m) done.within.numbers (All-cons (λ t. IsSmall t.kind) _ [] read.1 (All-nil (λ t. IsSmall t.kind))));
+          };
+          lie = All-push (LiesIn text) tokens (token_at kind place start (start + len)) done.lie lies;
+          behind = next_behind;
+          inside = inside;
+        }
+
+-- the end of the text
+pub all_read : (text : List ℕ) (tokens : List CodeToken) (start : ℕ) (place : Span) → IsReadUpTo text tokens start place → length text ≤ start
+    → length text ≤ max_bytes → IsAccepted text (map (token_of text) tokens)
+all_read text tokens start place done end short = record {
+  short = short;
+  rule = (done.parts, subst (IsCut done.parts text) (drop_all start text end) done.cut, sym done.views);
+  within = subst IsWithinLimits (sym done.views) done.within;
+}

@@ -1,0 +1,11 @@
+pub mod AnswerLemmas
+pub mod CommentLemmas
+pub mod FaultLemmas
+pub mod LexLemmas
+pub mod NameReading
+pub mod NumberLemmas
+pub mod NumberReading
+pub mod PlaceLemmas
+pub mod ShapeLemmas
+pub mod SlashReading
+pub mod SpellingLemmas

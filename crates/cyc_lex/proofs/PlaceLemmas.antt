@@ -1,0 +1,58 @@
+-- Lines and columns, one byte further.
+use Rattle.std.proofs.Common.{◌≡◌, ℕ, ◌+◌, ◌-◌, ◌<◌, false, not, cond, eqb, List, [], ◌∷◌, ◌++◌, length, get_or, take, sym, ap, ◌∙◌, arith}
+use Rattle.std.specs.List.{suffix_len, prefix_len, count_by}
+use Rattle.std.proofs.lemmas.List.{length-drop, reverse-append, take_more, append_assoc}
+use Rattle.std.proofs.lemmas.List.Sums.{suffix_len-le-length, sum_by_push}
+use Rattle.cyc_syntax.specs.declared.tokens.Span.{Span}
+use Rattle.cyc_lex.specs.Place.{IsBehind}
+use Rattle.cyc_syntax.specs.Spelling.{is_line_feed}
+use Rattle.cyc_syntax.specs.TokenRule.{line_behind, column_behind}
+
+-- a column counts the bytes at the end that are no line feeds
+column_is : (front : List ℕ) → column_behind front ≡ suffix_len (λ b. not (is_line_feed b)) front + 1
+column_is front =
+    let cut = length-drop (length front - suffix_len (λ b. not (is_line_feed b)) front) front in
+    let within = suffix_len-le-length (λ b. not (is_line_feed b)) front in
+    omega (arith, cut, within)
+
+suffix_push : (front : List ℕ) (b : ℕ) → suffix_len (λ b. not (is_line_feed b)) (front ++ b ∷ []) ≡ cond (not (is_line_feed b)) (1 + suffix_len (λ b. not (is_line_feed b)) front) 0
+suffix_push front b = ap (prefix_len (λ b. not (is_line_feed b))) (reverse-append front (b ∷ []))
+
+-- a line feed ends the line
+pub line_behind-line_feed : (front : List ℕ) (b : ℕ) → b ≡ 10 → line_behind (front ++ b ∷ []) ≡ line_behind front + 1
+line_behind-line_feed front b is = ap (λ n. n + 1) (sum_by_push (λ x. cond (is_line_feed x) 1 0) front b ∙ ap (λ c. count_by is_line_feed front + cond (eqb c 10) 1 0) is)
+
+pub column_behind-line_feed : (front : List ℕ) (b : ℕ) → b ≡ 10 → column_behind (front ++ b ∷ []) ≡ 1
+column_behind-line_feed front b is =
+    column_is (front ++ b ∷ []) ∙ ap (λ n. n + 1) (suffix_push front b ∙ ap (λ c. cond (not (eqb c 10)) (1 + suffix_len (λ b. not (is_line_feed b)) front) 0) is)
+
+-- any other byte is one more column
+pub line_behind-other : (front : List ℕ) (b : ℕ) → eqb b 10 ≡ false → line_behind (front ++ b ∷ []) ≡ line_behind front
+line_behind-other front b other =
+    ap (λ n. n + 1) (sum_by_push (λ x. cond (is_line_feed x) 1 0) front b ∙ ap (λ c. count_by is_line_feed front + cond c 1 0) other ∙ omega arith)
+
+pub column_behind-other : (front : List ℕ) (b : ℕ) → eqb b 10 ≡ false → column_behind (front ++ b ∷ []) ≡ column_behind front + 1
+column_behind-other front b other =
+    column_is (front ++ b ∷ [])
+    ∙ ap (λ n. n + 1) (suffix_push front b ∙ ap (λ c. cond (not c) (1 + suffix_len (λ b. not (is_line_feed b)) front) 0) other)
+    ∙ omega (arith, column_is front)
+
+-- a place, moved over one byte
+pub behind_line_feed : (place next : Span) (front : List ℕ) (b : ℕ) → b ≡ 10 → next.line ≡ place.line + 1 → next.column ≡ 1
+    → IsBehind place front → IsBehind next (front ++ b ∷ [])
+behind_line_feed place next front b is line column behind = record {
+  line = line ∙ ap (λ n. n + 1) behind.line ∙ sym (line_behind-line_feed front b is);
+  column = column ∙ sym (column_behind-line_feed front b is);
+}
+
+pub behind_other : (place next : Span) (front : List ℕ) (b : ℕ) → eqb b 10 ≡ false → next.line ≡ place.line → next.column ≡ place.column + 1
+    → IsBehind place front → IsBehind next (front ++ b ∷ [])
+behind_other place next front b other line column behind = record {
+  line = line ∙ behind.line ∙ sym (line_behind-other front b other);
+  column = column ∙ ap (λ n. n + 1) behind.column ∙ sym (column_behind-other front b other);
+}
+
+-- one byte more of the bytes
+pub front_more : (front bytes : List ℕ) (i : ℕ) → i < length bytes → (front ++ take i bytes) ++ get_or bytes i 0 ∷ [] ≡ front ++ take (i + 1) bytes
+front_more front bytes i within =
+    append_assoc front (take i bytes) (get_or bytes i 0 ∷ []) ∙ ap (λ l. front ++ l) (sym (take_more bytes i 0 within))

@@ -1,0 +1,96 @@
+-- What a piece looks like that begins with a given byte, and what follows for the longest piece at the head of a text.
+use Rattle.std.proofs.Common.{◌≡◌, ℕ, ◌+◌, ◌<◌, ◌≤◌, Bool, true, cond, Some, ◌⊎◌, inl, inr, ⊎_elim, List, [], ◌∷◌, ◌++◌, length, get_or, take, drop, refl, sym, ap, subst, ◌∙◌, arith}
+use Rattle.std.specs.Prelude.{codes}
+use Rattle.std.specs.List.{list_all, prefix_len}
+use Rattle.std.proofs.lemmas.List.{take-append-drop, length-take-le}
+use Rattle.std.proofs.lemmas.Bool.{cases_Bool, cond-true, and_from, and_parts}
+use Rattle.std.proofs.Math.Numerals.{one-add}
+use Rattle.cyc_words.specs.declared.fault.Code.TheVariants as codes_of
+use Rattle.cyc_syntax.specs.declared.tokens.Sign.{Sign}
+use Rattle.cyc_syntax.specs.declared.tokens.Sign.TheVariants as signs
+use Rattle.cyc_syntax.specs.Tokens.{Identifier, RegionName, Number, Character, Word, Mark}
+use Rattle.cyc_syntax.specs.Spelling.{sign_text, is_name, is_decimal, is_hexadecimal, is_plain, escaped, IsLineComment, IsBlockComment, IsOpenComment, Piece, Lexeme, Space, Comment, OpenComment, Spells}
+use Rattle.cyc_syntax.specs.TokenRule.{IsRead}
+use Rattle.cyc_syntax.proofs.PieceLemmas.{Start, AtName, AtNumber, AtRegion, AtQuote, AtSpace, AtSlash, AtSign, start_of, starts_as, sign_start, piece_start, piece_starts, is_name-keyword_text}
+use Rattle.cyc_lex.specs.Refusals.{FailsHere}
+
+-- a character constant, plain or escaped
+abbrev pub IsCharacter : List ℕ → Type 0
+IsCharacter bytes =
+    ((c : ℕ) × (bytes ≡ 39 ∷ c ∷ 39 ∷ []) × (is_plain c ≡ true))
+    ⊎ ((b : ℕ) × (c : ℕ) × (bytes ≡ 39 ∷ 92 ∷ b ∷ 39 ∷ []) × (escaped b ≡ Some c))
+
+abbrev pub Shape : Start → List ℕ → Type 0
+Shape AtName bytes = is_name bytes ≡ true
+Shape AtNumber bytes = (is_decimal bytes ≡ true) ⊎ (is_hexadecimal bytes ≡ true)
+Shape AtRegion bytes = (name : List ℕ) × (bytes ≡ 96 ∷ name) × (is_name name ≡ true)
+Shape AtQuote bytes = IsCharacter bytes
+Shape AtSpace bytes = length bytes ≡ 1
+Shape AtSlash bytes = (bytes ≡ codes "/") ⊎ (IsLineComment bytes ⊎ (IsBlockComment bytes ⊎ IsOpenComment bytes))
+Shape AtSign bytes = (s : Sign) × (bytes ≡ sign_text s)
+
+sign_shape : (s : Sign) → Shape (sign_start s) (sign_text s)
+sign_shape signs.Slash = inl refl
+sign_shape s = (s, refl)
+
+-- a piece has the shape that its first byte asks for
+shape : (m : Piece) (bytes : List ℕ) → Spells m bytes → Shape (piece_start m) bytes
+shape (Lexeme (Identifier name)) bytes h = ap is_name h.0 ∙ h.1
+shape (Lexeme (RegionName name)) bytes h = (name, h.0, h.1)
+shape (Lexeme (Number n)) bytes h = ⊎_elim (λ d. inl d.0) (λ x. inr x.0) h
+shape (Lexeme (Character c)) bytes h = ⊎_elim (λ p. inl (c, p.0, p.1)) (λ e. inr (e.0, c, e.1, e.2)) h
+shape (Lexeme (Word k)) bytes h = ap is_name h ∙ is_name-keyword_text k
+shape (Lexeme (Mark s)) bytes h = subst (Shape (sign_start s)) (sym h) (sign_shape s)
+shape Space bytes h = ap length h.1
+shape Comment bytes h = ⊎_elim (λ line. inr (inl line)) (λ block. inr (inr (inl block))) h
+shape OpenComment bytes h = inr (inr (inr h))
+
+-- each front of a text that is a piece has the shape that the text's first byte asks for
+front_shape : (m : Piece) (text front rest : List ℕ) → text ≡ front ++ rest → Spells m front → Shape (start_of (get_or text 0 0)) front
+front_shape m text front rest e spelled = by front (piece_starts m front spelled) (shape m front spelled) e
+  where
+    by : (front : List ℕ) → starts_as front (piece_start m) → Shape (piece_start m) front → text ≡ front ++ rest → Shape (start_of (get_or text 0 0)) front
+    by [] start shaped e = absurd start
+    by (b ∷ bs) start shaped e =
+        subst (λ s. Shape s (b ∷ bs)) (sym (ap (λ l. start_of (get_or l 0 0)) e ∙ start)) shaped
+
+-- the piece at the head of a text, where no front of this shape is longer
+pub read_at : (m : Piece) (s : Start) (text : List ℕ) (n : ℕ) → start_of (get_or text 0 0) ≡ s → n ≤ length text → Spells m (take n text)
+    → ((front rest : List ℕ) → text ≡ front ++ rest → Shape s front → length front ≤ n) → IsRead m (take n text) (drop n text)
+read_at m s text n start within spelled bound = record {
+  spelled = spelled;
+  longest = λ other front rest e also.
+      let whole : text ≡ front ++ rest = sym (take-append-drop n text) ∙ e in
+      let size = length-take-le n text within in
+      let small = bound front rest whole (subst (λ t. Shape t front) start (front_shape other text front rest whole also)) in
+      omega (arith, size, small);
+}
+
+-- no piece stands at the head of a text, where no front has this shape
+pub unread : (s : Start) (text : List ℕ) → start_of (get_or text 0 0) ≡ s → 0 < length text
+    → ((front rest : List ℕ) → text ≡ front ++ rest → Shape s front → ⊥) → FailsHere codes_of.UnknownByte text
+unread s text start within none = (
+  λ empty. absurd (omega (arith, ap length empty)),
+  λ m front rest whole spelled. none front rest whole (subst (λ t. Shape t front) start (front_shape m text front rest whole spelled)),
+)
+
+-- runs of one class
+
+-- the bytes of a run pass, and no front that passes is longer
+pub run_passes : (p : ℕ → Bool) (text : List ℕ) → list_all p (take (prefix_len p text) text) ≡ true
+run_passes p [] = refl
+run_passes p (b ∷ bs) =
+    ⊎_elim
+    (λ passes. ap (λ t. list_all p (take (cond t (1 + prefix_len p bs) 0) (b ∷ bs))) passes ∙ rw one-add (and_from _ _ passes (run_passes p bs)))
+    (λ fails. ap (λ t. list_all p (take (cond t (1 + prefix_len p bs) 0) (b ∷ bs))) fails)
+    (cases_Bool (p b))
+
+pub run_bound : (p : ℕ → Bool) (text front rest : List ℕ) → text ≡ front ++ rest → list_all p front ≡ true → length front ≤ prefix_len p text
+run_bound p text front rest e passes = subst (λ t. length front ≤ prefix_len p t) (sym e) (within front passes)
+  where
+    within : (front : List ℕ) → list_all p front ≡ true → length front ≤ prefix_len p (front ++ rest)
+    within [] passes = omega arith
+    within (b ∷ bs) passes =
+        let parts = and_parts (p b) (list_all p bs) passes in
+        let here : prefix_len p ((b ∷ bs) ++ rest) ≡ 1 + prefix_len p (bs ++ rest) = cond-true (p b) (1 + prefix_len p (bs ++ rest)) 0 parts.0 in
+        omega (arith, here, within bs parts.1)

@@ -1,0 +1,10 @@
+use Rattle.std.proofs.Common.{◌-◌, length}
+use Rattle.cyc_lex.proofs.LexLemmas.{IsReadUpTo}
+use Rattle.cyc_lex.proofs.lexer.read_tokens.Given as goal
+
+-- all before `start` is read
+abbrev pub invariant-loop-start : goal.invariant-loop-start
+invariant-loop-start l = IsReadUpTo l.text l.tokens.items l.start l.place
+
+abbrev pub decreases-loop-start : goal.decreases-loop-start
+decreases-loop-start l = length l.text - l.start

@@ -1,0 +1,37 @@
+use Rattle.std.proofs.Common.{subst, ◌++◌, get_or, take, arith}
+use Rattle.std.proofs.lemmas.Bool.{ne_eqb}
+use Rattle.std.proofs.lemmas.List.{take_all}
+use Rattle.cyc_syntax.specs.declared.tokens.Span.{Span}
+use Rattle.cyc_lex.specs.Place.{IsBehind}
+use Rattle.cyc_lex.proofs.PlaceLemmas.{behind_line_feed, behind_other, front_more}
+use Rattle.cyc_lex.proofs.place.place_behind.Goals as goal
+use Rattle.cyc_lex.proofs.place.place_behind.Goals.{then-b-eq10, else-b-eq10}
+
+pub loop-b-preserved : goal.loop-b-preserved
+loop-b-preserved c =
+    let bytes = c.args.bytes.now in
+    let i = c.loop-b.b-index in
+    let b = get_or bytes i 0 in
+    let old : Span = record { line = c.loop-b.line; column = c.loop-b.column } in
+    let new : Span = record { line = c.if-b-eq10.line; column = c.if-b-eq10.column } in
+    elim c.if-b-eq10.branch [
+      | then-b-eq10 w ↦ record {
+        line = omega arith;
+        column = omega arith;
+        behind = λ front before.
+            subst (IsBehind new) (front_more front bytes i c.loop-b-test.true)
+            (behind_line_feed old new (front ++ take i bytes) b w.if-b-eq10.true w.line-is w.column-is (c.loop-b.invariant.behind front before));
+      }
+      | else-b-eq10 w ↦ record {
+        line = omega arith;
+        column = omega arith;
+        behind = λ front before.
+            subst (IsBehind new) (front_more front bytes i c.loop-b-test.true)
+            (behind_other old new (front ++ take i bytes) b (ne_eqb b 10 w.if-b-eq10.false) w.line-is w.column-is (c.loop-b.invariant.behind front before));
+      }
+    ]
+
+pub returns : goal.returns
+returns c = λ front before.
+    let all = take_all c.loop-b.b-index c.args.bytes.now c.loop-b-test.false in
+    subst (λ l. IsBehind (record { line = c.loop-b.line; column = c.loop-b.column }) (front ++ l)) all (c.loop-b.invariant.behind front before)

@@ -1,0 +1,10 @@
+use Rattle.std.proofs.Common.{◌+◌, ◌≤◌, List, ℕ, ◌++◌, take}
+use Rattle.cyc_lex.specs.Place.{IsBehind}
+use Rattle.cyc_lex.proofs.place.place_behind.Given as goal
+
+abbrev pub invariant-loop-b : goal.invariant-loop-b
+invariant-loop-b l = record {
+  line : l.line ≤ l.fn.place.line + l.b-index;
+  column : l.column ≤ l.fn.place.column + l.b-index;
+  behind : (front : List ℕ) → IsBehind l.fn.place front → IsBehind (record { line = l.line; column = l.column }) (front ++ take l.b-index l.bytes);
+}

@@ -1,0 +1,9 @@
+-- Where a place of the code stands.
+use Rattle.std.specs.Prelude.{◌≡◌, ℕ, List}
+use Rattle.cyc_syntax.specs.declared.tokens.Span.{Span}
+use Rattle.cyc_syntax.specs.TokenRule.{line_behind, column_behind}
+
+-- the place just behind these bytes
+pub record IsBehind (place : Span) (front : List ℕ) : Type 0 where
+  pub line : place.line ≡ line_behind front
+  pub column : place.column ≡ column_behind front

@@ -1,0 +1,81 @@
+//! The tokens of a text, or its first fault.
+ghost use Rattle.std.specs.Prelude.{◌≡◌, ◌≤◌, ◌⊎◌, List, length, map, IfOk, IfErr, MatchResult};
+ghost use Rattle.cyc_words.specs.declared.fault.Fault.{Fault};
+ghost use Rattle.cyc_syntax.specs.Tokens as pure;
+ghost use Rattle.cyc_syntax.specs.Tokens.{token_of};
+ghost use Rattle.cyc_syntax.specs.TokenRule.{AreTokensOf};
+ghost use Rattle.cyc_lex.specs.Refusals.{IsAccepted, IsRefused, memory_fault};
+
+use crate::pieces::read_piece;
+use crate::place::place_behind;
+use cyc_syntax::{Span, Token};
+use cyc_words::{Code, Fault};
+use std::alloc::Global;
+
+/// The most bytes of a text.
+pub const MAX_BYTES: usize = 1048576;
+
+/// The most tokens of a text.
+pub const MAX_TOKENS: usize = 60000;
+
+/// The tokens of a text, by the token rule: at each place the longest token, space or comment is read.
+///
+/// A text above the limit of bytes is refused at 1:1. Otherwise the first place is refused where no token, space or comment
+/// begins, a comment is not closed, a number is above the limit, or a token stands that is one too many; of several reasons
+/// the one with the lowest code. Any growth of the list of tokens may be refused for want of memory.
+pub fn lex(alloc: Global, text: &[u8]) -> Result<Vec<Token>, Fault>
+    // What is accepted has these tokens, each where it says that it lies. What is refused has this fault.
+    ensures accepted { IfOk result (λ v. IsAccepted text.now (map (token_of text.now) v.items)) }
+    ensures lie { IfOk result (λ v. AreTokensOf text.now v.items) }
+    ensures refused { IfErr result (λ f. (f ≡ memory_fault) ⊎ IsRefused text.now f) }
+
+    // And the other way round, want of memory aside.
+    ensures accepts { (tokens : List pure.Token) → IsAccepted text.now tokens
+        → MatchResult result (λ v. map (token_of text.now) v.items ≡ tokens) (λ f. f ≡ memory_fault) }
+    ensures refuses { (fault : Fault) → IsRefused text.now fault
+        → MatchResult result (λ _. ⊥) (λ f. (f ≡ memory_fault) ⊎ (f ≡ fault)) }
+{
+    if text.len() > MAX_BYTES {
+        return Err(Fault::new(Code::TextTooLong, 1, 1));
+    }
+    read_tokens(alloc, text)
+}
+
+/// The tokens of a text that is not too long.
+fn read_tokens(alloc: Global, text: &[u8]) -> Result<Vec<Token>, Fault>
+    requires { length text.now ≤ MAX_BYTES }
+    ensures accepted { IfOk result (λ v. IsAccepted text.now (map (token_of text.now) v.items)) }
+    ensures lie { IfOk result (λ v. AreTokensOf text.now v.items) }
+    ensures refused { IfErr result (λ f. (f ≡ memory_fault) ⊎ IsRefused text.now f) }
+{
+    let mut tokens = Vec::new(alloc);
+    let mut place = Span { line: 1, column: 1 };
+    let mut start = 0;
+    while start < text.len() {
+        let found = match read_piece(&text[start..]) {
+            Ok(found) => found,
+            Err(code) => return Err(Fault::new(code, place.line, place.column)),
+        };
+        let end = start + found.len;
+        if let Some(kind) = found.kind {
+            if tokens.len() == MAX_TOKENS {
+                return Err(Fault::new(Code::TooManyTokens, place.line, place.column));
+            }
+            let span = place;
+            if tokens
+                .push(Token {
+                    kind,
+                    span,
+                    start,
+                    end,
+                })
+                .is_err()
+            {
+                return Err(Fault::memory());
+            }
+        }
+        place = place_behind(place, &text[start..end]);
+        start = end;
+    }
+    Ok(tokens)
+}

@@ -1,0 +1,14 @@
+//! The lexer: from the bytes of a text to its tokens.
+#![tactic(auto)]
+
+mod classes;
+pub mod laws;
+mod lexer;
+mod pieces;
+mod place;
+mod runs;
+mod spellings;
+#[cfg(test)]
+mod tests;
+
+pub use lexer::lex;

@@ -1,0 +1,24 @@
+//! Places of a text.
+ghost use Rattle.std.specs.Prelude.{◌≡◌, ℕ, ◌+◌, ◌^◌, ◌<◌, List, ◌++◌, length};
+ghost use Rattle.cyc_lex.specs.Place.{IsBehind};
+
+use cyc_syntax::Span;
+
+/// The place behind some bytes, from the place before them.
+pub fn place_behind(place: Span, bytes: &[u8]) -> Span
+    requires line { place.line + length bytes.now < 2 ^ 32 }
+    requires column { place.column + length bytes.now < 2 ^ 32 }
+    ensures { (front : List ℕ) → IsBehind place front → IsBehind result (front ++ bytes.now) }
+{
+    let mut line = place.line;
+    let mut column = place.column;
+    for b in bytes {
+        if *b == b'\n' {
+            line += 1;
+            column = 1;
+        } else {
+            column += 1;
+        }
+    }
+    Span { line, column }
+}

@@ -1,0 +1,91 @@
+-- Cuts of a text into its longest pieces: there is one at most, and a cut grows at its end.
+use Rattle.std.proofs.Common.{◌≡◌, ◌≢◌, ℕ, ◌⊎◌, inl, inr, ⊎_elim, List, [], ◌∷◌, ◌++◌, length, refl, sym, ap, subst, ◌∙◌, append_assoc, append-nil, arith}
+use Rattle.cyc_syntax.specs.Tokens.{Token}
+use Rattle.cyc_syntax.specs.Spelling.{Piece, OpenComment, Spells}
+use Rattle.cyc_syntax.specs.TokenRule.{IsRead, Part, IsCut, bytes_of, part_tokens, tokens_of, HasTokens}
+use Rattle.cyc_syntax.proofs.PieceLemmas.{piece_starts, one_piece}
+
+-- a piece has bytes
+pub piece_nonempty : (m : Piece) → Spells m [] → ⊥
+piece_nonempty m spelled = piece_starts m [] spelled
+
+-- two fronts of one list that are equally long are equal
+pub same_front : {X : Type 0} (a b x y : List X) → length a ≡ length b → a ++ x ≡ b ++ y → (a ≡ b) × (x ≡ y)
+same_front [] [] x y len e = (refl, e)
+same_front [] (c ∷ b) x y len e = absurd (omega arith)
+same_front (c ∷ a) [] x y len e = absurd (omega arith)
+same_front (c ∷ a) (d ∷ b) x y len e =
+    let head : c ≡ d = cc in
+    let tail : a ++ x ≡ b ++ y = cc in
+    let rest = same_front a b x y (omega arith) tail in
+    ((λ i. head i ∷ rest.0 i), rest.1)
+
+-- two pieces read at one place are the same piece, of the same bytes
+pub one_part : (p q : Part) (after other : List ℕ) → p.bytes ++ after ≡ q.bytes ++ other
+    → IsRead p.piece p.bytes after → IsRead q.piece q.bytes other → (p ≡ q) × (after ≡ other)
+one_part p q after other e read also =
+    let within = read.longest q.piece q.bytes other e also.spelled in
+    let without = also.longest p.piece p.bytes after (sym e) read.spelled in
+    let bytes = same_front p.bytes q.bytes after other (omega arith) e in
+    let piece = one_piece p.piece q.piece q.bytes (subst (Spells p.piece) bytes.0 read.spelled) also.spelled in
+    ((λ i. record { piece = piece i; bytes = bytes.0 i }), bytes.1)
+
+-- qs begins with ps, and what follows cuts the rest of ps up to the rest of qs
+abbrev pub GoesOn : List Part → List Part → List ℕ → List ℕ → Type 0
+GoesOn ps qs r s = (more : List Part) × (qs ≡ ps ++ more) × IsCut more r s
+
+-- two cuts of one text: one of them goes on from the other
+pub cuts_meet : (ps qs : List Part) (text r s : List ℕ) → IsCut ps text r → IsCut qs text s → GoesOn ps qs r s ⊎ GoesOn qs ps s r
+cuts_meet [] qs text r s cut also = inl (qs, refl, subst (λ l. IsCut qs l s) cut also)
+cuts_meet (p ∷ ps) [] text r s cut also = inr (p ∷ ps, refl, subst (λ l. IsCut (p ∷ ps) l r) also cut)
+cuts_meet (p ∷ ps) (q ∷ qs) text r s cut also =
+    let same = one_part p q cut.0 also.0 (sym cut.1 ∙ also.1) cut.2 also.2 in
+    ⊎_elim
+    (λ x. inl (x.0, (λ i. sym same.0 i ∷ x.1 i), x.2))
+    (λ x. inr (x.0, (λ i. same.0 i ∷ x.1 i), x.2))
+    (cuts_meet ps qs cut.0 r s cut.4 (subst (λ l. IsCut qs l s) (sym same.1) also.4))
+
+-- nothing goes on from the end of a text
+pub no_more : (more : List Part) (s : List ℕ) → IsCut more [] s → more ≡ []
+no_more [] s cut = refl
+no_more (p ∷ ps) s cut = absurd (none p.bytes cut.1 cut.2.spelled)
+  where
+    none : (bytes : List ℕ) → [] ≡ bytes ++ cut.0 → Spells p.piece bytes → ⊥
+    none [] e spelled = piece_nonempty p.piece spelled
+    none (b ∷ bs) e spelled = cc
+
+pub one_cut : (ps qs : List Part) (text : List ℕ) → IsCut ps text [] → IsCut qs text [] → ps ≡ qs
+one_cut ps qs text cut also =
+    ⊎_elim
+    (λ x. sym (x.1 ∙ ap (λ l. ps ++ l) (no_more x.0 [] x.2) ∙ append-nil ps))
+    (λ x. x.1 ∙ ap (λ l. qs ++ l) (no_more x.0 [] x.2) ∙ append-nil qs)
+    (cuts_meet ps qs text [] [] cut also)
+
+-- a text has one list of tokens at most
+pub one_token_list : (text : List ℕ) (a b : List Token) → HasTokens text a → HasTokens text b → a ≡ b
+one_token_list text a b has also = sym has.2 ∙ ap (tokens_of []) (one_cut has.0 also.0 text has.1 also.1) ∙ also.2
+
+-- a cut and one more part
+pub IsCut-push : (ps : List Part) (p : Part) (text after : List ℕ) → IsCut ps text (p.bytes ++ after)
+    → IsRead p.piece p.bytes after → p.piece ≢ OpenComment → IsCut (ps ++ p ∷ []) text after
+IsCut-push [] p text after cut read closed = (after, cut, read, closed, refl)
+IsCut-push (q ∷ ps) p text after cut read closed =
+    (cut.0, cut.1, cut.2, cut.3, IsCut-push ps p cut.0 after cut.4 read closed)
+
+pub bytes_of-push : (ps : List Part) (p : Part) → bytes_of (ps ++ p ∷ []) ≡ bytes_of ps ++ p.bytes
+bytes_of-push [] p = append-nil p.bytes
+bytes_of-push (q ∷ ps) p = ap (λ l. q.bytes ++ l) (bytes_of-push ps p) ∙ sym (append_assoc q.bytes (bytes_of ps) p.bytes)
+
+pub tokens_of-append : (front : List ℕ) (ps qs : List Part)
+    → tokens_of front (ps ++ qs) ≡ tokens_of front ps ++ tokens_of (front ++ bytes_of ps) qs
+tokens_of-append front [] qs = ap (λ l. tokens_of l qs) (sym (append-nil front))
+tokens_of-append front (p ∷ ps) qs =
+    ap (λ l. part_tokens front p.piece ++ l) (tokens_of-append (front ++ p.bytes) ps qs)
+    ∙ sym (append_assoc (part_tokens front p.piece) (tokens_of (front ++ p.bytes) ps) _)
+    ∙ ap (λ l. (part_tokens front p.piece ++ tokens_of (front ++ p.bytes) ps) ++ tokens_of l qs) (append_assoc front p.bytes (bytes_of ps))
+
+-- a cut text is the parts' bytes and the rest
+pub cut_text : (ps : List Part) (text rest : List ℕ) → IsCut ps text rest → text ≡ bytes_of ps ++ rest
+cut_text [] text rest cut = cut
+cut_text (p ∷ ps) text rest cut =
+    cut.1 ∙ ap (λ l. p.bytes ++ l) (cut_text ps cut.0 rest cut.4) ∙ sym (append_assoc p.bytes (bytes_of ps) rest)

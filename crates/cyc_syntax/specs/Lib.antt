@@ -1,0 +1,11 @@
+pub mod Names
+pub mod Spelling
+pub mod TokenExamples
+pub mod TokenRule
+pub mod Tokens
+pub mod Symbols
+pub mod Trees
+pub mod Yields
+pub mod Grammar
+pub mod Weight
+pub mod TreeView

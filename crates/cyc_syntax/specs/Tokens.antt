@@ -1,0 +1,41 @@
+-- Tokens as the token rule and the grammar speak of them: values with no memory behind them. The names and the spellings
+-- are Cyclone's (the Cyclone manual's grammar); what is left out of the language is this project's own choice.
+use Rattle.std.specs.Prelude.{ℕ, List, drop, slice_range}
+use Rattle.cyc_syntax.specs.declared.tokens.Keyword.{Keyword}
+use Rattle.cyc_syntax.specs.declared.tokens.Sign.{Sign}
+use Rattle.cyc_syntax.specs.declared.tokens.TokenKind.{TokenKind}
+use Rattle.cyc_syntax.specs.declared.tokens.TokenKind.TheVariants as kinds
+use Rattle.cyc_syntax.specs.declared.tokens.Token.{Token as CodeToken}
+
+-- What a token is. An identifier and a region name have their spelled bytes, a region name's without its backquote, so
+-- that the label `r` and the region `` `r `` have one name.
+pub data Kind : Type 0 where
+  Identifier : List ℕ → Kind
+  RegionName : List ℕ → Kind
+  Number : ℕ → Kind
+  Character : ℕ → Kind
+  Word : Keyword → Kind
+  Mark : Sign → Kind
+
+-- A token at its place: line and column from 1, the column in bytes.
+pub record Token : Type 0 where
+  pub kind : Kind
+  pub line : ℕ
+  pub column : ℕ
+
+-- What a token of the code is, which these bytes spell.
+abbrev pub kind_of : List ℕ → TokenKind → Kind
+kind_of bytes kinds.Identifier = Identifier bytes
+kind_of bytes kinds.RegionName = RegionName (drop 1 bytes)
+kind_of bytes (kinds.Number n) = Number n
+kind_of bytes (kinds.Character c) = Character c
+kind_of bytes (kinds.Keyword k) = Word k
+kind_of bytes (kinds.Sign s) = Mark s
+
+-- the bytes that spell a token of the code, given its text
+abbrev pub spelling_of : List ℕ → CodeToken → List ℕ
+spelling_of text t = slice_range text t.start t.end
+
+-- The view of a token of the code, given its text.
+abbrev pub token_of : List ℕ → CodeToken → Token
+token_of text t = record { kind = kind_of (spelling_of text t) t.kind; line = t.span.line; column = t.span.column }

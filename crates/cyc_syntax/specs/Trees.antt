@@ -1,0 +1,185 @@
+-- Abstract syntax trees as the grammar and all later definitions speak of them: values with no memory behind them. A name is a
+-- number. Lists of nodes are chains of constructors of their own.
+use Rattle.std.specs.Prelude.{ℕ, Bool, List, Option}
+use Rattle.cyc_syntax.specs.declared.tree.PointerKind.{PointerKind}
+use Rattle.cyc_syntax.specs.declared.tree.PrefixOperator.{PrefixOperator}
+use Rattle.cyc_syntax.specs.declared.tree.BinaryOperator.{BinaryOperator}
+use Rattle.cyc_syntax.specs.Symbols.{Place}
+
+-- an identifier or a region name where it stands
+pub record Named : Type 0 where
+  pub name : ℕ
+  pub place : Place
+
+-- ---- types
+
+-- a mark, and the region written behind it
+pub record Pointer : Type 0 where
+  pub kind : PointerKind
+  pub region : Option Named
+
+pub data BaseType : Type 0 where
+  Int : BaseType
+  -- no region arguments: they are left out
+  Struct : Named → List Named → BaseType
+  Handle : Named → BaseType
+  Key : Named → BaseType
+
+pub record WrittenType : Type 0 where
+  pub place : Place
+  pub base : BaseType
+  -- from the left: the last mark is the outermost pointer
+  pub marks : List Pointer
+
+-- ---- expressions
+
+mutual
+  pub data Expression : Type 0 where
+    Number : Place → ℕ → Expression
+    Character : Place → ℕ → Expression
+    Null : Place → Expression
+    HeapRegion : Place → Expression
+    UniqueRegion : Place → Expression
+    Variable : Named → Expression
+    Call : Named → Expressions → Expression
+    Bracketed : Place → Expression → Expression
+    -- numelts
+    NumberOfElements : Place → Expression → Expression
+    -- ufree
+    FreeUnique : Place → Expression → Expression
+    -- free_ukey
+    FreeKey : Place → Named → Expression
+    -- an operand and its postfixes
+    Chained : Expression → Postfixes → Expression
+    Prefixed : Place → PrefixOperator → Expression → Expression
+    New : Place → Initial → Expression
+    -- rnew
+    RegionNew : Place → Expression → Initial → Expression
+    -- operands joined by operators of one level, which group to the left
+    Binary : Expression → Operations → Expression
+    Assign : Expression → Expression → Expression
+
+  -- what `new` and `rnew` put into the new object
+  pub data Initial : Type 0 where
+    Plain : Expression → Initial
+    -- a struct, its region arguments, and the values of its fields
+    Fields : Named → List Named → Expressions → Initial
+    -- {for variable < length : element}
+    Array : Place → (variable : Named) → (length : Expression) → (element : Expression) → Initial
+
+  pub data Expressions : Type 0 where
+    NoExpressions : Expressions
+    MoreExpressions : Expression → Expressions → Expressions
+
+  pub data Postfixes : Type 0 where
+    NoPostfixes : Postfixes
+    ThenIndex : Expression → Postfixes → Postfixes
+    ThenField : Named → Postfixes → Postfixes
+
+  -- each operator with its place and its right operand
+  pub data Operations : Type 0 where
+    NoOperations : Operations
+    ThenOperation : BinaryOperator → Place → Expression → Operations → Operations
+
+-- ---- statements
+
+mutual
+  pub data Statement : Type 0 where
+    Block : Body → Statement
+    Labelled : (label : Named) → Body → Statement
+    Empty : Place → Statement
+    Evaluate : Expression → Statement
+    Swap : (left : Expression) → (right : Expression) → Statement
+    If : Place → Expression → Statement → Statement
+    IfElse : Place → Expression → Statement → Statement → Statement
+    While : Place → Expression → Statement → Statement
+    Return : Place → Option Expression → Statement
+    Break : Place → Statement
+    Continue : Place → Statement
+    Throw : Place → (exception : Named) → Option Expression → Statement
+    Try : Place → Statement → Clauses → Statement
+
+  -- a block: the places of its braces, and its items
+  pub data Body : Type 0 where
+    Braces : (start : Place) → Items → (end : Place) → Body
+
+  pub data Items : Type 0 where
+    NoItems : Items
+    MoreItems : Item → Items → Items
+
+  pub data Item : Type 0 where
+    Execute : Statement → Item
+    Local : WrittenType → Named → Option Expression → Item
+    -- a lexical region with its handle, or an opened dynamic region with the key that opens it
+    Region : (region : Named) → (handle : Named) → (key : Option Named) → Item
+    Alias : (region : Named) → WrittenType → (variable : Named) → (source : Named) → Item
+    DynamicRegion : (region : Named) → (key : Named) → Item
+
+  -- the clauses of a catch, of which only the last may be the default
+  pub data Clauses : Type 0 where
+    NoClauses : Clauses
+    Default : Items → Clauses
+    Case : (exception : Named) → (variable : Option Named) → Items → Clauses → Clauses
+
+-- ---- declarations
+
+-- a field of a struct, or a parameter
+pub record Member : Type 0 where
+  pub of_type : WrittenType
+  pub name : Named
+
+pub record Constructor : Type 0 where
+  pub name : Named
+  pub has_int : Bool
+
+-- the initial value of a global, with the place of its first token
+pub data GlobalValue : Type 0 where
+  Positive : Place → ℕ → GlobalValue
+  Negative : Place → ℕ → GlobalValue
+  Byte : Place → ℕ → GlobalValue
+  NullPointer : Place → GlobalValue
+
+-- the first outlives the second
+pub record Constraint : Type 0 where
+  pub longer : Named
+  pub shorter : Named
+
+pub data ParameterList : Type 0 where
+  Void : ParameterList
+  Listed : List Member → ParameterList
+
+pub record Parameters : Type 0 where
+  pub list : ParameterList
+  -- an effect that is left out is not an empty one
+  pub effect : Option (List Named)
+  pub constraints : List Constraint
+
+pub data Declaration : Type 0 where
+  StructType : Named → (regions : List Named) → (fields : List Member) → Declaration
+  Exceptions : List Constructor → Declaration
+  Global : WrittenType → Named → Option GlobalValue → Declaration
+  -- a void function has no result
+  Function : (result : Option WrittenType) → Named → Parameters → Body → Declaration
+
+-- a program is the list of its declarations
+
+-- ---- the place of an expression: that of its first token
+
+abbrev pub place_of : Expression → Place
+place_of (Number p n) = p
+place_of (Character p c) = p
+place_of (Null p) = p
+place_of (HeapRegion p) = p
+place_of (UniqueRegion p) = p
+place_of (Variable x) = x.place
+place_of (Call f es) = f.place
+place_of (Bracketed p e) = p
+place_of (NumberOfElements p e) = p
+place_of (FreeUnique p e) = p
+place_of (FreeKey p k) = p
+place_of (Chained e ps) = place_of e
+place_of (Prefixed p o e) = p
+place_of (New p i) = p
+place_of (RegionNew p h i) = p
+place_of (Binary e os) = place_of e
+place_of (Assign a b) = place_of a

@@ -1,0 +1,125 @@
+//! Tokens, and the place of each in its text.
+
+/// A place in a text: line and column from 1. A column counts bytes, and only a line feed ends a line.
+#[derive(Clone, Copy, Debug, PartialEq, Eq)]
+pub struct Span {
+    pub line: u32,
+    pub column: u32,
+}
+
+/// A token. It does not hold its text: it is spelled by the bytes `start..end` of the text that it was read from.
+#[derive(Clone, Copy, Debug)]
+pub struct Token {
+    pub kind: TokenKind,
+    pub span: Span,
+    pub start: usize,
+    pub end: usize,
+}
+
+/// What a token is. An identifier and a region name are spelled by the token's bytes (a region name's bytes begin with a
+/// backquote); a number and a character constant carry their value.
+#[derive(Clone, Copy, Debug, PartialEq, Eq)]
+pub enum TokenKind {
+    Identifier,
+    RegionName,
+    Number(u32),
+    Character(u8),
+    Keyword(Keyword),
+    Sign(Sign),
+}
+
+/// The reserved words.
+#[derive(Clone, Copy, Debug, PartialEq, Eq)]
+pub enum Keyword {
+    Int,
+    Void,
+    Struct,
+    Datatype,
+    Exn,
+    Region,
+    /// `region_t`
+    RegionType,
+    /// `uregion_key_t`
+    KeyType,
+    Open,
+    Let,
+    Alias,
+    NewDynamicRegion,
+    /// `new_ukey`
+    NewKey,
+    New,
+    /// `rnew`
+    RegionNew,
+    For,
+    If,
+    Else,
+    While,
+    Break,
+    Continue,
+    Return,
+    Throw,
+    Try,
+    Catch,
+    Case,
+    Default,
+    Null,
+    /// `numelts`
+    NumberOfElements,
+    /// `ufree`
+    FreeUnique,
+    /// `free_ukey`
+    FreeKey,
+    /// `unique_region`
+    UniqueRegion,
+    /// `heap_region`
+    HeapRegion,
+}
+
+/// The signs: operators, brackets and separators.
+#[derive(Clone, Copy, Debug, PartialEq, Eq)]
+pub enum Sign {
+    /// `:=:`
+    Swap,
+    /// `&&`
+    AndAnd,
+    /// `||`
+    OrOr,
+    /// `==`
+    Equal,
+    /// `!=`
+    NotEqual,
+    /// `<=`
+    LessOrEqual,
+    /// `>=`
+    GreaterOrEqual,
+    /// `<<`
+    ShiftLeft,
+    /// `>>`
+    ShiftRight,
+    /// `->`
+    Arrow,
+    Plus,
+    Minus,
+    Star,
+    Slash,
+    Percent,
+    And,
+    Or,
+    Xor,
+    Tilde,
+    Not,
+    Less,
+    Greater,
+    Assign,
+    LeftParen,
+    RightParen,
+    LeftBracket,
+    RightBracket,
+    LeftBrace,
+    RightBrace,
+    Comma,
+    Semicolon,
+    Colon,
+    At,
+    Question,
+}

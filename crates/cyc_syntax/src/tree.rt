@@ -1,0 +1,386 @@
+//! Abstract syntax trees: what the grammar makes of a list of tokens.
+//!
+//! A chain of operators of one level is one node with a list, and so is a chain of postfixes: a tree is never deeper than
+//! the nesting of its text times the levels of the grammar, whatever the number of its tokens. Brackets are kept. A node
+//! keeps the place of each token that a refusal may name; the place of the first token of an expression is that of its leftmost part.
+
+use crate::{Name, Names, Span};
+
+/// A name where it stands: an identifier, or a region name without its backquote.
+#[derive(Clone, Copy, Debug, PartialEq, Eq)]
+pub struct Ident {
+    pub name: Name,
+    pub span: Span,
+}
+
+/// The kinds of pointers: `*` may be null, `@` is never null, `?` is fat.
+#[derive(Clone, Copy, Debug, PartialEq, Eq)]
+pub enum PointerKind {
+    Nullable,
+    NonNull,
+    Fat,
+}
+
+/// A pointer mark of a type, and the region that is written behind it.
+#[derive(Clone, Copy, Debug, PartialEq, Eq)]
+pub struct Pointer {
+    pub kind: PointerKind,
+    pub region: Option<Ident>,
+}
+
+/// A type before its pointer marks.
+#[derive(Drop)]
+pub enum BaseType {
+    Int,
+    /// With its region arguments; there are none where they are left out.
+    Struct { name: Ident, regions: Vec<Ident> },
+    /// `region_t<..>`
+    Handle { region: Ident },
+    /// `uregion_key_t<..>`
+    Key { region: Ident },
+}
+
+/// A type, whose marks make pointers from the left to the right: the last mark is the outermost pointer.
+#[derive(Drop)]
+pub struct WrittenType {
+    pub span: Span,
+    pub base: BaseType,
+    pub marks: Vec<Pointer>,
+}
+
+/// `-`, `!`, `~`, `*` and `&`.
+#[derive(Clone, Copy, Debug, PartialEq, Eq)]
+pub enum PrefixOperator {
+    Negate,
+    Not,
+    Complement,
+    Dereference,
+    AddressOf,
+}
+
+/// The binary operators, loosest first.
+#[derive(Clone, Copy, Debug, PartialEq, Eq)]
+pub enum BinaryOperator {
+    /// `||`
+    OrElse,
+    /// `&&`
+    AndThen,
+    Or,
+    Xor,
+    And,
+    Equal,
+    NotEqual,
+    Less,
+    LessOrEqual,
+    Greater,
+    GreaterOrEqual,
+    ShiftLeft,
+    ShiftRight,
+    Add,
+    Subtract,
+    Multiply,
+    Divide,
+    Remainder,
+}
+
+#[cycle(expression)]
+#[derive(Drop)]
+pub enum Expr {
+    Number {
+        span: Span,
+        value: u32,
+    },
+    Character {
+        span: Span,
+        value: u8,
+    },
+    Null {
+        span: Span,
+    },
+    HeapRegion {
+        span: Span,
+    },
+    UniqueRegion {
+        span: Span,
+    },
+    Variable {
+        name: Ident,
+    },
+    Call {
+        function: Ident,
+        arguments: Vec<Expr>,
+    },
+    /// An expression in round brackets.
+    Bracketed {
+        span: Span,
+        inner: Box<Expr>,
+    },
+    /// `numelts(..)`
+    NumberOfElements {
+        span: Span,
+        pointer: Box<Expr>,
+    },
+    /// `ufree(..)`
+    FreeUnique {
+        span: Span,
+        pointer: Box<Expr>,
+    },
+    /// `free_ukey(..)`
+    FreeKey {
+        span: Span,
+        key: Ident,
+    },
+    /// An operand and its postfixes, at least one.
+    Chained {
+        base: Box<Expr>,
+        postfixes: Vec<Postfix>,
+    },
+    Prefixed {
+        span: Span,
+        operator: PrefixOperator,
+        operand: Box<Expr>,
+    },
+    New {
+        span: Span,
+        value: Box<Initial>,
+    },
+    /// `rnew(..) ..`
+    RegionNew {
+        span: Span,
+        region: Box<Expr>,
+        value: Box<Initial>,
+    },
+    /// Operands joined by operators of one level, at least one, that group to the left.
+    Binary {
+        first: Box<Expr>,
+        rest: Vec<Operation>,
+    },
+    Assign {
+        target: Box<Expr>,
+        value: Box<Expr>,
+    },
+}
+
+/// A binary operator of a chain, with its right operand.
+#[cycle(expression)]
+#[derive(Drop)]
+pub struct Operation {
+    pub operator: BinaryOperator,
+    pub span: Span,
+    pub operand: Expr,
+}
+
+#[cycle(expression)]
+#[derive(Drop)]
+pub enum Postfix {
+    Index { index: Expr },
+    /// `->` and a field's name.
+    Field { name: Ident },
+}
+
+/// What `new` and `rnew` put into the new object.
+#[cycle(expression)]
+#[derive(Drop)]
+pub enum Initial {
+    Plain {
+        value: Expr,
+    },
+    /// A struct's name, its region arguments, and the values of its fields, at least one.
+    Fields {
+        name: Ident,
+        regions: Vec<Ident>,
+        values: Vec<Expr>,
+    },
+    /// `{for variable < length : element}`
+    Array {
+        span: Span,
+        variable: Ident,
+        length: Expr,
+        element: Expr,
+    },
+}
+
+#[cycle(statement)]
+#[derive(Drop)]
+pub enum Stmt {
+    Block {
+        block: Block,
+    },
+    Labelled {
+        label: Ident,
+        block: Block,
+    },
+    Empty {
+        span: Span,
+    },
+    Expression {
+        value: Expr,
+    },
+    /// `left :=: right`
+    Swap {
+        left: Expr,
+        right: Expr,
+    },
+    If {
+        span: Span,
+        condition: Expr,
+        then: Box<Stmt>,
+        otherwise: Option<Box<Stmt>>,
+    },
+    While {
+        span: Span,
+        condition: Expr,
+        body: Box<Stmt>,
+    },
+    Return {
+        span: Span,
+        value: Option<Expr>,
+    },
+    Break {
+        span: Span,
+    },
+    Continue {
+        span: Span,
+    },
+    Throw {
+        span: Span,
+        exception: Ident,
+        value: Option<Expr>,
+    },
+    /// At least one clause, the default clause among them.
+    Try {
+        span: Span,
+        body: Box<Stmt>,
+        clauses: Vec<Clause>,
+        default: Option<Vec<Item>>,
+    },
+}
+
+#[cycle(statement)]
+#[derive(Drop)]
+pub struct Block {
+    pub span: Span,
+    pub items: Vec<Item>,
+    /// The place of the closing brace.
+    pub end: Span,
+}
+
+/// `case &exception(variable): ..`
+#[cycle(statement)]
+#[derive(Drop)]
+pub struct Clause {
+    pub exception: Ident,
+    pub variable: Option<Ident>,
+    pub items: Vec<Item>,
+}
+
+#[cycle(statement)]
+#[derive(Drop)]
+pub enum Item {
+    Statement {
+        statement: Stmt,
+    },
+    Local {
+        of_type: WrittenType,
+        name: Ident,
+        value: Option<Expr>,
+    },
+    /// A lexical region with its handle, or an opened dynamic region with the key that opens it.
+    Region {
+        region: Ident,
+        handle: Ident,
+        key: Option<Ident>,
+    },
+    /// `let alias`
+    Alias {
+        region: Ident,
+        of_type: WrittenType,
+        name: Ident,
+        source: Ident,
+    },
+    /// `let NewDynamicRegion`
+    DynamicRegion {
+        region: Ident,
+        key: Ident,
+    },
+}
+
+/// A field of a struct, or a parameter.
+#[derive(Drop)]
+pub struct Member {
+    pub of_type: WrittenType,
+    pub name: Ident,
+}
+
+/// A constructor of `exn`.
+#[derive(Clone, Copy, Debug, PartialEq, Eq)]
+pub struct Constructor {
+    pub name: Ident,
+    pub has_int: bool,
+}
+
+/// The initial value of a global.
+#[derive(Clone, Copy, Debug, PartialEq, Eq)]
+pub enum GlobalValue {
+    Number { span: Span, value: u32 },
+    /// `-` and a number.
+    Negative { span: Span, value: u32 },
+    Character { span: Span, value: u8 },
+    Null { span: Span },
+}
+
+/// The first region outlives the second.
+#[derive(Clone, Copy, Debug, PartialEq, Eq)]
+pub struct Constraint {
+    pub longer: Ident,
+    pub shorter: Ident,
+}
+
+#[derive(Drop)]
+pub enum ParameterList {
+    /// `void` in place of a list.
+    Void,
+    Listed { members: Vec<Member> },
+}
+
+/// What stands between the brackets of a function's head.
+#[derive(Drop)]
+pub struct Parameters {
+    pub list: ParameterList,
+    /// The effect, where one is written.
+    pub effect: Option<Vec<Ident>>,
+    pub constraints: Vec<Constraint>,
+}
+
+#[derive(Drop)]
+pub enum Declaration {
+    /// At least one field.
+    Struct {
+        name: Ident,
+        regions: Vec<Ident>,
+        fields: Vec<Member>,
+    },
+    /// `datatype exn`, with at least one constructor.
+    Exceptions {
+        constructors: Vec<Constructor>,
+    },
+    Global {
+        of_type: WrittenType,
+        name: Ident,
+        value: Option<GlobalValue>,
+    },
+    /// A `void` function has no result.
+    Function {
+        result: Option<WrittenType>,
+        name: Ident,
+        parameters: Parameters,
+        body: Block,
+    },
+}
+
+/// A program as it is written: its declarations, and the texts of the names that they have.
+#[derive(Drop)]
+pub struct Tree {
+    pub declarations: Vec<Declaration>,
+    pub names: Names,
+}
