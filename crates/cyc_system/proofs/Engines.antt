@@ -1,0 +1,286 @@
+-- The loop of the engine: what it has done so far is a run of the machine on every input that goes on from what was
+-- read.
+use Rattle.std.proofs.Common.{◌≡◌, ℕ, zero, suc, ◌+◌, ◌≤◌, ◌<◌, List, [], ◌∷◌, ◌++◌, drop, Bool, true, false, Option, None, Some, Result, Ok, Err, refl, sym, ap, subst, ◌∙◌, arith, append_assoc, append-nil, inr}
+use Rattle.std.specs.Prelude.{unwrap_or, is_none, slice_get, MatchBool}
+use Rattle.std.specs.Io.KnownBytes.{Keeps, Appends, Consumes, IsAtEnd}
+use Rattle.cyc_words.proofs.DeviceLemmas.{Keeps-refl, Appends-nil, Appends-append, Consumes-nil, Consumes-append}
+use Rattle.cyc_machine.specs.declared.event.End.{End}
+use Rattle.cyc_machine.specs.declared.event.Event.{Event}
+use Rattle.cyc_machine.specs.declared.event.Event.TheVariants.{Ran, WantsByte, Puts, Ended}
+use Rattle.cyc_machine.specs.declared.phase.Phase.{Phase}
+use Rattle.cyc_machine.specs.declared.phase.Phase.TheVariants.{Running, Waiting, Over}
+use Rattle.cyc_machine.specs.State.{State}
+use Rattle.cyc_machine.specs.Step.{Step, given, given_in}
+use Rattle.cyc_machine.specs.Run.{World, told, Goes, Run, end_in, end_of}
+use Rattle.cyc_elf.specs.declared.fault.ElfFault.{ElfFault}
+use Rattle.cyc_elf.specs.Image.{ImageContents}
+use Rattle.cyc_machine.specs.declared.fault.LoadFault.TheVariants as load
+use Rattle.cyc_machine.specs.Bounds.{Bounds}
+use Rattle.cyc_machine.specs.Start.{has_outside, start_state, start_world}
+use Rattle.cyc_system.specs.declared.report.Report.{Report}
+use Rattle.cyc_system.specs.declared.report.Stop.TheVariants as stops
+use Rattle.cyc_system.specs.declared.report.RunFault.{RunFault}
+use Rattle.cyc_system.specs.declared.report.RunFault.TheVariants.{Elf, Load, Read, Write, Memory}
+use Rattle.cyc_system.specs.Engine.{Devices, Rests, Tells, Leaves, Counted, Executes, Runs, Refuses, Starts, Answers}
+use Rattle.cyc_system.specs.Turn.{Asked, WentOn, Turned}
+use Rattle.cyc_system.proofs.Phases.{Step-phase, phase_after}
+
+-- one more instruction at the end of a run
+pub Run-more : (count : ℕ) (u v w : World) → Run count u v → Goes v w → Run (suc count) u w
+Run-more zero u v w run goes = (w, subst (λ x. Goes x w) run goes, refl)
+Run-more (suc count) u v w (mid, first, rest) goes = (mid, first, Run-more count mid v w rest goes)
+
+counted_run : (count : ℕ) (u w : World) → Counted count u w → Run count u w
+counted_run zero u w counted = counted
+counted_run (suc count) u w (mid, run, none, goes) = Run-more count u mid w run goes
+
+-- a running machine goes on
+counted_more : (count : ℕ) (u v w : World) → Counted count u v → v.machine.phase ≡ Running → Goes v w → Counted (count + 1) u w
+counted_more count u v w counted running goes =
+    subst (λ k. Counted k u w) (let one : suc count ≡ count + 1 = omega arith in one) (v, counted_run count u v counted, ap end_in running, goes)
+
+-- The loop after so many turns: on an input that begins with what was read, and ends with it once the end was seen.
+pub record Progress (start : List ℕ → World) (old now : Devices) (count : ℕ) (seen : Bool) (machine : State) : Type 0 where
+  pub read : List ℕ
+  pub output : List ℕ
+  pub consumed : Consumes old.remaining now.remaining read
+  pub printed : Appends old.written now.written output
+  pub at_end : seen ≡ true → Leaves old.remaining now.remaining []
+  pub running : machine.phase ≡ Running
+  pub runs : (rest : List ℕ) → (seen ≡ true → rest ≡ []) → Counted count (start (read ++ rest)) (record { machine = machine; output = output; input = rest })
+
+pub Progress-start : (machine : State) (old : Devices) → machine.phase ≡ Running → Progress (λ input. record { machine = machine; output = []; input = input }) old old 0 false machine
+Progress-start machine old running = record {
+  read = [];
+  output = [];
+  consumed = Consumes-nil old.remaining old.remaining (Keeps-refl old.remaining);
+  printed = Appends-nil old.written old.written (Keeps-refl old.written);
+  at_end = λ seen. cc;
+  running = running;
+  runs = λ rest ended. refl;
+}
+
+-- Devices that were not used.
+
+appends_kept : (a b c : Option (List ℕ)) (xs : List ℕ) → Appends a b xs → Keeps b c → Appends a c xs
+appends_kept a b c xs h k = subst (Appends a c) (append-nil xs) (Appends-append a b c xs [] h (Appends-nil b c k))
+
+consumes_kept : (a b c : Option (List ℕ)) (xs : List ℕ) → Consumes a b xs → Keeps b c → Consumes a c xs
+consumes_kept a b c xs h k = subst (Consumes a c) (append-nil xs) (Consumes-append a b c xs [] h (Consumes-nil b c k))
+
+leaves_kept : (a b c : Option (List ℕ)) (xs : List ℕ) → Leaves a b xs → Keeps b c → Leaves a c xs
+leaves_kept None b c xs h k = tt
+leaves_kept (Some told) None c xs h k = absurd h
+leaves_kept (Some told) (Some left) None xs h k = absurd k
+leaves_kept (Some told) (Some left) (Some more) xs h k = k ∙ h
+
+-- a reader whose end was seen
+end_seen : (a b c : Option (List ℕ)) (xs : List ℕ) → Consumes a b xs → IsAtEnd b → Keeps b c → Leaves a c []
+end_seen None b c xs h e k = tt
+end_seen (Some told) None c xs h e k = absurd h
+end_seen (Some told) (Some left) None xs h e k = absurd k
+end_seen (Some told) (Some left) (Some more) xs h e k = k ∙ e
+
+-- One more turn, by the event.
+
+-- an instruction that uses no device, or the writer alone
+quiet : (start : List ℕ → World) (old now new : Devices) (count : ℕ) (seen : Bool) (machine machine' : State) (event : Event) (s : State) (more : List ℕ)
+    → (p : Progress start old now count seen machine) → Step machine event s → machine' ≡ s → phase_after event ≡ Running → Keeps now.remaining new.remaining → Appends now.written new.written more
+    → ((rest : List ℕ) → told (record { machine = machine; output = p.output; input = rest }) event s ≡ record { machine = s; output = p.output ++ more; input = rest })
+    → Progress start old new (count + 1) seen machine'
+quiet start old now new count seen machine machine' event s more p step is on kept appends leaves = record {
+  read = p.read;
+  output = p.output ++ more;
+  consumed = consumes_kept old.remaining now.remaining new.remaining p.read p.consumed kept;
+  printed = Appends-append old.written now.written new.written p.output more p.printed appends;
+  at_end = λ end. leaves_kept old.remaining now.remaining new.remaining [] (p.at_end end) kept;
+  running = ap (λ t. t.phase) is ∙ Step-phase machine s event p.running step ∙ on;
+  runs = λ rest ended.
+      counted_more count (start (p.read ++ rest)) (record { machine = machine; output = p.output; input = rest }) (record { machine = machine'; output = p.output ++ more; input = rest })
+      (p.runs rest ended) p.running
+      (event, s, step, ap (λ m. record { machine = m; output = p.output ++ more; input = rest }) is ∙ sym (leaves rest));
+}
+
+-- an instruction that wants a byte
+given_running : (s : State) (byte : Option ℕ) → s.phase ≡ Waiting → (given s byte).phase ≡ Running
+given_running s byte waiting = ap (λ q. (given_in q s byte).phase) waiting
+
+-- what an input that goes on with rest was before the byte was taken from it
+pub record Took (start : List ℕ → World) (count : ℕ) (machine : State) (output read : List ℕ) (byte : Option ℕ) (rest : List ℕ) : Type 0 where
+  pub before : List ℕ
+  pub runs : Counted count (start (read ++ rest)) (record { machine = machine; output = output; input = before })
+  pub first : slice_get before 0 ≡ byte
+  pub others : drop 1 before ≡ rest
+
+wanting : (start : List ℕ → World) (old now new : Devices) (count : ℕ) (seen seen' : Bool) (machine machine' s : State) (byte : Option ℕ) (read : List ℕ)
+    → (p : Progress start old now count seen machine) → Step machine WantsByte s → machine' ≡ given s byte → Keeps now.written new.written
+    → Consumes old.remaining new.remaining read → (seen' ≡ true → Leaves old.remaining new.remaining [])
+    → ((rest : List ℕ) → (seen' ≡ true → rest ≡ []) → Took start count machine p.output read byte rest)
+    → Progress start old new (count + 1) seen' machine'
+wanting start old now new count seen seen' machine machine' s byte read p step is kept consumed at_end took = record {
+  read = read;
+  output = p.output;
+  consumed = consumed;
+  printed = appends_kept old.written now.written new.written p.output p.printed kept;
+  at_end = at_end;
+  running = ap (λ t. t.phase) is ∙ given_running s byte (Step-phase machine s WantsByte p.running step);
+  runs = λ rest ended.
+      let t = took rest ended in
+      let here : World = record { machine = machine; output = p.output; input = t.before } in
+      let there : World = record { machine = machine'; output = p.output; input = rest } in
+      let leads : there ≡ told here WantsByte s =
+      ap (λ m. record { machine = m; output = p.output; input = rest }) (is ∙ ap (given s) (sym t.first))
+      ∙ ap (λ i. record { machine = given s (slice_get t.before 0); output = p.output; input = i }) (sym t.others) in
+      counted_more count (start (read ++ rest)) here there t.runs p.running (WantsByte, s, step, leads);
+}
+
+-- at the end of the input there is no byte, and nothing is left
+none_left : (start : List ℕ → World) (count : ℕ) (machine : State) (output read rest : List ℕ) → rest ≡ [] → Counted count (start (read ++ rest)) (record { machine = machine; output = output; input = rest }) → Took start count machine output read None rest
+none_left start count machine output read rest empty runs = record {
+  before = rest;
+  runs = runs;
+  first = ap (λ xs. slice_get xs 0) empty;
+  others = ap (drop 1) empty ∙ sym empty;
+}
+
+asked_turn : (start : List ℕ → World) (old now new : Devices) (count : ℕ) (seen : Bool) (machine machine' s : State) (byte : Option ℕ)
+    → Progress start old now count seen machine → Step machine WantsByte s → machine' ≡ given s byte → Asked seen byte now.remaining new.remaining → Keeps now.written new.written
+    → Progress start old new (count + 1) (is_none byte) machine'
+asked_turn start old now new count true machine machine' s byte p step is (none, kept) silent =
+    subst (λ b. Progress start old new (count + 1) (is_none b) machine') (sym none)
+    (wanting start old now new count true true machine machine' s None p.read p step (is ∙ ap (given s) none) silent
+    (consumes_kept old.remaining now.remaining new.remaining p.read p.consumed kept)
+    (λ end. leaves_kept old.remaining now.remaining new.remaining [] (p.at_end refl) kept)
+    (λ rest ended. none_left start count machine p.output p.read rest (ended refl) (p.runs rest ended)))
+asked_turn start old now new count false machine machine' s None p step is (ends, kept) silent =
+    wanting start old now new count false true machine machine' s None p.read p step is silent
+    (consumes_kept old.remaining now.remaining new.remaining p.read p.consumed kept)
+    (λ end. end_seen old.remaining now.remaining new.remaining p.read p.consumed ends kept)
+    (λ rest ended. none_left start count machine p.output p.read rest (ended refl) (p.runs rest (λ e. cc)))
+asked_turn start old now new count false machine machine' s (Some byte) p step is consumes silent =
+    wanting start old now new count false false machine machine' s (Some byte) (p.read ++ byte ∷ []) p step is silent
+    (Consumes-append old.remaining now.remaining new.remaining p.read (byte ∷ []) p.consumed consumes)
+    (λ e. cc)
+    (λ rest ended. record {
+      before = byte ∷ rest;
+      runs = subst (λ xs. Counted count (start xs) (record { machine = machine; output = p.output; input = byte ∷ rest })) (sym (append_assoc p.read (byte ∷ []) rest)) (p.runs (byte ∷ rest) (λ e. cc));
+      first = refl;
+      others = refl;
+    })
+
+pub Progress-turn : (start : List ℕ → World) (old now new : Devices) (count : ℕ) (seen seen' : Bool) (machine machine' : State)
+    → Progress start old now count seen machine → Turned machine machine' seen seen' now new (Ok None) → Progress start old new (count + 1) seen' machine'
+Progress-turn start old now new count seen seen' machine machine' p (Ran, s, step, (is, same, (kept, silent))) =
+    subst (λ b. Progress start old new (count + 1) b machine') (sym same)
+    (quiet start old now new count seen machine machine' Ran s [] p step is refl kept (Appends-nil now.written new.written silent)
+    (λ rest. ap (λ o. record { machine = s; output = o; input = rest }) (sym (append-nil p.output))))
+Progress-turn start old now new count seen seen' machine machine' p (WantsByte, s, step, (byte, is, ends, asked, silent)) =
+    subst (λ b. Progress start old new (count + 1) b machine') (sym ends) (asked_turn start old now new count seen machine machine' s byte p step is asked silent)
+Progress-turn start old now new count seen seen' machine machine' p (Puts byte, s, step, (is, same, kept, printed)) =
+    subst (λ b. Progress start old new (count + 1) b machine') (sym same)
+    (quiet start old now new count seen machine machine' (Puts byte) s (byte ∷ []) p step is refl kept printed (λ rest. refl))
+Progress-turn start old now new count seen seen' machine machine' p (Ended end, s, step, none) = absurd none
+
+-- What the loop answers.
+
+-- the rest of the input, where the reader tells it: one that fits what was read
+rest_of : Option (List ℕ) → Option (List ℕ) → List ℕ
+rest_of None now = []
+rest_of (Some told) now = unwrap_or now []
+
+told_all : (old now : Option (List ℕ)) (read : List ℕ) → Consumes old now read → Tells old (read ++ rest_of old now)
+unfolding rest_of
+told_all None now read consumed = tt
+told_all (Some told) None read consumed = absurd consumed
+told_all (Some told) (Some left) read consumed = consumed
+
+left_over : (old now : Option (List ℕ)) (read : List ℕ) → Consumes old now read → Leaves old now (rest_of old now)
+unfolding rest_of
+left_over None now read consumed = tt
+left_over (Some told) None read consumed = absurd consumed
+left_over (Some told) (Some left) read consumed = refl
+
+nothing_over : (old now : Option (List ℕ)) → Leaves old now [] → rest_of old now ≡ []
+unfolding rest_of
+nothing_over None now leaves = refl
+nothing_over (Some told) None leaves = absurd leaves
+nothing_over (Some told) (Some left) leaves = leaves
+
+-- the loop has executed so many instructions
+executes_of : (start : List ℕ → World) (old now : Devices) (count : ℕ) (seen : Bool) (machine : State) → (p : Progress start old now count seen machine)
+    → Executes start old now count (record { machine = machine; output = p.output; input = rest_of old.remaining now.remaining })
+executes_of start old now count seen machine p = record {
+  input = p.read ++ rest_of old.remaining now.remaining;
+  told = told_all old.remaining now.remaining p.read p.consumed;
+  counted = p.runs (rest_of old.remaining now.remaining) (λ end. nothing_over old.remaining now.remaining (p.at_end end));
+  unread = left_over old.remaining now.remaining p.read p.consumed;
+  written = p.printed;
+}
+
+-- devices that were not used since
+executes_kept : (start : List ℕ → World) (old now new : Devices) (count : ℕ) (w : World) → Executes start old now count w → Rests now new → Executes start old new count w
+executes_kept start old now new count w x (kept, silent) = record {
+  input = x.input;
+  told = x.told;
+  counted = x.counted;
+  unread = leaves_kept old.remaining now.remaining new.remaining w.input x.unread kept;
+  written = appends_kept old.written now.written new.written w.output x.written silent;
+}
+
+-- the budget is used up
+pub spends : (start : List ℕ → World) (old now : Devices) (count budget : ℕ) (seen : Bool) (machine : State) → Progress start old now count seen machine → count ≡ budget
+    → Runs start budget old now (Ok (record { stop = stops.Spent; count = budget }))
+spends start old now count budget seen machine p is = (
+  record { machine = machine; output = p.output; input = rest_of old.remaining now.remaining },
+  subst (λ k. Executes start old now k (record { machine = machine; output = p.output; input = rest_of old.remaining now.remaining })) is (executes_of start old now count seen machine p),
+  (omega arith),
+  (ap end_in p.running, refl),
+)
+
+-- the run ends
+pub stops_at : (start : List ℕ → World) (old now new : Devices) (count budget : ℕ) (seen seen' : Bool) (machine machine' : State) (end : End) → Progress start old now count seen machine → count < budget
+    → Turned machine machine' seen seen' now new (Ok (Some end)) → Runs start budget old new (Ok (record { stop = stops.End end; count = count + 1 }))
+stops_at start old now new count budget seen seen' machine machine' end p below (step, rests) =
+    let rest = rest_of old.remaining now.remaining in
+    let x = executes_kept start old now new count (record { machine = machine; output = p.output; input = rest }) (executes_of start old now count seen machine p) rests in
+    let here : World = record { machine = machine; output = p.output; input = rest } in
+    let there : World = record { machine = machine'; output = p.output; input = rest } in (
+      there,
+      record {
+        input = x.input;
+        told = x.told;
+        counted = counted_more count (start x.input) here there x.counted p.running (Ended end, machine', step, refl);
+        unread = x.unread;
+        written = x.written;
+      },
+      (omega arith),
+      ap end_in (Step-phase machine machine' (Ended end) p.running step),
+    )
+
+-- a device fails
+pub fails_at : (start : List ℕ → World) (old now new : Devices) (count budget : ℕ) (seen seen' : Bool) (machine machine' : State) (e : RunFault) → Progress start old now count seen machine → count < budget
+    → Turned machine machine' seen seen' now new (Err e) → Runs start budget old new (Err e)
+fails_at start old now new count budget seen seen' machine machine' Read p below (s, step, rests) =
+    let rest = rest_of old.remaining now.remaining in
+    let here : World = record { machine = machine; output = p.output; input = rest } in
+    (count, here, executes_kept start old now new count here (executes_of start old now count seen machine p) rests, below, ap end_in p.running, (s, step))
+fails_at start old now new count budget seen seen' machine machine' Write p below (byte, s, step, rests) =
+    let rest = rest_of old.remaining now.remaining in
+    let here : World = record { machine = machine; output = p.output; input = rest } in
+    (count, here, executes_kept start old now new count here (executes_of start old now count seen machine p) rests, below, ap end_in p.running, (byte, s, step))
+fails_at start old now new count budget seen seen' machine machine' (Elf f) p below none = absurd none
+fails_at start old now new count budget seen seen' machine machine' (Load f) p below none = absurd none
+fails_at start old now new count budget seen seen' machine machine' Memory p below none = absurd none
+
+-- a loaded image is run
+loaded : (inside : Bool) (refused runs : Type 0) → (inside ≡ true → ⊥) → runs → MatchBool inside refused runs
+loaded true refused runs not_so go = absurd (not_so refl)
+loaded false refused runs not_so go = go
+
+pub answers_run : (read : Result ImageContents ElfFault) (image : ImageContents) (limits : Bounds) (budget : ℕ) (machine : State) (old new : Devices) (result : Result Report RunFault)
+    → read ≡ Ok image → (has_outside image ≡ true → ⊥) → machine ≡ start_state image limits
+    → Runs (λ input. record { machine = machine; output = []; input = input }) budget old new result → Answers read limits budget old new result
+answers_run read image limits budget machine old new result is inside begins runs =
+    subst (λ r. Answers r limits budget old new result) (sym is)
+    (loaded (has_outside image) (Refuses (Load load.Outside) old new result) (Starts (start_world image limits) budget old new result) inside
+    (inr (subst (λ m. Runs (λ input. record { machine = m; output = []; input = input }) budget old new result) begins runs)))

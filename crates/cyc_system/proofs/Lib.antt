@@ -1,0 +1,17 @@
+pub mod Lists
+pub mod Sums
+pub mod Tokens
+pub mod Numbers
+pub mod Programs
+pub mod Runs
+pub mod Meanings
+pub mod Preserving
+pub mod Straight
+pub mod Codes
+pub mod Phases
+pub mod Engines
+pub mod Simulation
+pub mod Services
+pub mod Images
+pub mod Compiles
+pub mod Listings

@@ -1,0 +1,13 @@
+use Rattle.std.proofs.Common.{◌≡◌, []}
+use Rattle.cyc_system.proofs.Engines.{Progress}
+use Rattle.cyc_system.proofs.engine.drive.Given as goal
+
+abbrev pub invariant-loop-count : goal.invariant-loop-count
+invariant-loop-count g l = record {
+  progress : Progress (λ input. record { machine = l.fn.machine; output = []; input = input })
+      (record { remaining = g.R.ByteIn.remaining l.fn.reader; written = g.W.ByteOut.written l.fn.writer })
+      (record { remaining = g.R.ByteIn.remaining l.reader; written = g.W.ByteOut.written l.writer })
+      l.count l.seen l.machine;
+  reader : g.R.ByteIn.failed l.reader ≡ g.R.ByteIn.failed l.fn.reader;
+  writer : g.W.ByteOut.failed l.writer ≡ g.W.ByteOut.failed l.fn.writer;
+}

@@ -1,0 +1,92 @@
+-- What it means to run an image between a reader and a writer. This project's own choice.
+use Rattle.std.specs.Prelude.{◌≡◌, ℕ, zero, suc, ◌≤◌, ◌<◌, List, Bool, Option, None, Some, Result, Ok, Err, MatchBool, ◌⊎◌}
+use Rattle.std.specs.Io.KnownBytes.{Keeps, Appends}
+use Rattle.cyc_elf.specs.declared.fault.ElfFault.{ElfFault}
+use Rattle.cyc_elf.specs.Image.{ImageContents}
+use Rattle.cyc_machine.specs.declared.fault.LoadFault.TheVariants as load
+use Rattle.cyc_machine.specs.declared.event.End.{End}
+use Rattle.cyc_machine.specs.declared.event.Event.TheVariants.{WantsByte, Puts}
+use Rattle.cyc_machine.specs.Bounds.{Bounds}
+use Rattle.cyc_machine.specs.State.{State}
+use Rattle.cyc_machine.specs.Step.{Step}
+use Rattle.cyc_machine.specs.Run.{World, Goes, Run, end_of}
+use Rattle.cyc_machine.specs.Start.{has_outside, start_world}
+use Rattle.cyc_system.specs.declared.report.Report.{Report}
+use Rattle.cyc_system.specs.declared.report.Stop.{Stop}
+use Rattle.cyc_system.specs.declared.report.Stop.TheVariants as stops
+use Rattle.cyc_system.specs.declared.report.RunFault.{RunFault}
+use Rattle.cyc_system.specs.declared.report.RunFault.TheVariants.{Elf, Load, Read, Write, Memory}
+
+-- what the devices tell: the bytes still to be read, and the bytes that were written
+pub record Devices : Type 0 where
+  pub remaining : Option (List ℕ)
+  pub written : Option (List ℕ)
+
+-- neither was used
+abbrev pub Rests : Devices → Devices → Type 0
+Rests old new = Keeps old.remaining new.remaining × Keeps old.written new.written
+
+-- a reader that tells its bytes tells these
+abbrev pub Tells : Option (List ℕ) → List ℕ → Type 0
+Tells None bytes = Unit {0}
+Tells (Some told) bytes = told ≡ bytes
+
+-- a reader that told its bytes tells these still
+abbrev pub Leaves : Option (List ℕ) → Option (List ℕ) → List ℕ → Type 0
+Leaves None new rest = Unit {0}
+Leaves (Some told) None rest = ⊥
+Leaves (Some told) (Some left) rest = left ≡ rest
+
+-- So many instructions lead from one world to another, and none of them comes after the end of the run.
+abbrev pub Counted : ℕ → World → World → Type 0
+Counted zero old new = new ≡ old
+Counted (suc count) old new = (mid : World) × Run count old mid × (end_of mid ≡ None) × Goes mid new
+
+-- So many instructions were executed, on an input of which the reader told all that it tells: what they printed was
+-- written, and what they asked for was read, the rest not.
+pub record Executes (start : List ℕ → World) (old new : Devices) (count : ℕ) (w : World) : Type 0 where
+  pub input : List ℕ
+  pub told : Tells old.remaining input
+  pub counted : Counted count (start input) w
+  pub unread : Leaves old.remaining new.remaining w.input
+  pub written : Appends old.written new.written w.output
+
+-- the run has stopped so: at its end; or at none, where the budget is used up
+abbrev pub Stops : Stop → (budget count : ℕ) → World → Type 0
+Stops (stops.End end) budget count w = end_of w ≡ Some end
+Stops stops.Spent budget count w = (end_of w ≡ None) × (count ≡ budget)
+
+-- the next instruction wants a byte, or prints one
+abbrev pub WantsByteNext : World → Type 0
+WantsByteNext w = (s : State) × Step w.machine WantsByte s
+
+abbrev pub PrintsNext : World → Type 0
+PrintsNext w = (byte : ℕ) × (s : State) × Step w.machine (Puts byte) s
+
+-- What a run answers that begins in this world, on whatever input. Where a device failed, the instruction that used
+-- it was not executed.
+abbrev pub Runs : (start : List ℕ → World) (budget : ℕ) (old new : Devices) → Result Report RunFault → Type 0
+Runs start budget old new (Ok report) =
+    (w : World) × Executes start old new report.count w × (report.count ≤ budget) × Stops report.stop budget report.count w
+Runs start budget old new (Err Read) =
+    (count : ℕ) × (w : World) × Executes start old new count w × (count < budget) × (end_of w ≡ None) × WantsByteNext w
+Runs start budget old new (Err Write) =
+    (count : ℕ) × (w : World) × Executes start old new count w × (count < budget) × (end_of w ≡ None) × PrintsNext w
+Runs start budget old new (Err e) = ⊥
+
+-- an answer that is given before anything is read or written: a fault, or want of memory
+abbrev pub Refuses : RunFault → (old new : Devices) → Result Report RunFault → Type 0
+Refuses fault old new result = ((result ≡ Err fault) ⊎ (result ≡ Err Memory)) × Rests old new
+
+-- what a loaded image answers
+abbrev pub Starts : (start : List ℕ → World) (budget : ℕ) (old new : Devices) → Result Report RunFault → Type 0
+Starts start budget old new result = ((result ≡ Err Memory) × Rests old new) ⊎ Runs start budget old new result
+
+-- What a call answers, where `read` is what the image's bytes denote: the fault of reading; that the machine has no
+-- place for the image; or what running it answers.
+abbrev pub Answers : Result ImageContents ElfFault → Bounds → (budget : ℕ) (old new : Devices) → Result Report RunFault → Type 0
+Answers (Err f) limits budget old new result = Refuses (Elf f) old new result
+Answers (Ok image) limits budget old new result =
+    MatchBool (has_outside image)
+    (Refuses (Load load.Outside) old new result)
+    (Starts (start_world image limits) budget old new result)

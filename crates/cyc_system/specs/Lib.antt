@@ -1,0 +1,11 @@
+pub mod Form
+pub mod Reading
+pub mod Parsed
+pub mod Preserves
+pub mod Meaning
+pub mod Refusal
+pub mod Code
+pub mod Faults
+pub mod Engine
+pub mod Turn
+pub mod Listing

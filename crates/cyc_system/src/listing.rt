@@ -1,0 +1,173 @@
+//! Lists the words of an image's text with their instructions.
+
+ghost use Rattle.std.specs.Prelude.{◌≡◌, ◌+◌, ◌<◌, ◌^◌, ◌||◌, true, All, OnOk, OnErr, map, slice_index};
+ghost use Rattle.std.specs.List.{flat_map};
+ghost use Rattle.cyc_words.specs.Device.{TakesText};
+ghost use Rattle.cyc_isa.specs.Text.{hex_digit_of, hex_digits_of};
+ghost use Rattle.cyc_elf.specs.Image.{segment_contents, IsSegment};
+ghost use Rattle.cyc_machine.specs.Start.{word_in};
+ghost use Rattle.cyc_elf.specs.Reading.{reading};
+ghost use Rattle.cyc_system.specs.Faults.{is_write};
+ghost use Rattle.cyc_system.specs.Listing.{word_text, head_of, line_of, segment_lines, begins_in_text, listed_lines, Shows};
+
+use crate::report::RunFault;
+use cyc_elf::{Segment, read_image};
+use cyc_isa::{decode, write_text};
+use cyc_words::{ByteOut, Failed, word_at};
+use std::alloc::Global;
+
+/// The text range: its first address, and the first past it.
+const TEXT_BASE: u32 = 0x40_0000;
+
+const TEXT_END: u32 = 0x200_0000;
+
+fn hex_digit(digit: u32) -> u8
+    requires { digit < 16 }
+    ensures { result ≡ hex_digit_of digit }
+{
+    let digit = digit as u8;
+    if digit < 10 {
+        b'0' + digit
+    } else {
+        b'a' + (digit - 10)
+    }
+}
+
+#[tactic(auto, unfolding(cyc_isa::specs::Text::hex_digits_of))]
+fn hex_digits(word: u32) -> [u8; 8]
+    ensures { result ≡ hex_digits_of word }
+{
+    [
+        hex_digit(word >> 28),
+        hex_digit((word >> 24) % 16),
+        hex_digit((word >> 20) % 16),
+        hex_digit((word >> 16) % 16),
+        hex_digit((word >> 12) % 16),
+        hex_digit((word >> 8) % 16),
+        hex_digit((word >> 4) % 16),
+        hex_digit(word % 16),
+    ]
+}
+
+/// Writes the text of a word: its instruction's, or `.word`.
+#[tactic(auto, unfolding(crate::specs::Listing::word_text))]
+fn put_word<W: ByteOut>(address: u32, word: u32, out: &mut W) -> Result<(), Failed>
+    ensures bytes { TakesText (W.written out.old) (word_text address word) result (W.written out.new) }
+    ensures works { OnOk result (W.failed out.new ≡ W.failed out.old) }
+    ensures fails { OnErr result (W.failed out.new ≡ true) }
+{
+    match decode(word) {
+        Some(instr) => write_text(instr, address, out),
+        None => out.put_all(b".word"),
+    }
+}
+
+/// Writes an address and the word there.
+fn put_head<W: ByteOut>(address: u32, word: u32, out: &mut W) -> Result<(), Failed>
+    ensures bytes { TakesText (W.written out.old) (head_of address word) result (W.written out.new) }
+    ensures works { OnOk result (W.failed out.new ≡ W.failed out.old) }
+    ensures fails { OnErr result (W.failed out.new ≡ true) }
+{
+    let address = hex_digits(address);
+    let word = hex_digits(word);
+    out.put_parts(&[&address, b": ", &word, b" "])
+}
+
+/// Writes the line of a word.
+fn put_line<W: ByteOut>(address: u32, word: u32, out: &mut W) -> Result<(), Failed>
+    ensures bytes { TakesText (W.written out.old) (line_of address word) result (W.written out.new) }
+    ensures works { OnOk result (W.failed out.new ≡ W.failed out.old) }
+    ensures fails { OnErr result (W.failed out.new ≡ true) }
+{
+    put_head(address, word, out)?;
+    put_word(address, word, out)?;
+    out.put_all(b"\n")
+}
+
+/// The byte at an index, or 0 past the end.
+fn byte_at(bytes: &[u8], index: usize) -> u8
+    ensures { result ≡ slice_index bytes.now index }
+{
+    if index < bytes.len() { bytes[index] } else { 0 }
+}
+
+/// The word at an offset of a segment: the file's bytes, and zeros past them.
+fn word_in(segment: &Segment, offset: usize) -> u32
+    requires { offset < 2 ^ 32 }
+    ensures { result ≡ word_in (segment_contents segment.now) (segment.now.vaddr + offset) }
+{
+    let bytes = segment.bytes.as_slice();
+    word_at(&[
+        byte_at(bytes, offset),
+        byte_at(bytes, offset + 1),
+        byte_at(bytes, offset + 2),
+        byte_at(bytes, offset + 3),
+    ])
+}
+
+/// Writes the lines of a segment.
+fn put_segment<W: ByteOut>(segment: &Segment, out: &mut W) -> Result<(), Failed>
+    requires { IsSegment (segment_contents segment.now) }
+    ensures bytes { TakesText (W.written out.old) (segment_lines (segment_contents segment.now)) result (W.written out.new) }
+    ensures works { OnOk result (W.failed out.new ≡ W.failed out.old) }
+    ensures fails { OnErr result (W.failed out.new ≡ true) }
+{
+    for number in 0..segment.size.div_ceil(4) {
+        let offset = 4 * number;
+        put_line(
+            segment.vaddr + offset,
+            word_in(segment, offset as usize),
+            out,
+        )?;
+    }
+    Ok(())
+}
+
+fn begins_in_text(segment: &Segment) -> bool
+    ensures { result ≡ begins_in_text (segment_contents segment.now) }
+{
+    TEXT_BASE <= segment.vaddr && segment.vaddr < TEXT_END
+}
+
+/// Writes the lines of a segment, where it begins in the text range.
+fn put_listed<W: ByteOut>(segment: &Segment, out: &mut W) -> Result<(), Failed>
+    requires { IsSegment (segment_contents segment.now) }
+    ensures bytes { TakesText (W.written out.old) (listed_lines (segment_contents segment.now)) result (W.written out.new) }
+    ensures works { OnOk result (W.failed out.new ≡ W.failed out.old) }
+    ensures fails { OnErr result (W.failed out.new ≡ true) }
+{
+    if begins_in_text(segment) {
+        put_segment(segment, out)
+    } else {
+        Ok(())
+    }
+}
+
+/// Writes the lines of several segments.
+fn put_all_listed<W: ByteOut>(segments: &[Segment], out: &mut W) -> Result<(), Failed>
+    requires { All IsSegment (map segment_contents segments.now) }
+    ensures bytes { TakesText (W.written out.old) (flat_map listed_lines (map segment_contents segments.now)) result (W.written out.new) }
+    ensures works { OnOk result (W.failed out.new ≡ W.failed out.old) }
+    ensures fails { OnErr result (W.failed out.new ≡ true) }
+{
+    for segment in segments {
+        put_listed(segment, out)?;
+    }
+    Ok(())
+}
+
+/// Lists an image: a line for each word of each segment whose address is in the text range, with the address, the word
+/// and the text of its instruction, or `.word` where it is none's.
+///
+/// A failure of the writer leaves a prefix of the listing.
+pub fn disassemble<W: ByteOut>(alloc: Global, image: &[u8], writer: &mut W) -> Result<(), RunFault>
+    ensures shows { Shows (reading image.now) (W.written writer.old) (W.written writer.new) result }
+    // `Write` is answered exactly where the writer failed in this call.
+    ensures writer { W.failed writer.new ≡ (is_write result || W.failed writer.old) }
+{
+    let image = read_image(alloc, image)?;
+    match put_all_listed(&image.segments, writer) {
+        Ok(()) => Ok(()),
+        Err(_) => Err(RunFault::Write),
+    }
+}
