@@ -1,5 +1,23 @@
-# make test: every proof, must-fail edit and test; the last line is `N passed, M failed`.
-.PHONY: test
+# make build   proves and builds the program, crates/cyclone/out/cyclone
+# make demo    builds it, and shows it at work on the texts in examples/
+# make cases   builds it, and runs the command-line suite
+# make bench   builds it, and prints figures of its speed beside qemu-mips (Debian's qemu-user)
+# make test    the gate: every proof, must-fail edit and test from nothing, and the command-line suite;
+#              the last line is `N passed, M failed`
+.PHONY: build demo cases bench test
+
+build:
+	@cd crates/cyclone && rt run -- --help >/dev/null
+
+demo: build
+	@sh examples/demo.sh
+
+cases: build
+	@sh tests/tools.sh
+	@python3 tests/run.py
+
+bench: build
+	@python3 bench/machine.py
 
 test:
-	@rt ci
+	@bash tests/gate.sh

@@ -1,0 +1,4 @@
+pub mod Excerpt
+pub mod Answer
+pub mod Request
+pub mod Work

@@ -1,0 +1,31 @@
+-- What the program answers to a run and to a listing, by what the runner and the lister answered.
+use Rattle.std.specs.Prelude.{◌≡◌, ℕ, List, Option, Result, Ok, Err}
+use Rattle.cyc_elf.specs.Reading.{reading}
+use Rattle.cyc_machine.specs.Bounds.{Bounds}
+use Rattle.cyc_system.specs.Engine.{Answers, Devices}
+use Rattle.cyc_system.specs.Listing.{Shows}
+use Rattle.cyc_system.specs.declared.report.Report.{Report}
+use Rattle.cyc_system.specs.declared.report.RunFault.{RunFault}
+use Rattle.cyclone.specs.Answer.{answer_of_stop, answer_of_run_fault}
+use Rattle.cyclone.specs.declared.answer.Answer.{Answer}
+use Rattle.cyclone.specs.declared.answer.Answer.TheVariants.{Done}
+
+abbrev pub answer_of_run : Result Report RunFault → Answer
+answer_of_run (Ok report) = answer_of_stop report.stop
+answer_of_run (Err fault) = answer_of_run_fault fault
+
+abbrev pub answer_of_listing : Result (Unit {0}) RunFault → Answer
+answer_of_listing (Ok done) = Done
+answer_of_listing (Err fault) = answer_of_run_fault fault
+
+-- the image was run between the devices, and the answer is for what came of it
+pub record AnswersRun (image : List ℕ) (limits : Bounds) (budget : ℕ) (old new : Devices) (answer : Answer) : Type 0 where
+  pub outcome : Result Report RunFault
+  pub runs : Answers (reading image) limits budget old new outcome
+  pub answered : answer ≡ answer_of_run outcome
+
+-- the image was listed to the device, and the answer is for what came of it
+pub record AnswersListing (image : List ℕ) (old new : Option (List ℕ)) (answer : Answer) : Type 0 where
+  pub outcome : Result (Unit {0}) RunFault
+  pub shows : Shows (reading image) old new outcome
+  pub answered : answer ≡ answer_of_listing outcome

@@ -1,0 +1,148 @@
+//! What the program answers: its exit status, and its last line on standard error.
+ghost use Rattle.std.specs.Prelude.{◌≡◌, Some};
+ghost use Rattle.cyclone.specs.Answer.{last_line, status_of, cause_words};
+
+use cyc_elf::ElfFault;
+use cyc_machine::{Cause, End, LoadFault};
+use cyc_system::{RunFault, Stop};
+use cyc_words::{Code, Fault};
+use std::fmt;
+
+/// How a call of the program came out. Its `Display` is the last line on standard error.
+#[derive(Clone, Copy, Debug, PartialEq, Eq)]
+pub enum Answer {
+    /// The text was compiled, or the image listed.
+    Done,
+    /// The run ended with this value.
+    Returned(i32),
+    /// The text was refused.
+    Refused(Fault),
+    /// The file is no image that can be run or listed: the number says why.
+    BadImage(u32),
+    /// The run ended with an exception that nothing caught: its number and its value.
+    Uncaught(u32, i32),
+    /// The run ended for want of pages or of calls.
+    Full,
+    /// The machine refused an instruction.
+    Trapped(Cause),
+    /// The run was stopped after as many instructions as it was allowed.
+    Spent,
+    /// A file or the standard input could not be read.
+    ReadFault,
+    /// A file or the standard output could not be written.
+    WriteFault,
+    /// There was not enough memory.
+    NoMemory,
+    /// The command line is none of the program's.
+    Usage,
+}
+
+/// The number of the fault of an image that lies outside the machine's memory, past those of ELF.
+const OUTSIDE: u32 = 8;
+
+/// The words of the last line for the cause of a trap.
+fn cause_words(cause: Cause) -> &'static str
+    ensures { result.now ≡ cause_words cause }
+{
+    match cause {
+        Cause::ReservedInstruction => "reserved instruction",
+        Cause::Unpredictable => "unpredictable",
+        Cause::Misaligned => "misaligned",
+        Cause::NoSuchAddress => "no such address",
+        Cause::DeadCell => "dead cell",
+        Cause::WriteToText => "write to text",
+        Cause::Break => "break",
+        Cause::BadService => "bad service",
+    }
+}
+
+impl Answer {
+    /// The exit status.
+    pub fn status(&self) -> u8
+        ensures { result ≡ status_of self.now }
+    {
+        match *self {
+            Answer::Done => 0,
+            Answer::Returned(value) => value.to_be_bytes()[3],
+            Answer::Refused(_) => 2,
+            Answer::BadImage(_) => 3,
+            Answer::Uncaught(_, _) => 4,
+            Answer::Full => 5,
+            Answer::Trapped(_) => 6,
+            Answer::Spent => 7,
+            Answer::ReadFault | Answer::WriteFault | Answer::NoMemory => 8,
+            Answer::Usage => 9,
+        }
+    }
+}
+
+impl fmt::Display for Answer {
+    ghost output = { λ a. Some (last_line a) };
+
+    fn fmt<W: fmt::Write>(&self, f: &mut fmt::Formatter<W>) -> fmt::Result {
+        match *self {
+            Answer::Done => f.write_str("done"),
+            Answer::Returned(value) => write!(f, "returned {value}"),
+            Answer::Refused(fault) => {
+                let (code, line, column) = (fault.code.number(), fault.line, fault.column);
+                write!(f, "fault {code} at {line}:{column}")
+            }
+            Answer::BadImage(number) => write!(f, "image fault {number}"),
+            Answer::Uncaught(exception, value) => write!(f, "uncaught {exception} {value}"),
+            Answer::Full => f.write_str("full"),
+            Answer::Trapped(cause) => write!(f, "trap {}", cause_words(cause)),
+            Answer::Spent => f.write_str("budget spent"),
+            Answer::ReadFault => f.write_str("read fault"),
+            Answer::WriteFault => f.write_str("write fault"),
+            Answer::NoMemory => f.write_str("no memory"),
+            Answer::Usage => f.write_str("usage"),
+        }
+    }
+}
+
+impl From<Fault> for Answer {
+    ghost use Rattle.cyclone.specs.Answer.{answer_of_fault};
+
+    ghost from_gives = { λ fault answer. answer ≡ answer_of_fault fault };
+
+    fn from(fault: Fault) -> Answer {
+        if fault.code == Code::Memory {
+            Answer::NoMemory
+        } else {
+            Answer::Refused(fault)
+        }
+    }
+}
+
+impl From<Stop> for Answer {
+    ghost use Rattle.cyclone.specs.Answer.{answer_of_stop};
+
+    ghost from_gives = { λ stop answer. answer ≡ answer_of_stop stop };
+
+    fn from(stop: Stop) -> Answer {
+        match stop {
+            Stop::End(End::Returned(value)) => Answer::Returned(value),
+            Stop::End(End::Uncaught(exception, value)) => Answer::Uncaught(exception, value),
+            Stop::End(End::Full) => Answer::Full,
+            Stop::End(End::Trap(cause)) => Answer::Trapped(cause),
+            Stop::Spent => Answer::Spent,
+        }
+    }
+}
+
+impl From<RunFault> for Answer {
+    ghost use Rattle.cyclone.specs.Answer.{answer_of_run_fault};
+
+    ghost from_gives = { λ fault answer. answer ≡ answer_of_run_fault fault };
+
+    fn from(fault: RunFault) -> Answer {
+        match fault {
+            RunFault::Elf(ElfFault::Memory) => Answer::NoMemory,
+            RunFault::Elf(fault) => Answer::BadImage(fault.number()),
+            RunFault::Load(LoadFault::Outside) => Answer::BadImage(OUTSIDE),
+            RunFault::Load(LoadFault::Memory) | RunFault::Memory => Answer::NoMemory,
+            RunFault::Read => Answer::ReadFault,
+            RunFault::Write => Answer::WriteFault,
+        }
+    }
+}

@@ -1,0 +1,219 @@
+//! The command line: what the words ask for.
+ghost use Rattle.std.specs.Prelude.{◌≡◌, ◌≤◌, Some, IfOk, IfSome};
+ghost use Rattle.std.specs.Str.Parse.{digits_value};
+ghost use Rattle.clap.specs.Words.{first_value, found_of};
+ghost use Rattle.cyclone.specs.Request.{IsRunRequest, IsWithinBudget};
+
+use crate::number;
+use clap::error::ErrorKind;
+use clap::{Arg, ArgAction, ArgMatches, Command, Error};
+use cyc_machine::Limits;
+use std::alloc::{AllocError, Global};
+
+/// What the words of a command line ask for.
+#[derive(Clone, Copy, Debug, PartialEq, Eq)]
+pub enum Request<'a> {
+    /// `compile F -o I`: to make an image of the text in the file `source`, and write it to `image`.
+    Compile {
+        source: &'a str,
+        image: &'a str,
+    },
+    /// `run I`: to run an image with these limits, for at most `budget` instructions.
+    Run {
+        image: &'a str,
+        limits: Limits,
+        budget: u64,
+    },
+    /// `disasm I`: to list the instructions of an image.
+    Disassemble {
+        image: &'a str,
+    },
+}
+
+const MOST_PAGES: u64 = 65_536;
+
+const MOST_CALLS: u64 = 4096;
+
+const MOST_STEPS: u64 = 1_000_000_000_000;
+
+const ABOUT: &str = "Compiles programs in an integer profile of Cyclone, a safe C with regions, \
+     to MIPS32 images, and runs and lists those images.";
+
+const EXAMPLES: &str = "Examples:
+  cyclone compile hello.cyc -o hello.elf    make an image of the program
+  cyclone run hello.elf                     run it: what it returns is the exit status
+  cyclone disasm hello.elf                  list its instructions
+
+Exit status: 0 done, or the low 8 bits of what the program returned; 2 the text was refused;
+3 not an image; 4 an exception was not caught; 5 out of pages or calls; 6 the machine
+trapped; 7 out of steps; 8 reading, writing or memory failed; 9 a wrong command line.
+The last line on standard error says which.";
+
+const COMPILE_HELP: &str = "Example:
+  cyclone compile hello.cyc -o hello.elf
+
+A program that is refused writes no file: a message says what is wrong and where.";
+
+const RUN_HELP: &str = "Example:
+  echo hello | cyclone run echo.elf --pages 64 --steps 5000000
+
+The program's input is the standard input, and its output the standard output. The exit
+status is the low 8 bits of what it returned.";
+
+const DISASM_HELP: &str = "Example:
+  cyclone disasm hello.elf
+
+Each line has an address, the word that stands there, and its instruction.";
+
+fn file<'a>(alloc: Global, id: &'a str, help: &'a str) -> Arg<'a> {
+    Arg::new(alloc, id)
+        .required(true)
+        .action(ArgAction::Set)
+        .help(help)
+}
+
+fn limit<'a>(alloc: Global, id: &'a str, default: &'a str, help: &'a str) -> Arg<'a> {
+    Arg::new(alloc, id)
+        .long(id)
+        .value_name("N")
+        .action(ArgAction::Set)
+        .default_value(default)
+        .help(help)
+}
+
+fn compile_command<'a>(alloc: Global) -> Result<Command<'a>, AllocError> {
+    let image = Arg::new(alloc, "image")
+        .short('o')
+        .value_name("I")
+        .required(true)
+        .action(ArgAction::Set)
+        .help("The file to write the image to");
+    Command::new(alloc, "compile")
+        .about("Compiles a text to an image")
+        .after_help(COMPILE_HELP)
+        .arg(file(alloc, "source", "The file with the program's text").value_name("F"))?
+        .arg(image)
+}
+
+fn run_command<'a>(alloc: Global) -> Result<Command<'a>, AllocError> {
+    Command::new(alloc, "run")
+        .about("Runs an image")
+        .after_help(RUN_HELP)
+        .arg(file(alloc, "image", "The file with the image").value_name("I"))?
+        .arg(limit(
+            alloc,
+            "pages",
+            "1024",
+            "Pages of memory for regions, from 3 to 65536",
+        ))?
+        .arg(limit(
+            alloc,
+            "calls",
+            "4096",
+            "Calls under way at one time, from 1 to 4096",
+        ))?
+        .arg(limit(
+            alloc,
+            "steps",
+            "1000000000",
+            "Instructions, from 1 to 1000000000000",
+        ))
+}
+
+fn disasm_command<'a>(alloc: Global) -> Result<Command<'a>, AllocError> {
+    Command::new(alloc, "disasm")
+        .about("Lists the instructions of an image")
+        .after_help(DISASM_HELP)
+        .arg(file(alloc, "image", "The file with the image").value_name("I"))
+}
+
+fn program<'a>(alloc: Global) -> Result<Command<'a>, AllocError> {
+    Command::new(alloc, "cyclone")
+        .bin_name("cyclone")?
+        .about(ABOUT)
+        .after_help(EXAMPLES)
+        .subcommand_required(true)
+        .subcommand(compile_command(alloc)?)?
+        .subcommand(run_command(alloc)?)?
+        .subcommand(disasm_command(alloc)?)
+}
+
+/// The number given for an option, or by its default.
+fn number_of<'a>(
+    alloc: Global,
+    program: &mut Command<'a>,
+    matches: &ArgMatches<'a>,
+    option: &str,
+    low: u64,
+    high: u64,
+) -> Result<u64, Error>
+    ensures range { IfOk result (λ n. (low ≤ n) × (n ≤ high)) }
+    ensures value { IfOk result (λ n. IfSome (first_value (found_of matches.now) option.now)
+        (λ text. n ≡ digits_value 10 text)) }
+{
+    let text = matches.get_str(option).unwrap_or("");
+    match number::within(text, low, high) {
+        Some(number) => Ok(number),
+        None => {
+            let message = format!(in alloc;
+                "--{option} takes a number from {low} to {high}, not {text:?}"
+            )?;
+            Err(program.error(ErrorKind::ValueValidation, message.as_str())?)
+        }
+    }
+}
+
+/// A file that the words name. The parser asks for each, so one is there.
+fn file_of<'a>(
+    program: &mut Command<'a>,
+    matches: &ArgMatches<'a>,
+    id: &str,
+) -> Result<&'a str, Error>
+    ensures { IfOk result (λ path. first_value (found_of matches.now) id.now ≡ Some path.now) }
+{
+    match matches.get_str(id) {
+        Some(path) => Ok(path),
+        None => Err(program.error(ErrorKind::MissingRequiredArgument, "a file is missing")?),
+    }
+}
+
+fn run_request<'a>(
+    alloc: Global,
+    program: &mut Command<'a>,
+    matches: &ArgMatches<'a>,
+) -> Result<Request<'a>, Error>
+    ensures { IfOk result (IsRunRequest (first_value (found_of matches.now))) }
+{
+    let image = file_of(program, matches, "image")?;
+    let pages = number_of(alloc, program, matches, "pages", 3, MOST_PAGES)?;
+    let calls = number_of(alloc, program, matches, "calls", 1, MOST_CALLS)?;
+    let budget = number_of(alloc, program, matches, "steps", 1, MOST_STEPS)?;
+    let limits = Limits::new(pages as u32, calls as u32).unwrap();
+    Ok(Request::Run {
+        image,
+        limits,
+        budget,
+    })
+}
+
+/// What the words ask for, of which the first is the program's name. The error is a mistake in the
+/// words, or the text of the help that they ask for.
+pub fn read<'a>(alloc: Global, words: &'a [String]) -> Result<Request<'a>, Error>
+    ensures { IfOk result IsWithinBudget }
+{
+    let mut program = program(alloc)?;
+    let matches = program.try_get_matches_from_mut(words)?;
+    match matches.subcommand() {
+        Some(("compile", matches)) => {
+            let source = file_of(&mut program, matches, "source")?;
+            let image = file_of(&mut program, matches, "image")?;
+            Ok(Request::Compile { source, image })
+        }
+        Some(("run", matches)) => run_request(alloc, &mut program, matches),
+        Some(("disasm", matches)) => {
+            let image = file_of(&mut program, matches, "image")?;
+            Ok(Request::Disassemble { image })
+        }
+        _ => Err(program.error(ErrorKind::MissingSubcommand, "a command is missing")?),
+    }
+}

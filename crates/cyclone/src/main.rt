@@ -1,0 +1,28 @@
+//! The program `cyclone`: compiles a text to an image, runs an image, and lists one.
+#![tactic(auto)]
+
+mod advice;
+mod answer;
+mod arguments;
+mod console;
+mod excerpt;
+mod files;
+mod message;
+mod number;
+mod session;
+mod work;
+
+use std::process::ExitCode;
+
+fn main(rt: HostRuntime) -> ExitCode {
+    match session::answer(&rt) {
+        Some(answer) => {
+            let _ = rt.eprintln(answer);
+            ExitCode::from(answer.status())
+        }
+        None => ExitCode::SUCCESS,
+    }
+}
+
+#[cfg(test)]
+mod tests;

@@ -1,0 +1,148 @@
+//! From the words of the command line to the answer, over files and the standard streams.
+use crate::advice::explanation;
+use crate::answer::Answer;
+use crate::arguments;
+use crate::arguments::Request;
+use crate::console::{Keyboard, Screen};
+use crate::files::{read_image, read_text, write_image};
+use crate::message::Message;
+use crate::work::{list_image, run_image};
+use clap::error::ErrorKind;
+use cyc_machine::Limits;
+use cyc_system::compile;
+use cyc_words::Fault;
+use std::cell::RefCell;
+use std::io::{BufReader, BufWriter, IsTerminal, Stdout};
+use std::{env, io};
+
+type Buffer = RefCell<BufWriter<Stdout>>;
+
+/// The answer to a refused text, whose message for a person goes to standard error.
+fn refused(rt: &HostRuntime, name: &str, text: &[u8], fault: Fault) -> Answer {
+    let answer = Answer::from(fault);
+    if let Answer::Refused(fault) = answer {
+        let _ = rt.eprint(Message { name, text, fault });
+    }
+    answer
+}
+
+/// `compile F -o I`. The file I is opened only where there is an image to write.
+fn compile_file(rt: &HostRuntime, source: &str, image: &str) -> Result<Answer, Answer> {
+    let text = read_text(rt, source)?;
+    let text = text.as_slice();
+    match compile(rt.alloc(), text) {
+        Ok(bytes) => Ok(write_image(rt, image, bytes.as_slice())),
+        Err(fault) => Err(refused(rt, source, text, fault)),
+    }
+}
+
+fn buffer(rt: &HostRuntime) -> Result<Buffer, Answer> {
+    match BufWriter::new(rt.alloc(), rt.stdout()) {
+        Ok(buffer) => Ok(RefCell::new(buffer)),
+        Err(_) => Err(Answer::NoMemory),
+    }
+}
+
+/// `run I`, on the standard input.
+fn run_file(rt: &HostRuntime, image: &str, limits: Limits, budget: u64) -> Result<Answer, Answer> {
+    let image = read_image(rt, image)?;
+    let buffer = buffer(rt)?;
+    let keyboard = Keyboard {
+        input: rt.stdin(),
+        buffer: &buffer,
+    };
+    let Ok(mut input) = BufReader::new(rt.alloc(), keyboard) else {
+        return Err(Answer::NoMemory);
+    };
+    let mut screen = Screen {
+        buffer: &buffer,
+        by_lines: rt.stdout().is_terminal(),
+        at_line_start: true,
+    };
+    let answer = run_image(
+        rt.alloc(),
+        image.as_slice(),
+        limits,
+        budget,
+        &mut input,
+        &mut screen,
+    );
+    // What the answer says to a person begins on a line of its own.
+    if screen.by_lines && !screen.at_line_start && rt.stderr().is_terminal() {
+        let _ = rt.eprintln("");
+    }
+    Ok(answer)
+}
+
+/// `disasm I`.
+fn list_file(rt: &HostRuntime, image: &str) -> Result<Answer, Answer> {
+    let image = read_image(rt, image)?;
+    let buffer = buffer(rt)?;
+    let mut screen = Screen {
+        buffer: &buffer,
+        by_lines: false,
+        at_line_start: true,
+    };
+    Ok(list_image(rt.alloc(), image.as_slice(), &mut screen))
+}
+
+fn carry_out(rt: &HostRuntime, request: Request<'_>) -> Answer {
+    let result = match request {
+        Request::Compile { source, image } => compile_file(rt, source, image),
+        Request::Run {
+            image,
+            limits,
+            budget,
+        } => run_file(rt, image, limits, budget),
+        Request::Disassemble { image } => list_file(rt, image),
+    };
+    match result {
+        Ok(answer) | Err(answer) => answer,
+    }
+}
+
+/// The answer to words that ask for no work: a wrong command line, or help, which has no answer
+/// where its text could be written.
+fn without_request(rt: &HostRuntime, error: &clap::Error) -> Option<Answer> {
+    let written = error.print(rt);
+    match error.kind() {
+        ErrorKind::DisplayHelp if written.is_ok() => None,
+        ErrorKind::DisplayHelp => Some(Answer::WriteFault),
+        ErrorKind::OutOfMemory => Some(Answer::NoMemory),
+        _ => Some(Answer::Usage),
+    }
+}
+
+fn words_of(rt: &HostRuntime) -> Result<Vec<String>, Answer> {
+    let words = match env::args(rt) {
+        Ok(words) => words,
+        Err(error) if error.kind() == io::ErrorKind::OutOfMemory => return Err(Answer::NoMemory),
+        Err(_) => {
+            let _ = eprintln!(rt; "cyclone: a word of the command line is not UTF-8");
+            return Err(Answer::Usage);
+        }
+    };
+    match words.collect(rt.alloc()) {
+        Ok(words) => Ok(words),
+        Err(_) => Err(Answer::NoMemory),
+    }
+}
+
+/// What the program answers, or nothing where help was asked for and given. What there is to say
+/// about the answer to a person stands on standard error.
+pub fn answer(rt: &HostRuntime) -> Option<Answer> {
+    let words = match words_of(rt) {
+        Ok(words) => words,
+        Err(answer) => return Some(answer),
+    };
+    match arguments::read(rt.alloc(), words.as_slice()) {
+        Ok(request) => {
+            let answer = carry_out(rt, request);
+            if let Some(text) = explanation(&answer) {
+                let _ = eprintln!(rt; "cyclone: {text}");
+            }
+            Some(answer)
+        }
+        Err(error) => without_request(rt, &error),
+    }
+}

@@ -1,0 +1,352 @@
+#!/usr/bin/env python3
+"""Runs the built program on the cases in tests/cases and says which of them it fails.
+
+    python3 tests/run.py [--program PATH] [FILE.cases ..]
+
+The last line is `N passed, M failed`. A case is a few lines; tests/README.md has the format.
+"""
+import argparse
+import os
+import re
+import shlex
+import struct
+import subprocess
+import sys
+import tempfile
+
+HERE = os.path.dirname(os.path.abspath(__file__))
+PROGRAM = os.path.join(HERE, "..", "crates", "cyclone", "out", "cyclone")
+SECONDS = 60
+# A long value is shown by its two ends.
+SHOWN = 400
+
+
+class BadCase(Exception):
+    """A line of a case file that means nothing."""
+
+
+def unescaped(text):
+    r"""The bytes that a text means, where `\n`, `\t`, `\r`, `\\`, `\"` and `\xNN` are escapes."""
+    names = {"n": "\n", "t": "\t", "r": "\r", "\\": "\\", '"': '"'}
+
+    def one(match):
+        name = match.group(1)
+        if name[0] == "x":
+            return chr(int(name[1:], 16))
+        if name not in names:
+            raise BadCase(f"unknown escape \\{name}")
+        return names[name]
+
+    return re.sub(r"\\(x[0-9a-fA-F]{2}|.)", one, text).encode("latin-1")
+
+
+def image_of(words):
+    """An image with one segment of text at 00400000, and its entry there."""
+    text = b"".join(bytes.fromhex(word) for word in words)
+    header = bytes.fromhex("7f454c46010201") + bytes(9)
+    header += struct.pack(">HHIIIIIHHHHHH", 2, 8, 1, 0x400000, 52, 0, 0, 52, 32, 1, 0, 0, 0)
+    segment = struct.pack(">8I", 1, 84, 0x400000, 0x400000, len(text), len(text), 5, 4)
+    return header + segment + text
+
+
+class Step:
+    """One command of a case, and what is expected of it."""
+
+    def __init__(self, line, words, is_program):
+        self.line = line
+        self.words = words
+        self.is_program = is_program
+        self.input = b""
+        self.output = b""
+        self.output_has = []
+        self.error_has = []
+        self.status = None
+        self.last = None
+        self.closed = set()
+        self.full = False
+        self.broken = False
+
+
+class Case:
+    """A name, and the actions that make files, run steps and look at files, in order."""
+
+    def __init__(self, path, line, name):
+        self.place = f"{os.path.relpath(path)}:{line}"
+        self.name = name
+        self.actions = []
+
+
+def repeated(value):
+    """What a `let` means: `"TEXT"`, `"TEXT" * N` or plain text up to the end of the line."""
+    match = re.fullmatch(r'"((?:[^"\\]|\\.)*)"(?:\s*\*\s*(\d+))?', value)
+    if not match:
+        return value
+    return unescaped(match.group(1)).decode("latin-1") * int(match.group(2) or 1)
+
+
+class Reader:
+    """Reads the cases of one file."""
+
+    def __init__(self, path):
+        self.path = path
+        with open(path, encoding="utf-8") as file:
+            self.lines = file.read().split("\n")
+        self.at = 0
+        self.shared = {}
+        self.own = {}
+        self.cases = []
+        self.step = None
+
+    def block(self):
+        """The indented lines that follow, without their indentation and with names put in."""
+        lines = []
+        while self.at < len(self.lines) and self.lines[self.at].startswith("    "):
+            lines.append(self.lines[self.at][4:])
+            self.at += 1
+        return self.with_names("\n".join(lines))
+
+    def with_names(self, text):
+        names = {**self.shared, **self.own}
+        return re.sub(r"\$([A-Z][A-Z0-9_]*)", lambda m: names.get(m.group(1), m.group(0)), text)
+
+    def read(self):
+        while self.at < len(self.lines):
+            line = self.lines[self.at]
+            self.at += 1
+            if line.strip() and not line.startswith("#"):
+                try:
+                    self.take(line)
+                except (BadCase, ValueError) as error:
+                    raise SystemExit(f"{self.path}:{self.at}: {error}")
+        return self.cases
+
+    def take(self, line):
+        word, _, rest = line.partition(" ")
+        rest = rest.strip()
+        if word == "==":
+            self.cases.append(Case(self.path, self.at, rest))
+            self.own = {}
+            self.step = None
+        elif word == "let":
+            name, _, value = rest.partition("=")
+            scope = self.own if self.cases else self.shared
+            scope[name.strip()] = repeated(value.strip()) or self.block()
+        elif not self.cases:
+            raise BadCase("a case begins with a line `== NAME`")
+        elif word in (">", "$"):
+            self.step = Step(self.at, shlex.split(self.with_names(rest)), word == ">")
+            self.cases[-1].actions.append(self.step)
+        elif word in FILES:
+            self.cases[-1].actions.append(FILES[word](self, rest))
+        elif self.step is None:
+            raise BadCase(f"`{word}` is no word of a case, or no command stands before it")
+        else:
+            self.expect(word, rest)
+
+    def expect(self, word, rest):
+        step = self.step
+        if word == "in":
+            step.input = unescaped(self.with_names(rest))
+        elif word == "out":
+            step.output = unescaped(self.with_names(rest)) if rest else self.block().encode("latin-1") + b"\n"
+        elif word == "out-has":
+            step.output_has.append(unescaped(self.with_names(rest)))
+        elif word == "err-has":
+            step.error_has.append(unescaped(rest) if rest else self.block().encode("latin-1"))
+        elif word == "ends":
+            status, _, last = rest.partition(" ")
+            step.status, step.last = int(status), last
+        elif word == "closed":
+            step.closed.update(rest.split())
+        elif word == "full":
+            step.full = True
+        elif word == "broken":
+            step.broken = True
+        else:
+            raise BadCase(f"`{word}` is no word of a case")
+
+
+def made(reader, rest, content):
+    """An action that makes a file."""
+    path = rest
+
+    def act(folder):
+        with open(os.path.join(folder, path), "wb") as file:
+            file.write(content)
+
+    return act
+
+
+def make_bytes(reader, rest):
+    path, _, text = rest.partition(" ")
+    return made(reader, path, unescaped(reader.with_names(text)))
+
+
+def changed(path, change):
+    """An action that changes the bytes of a file."""
+
+    def act(folder):
+        path_there = os.path.join(folder, path)
+        with open(path_there, "rb") as file:
+            content = file.read()
+        with open(path_there, "wb") as file:
+            file.write(change(content))
+
+    return act
+
+
+def make_patch(reader, rest):
+    path, offset, new = rest.split()
+    start, new = int(offset), bytes.fromhex(new)
+    return changed(path, lambda content: content[:start] + new + content[start + len(new):])
+
+
+def make_cut(reader, rest):
+    path, length = rest.split()
+    return changed(path, lambda content: content[: int(length)])
+
+
+def look_absent(reader, rest):
+    def act(folder):
+        if os.path.lexists(os.path.join(folder, rest)):
+            return f"the file {rest} is there, and should not be"
+
+    return act
+
+
+def look_holds(reader, rest):
+    path, _, text = rest.partition(" ")
+    wanted = unescaped(reader.with_names(text))
+
+    def act(folder):
+        try:
+            with open(os.path.join(folder, path), "rb") as file:
+                content = file.read()
+        except OSError as error:
+            return f"the file {path} cannot be read: {error}"
+        if content != wanted:
+            return f"the file {path}\n  wanted {shown(wanted)}\n  is     {shown(content)}"
+
+    return act
+
+
+# The words that make, change or look at a file, and what each does.
+FILES = {
+    "file": lambda reader, rest: made(reader, rest, reader.block().encode("latin-1")),
+    "bytes": make_bytes,
+    "hex": lambda reader, rest: made(reader, rest, bytes.fromhex(reader.block())),
+    "words": lambda reader, rest: made(reader, rest, image_of(reader.block().split())),
+    "folder": lambda reader, rest: lambda folder: os.mkdir(os.path.join(folder, rest)),
+    "patch": make_patch,
+    "cut": make_cut,
+    "absent": look_absent,
+    "holds": look_holds,
+}
+
+
+def shown(value):
+    text = repr(value)
+    return text if len(text) <= SHOWN else text[: SHOWN // 2] + " .. " + text[-SHOWN // 2:]
+
+
+def last_line(error):
+    """The last line on standard error, without its line feed; empty where nothing was written."""
+    if error and not error.endswith(b"\n"):
+        return error.decode("latin-1") + " (and no line feed)"
+    return error[:-1].split(b"\n")[-1].decode("latin-1")
+
+
+def run_step(step, folder, program):
+    """The status, standard output and standard error of a step."""
+    words = ([program] if step.is_program else []) + step.words
+    streams = [f"{number}>&-" for name, number in (("in", 0), ("out", 1), ("err", 2)) if name in step.closed]
+    if step.full:
+        streams.append("1>/dev/full")
+    shell = ["sh", "-c", 'exec "$@" ' + " ".join(streams), "sh"]
+    output = subprocess.PIPE
+    if step.broken:
+        reading, output = os.pipe()
+        os.close(reading)
+    try:
+        return subprocess.run(
+            shell + words,
+            cwd=folder,
+            input=step.input,
+            stdout=output,
+            stderr=subprocess.PIPE,
+            timeout=SECONDS,
+            env={**os.environ, "LC_ALL": "C"},
+        )
+    finally:
+        if step.broken:
+            os.close(output)
+
+
+def faults_of_step(step, folder, program):
+    """What a step does otherwise than expected, in words."""
+    try:
+        done = run_step(step, folder, program)
+    except subprocess.TimeoutExpired:
+        return [f"took longer than {SECONDS} seconds"]
+    faults = []
+
+    def want(what, wanted, got):
+        if wanted != got:
+            faults.append(f"{what}\n  wanted {shown(wanted)}\n  got    {shown(got)}")
+
+    if step.status is not None:
+        wanted = f"{step.status} {step.last}".strip()
+        last = "" if "err" in step.closed else last_line(done.stderr)
+        want("exit status and last line on standard error", wanted, f"{done.returncode} {last}".strip())
+    if not step.output_has:
+        want("standard output", step.output, done.stdout or b"")
+    for text in step.output_has:
+        if text not in done.stdout:
+            faults.append(f"standard output lacks {shown(text)}\n  got    {shown(done.stdout)}")
+    for text in step.error_has:
+        if text not in done.stderr:
+            faults.append(f"standard error lacks {shown(text)}\n  got    {shown(done.stderr)}")
+    return faults
+
+
+def faults_of(case, program):
+    faults = []
+    with tempfile.TemporaryDirectory(prefix="cyclone-case-") as folder:
+        for action in case.actions:
+            if isinstance(action, Step):
+                name = "> " if action.is_program else "$ "
+                for fault in faults_of_step(action, folder, program):
+                    faults.append(f"line {action.line}: {name}{shlex.join(action.words)}\n{fault}")
+            else:
+                fault = action(folder)
+                if fault:
+                    faults.append(fault)
+    return faults
+
+
+def main():
+    parser = argparse.ArgumentParser(description=__doc__.split("\n")[0])
+    parser.add_argument("--program", default=PROGRAM)
+    parser.add_argument("files", nargs="*")
+    options = parser.parse_args()
+    cases_there = os.path.join(HERE, "cases")
+    files = options.files or sorted(os.path.join(cases_there, name) for name in os.listdir(cases_there) if name.endswith(".cases"))
+    program = os.path.abspath(options.program)
+    cases = [case for path in files for case in Reader(path).read()]
+    if not os.access(program, os.X_OK):
+        print(f"there is no program {program}: `make build` proves and builds it")
+        print(f"0 passed, {len(cases)} failed")
+        sys.exit(1)
+    failed = 0
+    for case in cases:
+        faults = faults_of(case, program)
+        if faults:
+            failed += 1
+            print(f"FAILED {case.place}: {case.name}")
+            print("\n".join("  " + line for fault in faults for line in fault.split("\n")))
+    print(f"{len(cases) - failed} passed, {failed} failed")
+    sys.exit(1 if failed else 0)
+
+
+if __name__ == "__main__":
+    main()
