@@ -1,0 +1,35 @@
+-- A list of symbols has one tree at most among those that keep the limits: the parser answers it.
+use Rattle.std.specs.Prelude.{◌≡◌, ℕ, ◌≤◌, Bool, true, false, cond, nat_lt, List, [], ◌∷◌, Result, Ok, Err}
+use Rattle.std.specs.List.{AllByRecursion}
+use Rattle.std.proofs.Common.{sym, ◌∙◌, ap, refl}
+use Rattle.cyc_syntax.specs.Symbols.{Symbol}
+use Rattle.cyc_syntax.specs.Trees.{Declaration}
+use Rattle.cyc_syntax.specs.Yields.{Leaf, Yield}
+use Rattle.cyc_syntax.specs.Yields as yields
+use Rattle.cyc_syntax.specs.Grammar.{HasTree, IsWithin, IsWithinLimits, max_nesting, max_items}
+use Rattle.cyc_parse.specs.Parsing.{Outcome, Refusal, TooDeep, TooLong}
+use Rattle.cyc_parse.proofs.Rules.{judge, within}
+use Rattle.cyc_parse.proofs.Completeness.{program_of-complete}
+
+-- leaves that keep the limits change no outcome
+judge-within : {A : Type 0} (leaves : Yield) (ts : List Symbol) (outcome : Outcome A) → AllByRecursion IsWithin leaves → judge leaves ts outcome ≡ outcome
+judge-within [] ts outcome all = refl
+judge-within (l ∷ ls) [] outcome all = refl
+judge-within (l ∷ ls) (t ∷ ts) outcome (one, more) = rw (within max_nesting l.nesting one.nesting, within max_items l.item one.item) (judge-within ls ts outcome more)
+
+-- an outcome that is not refused for a limit is the one that was there
+chosen : {A : Type 0} (b : Bool) (e : Refusal) (outcome : Outcome A) (y : A × List Symbol) → cond b (Err e) outcome ≡ Ok y → outcome ≡ Ok y
+chosen true e outcome y h = cc
+chosen false e outcome y h = h
+
+judged : {A : Type 0} (leaves : Yield) (ts : List Symbol) (x y : A × List Symbol) → judge leaves ts (Ok x) ≡ Ok y → x ≡ y
+judged [] ts x y h = cc
+judged (l ∷ ls) [] x y h = cc
+judged (l ∷ ls) (t ∷ ts) x y h =
+    judged ls ts x y (chosen (nat_lt max_items l.item) (record { reason = TooLong; left = t ∷ ts }) _ y
+    (chosen (nat_lt max_nesting l.nesting) (record { reason = TooDeep; left = t ∷ ts }) _ y h))
+
+pub one_tree : (ts : List Symbol) (a b : List Declaration) → HasTree ts a → IsWithinLimits a → HasTree ts b → a ≡ b
+one_tree ts a b has small other =
+    ap (λ (p : List Declaration × List Symbol). p.0)
+    (sym (judged (yields.program b) ts (b, []) (a, []) (sym (program_of-complete ts b other) ∙ (program_of-complete ts a has ∙ judge-within (yields.program a) ts (Ok (a, [])) small))))

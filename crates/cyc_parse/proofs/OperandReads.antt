@@ -1,0 +1,122 @@
+-- Expressions are read as they are written.
+use Rattle.std.proofs.Common.{◌≡◌, ℕ, zero, suc, ◌+◌, ◌≤◌, ◌<◌, Bool, true, false, cond, List, [], ◌∷◌, ◌++◌, length, Option, Some, None, is_some, Ok, Err, refl, sym, ap, subst, ◌∙◌, arith, append-nil, zero-le}
+use Rattle.std.specs.List.{AllByRecursion}
+use Rattle.cyc_syntax.specs.declared.tokens.Keyword.TheVariants as words
+use Rattle.cyc_syntax.specs.declared.tokens.Sign.TheVariants as signs
+use Rattle.cyc_syntax.specs.declared.tree.PrefixOperator.{PrefixOperator}
+use Rattle.cyc_syntax.specs.declared.tree.PrefixOperator.TheVariants as prefixes
+use Rattle.cyc_syntax.specs.Symbols.{Place, Terminal, Identifier, RegionName, Word, Mark, Symbol}
+use Rattle.cyc_syntax.specs.Symbols as terminals
+use Rattle.cyc_syntax.specs.Trees.{Named, Expression, Number, Character, Null, HeapRegion, UniqueRegion, Variable, Call, Bracketed, NumberOfElements, FreeUnique, FreeKey, Chained, Prefixed, New, RegionNew, Binary, Assign, Initial, Plain, Fields, Array, Expressions, NoExpressions, MoreExpressions, Postfixes, NoPostfixes, ThenIndex, ThenField, Operations, NoOperations, ThenOperation}
+use Rattle.cyc_syntax.specs.Yields.{Leaf, Yield, prefix_sign}
+use Rattle.cyc_syntax.specs.Yields as yields
+use Rattle.cyc_syntax.specs.Grammar.{IsLeaf, max_nesting, max_items, is_primary, IsExpression, AreExpressions, ArePostfixes, AreOperations, IsInitial, IsSomePostfix}
+use Rattle.cyc_parse.specs.Parsing.{Parser, TooDeep, pure, refuse_item, next, sees, sees_terminal, if_sees, is_sign, sign, word, identifier, bind, choose, advance, opens_regions, region_list}
+use Rattle.cyc_parse.specs.Expressions.{begins_expression, begins_initial, Nested, nested, group, from_name, primary, postfixes, chained, with_postfixes, unary, unary_by, climb, assignment, binary, expression, initial, initial_by, initial_from_name, fields, array, values, more_values}
+use Rattle.cyc_parse.proofs.Rules.{Front, Reads, Fits, Starts, Always, starts_append, starts-next, leaf_of, leaf_at, front-next, front-length, then_reads, last_reads, nothing_reads, pure_reads, reads_as, reads_before, word_reads_at, sign_reads, identifier_reads, choose_reads, advance_reads_at, sees_reads, unseen_reads, deep_reads, deep_then_reads}
+use Rattle.cyc_parse.proofs.Lists.{EndsList}
+use Rattle.cyc_parse.proofs.Stops.{Stops, stops-less, stops_leaf, no_assign, no_brace, no_regions, binds, binds_terminal}
+use Rattle.cyc_parse.proofs.Starts.{expression_starts, initial_starts, begins_primary, primary_starts, IsSecond, second}
+use Rattle.cyc_parse.proofs.RegionReads.{region_list_reads, regions_open}
+use Rattle.cyc_parse.proofs.OperatorReads.{OperationParts, climb_all, climb_more, chain_reads}
+use Rattle.cyc_parse.proofs.ExpressionReads.{deeper, shallow, ReadsDeeper, AreRead, list_of, Parts, PostfixParts, NoParen, group_reads, primary_reads, with_postfixes_reads}
+
+-- How an expression is read wherever it may stand, by its level.
+pub record IsReadAll (e : Expression) : Type 0 where
+  pub unary : (room d : ℕ) → Fits room d → IsExpression 0 e → Reads (nested room).unary e (yields.expression d e) (Stops 0)
+  pub operand : (k room d : ℕ) → Fits room d → k ≤ 10 → IsExpression k e → Reads (bind (nested room).unary (climb (nested room).unary k)) e (yields.expression d e) (Stops k)
+  pub expression : (room d : ℕ) → Fits room d → IsExpression 11 e → Reads (nested room).expression e (yields.expression d e) (Stops 11)
+  pub parts : (room d : ℕ) → Fits (suc room) d → IsExpression 0 e → Parts room d e
+
+pub record IsInitialRead (i : Initial) : Type 0 where
+  pub reads : (room d : ℕ) → Fits room d → IsInitial i → Reads (nested room).initial i (yields.initial d i) (Stops 0)
+
+-- ---- without room
+
+pub deep_unary : (d : ℕ) → Fits zero d → (e : Expression) → Reads (nested zero).unary e (yields.expression d e) (Stops 0)
+unfolding nested
+deep_unary d fits e = deep_reads begins_expression d (omega arith) (expression_starts d e)
+
+pub deep_operand : (k d : ℕ) → Fits zero d → (e : Expression) → Reads (bind (nested zero).unary (climb (nested zero).unary k)) e (yields.expression d e) (Stops k)
+unfolding nested
+deep_operand k d fits e = deep_then_reads begins_expression d _ (omega arith) (expression_starts d e)
+
+pub deep_expression : (d : ℕ) → Fits zero d → (e : Expression) → Reads (nested zero).expression e (yields.expression d e) (Stops 11)
+unfolding nested
+deep_expression d fits e = deep_reads begins_expression d (omega arith) (expression_starts d e)
+
+-- ---- from the level of operands up
+
+-- no assignment follows
+pub unassigned : (room d : ℕ) {e : Expression} → Reads (bind (nested (suc room)).unary (climb (nested (suc room)).unary 10)) e (yields.expression d e) (Stops 10) → Reads (nested (suc room)).expression e (yields.expression d e) (Stops 11)
+unfolding nested expression binary assignment
+unassigned room d {e = e} h = nothing_reads (assignment room (nested room)) h
+    (unseen_reads signs.Assign _ _ (λ ts rest front ends. ap (sees signs.Assign) front ∙ no_assign rest ends) (pure_reads e (Stops 11)))
+    (λ rest ends. stops-less 10 11 rest (omega arith) ends)
+
+-- an expression that is an operand
+pub from_unary : (e : Expression) → ((k : ℕ) → IsExpression k e → IsExpression 0 e) → ((room d : ℕ) → Fits (suc room) d → IsExpression 0 e → Reads (unary room (nested room)) e (yields.expression d e) (Stops 0))
+    → ((room d : ℕ) → Fits (suc room) d → IsExpression 0 e → Parts room d e) → IsReadAll e
+unfolding nested
+from_unary e tightest h parts = record { unary = at_unary; operand = at_operand; expression = at_expression; parts = parts }
+  where
+    at_unary : (room d : ℕ) → Fits room d → IsExpression 0 e → Reads (nested room).unary e (yields.expression d e) (Stops 0)
+    at_unary zero d fits is = deep_unary d fits e
+    at_unary (suc room) d fits is = h room d fits is
+
+    at_operand : (k room d : ℕ) → Fits room d → k ≤ 10 → IsExpression k e → Reads (bind (nested room).unary (climb (nested room).unary k)) e (yields.expression d e) (Stops k)
+    at_operand k zero d fits few is = deep_operand k d fits e
+    at_operand k (suc room) d fits few is = climb_all (nested (suc room)).unary k (h room d fits (tightest k is))
+
+    at_expression : (room d : ℕ) → Fits room d → IsExpression 11 e → Reads (nested room).expression e (yields.expression d e) (Stops 11)
+    at_expression zero d fits is = deep_expression d fits e
+    at_expression (suc room) d fits is = unassigned room d (climb_all (nested (suc room)).unary 10 (h room d fits (tightest 11 is)))
+
+-- ---- operands with postfixes
+
+unary-primary : (room : ℕ) (inner : Nested) (t : Terminal) → begins_primary t ≡ true → unary_by room inner (Some t) ≡ with_postfixes room inner (primary room inner)
+unary-primary room inner (Identifier x) h = refl
+unary-primary room inner (RegionName x) h = absurd (cc)
+unary-primary room inner (terminals.Number x) h = refl
+unary-primary room inner (terminals.Character x) h = refl
+unary-primary room inner (Word words.New) h = absurd (cc)
+unary-primary room inner (Word words.RegionNew) h = absurd (cc)
+unary-primary room inner (Word _) h = refl
+unary-primary room inner (Mark signs.Minus) h = absurd (cc)
+unary-primary room inner (Mark signs.Not) h = absurd (cc)
+unary-primary room inner (Mark signs.Tilde) h = absurd (cc)
+unary-primary room inner (Mark signs.Star) h = absurd (cc)
+unary-primary room inner (Mark signs.And) h = absurd (cc)
+unary-primary room inner (Mark _) h = refl
+
+module _ (room d : ℕ) (fits : Fits (suc room) d) where
+  -- a primary expression and postfixes, or none
+  pub chained_reads : (e : Expression) (ps : Postfixes) → is_primary e ≡ true → Parts room d e → PostfixParts room d ps
+      → Reads (unary room (nested room)) (chained e ps) (yields.expression d e ++ yields.postfixes d 1 ps) (Stops 0)
+  unfolding unary choose
+  chained_reads e ps is parts more = reads_as (with_postfixes room (nested room) (primary room (nested room)))
+      (λ ts rest front ends. ap (λ (o : Option Terminal). unary_by room (nested room) o ts) (starts-next (primary_starts d e is) (yields.postfixes d 1 ps) ts rest front)
+      ∙ ap (λ (p : Parser Expression). p ts) (unary-primary room (nested room) ((primary_starts d e is).first.terminal) ((primary_starts d e is).begin)))
+      (with_postfixes_reads room d fits (primary room (nested room)) e (yields.expression d e) ps (primary_reads room d fits e is parts) more)
+
+  pub alone_reads : (e : Expression) → is_primary e ≡ true → Parts room d e → Reads (unary room (nested room)) e (yields.expression d e) (Stops 0)
+  alone_reads e is parts = subst (λ (ys : Yield). Reads (unary room (nested room)) e ys (Stops 0)) (append-nil (yields.expression d e)) (chained_reads e NoPostfixes is parts tt)
+
+  pub prefixed_reads : (p : Place) (o : PrefixOperator) (e : Expression) → Reads (nested room).unary e (yields.expression (suc d) e) (Stops 0) → Reads (unary room (nested room)) (Prefixed p o e) (yields.expression d (Prefixed p o e)) (Stops 0)
+  unfolding unary
+  prefixed_reads p prefixes.Negate e h = choose_reads (unary_by room (nested room)) (leaf_at d (Mark signs.Minus) p) _ (advance_reads_at d (Mark signs.Minus) p _ (shallow room d fits) (last_reads (λ (v : Expression). pure (Prefixed p prefixes.Negate v)) (λ ts. refl) h))
+  prefixed_reads p prefixes.Not e h = choose_reads (unary_by room (nested room)) (leaf_at d (Mark signs.Not) p) _ (advance_reads_at d (Mark signs.Not) p _ (shallow room d fits) (last_reads (λ (v : Expression). pure (Prefixed p prefixes.Not v)) (λ ts. refl) h))
+  prefixed_reads p prefixes.Complement e h = choose_reads (unary_by room (nested room)) (leaf_at d (Mark signs.Tilde) p) _ (advance_reads_at d (Mark signs.Tilde) p _ (shallow room d fits) (last_reads (λ (v : Expression). pure (Prefixed p prefixes.Complement v)) (λ ts. refl) h))
+  prefixed_reads p prefixes.Dereference e h = choose_reads (unary_by room (nested room)) (leaf_at d (Mark signs.Star) p) _ (advance_reads_at d (Mark signs.Star) p _ (shallow room d fits) (last_reads (λ (v : Expression). pure (Prefixed p prefixes.Dereference v)) (λ ts. refl) h))
+  prefixed_reads p prefixes.AddressOf e h = choose_reads (unary_by room (nested room)) (leaf_at d (Mark signs.And) p) _ (advance_reads_at d (Mark signs.And) p _ (shallow room d fits) (last_reads (λ (v : Expression). pure (Prefixed p prefixes.AddressOf v)) (λ ts. refl) h))
+
+  pub new_reads : (p : Place) (i : Initial) → Reads (nested room).initial i (yields.initial (suc d) i) (Stops 0) → Reads (unary room (nested room)) (New p i) (yields.expression d (New p i)) (Stops 0)
+  unfolding unary
+  new_reads p i h = choose_reads (unary_by room (nested room)) (leaf_at d (Word words.New) p) _ (advance_reads_at d (Word words.New) p _ (shallow room d fits) (last_reads (λ (v : Initial). pure (New p v)) (λ ts. refl) h))
+
+-- a group at a depth that may have no room
+pub nested_group_reads : (room d : ℕ) → Fits room d → (e : Expression) (Ends : List Symbol → Type 0) → IsReadAll e → IsExpression 11 e
+    → Reads (nested room).group e (leaf_of d (Mark signs.LeftParen) ∷ (yields.expression (suc d) e ++ leaf_of (suc d) (Mark signs.RightParen) ∷ [])) Ends
+unfolding nested
+nested_group_reads zero d fits e Ends h is = deep_reads (λ t. is_some (is_sign signs.LeftParen t)) d (omega arith) (record { first = leaf_of d (Mark signs.LeftParen); others = _; are = refl; begin = refl; nesting = refl; item = zero-le })
+nested_group_reads (suc room) d fits e Ends h is = group_reads room d fits e Ends (h.expression room (suc d) (deeper room d fits) is)

@@ -1,0 +1,208 @@
+-- What a parser of symbols is, and the parsers of one symbol. The functions here and in the modules above are what the code computes;
+-- `proofs/` shows what they have to do with the grammar.
+use Rattle.std.specs.Prelude.{◌≡◌, ℕ, zero, suc, ◌+◌, Bool, true, false, List, [], ◌∷◌, Option, Some, None, is_some, ◌&&◌, Result, Ok, Err, if◌then◌else◌}
+use denote.Enum.Bare.{sameb}
+use Rattle.cyc_syntax.specs.declared.tokens.Keyword.{Keyword}
+use Rattle.cyc_syntax.specs.declared.tokens.Sign.{Sign}
+use Rattle.cyc_syntax.specs.contracts.tokens.Keyword as keyword
+use Rattle.cyc_syntax.specs.contracts.tokens.Sign as signs
+use Rattle.cyc_syntax.specs.declared.tokens.Sign.TheVariants as marks
+use Rattle.cyc_syntax.specs.Symbols.{Place, Terminal, Identifier, RegionName, Number, Character, Word, Mark, Symbol}
+use Rattle.cyc_syntax.specs.Trees.{Named}
+
+-- why symbols are refused
+pub data Reason : Type 0 where
+  -- no program goes on with this symbol, or none ends here
+  Unexpected : Reason
+  -- the symbol stands too deep
+  TooDeep : Reason
+  -- a list is too long with the item that begins here
+  TooLong : Reason
+
+-- a refusal stands at the first of the symbols that are left, or at the end of the text
+pub record Refusal : Type 0 where
+  pub reason : Reason
+  pub left : List Symbol
+
+abbrev pub Outcome : Type 0 → Type 0
+Outcome A = Result (A × List Symbol) Refusal
+
+-- reads some of the symbols: gives what they spell, and the symbols that are left
+abbrev pub Parser : Type 0 → Type 0
+Parser A = List Symbol → Outcome A
+
+abbrev pub and_then : {A B : Type 0} → Outcome A → (A → Parser B) → Outcome B
+and_then (Ok p) f = f p.0 p.1
+and_then (Err e) f = Err e
+
+-- one parser, and then another on the symbols that it leaves
+unfoldable pub bind : {A B : Type 0} → Parser A → (A → Parser B) → Parser B
+bind p f = λ ts. and_then (p ts) f
+
+infixr 10 ◌>>=◌
+abbrev pub ◌>>=◌ : {A B : Type 0} → Parser A → (A → Parser B) → Parser B
+p >>= f = bind p f
+
+infixr 10 ◌>>◌
+abbrev pub ◌>>◌ : {A B : Type 0} → Parser A → Parser B → Parser B
+p >> q = bind p (λ _. q)
+
+abbrev pub pure : {A : Type 0} → A → Parser A
+pure a = λ ts. Ok (a, ts)
+
+abbrev pub refuse : {A : Type 0} → Reason → Parser A
+refuse why = λ ts. Err (record { reason = why; left = ts })
+
+-- the terminal of the next symbol
+abbrev pub next : List Symbol → Option Terminal
+next [] = None
+next (t ∷ ts) = Some t.terminal
+
+-- the next symbol, whatever it is: gives its place
+abbrev pub advance : Parser Place
+advance [] = Err (record { reason = Unexpected; left = [] })
+advance (t ∷ ts) = Ok (t.place, ts)
+
+-- goes on by the next symbol, which it leaves
+unfoldable pub choose : {A : Type 0} → (Option Terminal → Parser A) → Parser A
+choose f = λ ts. f (next ts) ts
+
+-- ---- one symbol. `room` counts the levels of nesting that are left, this one included: with none, the symbol stands too deep.
+
+-- the room inside one more bracket
+abbrev pub inside : ℕ → ℕ
+inside zero = zero
+inside (suc room) = room
+
+abbrev pub accept : {B : Type 0} → ℕ → B → Symbol → List Symbol → Outcome B
+accept zero b t ts = Err (record { reason = TooDeep; left = t ∷ ts })
+accept (suc room) b t ts = Ok (b, ts)
+
+abbrev pub accept_if : {A B : Type 0} → ℕ → Option A → (A → Place → B) → Symbol → List Symbol → Outcome B
+accept_if room (Some a) give t ts = accept room (give a t.place) t ts
+accept_if room None give t ts = Err (record { reason = Unexpected; left = t ∷ ts })
+
+-- a symbol that `reads` takes, and what to give of it
+unfoldable pub take : {A B : Type 0} → ℕ → (Terminal → Option A) → (A → Place → B) → Parser B
+take room reads give [] = Err (record { reason = Unexpected; left = [] })
+take room reads give (t ∷ ts) = accept_if room (reads t.terminal) give t ts
+
+abbrev pub same_keyword : Keyword → Keyword → Bool
+same_keyword = sameb keyword.the_type
+
+abbrev pub same_sign : Sign → Sign → Bool
+same_sign = sameb signs.the_type
+
+abbrev pub is_word : Keyword → Terminal → Option (Unit {0})
+is_word k (Word other) = if same_keyword other k then Some tt else None
+is_word k (Identifier x) = None
+is_word k (RegionName x) = None
+is_word k (Number n) = None
+is_word k (Character c) = None
+is_word k (Mark s) = None
+
+abbrev pub is_sign : Sign → Terminal → Option (Unit {0})
+is_sign s (Mark other) = if same_sign other s then Some tt else None
+is_sign s (Identifier x) = None
+is_sign s (RegionName x) = None
+is_sign s (Number n) = None
+is_sign s (Character c) = None
+is_sign s (Word k) = None
+
+abbrev pub identifier_name : Terminal → Option ℕ
+identifier_name (Identifier x) = Some x
+identifier_name (RegionName x) = None
+identifier_name (Number n) = None
+identifier_name (Character c) = None
+identifier_name (Word k) = None
+identifier_name (Mark s) = None
+
+abbrev pub region_of_terminal : Terminal → Option ℕ
+region_of_terminal (RegionName x) = Some x
+region_of_terminal (Identifier x) = None
+region_of_terminal (Number n) = None
+region_of_terminal (Character c) = None
+region_of_terminal (Word k) = None
+region_of_terminal (Mark s) = None
+
+abbrev pub named : ℕ → Place → Named
+named x p = record { name = x; place = p }
+
+abbrev pub only_place : {A : Type 0} → A → Place → Place
+only_place a p = p
+
+-- a keyword or a sign gives its place, an identifier or a region name itself
+abbrev pub word : ℕ → Keyword → Parser Place
+word room k = take room (is_word k) only_place
+
+abbrev pub sign : ℕ → Sign → Parser Place
+sign room s = take room (is_sign s) only_place
+
+abbrev pub identifier : ℕ → Parser Named
+identifier room = take room identifier_name named
+
+abbrev pub region_name : ℕ → Parser Named
+region_name room = take room region_of_terminal named
+
+-- ---- by the next symbol
+
+abbrev pub sees_terminal : Sign → Option Terminal → Bool
+sees_terminal s None = false
+sees_terminal s (Some t) = is_some (is_sign s t)
+
+-- whether this sign comes next
+abbrev pub sees : Sign → List Symbol → Bool
+sees s ts = sees_terminal s (next ts)
+
+unfoldable pub if_sees : {A : Type 0} → Sign → Parser A → Parser A → Parser A
+if_sees s p q = λ ts. (if sees s ts then p else q) ts
+
+-- whether what comes next begins so
+abbrev pub starts : (Terminal → Bool) → Option Terminal → Bool
+starts begins None = false
+starts begins (Some t) = begins t
+
+unfoldable pub if_starts : {A : Type 0} → (Terminal → Bool) → Parser A → Parser A → Parser A
+if_starts begins p q = λ ts. (if starts begins (next ts) then p else q) ts
+
+abbrev pub on_some : {A B : Type 0} → Option A → (A → Parser B) → Parser B → Parser B
+on_some None f q = q
+on_some (Some a) f q = f a
+
+-- goes on by what the next symbol is, if it is one of these
+unfoldable pub if_is : {A B : Type 0} → (Option Terminal → Option A) → (A → Parser B) → Parser B → Parser B
+if_is reads f q = λ ts. on_some (reads (next ts)) f q ts
+
+abbrev pub reason_by : (Terminal → Bool) → Reason → Option Terminal → Reason
+reason_by begins why None = Unexpected
+reason_by begins why (Some t) = if begins t then why else Unexpected
+
+-- Refuses what begins here for this reason; what does not begin so is unexpected.
+unfoldable pub refuse_item : {A : Type 0} → (Terminal → Bool) → Reason → Parser A
+refuse_item begins why = λ ts. refuse (reason_by begins why (next ts)) ts
+
+-- ---- lists with commas. The number counts the items that may still come.
+
+unfoldable pub more_items : {A : Type 0} → ℕ → (Terminal → Bool) → Parser A → ℕ → Parser (List A)
+more_items room begins item zero = if_sees marks.Comma (sign room marks.Comma >> refuse_item begins TooLong) (pure [])
+more_items room begins item (suc left) = if_sees marks.Comma (sign room marks.Comma >> item >>= (λ x. more_items room begins item left >>= (λ xs. pure (x ∷ xs)))) (pure [])
+
+unfoldable pub separated : {A : Type 0} → ℕ → (Terminal → Bool) → Parser A → Parser (List A)
+separated room begins item = item >>= (λ x. more_items room begins item 63 >>= (λ xs. pure (x ∷ xs)))
+
+-- ---- lists of regions
+
+abbrev pub begins_region : Terminal → Bool
+begins_region t = is_some (region_of_terminal t)
+
+unfoldable pub regions : ℕ → Parser (List Named)
+regions room = separated room begins_region (region_name room)
+
+-- `<` and a region: only so do region arguments begin
+abbrev pub opens_regions : List Symbol → Bool
+opens_regions [] = false
+opens_regions (t ∷ ts) = is_some (is_sign marks.Less t.terminal) && starts begins_region (next ts)
+
+-- region arguments in their brackets
+unfoldable pub region_list : ℕ → Parser (List Named)
+region_list room = sign room marks.Less >> regions room >>= (λ rs. sign room marks.Greater >> pure rs)

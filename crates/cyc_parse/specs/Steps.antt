@@ -1,0 +1,67 @@
+-- Parts of the parser that are functions of their own in the code, and one step of each list that the code reads in a loop: the
+-- next item, if the list goes on.
+use Rattle.std.specs.Prelude.{ℕ, suc, Option, Some, None}
+use Rattle.cyc_syntax.specs.declared.tokens.Sign.TheVariants as signs
+use Rattle.cyc_syntax.specs.declared.tree.PrefixOperator.{PrefixOperator}
+use Rattle.cyc_syntax.specs.declared.tree.Operation.{Operation}
+use Rattle.cyc_syntax.specs.Grammar.{max_items}
+use Rattle.cyc_syntax.specs.Trees.{Pointer, Expression, Bracketed, FreeKey, Prefixed, New, RegionNew, Postfixes, ThenIndex, ThenField, Operations, ThenOperation}
+use Rattle.cyc_syntax.specs.TreeView.{place_of_span, view_expression}
+use Rattle.cyc_parse.specs.Parsing.{Parser, ◌>>=◌, ◌>>◌, pure, if_sees, choose, advance, sign, identifier}
+use Rattle.cyc_parse.specs.Types.{mark_at, optional_region}
+use Rattle.cyc_parse.specs.Expressions.{Nested, operator_at, chained, binary_of, operations, climb, postfixes, unary}
+
+-- an item behind a comma
+unfoldable pub after_comma : {A : Type 0} → ℕ → Parser A → Parser (Option A)
+after_comma room item = if_sees signs.Comma (sign room signs.Comma >> item >>= (λ x. pure (Some x))) (pure None)
+
+unfoldable pub one_pointer : ℕ → Parser (Option Pointer)
+one_pointer room = choose (λ t. elim (mark_at t) [
+  | None ↦ pure None
+  | Some k ↦ advance >> optional_region room >>= (λ r. pure (Some (record { kind = k; region = r })))
+])
+
+-- ---- expressions
+
+unfoldable pub freed_key : ℕ → Parser Expression
+freed_key room = advance >>= (λ p. sign (suc room) signs.LeftParen >> identifier room >>= (λ k. sign room signs.RightParen >> pure (FreeKey p k)))
+
+unfoldable pub bracketed : ℕ → Nested → Parser Expression
+bracketed room inner = advance >>= (λ p. inner.expression >>= (λ e. sign room signs.RightParen >> pure (Bracketed p e)))
+
+unfoldable pub prefixed : Nested → PrefixOperator → Parser Expression
+prefixed inner o = advance >>= (λ p. inner.unary >>= (λ e. pure (Prefixed p o e)))
+
+unfoldable pub created : Nested → Parser Expression
+created inner = advance >>= (λ p. inner.initial >>= (λ i. pure (New p i)))
+
+unfoldable pub created_in : Nested → Parser Expression
+created_in inner = advance >>= (λ p. inner.group >>= (λ h. inner.initial >>= (λ i. pure (RegionNew p h i))))
+
+unfoldable pub with_chain : ℕ → Nested → Expression → Parser Expression
+with_chain room inner e = postfixes room inner max_items >>= (λ ps. pure (chained e ps))
+
+-- a postfix, as what it makes of those behind it
+unfoldable pub one_postfix : ℕ → Nested → Parser (Option (Postfixes → Postfixes))
+one_postfix room inner =
+    if_sees signs.LeftBracket (sign (suc room) signs.LeftBracket >> inner.expression >>= (λ e. sign room signs.RightBracket >> pure (Some (ThenIndex e))))
+    (if_sees signs.Arrow (sign (suc room) signs.Arrow >> identifier (suc room) >>= (λ x. pure (Some (ThenField x))))
+    (pure None))
+
+-- an operand of the operators of the level above this one
+abbrev pub operand : ℕ → Nested → ℕ → Parser Expression
+operand room inner below = unary room inner >>= climb (unary room inner) below
+
+abbrev pub then_operation : Operation → Operations → Operations
+then_operation o = ThenOperation o.operator (place_of_span o.span) (view_expression o.operand)
+
+-- an operator with its operand, as what they make of those behind them
+unfoldable pub one_operation : Parser Expression → ℕ → Parser (Option (Operations → Operations))
+one_operation operand k = choose (λ t. elim (operator_at k t) [
+  | None ↦ pure None
+  | Some o ↦ advance >>= (λ p. operand >>= (λ e. pure (Some (ThenOperation o p e))))
+])
+
+-- goes on from a first operand by the operators of the level above this one
+unfoldable pub one_level : ℕ → Nested → ℕ → Expression → Parser Expression
+one_level room inner below e = climb (unary room inner) below e >>= (λ first. operations (operand room inner below) (suc below) max_items >>= (λ os. pure (binary_of first os)))

@@ -1,0 +1,191 @@
+//! The symbols that are left, and the parsers of one symbol.
+ghost use Rattle.std.specs.Prelude.{◌≡◌, ℕ, suc, length, option_map, if◌then◌else◌};
+ghost use Rattle.cyc_parse.specs.declared.stop.Reason.TheVariants as reasons;
+ghost use Rattle.cyc_parse.specs.declared.stop.Stop.TheVariants.{Refused};
+ghost use Rattle.cyc_syntax.specs.TreeView.{place_of_span, view_name};
+ghost use Rattle.cyc_parse.specs.Code.{Gives, view_terminal, accepted};
+ghost use Rattle.cyc_parse.specs.Parsing.{next, sees, opens_regions, advance, sign, word, identifier, region_name};
+
+use crate::stop::{Reason, Stop};
+use crate::symbol::{Symbol, Terminal};
+use cyc_syntax::{Ident, Keyword, Sign, Span};
+use std::alloc::Global;
+use std::marker::Model;
+
+/// A recursive-descent parser. A clause sees the symbols that are left.
+#[derive(Drop)]
+pub(crate) struct Parser<'a> {
+    alloc: Global,
+    left: &'a [Symbol],
+}
+
+impl<'a> Model for Parser<'a> {
+    ghost use Rattle.std.specs.Prelude.{List, map};
+    ghost use Rattle.cyc_syntax.specs.Symbols.{Symbol};
+    ghost use Rattle.cyc_parse.specs.Code.{view_symbol};
+
+    ghost Value = { List Symbol };
+
+    ghost view = { λ p. map view_symbol p.left.now };
+}
+
+impl<'a> Parser<'a> {
+    pub(crate) fn next(&self) -> Option<Terminal>
+        ensures { option_map view_terminal result ≡ next self.now }
+    {
+        match self.left {
+            [first, ..] => Some(first.terminal),
+            [] => None,
+        }
+    }
+
+    pub(crate) fn sees(&self, sign: Sign) -> bool
+        ensures { result ≡ sees sign self.now }
+    {
+        match self.next() {
+            Some(Terminal::Mark(other)) => other == sign,
+            _ => false,
+        }
+    }
+
+    /// Whether region arguments begin here: `<` and a region.
+    pub(crate) fn opens_regions(&self) -> bool
+        ensures { result ≡ opens_regions self.now }
+    {
+        match self.left {
+            [first, second, ..] => {
+                matches!(first.terminal, Terminal::Mark(Sign::Less))
+                    && matches!(second.terminal, Terminal::RegionName(_))
+            }
+            _ => false,
+        }
+    }
+
+    pub(crate) fn advance(&mut self) -> Result<Span, Stop>
+        ensures { Gives place_of_span result (advance self.old) self.new }
+    {
+        match self.left {
+            [first, rest @ ..] => {
+                self.left = rest;
+                Ok(first.span)
+            }
+            [] => Err(Stop::Refused(Reason::Unexpected)),
+        }
+    }
+
+    /// Takes the next symbol, whatever it is, if it does not stand too deep.
+    fn accept(&mut self, room: u32) -> Result<Span, Stop>
+        ensures { Gives place_of_span result (accepted room self.old) self.new }
+    {
+        if room == 0 && !self.left.is_empty() {
+            return Err(Stop::Refused(Reason::TooDeep));
+        }
+        self.advance()
+    }
+
+    // ---- a symbol at the level that is read, which is not too deep
+
+    #[tactic(auto, unfolding(crate::specs::Parsing::take))]
+    pub(crate) fn sign(&mut self, wanted: Sign) -> Result<Span, Stop>
+        ensures { (room : ℕ) → Gives place_of_span result (sign (suc room) wanted self.old) self.new }
+    {
+        if !self.sees(wanted) {
+            return Err(Stop::Refused(Reason::Unexpected));
+        }
+        self.advance()
+    }
+
+    #[tactic(auto, unfolding(crate::specs::Parsing::take))]
+    pub(crate) fn word(&mut self, wanted: Keyword) -> Result<Span, Stop>
+        ensures { (room : ℕ) → Gives place_of_span result (word (suc room) wanted self.old) self.new }
+    {
+        match self.next() {
+            Some(Terminal::Word(word)) if word == wanted => self.advance(),
+            _ => Err(Stop::Refused(Reason::Unexpected)),
+        }
+    }
+
+    #[tactic(auto, unfolding(crate::specs::Parsing::take))]
+    pub(crate) fn identifier(&mut self) -> Result<Ident, Stop>
+        ensures { (room : ℕ) → Gives view_name result (identifier (suc room) self.old) self.new }
+    {
+        let Some(Terminal::Identifier(name)) = self.next() else {
+            return Err(Stop::Refused(Reason::Unexpected));
+        };
+        let span = self.advance()?;
+        Ok(Ident { name, span })
+    }
+
+    #[tactic(auto, unfolding(crate::specs::Parsing::take))]
+    pub(crate) fn region_name(&mut self) -> Result<Ident, Stop>
+        ensures { (room : ℕ) → Gives view_name result (region_name (suc room) self.old) self.new }
+    {
+        let Some(Terminal::RegionName(name)) = self.next() else {
+            return Err(Stop::Refused(Reason::Unexpected));
+        };
+        let span = self.advance()?;
+        Ok(Ident { name, span })
+    }
+
+    // ---- a symbol further inside: `room` counts the levels that are left there
+
+    #[tactic(auto, unfolding(crate::specs::Parsing::take))]
+    pub(crate) fn sign_inside(&mut self, room: u32, wanted: Sign) -> Result<Span, Stop>
+        ensures { Gives place_of_span result (sign room wanted self.old) self.new }
+    {
+        if !self.sees(wanted) {
+            return Err(Stop::Refused(Reason::Unexpected));
+        }
+        self.accept(room)
+    }
+
+    #[tactic(auto, unfolding(crate::specs::Parsing::take))]
+    pub(crate) fn word_inside(&mut self, room: u32, wanted: Keyword) -> Result<Span, Stop>
+        ensures { Gives place_of_span result (word room wanted self.old) self.new }
+    {
+        match self.next() {
+            Some(Terminal::Word(word)) if word == wanted => self.accept(room),
+            _ => Err(Stop::Refused(Reason::Unexpected)),
+        }
+    }
+
+    #[tactic(auto, unfolding(crate::specs::Parsing::take))]
+    pub(crate) fn identifier_inside(&mut self, room: u32) -> Result<Ident, Stop>
+        ensures { Gives view_name result (identifier room self.old) self.new }
+    {
+        let Some(Terminal::Identifier(name)) = self.next() else {
+            return Err(Stop::Refused(Reason::Unexpected));
+        };
+        let span = self.accept(room)?;
+        Ok(Ident { name, span })
+    }
+
+    #[tactic(auto, unfolding(crate::specs::Parsing::take))]
+    pub(crate) fn region_name_inside(&mut self, room: u32) -> Result<Ident, Stop>
+        ensures { Gives view_name result (region_name room self.old) self.new }
+    {
+        let Some(Terminal::RegionName(name)) = self.next() else {
+            return Err(Stop::Refused(Reason::Unexpected));
+        };
+        let span = self.accept(room)?;
+        Ok(Ident { name, span })
+    }
+
+    pub(crate) fn alloc(&self) -> Global {
+        self.alloc
+    }
+
+    /// How many symbols are left.
+    pub(crate) fn len(&self) -> usize
+        ensures { result ≡ length self.now }
+    {
+        self.left.len()
+    }
+}
+
+/// The refusal of what stands next for this reason; where nothing of the kind begins there, it is unexpected.
+pub(crate) fn refusal(begins: bool, why: Reason) -> Stop
+    ensures { result ≡ Refused (if begins then why else reasons.Unexpected) }
+{
+    Stop::Refused(if begins { why } else { Reason::Unexpected })
+}

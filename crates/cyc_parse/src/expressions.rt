@@ -1,0 +1,695 @@
+//! The parser of expressions: chains of binary operators by their levels, from the tightest. A function with `room` reads at a
+//! level of nesting below which so many are left.
+ghost use Rattle.std.specs.Prelude.{◌≡◌, suc, map, option_map, [], IfOk};
+ghost use Rattle.cyc_syntax.specs.TreeView.{place_of_span, view_name, view_expression, view_initial, expressions_of, postfixes_of, operations_of, then_postfix};
+ghost use Rattle.cyc_parse.specs.Code.{Gives};
+ghost use Rattle.cyc_parse.specs.Parsing.{next, starts, separated, more_items, opens_regions};
+ghost use Rattle.cyc_parse.specs.Steps.{after_comma, one_postfix, one_operation, then_operation, prefixed, created, created_in, freed_key, bracketed, with_chain, operand, one_level};
+ghost use Rattle.cyc_syntax.specs.Grammar.{level};
+ghost use Rattle.cyc_syntax.specs.Trees.{NoPostfixes, NoOperations, Call, Fields};
+ghost use Rattle.cyc_parse.specs.Expressions.{binary_operator, chained, binary_of, nested, begins_expression, begins_initial, operator_at, operations, climb, group, arguments, from_name, primary, postfixes, with_postfixes, unary, assignment, binary, expression, values, fields, initial_from_name, array, initial};
+
+use crate::cursor::{Parser, refusal};
+use crate::stop::{Reason, Stop};
+use crate::symbol::Terminal;
+use crate::types::MAX_ITEMS;
+use cyc_syntax::{
+    BinaryOperator, Expr, Ident, Initial, Keyword, Operation, Postfix, PrefixOperator, Sign, Span,
+};
+use std::alloc::{AllocError, Global};
+
+/// The levels of the binary operators, of which the last is the loosest.
+pub(crate) const LEVELS: u32 = 10;
+
+impl<'a> Parser<'a> {
+    pub(crate) fn begins_expression(&self) -> bool
+        ensures { result ≡ starts begins_expression (next self.now) }
+    {
+        matches!(
+            self.next(),
+            Some(
+                Terminal::Identifier(_)
+                    | Terminal::Number(_)
+                    | Terminal::Character(_)
+                    | Terminal::Word(
+                        Keyword::Null
+                            | Keyword::HeapRegion
+                            | Keyword::UniqueRegion
+                            | Keyword::NumberOfElements
+                            | Keyword::FreeUnique
+                            | Keyword::FreeKey
+                            | Keyword::New
+                            | Keyword::RegionNew
+                    )
+                    | Terminal::Mark(
+                        Sign::LeftParen
+                            | Sign::Minus
+                            | Sign::Not
+                            | Sign::Tilde
+                            | Sign::Star
+                            | Sign::And
+                    )
+            )
+        )
+    }
+
+    fn begins_initial(&self) -> bool
+        ensures { result ≡ starts begins_initial (next self.now) }
+    {
+        match self.next() {
+            Some(Terminal::Mark(Sign::LeftBrace)) => true,
+            _ => self.begins_expression(),
+        }
+    }
+
+    // ---- one level deeper
+
+    #[cycle(expression)]
+    #[tactic(auto, unfolding(crate::specs::Expressions::nested, crate::specs::Parsing::refuse_item), using(crate::proofs::Levels::nested_unary))]
+    pub(crate) fn unary(&mut self, room: u32) -> Result<Expr, Stop>
+        ensures { Gives view_expression result ((nested room).unary self.old) self.new }
+    {
+        if room == 0 {
+            return Err(refusal(self.begins_expression(), Reason::TooDeep));
+        }
+        self.unary_here(room - 1)
+    }
+
+    #[cycle(expression)]
+    #[tactic(auto, unfolding(crate::specs::Expressions::nested, crate::specs::Parsing::refuse_item), using(crate::proofs::Levels::nested_binary))]
+    pub(crate) fn binary(&mut self, room: u32) -> Result<Expr, Stop>
+        ensures { Gives view_expression result ((nested room).binary self.old) self.new }
+    {
+        if room == 0 {
+            return Err(refusal(self.begins_expression(), Reason::TooDeep));
+        }
+        self.binary_here(room - 1)
+    }
+
+    #[cycle(expression)]
+    #[tactic(auto, unfolding(crate::specs::Expressions::nested, crate::specs::Parsing::refuse_item), using(crate::proofs::Levels::nested_expression))]
+    pub(crate) fn expression(&mut self, room: u32) -> Result<Expr, Stop>
+        ensures { Gives view_expression result ((nested room).expression self.old) self.new }
+    {
+        if room == 0 {
+            return Err(refusal(self.begins_expression(), Reason::TooDeep));
+        }
+        self.expression_here(room - 1)
+    }
+
+    #[cycle(expression)]
+    #[tactic(auto, unfolding(crate::specs::Expressions::nested, crate::specs::Parsing::refuse_item), using(crate::proofs::Levels::nested_group))]
+    pub(crate) fn group(&mut self, room: u32) -> Result<Expr, Stop>
+        ensures { Gives view_expression result ((nested room).group self.old) self.new }
+    {
+        if room == 0 {
+            return Err(refusal(self.sees(Sign::LeftParen), Reason::TooDeep));
+        }
+        self.group_here(room - 1)
+    }
+
+    #[cycle(expression)]
+    #[tactic(auto, unfolding(crate::specs::Expressions::nested, crate::specs::Parsing::refuse_item), using(crate::proofs::Levels::nested_initial))]
+    fn initial(&mut self, room: u32) -> Result<Initial, Stop>
+        ensures { Gives view_initial result ((nested room).initial self.old) self.new }
+    {
+        if room == 0 {
+            return Err(refusal(self.begins_initial(), Reason::TooDeep));
+        }
+        self.initial_here(room - 1)
+    }
+
+    // ---- operands
+
+    /// An expression in round brackets.
+    #[cycle(expression)]
+    #[tactic(auto, unfolding(crate::specs::Expressions::group, crate::specs::Parsing::bind))]
+    pub(crate) fn group_here(&mut self, room: u32) -> Result<Expr, Stop>
+        ensures { Gives view_expression result (group room (nested room) self.old) self.new }
+    {
+        self.sign(Sign::LeftParen)?;
+        let inner = self.expression(room)?;
+        self.sign_inside(room, Sign::RightParen)?;
+        Ok(inner)
+    }
+
+    #[cycle(expression)]
+    #[tactic(auto, unfolding(crate::specs::Steps::after_comma, crate::specs::Parsing::if_sees, crate::specs::Parsing::bind))]
+    fn argument_after_comma(&mut self, room: u32) -> Result<Option<Expr>, Stop>
+        ensures { Gives (option_map view_expression) result (after_comma room (nested room).expression self.old) self.new }
+    {
+        if !self.sees(Sign::Comma) {
+            return Ok(None);
+        }
+        self.sign_inside(room, Sign::Comma)?;
+        Ok(Some(self.expression(room)?))
+    }
+
+    #[tactic(auto, unfolding(crate::specs::Parsing::more_items, crate::specs::Parsing::if_sees, crate::specs::Parsing::bind, crate::specs::Parsing::refuse_item))]
+    fn end_of_arguments(&mut self, room: u32) -> Result<(), Stop>
+        ensures { Gives (λ _. []) result (more_items room begins_expression (nested room).expression 0 self.old) self.new }
+    {
+        if !self.sees(Sign::Comma) {
+            return Ok(());
+        }
+        self.sign_inside(room, Sign::Comma)?;
+        Err(refusal(self.begins_expression(), Reason::TooLong))
+    }
+
+    #[cycle(expression)]
+    #[tactic(auto, unfolding(crate::specs::Parsing::separated, crate::specs::Parsing::bind))]
+    fn listed(&mut self, room: u32) -> Result<Vec<Expr>, Stop>
+        ensures { Gives (λ v. map view_expression v.items) result (separated room begins_expression (nested room).expression self.old) self.new }
+    {
+        let first = self.expression(room)?;
+        let mut arguments = Vec::new(self.alloc());
+        arguments.push(first)?;
+        for _ in 1..MAX_ITEMS {
+            let Some(argument) = self.argument_after_comma(room)? else {
+                return Ok(arguments);
+            };
+            arguments.push(argument)?;
+        }
+        self.end_of_arguments(room)?;
+        Ok(arguments)
+    }
+
+    /// The arguments of a call, up to its closing bracket.
+    #[cycle(expression)]
+    #[tactic(auto, unfolding(crate::specs::Expressions::arguments, crate::specs::Parsing::if_sees, crate::specs::Parsing::bind), using(crate::proofs::Levels::chain_of_view))]
+    fn arguments(&mut self, room: u32) -> Result<Vec<Expr>, Stop>
+        ensures { Gives (λ v. expressions_of v.items) result (arguments room (nested room) self.old) self.new }
+    {
+        if self.sees(Sign::RightParen) {
+            return Ok(Vec::new(self.alloc()));
+        }
+        let arguments = self.listed(room)?;
+        Ok(arguments)
+    }
+
+    /// An expression that begins with this name: a call or a variable.
+    #[cycle(expression)]
+    #[tactic(auto, unfolding(crate::specs::Expressions::from_name, crate::specs::Parsing::if_sees, crate::specs::Parsing::bind))]
+    pub(crate) fn from_name(&mut self, room: u32, name: Ident) -> Result<Expr, Stop>
+        ensures { Gives view_expression result (from_name room (nested room) (view_name name) self.old) self.new }
+    {
+        if !self.sees(Sign::LeftParen) {
+            return Ok(Expr::Variable { name });
+        }
+        self.sign(Sign::LeftParen)?;
+        let arguments = self.arguments(room)?;
+        self.sign_inside(room, Sign::RightParen)?;
+        Ok(call(name, arguments))
+    }
+
+    /// `free_ukey(..)`
+    #[tactic(auto, unfolding(crate::specs::Expressions::primary, crate::specs::Parsing::choose, crate::specs::Parsing::bind, crate::specs::Steps::freed_key))]
+    fn freed_key(&mut self, room: u32) -> Result<Expr, Stop>
+        ensures { Gives view_expression result (freed_key room self.old) self.new }
+    {
+        let span = self.advance()?;
+        self.sign(Sign::LeftParen)?;
+        let key = self.identifier_inside(room)?;
+        self.sign_inside(room, Sign::RightParen)?;
+        Ok(Expr::FreeKey { span, key })
+    }
+
+    /// An expression in round brackets, as a tree.
+    #[cycle(expression)]
+    #[tactic(auto, unfolding(crate::specs::Parsing::bind, crate::specs::Steps::bracketed))]
+    fn bracketed(&mut self, room: u32) -> Result<Expr, Stop>
+        ensures { Gives view_expression result (bracketed room (nested room) self.old) self.new }
+    {
+        let span = self.advance()?;
+        let inner = self.expression(room)?;
+        self.sign_inside(room, Sign::RightParen)?;
+        let inner = Box::new(self.alloc(), inner)?;
+        Ok(Expr::Bracketed { span, inner })
+    }
+
+    #[cycle(expression)]
+    #[tactic(auto, unfolding(crate::specs::Expressions::primary, crate::specs::Parsing::choose, crate::specs::Parsing::bind, crate::specs::Steps::freed_key, crate::specs::Steps::bracketed))]
+    fn primary(&mut self, room: u32) -> Result<Expr, Stop>
+        ensures { Gives view_expression result (primary room (nested room) self.old) self.new }
+    {
+        match self.next() {
+            Some(Terminal::Number(value)) => {
+                let span = self.advance()?;
+                Ok(Expr::Number { span, value })
+            }
+            Some(Terminal::Character(value)) => {
+                let span = self.advance()?;
+                Ok(Expr::Character { span, value })
+            }
+            Some(Terminal::Identifier(name)) => {
+                let span = self.advance()?;
+                self.from_name(room, Ident { name, span })
+            }
+            Some(Terminal::Word(Keyword::Null)) => {
+                let span = self.advance()?;
+                Ok(Expr::Null { span })
+            }
+            Some(Terminal::Word(Keyword::HeapRegion)) => {
+                let span = self.advance()?;
+                Ok(Expr::HeapRegion { span })
+            }
+            Some(Terminal::Word(Keyword::UniqueRegion)) => {
+                let span = self.advance()?;
+                Ok(Expr::UniqueRegion { span })
+            }
+            Some(Terminal::Word(Keyword::NumberOfElements)) => {
+                let span = self.advance()?;
+                let pointer = self.group_here(room)?;
+                let pointer = Box::new(self.alloc(), pointer)?;
+                Ok(Expr::NumberOfElements { span, pointer })
+            }
+            Some(Terminal::Word(Keyword::FreeUnique)) => {
+                let span = self.advance()?;
+                let pointer = self.group_here(room)?;
+                let pointer = Box::new(self.alloc(), pointer)?;
+                Ok(Expr::FreeUnique { span, pointer })
+            }
+            Some(Terminal::Word(Keyword::FreeKey)) => self.freed_key(room),
+            Some(Terminal::Mark(Sign::LeftParen)) => self.bracketed(room),
+            _ => Err(Stop::Refused(Reason::Unexpected)),
+        }
+    }
+
+    /// `[..]` or `->` and a field's name, if one comes next.
+    #[cycle(expression)]
+    #[tactic(auto, unfolding(crate::specs::Steps::one_postfix, crate::specs::Parsing::if_sees, crate::specs::Parsing::bind))]
+    fn postfix(&mut self, room: u32) -> Result<Option<Postfix>, Stop>
+        ensures { Gives (option_map then_postfix) result (one_postfix room (nested room) self.old) self.new }
+    {
+        if self.sees(Sign::LeftBracket) {
+            self.sign(Sign::LeftBracket)?;
+            let index = self.expression(room)?;
+            self.sign_inside(room, Sign::RightBracket)?;
+            return Ok(Some(Postfix::Index { index }));
+        }
+        if self.sees(Sign::Arrow) {
+            self.sign(Sign::Arrow)?;
+            let name = self.identifier()?;
+            return Ok(Some(Postfix::Field { name }));
+        }
+        Ok(None)
+    }
+
+    #[tactic(auto, unfolding(crate::specs::Expressions::postfixes, crate::specs::Parsing::if_sees))]
+    fn end_of_postfixes(&mut self, room: u32) -> Result<(), Stop>
+        ensures { Gives (λ _. NoPostfixes) result (postfixes room (nested room) 0 self.old) self.new }
+    {
+        if self.sees(Sign::LeftBracket) || self.sees(Sign::Arrow) {
+            return Err(Stop::Refused(Reason::TooLong));
+        }
+        Ok(())
+    }
+
+    #[cycle(expression)]
+    fn postfixes(&mut self, room: u32) -> Result<Vec<Postfix>, Stop>
+        ensures { Gives (λ v. postfixes_of v.items) result (postfixes room (nested room) 64 self.old) self.new }
+    {
+        let mut postfixes = Vec::new(self.alloc());
+        for _ in 0..MAX_ITEMS {
+            let Some(postfix) = self.postfix(room)? else {
+                return Ok(postfixes);
+            };
+            postfixes.push(postfix)?;
+        }
+        self.end_of_postfixes(room)?;
+        Ok(postfixes)
+    }
+
+    /// Goes on from an operand by its postfixes.
+    #[cycle(expression)]
+    #[tactic(auto, unfolding(crate::specs::Steps::with_chain, crate::specs::Parsing::bind))]
+    pub(crate) fn with_postfixes(&mut self, room: u32, base: Expr) -> Result<Expr, Stop>
+        ensures { Gives view_expression result (with_chain room (nested room) (view_expression base) self.old) self.new }
+    {
+        let postfixes = self.postfixes(room)?;
+        Ok(chained(self.alloc(), base, postfixes)?)
+    }
+
+    // ---- prefixes
+
+    #[cycle(expression)]
+    #[tactic(auto, unfolding(crate::specs::Steps::prefixed, crate::specs::Parsing::bind))]
+    fn prefixed(&mut self, room: u32, operator: PrefixOperator) -> Result<Expr, Stop>
+        ensures { Gives view_expression result (prefixed (nested room) operator self.old) self.new }
+    {
+        let span = self.advance()?;
+        let operand = self.unary(room)?;
+        let operand = Box::new(self.alloc(), operand)?;
+        Ok(Expr::Prefixed {
+            span,
+            operator,
+            operand,
+        })
+    }
+
+    /// `new`
+    #[cycle(expression)]
+    #[tactic(auto, unfolding(crate::specs::Steps::created, crate::specs::Parsing::bind))]
+    fn created(&mut self, room: u32) -> Result<Expr, Stop>
+        ensures { Gives view_expression result (created (nested room) self.old) self.new }
+    {
+        let span = self.advance()?;
+        let value = self.initial(room)?;
+        let value = Box::new(self.alloc(), value)?;
+        Ok(Expr::New { span, value })
+    }
+
+    /// `rnew(..)`
+    #[cycle(expression)]
+    #[tactic(auto, unfolding(crate::specs::Steps::created_in, crate::specs::Parsing::bind))]
+    fn created_in(&mut self, room: u32) -> Result<Expr, Stop>
+        ensures { Gives view_expression result (created_in (nested room) self.old) self.new }
+    {
+        let span = self.advance()?;
+        let region = self.group(room)?;
+        let value = self.initial(room)?;
+        let region = Box::new(self.alloc(), region)?;
+        let value = Box::new(self.alloc(), value)?;
+        Ok(Expr::RegionNew {
+            span,
+            region,
+            value,
+        })
+    }
+
+    /// An operand with its prefixes and postfixes.
+    #[cycle(expression)]
+    #[tactic(auto, unfolding(crate::specs::Expressions::unary, crate::specs::Expressions::with_postfixes, crate::specs::Parsing::choose, crate::specs::Parsing::bind, crate::specs::Steps::prefixed, crate::specs::Steps::created, crate::specs::Steps::created_in, crate::specs::Steps::with_chain))]
+    pub(crate) fn unary_here(&mut self, room: u32) -> Result<Expr, Stop>
+        ensures { Gives view_expression result (unary room (nested room) self.old) self.new }
+    {
+        match self.next() {
+            Some(Terminal::Mark(Sign::Minus)) => self.prefixed(room, PrefixOperator::Negate),
+            Some(Terminal::Mark(Sign::Not)) => self.prefixed(room, PrefixOperator::Not),
+            Some(Terminal::Mark(Sign::Tilde)) => self.prefixed(room, PrefixOperator::Complement),
+            Some(Terminal::Mark(Sign::Star)) => self.prefixed(room, PrefixOperator::Dereference),
+            Some(Terminal::Mark(Sign::And)) => self.prefixed(room, PrefixOperator::AddressOf),
+            Some(Terminal::Word(Keyword::New)) => self.created(room),
+            Some(Terminal::Word(Keyword::RegionNew)) => self.created_in(room),
+            _ => {
+                let base = self.primary(room)?;
+                self.with_postfixes(room, base)
+            }
+        }
+    }
+
+    // ---- binary operators
+
+    /// The next symbol, if it is a binary operator of the level above this one.
+    fn operator(&self, below: u32) -> Option<BinaryOperator>
+        ensures { result ≡ operator_at (suc below) (next self.now) }
+    {
+        let Some(Terminal::Mark(sign)) = self.next() else {
+            return None;
+        };
+        let operator = binary_operator(sign)?;
+        if level(operator) == u64::from(below) + 1 {
+            Some(operator)
+        } else {
+            None
+        }
+    }
+
+    #[cycle(expression)]
+    #[tactic(auto, unfolding(crate::specs::Steps::one_operation, crate::specs::Steps::operand, crate::specs::Parsing::choose, crate::specs::Parsing::bind))]
+    fn operation(&mut self, room: u32, below: u32) -> Result<Option<Operation>, Stop>
+        ensures { Gives (option_map then_operation) result (one_operation (operand room (nested room) below) (suc below) self.old) self.new }
+    {
+        let Some(operator) = self.operator(below) else {
+            return Ok(None);
+        };
+        let span = self.advance()?;
+        let operand = self.unary_here(room)?;
+        let operand = self.climb(room, below, operand)?;
+        Ok(Some(Operation {
+            operator,
+            span,
+            operand,
+        }))
+    }
+
+    #[tactic(auto, unfolding(crate::specs::Expressions::operations, crate::specs::Parsing::if_is))]
+    fn end_of_operations(&mut self, room: u32, below: u32) -> Result<(), Stop>
+        ensures { Gives (λ _. NoOperations) result (operations (operand room (nested room) below) (suc below) 0 self.old) self.new }
+    {
+        match self.operator(below) {
+            Some(_) => Err(Stop::Refused(Reason::TooLong)),
+            None => Ok(()),
+        }
+    }
+
+    #[cycle(expression)]
+    fn operations(&mut self, room: u32, below: u32) -> Result<Vec<Operation>, Stop>
+        ensures { Gives (λ v. operations_of v.items) result (operations (operand room (nested room) below) (suc below) 64 self.old) self.new }
+    {
+        let mut operations = Vec::new(self.alloc());
+        for _ in 0..MAX_ITEMS {
+            let Some(operation) = self.operation(room, below)? else {
+                return Ok(operations);
+            };
+            operations.push(operation)?;
+        }
+        self.end_of_operations(room, below)?;
+        Ok(operations)
+    }
+
+    /// Goes on from a first operand by the operators of the levels up to this one.
+    #[cycle(expression)]
+    #[tactic(auto, using(crate::proofs::Levels::climb_step, crate::proofs::Levels::climb_none), unfolding(crate::specs::Steps::one_level))]
+    pub(crate) fn climb(&mut self, room: u32, level: u32, first: Expr) -> Result<Expr, Stop>
+        ensures { Gives view_expression result (climb (unary room (nested room)) level (view_expression first) self.old) self.new }
+    {
+        if level == 0 {
+            return Ok(first);
+        }
+        self.one_level(room, level - 1, first)
+    }
+
+    #[cycle(expression)]
+    #[tactic(auto, unfolding(crate::specs::Steps::one_level, crate::specs::Parsing::bind))]
+    fn one_level(&mut self, room: u32, below: u32, first: Expr) -> Result<Expr, Stop>
+        ensures { Gives view_expression result (one_level room (nested room) below (view_expression first) self.old) self.new }
+    {
+        let first = self.climb(room, below, first)?;
+        let rest = self.operations(room, below)?;
+        Ok(joined(self.alloc(), first, rest)?)
+    }
+
+    #[cycle(expression)]
+    #[tactic(auto, unfolding(crate::specs::Expressions::binary, crate::specs::Parsing::bind))]
+    fn binary_here(&mut self, room: u32) -> Result<Expr, Stop>
+        ensures { Gives view_expression result (binary room (nested room) self.old) self.new }
+    {
+        let first = self.unary_here(room)?;
+        self.climb(room, LEVELS, first)
+    }
+
+    #[cycle(expression)]
+    #[tactic(auto, unfolding(crate::specs::Expressions::assignment, crate::specs::Parsing::if_sees, crate::specs::Parsing::bind))]
+    pub(crate) fn assignment(&mut self, room: u32, target: Expr) -> Result<Expr, Stop>
+        ensures { Gives view_expression result (assignment room (nested room) (view_expression target) self.old) self.new }
+    {
+        if !self.sees(Sign::Assign) {
+            return Ok(target);
+        }
+        self.sign(Sign::Assign)?;
+        let value = self.expression(room)?;
+        let target = Box::new(self.alloc(), target)?;
+        let value = Box::new(self.alloc(), value)?;
+        Ok(Expr::Assign { target, value })
+    }
+
+    #[cycle(expression)]
+    #[tactic(auto, unfolding(crate::specs::Expressions::expression, crate::specs::Parsing::bind))]
+    pub(crate) fn expression_here(&mut self, room: u32) -> Result<Expr, Stop>
+        ensures { Gives view_expression result (expression room (nested room) self.old) self.new }
+    {
+        let target = self.binary_here(room)?;
+        self.assignment(room, target)
+    }
+
+    // ---- what `new` and `rnew` put into the new object
+
+    /// The values of a struct's fields, at least one.
+    #[cycle(expression)]
+    #[tactic(auto, unfolding(crate::specs::Expressions::values, crate::specs::Parsing::bind))]
+    fn values(&mut self, room: u32) -> Result<Vec<Expr>, Stop>
+        ensures { Gives (λ v. expressions_of v.items) result (values room (nested room) self.old) self.new }
+    {
+        let first = self.expression(room)?;
+        let mut values = Vec::new(self.alloc());
+        values.push(first)?;
+        let most = self.len();
+        for _ in 0..most {
+            let Some(value) = self.argument_after_comma(room)? else {
+                return Ok(values);
+            };
+            values.push(value)?;
+        }
+        Ok(values)
+    }
+
+    #[cycle(expression)]
+    #[tactic(auto, unfolding(crate::specs::Expressions::fields, crate::specs::Parsing::bind))]
+    fn fields(&mut self, room: u32, name: Ident, regions: Vec<Ident>) -> Result<Initial, Stop>
+        ensures { Gives view_initial result (fields room (nested room) (view_name name) (map view_name regions.items) self.old) self.new }
+    {
+        self.sign(Sign::LeftBrace)?;
+        let values = self.values(room)?;
+        self.sign_inside(room, Sign::RightBrace)?;
+        Ok(struct_fields(name, regions, values))
+    }
+
+    /// A struct's name opens its fields, with region arguments or without, or the name begins an expression.
+    #[cycle(expression)]
+    #[tactic(auto, unfolding(crate::specs::Expressions::initial_from_name, crate::specs::Expressions::with_postfixes, crate::specs::Parsing::if_sees, crate::specs::Parsing::bind, crate::specs::Steps::with_chain))]
+    fn initial_from_name(&mut self, room: u32, name: Ident) -> Result<Initial, Stop>
+        ensures { Gives view_initial result (initial_from_name room (nested room) (view_name name) self.old) self.new }
+    {
+        if self.sees(Sign::LeftBrace) {
+            return self.fields(room, name, Vec::new(self.alloc()));
+        }
+        if self.opens_regions() {
+            let regions = self.region_list()?;
+            return self.fields(room, name, regions);
+        }
+        let base = self.from_name(room, name)?;
+        let value = self.with_postfixes(room, base)?;
+        Ok(Initial::Plain { value })
+    }
+
+    /// `{for variable < length : element}`
+    #[cycle(expression)]
+    #[tactic(auto, unfolding(crate::specs::Expressions::array, crate::specs::Parsing::bind))]
+    fn array(&mut self, room: u32) -> Result<Initial, Stop>
+        ensures { Gives view_initial result (array room (nested room) self.old) self.new }
+    {
+        self.sign(Sign::LeftBrace)?;
+        let span = self.word_inside(room, Keyword::For)?;
+        let variable = self.identifier_inside(room)?;
+        self.sign_inside(room, Sign::Less)?;
+        let length = self.binary(room)?;
+        self.sign_inside(room, Sign::Colon)?;
+        let element = self.expression(room)?;
+        self.sign_inside(room, Sign::RightBrace)?;
+        Ok(Initial::Array {
+            span,
+            variable,
+            length,
+            element,
+        })
+    }
+
+    #[cycle(expression)]
+    #[tactic(auto, unfolding(crate::specs::Expressions::initial, crate::specs::Parsing::choose, crate::specs::Parsing::bind))]
+    fn initial_here(&mut self, room: u32) -> Result<Initial, Stop>
+        ensures { Gives view_initial result (initial room (nested room) self.old) self.new }
+    {
+        match self.next() {
+            Some(Terminal::Identifier(name)) => {
+                let span = self.advance()?;
+                self.initial_from_name(room, Ident { name, span })
+            }
+            Some(Terminal::Mark(Sign::LeftBrace)) => self.array(room),
+            _ => Ok(Initial::Plain {
+                value: self.unary_here(room)?,
+            }),
+        }
+    }
+}
+
+/// The operator that a sign is between two operands.
+fn binary_operator(sign: Sign) -> Option<BinaryOperator>
+    ensures { result ≡ binary_operator sign }
+{
+    match sign {
+        Sign::OrOr => Some(BinaryOperator::OrElse),
+        Sign::AndAnd => Some(BinaryOperator::AndThen),
+        Sign::Or => Some(BinaryOperator::Or),
+        Sign::Xor => Some(BinaryOperator::Xor),
+        Sign::And => Some(BinaryOperator::And),
+        Sign::Equal => Some(BinaryOperator::Equal),
+        Sign::NotEqual => Some(BinaryOperator::NotEqual),
+        Sign::Less => Some(BinaryOperator::Less),
+        Sign::LessOrEqual => Some(BinaryOperator::LessOrEqual),
+        Sign::Greater => Some(BinaryOperator::Greater),
+        Sign::GreaterOrEqual => Some(BinaryOperator::GreaterOrEqual),
+        Sign::ShiftLeft => Some(BinaryOperator::ShiftLeft),
+        Sign::ShiftRight => Some(BinaryOperator::ShiftRight),
+        Sign::Plus => Some(BinaryOperator::Add),
+        Sign::Minus => Some(BinaryOperator::Subtract),
+        Sign::Star => Some(BinaryOperator::Multiply),
+        Sign::Slash => Some(BinaryOperator::Divide),
+        Sign::Percent => Some(BinaryOperator::Remainder),
+        _ => None,
+    }
+}
+
+/// The level of an operator, from the tightest.
+fn level(operator: BinaryOperator) -> u64
+    ensures { result ≡ level operator }
+{
+    match operator {
+        BinaryOperator::Multiply | BinaryOperator::Divide | BinaryOperator::Remainder => 1,
+        BinaryOperator::Add | BinaryOperator::Subtract => 2,
+        BinaryOperator::ShiftLeft | BinaryOperator::ShiftRight => 3,
+        BinaryOperator::Less
+        | BinaryOperator::LessOrEqual
+        | BinaryOperator::Greater
+        | BinaryOperator::GreaterOrEqual => 4,
+        BinaryOperator::Equal | BinaryOperator::NotEqual => 5,
+        BinaryOperator::And => 6,
+        BinaryOperator::Xor => 7,
+        BinaryOperator::Or => 8,
+        BinaryOperator::AndThen => 9,
+        BinaryOperator::OrElse => 10,
+    }
+}
+
+/// An operand with the postfixes behind it.
+#[tactic(auto, using(crate::proofs::Levels::chained_view, crate::proofs::Levels::no_postfixes))]
+fn chained(alloc: Global, base: Expr, postfixes: Vec<Postfix>) -> Result<Expr, AllocError>
+    ensures { IfOk result (λ e. view_expression e ≡ chained (view_expression base) (postfixes_of postfixes.items)) }
+{
+    if postfixes.is_empty() {
+        return Ok(base);
+    }
+    let base = Box::new(alloc, base)?;
+    Ok(Expr::Chained { base, postfixes })
+}
+
+/// A first operand with the operators of one level behind it.
+#[tactic(auto, using(crate::proofs::Levels::binary_view, crate::proofs::Levels::no_operations))]
+fn joined(alloc: Global, first: Expr, rest: Vec<Operation>) -> Result<Expr, AllocError>
+    ensures { IfOk result (λ e. view_expression e ≡ binary_of (view_expression first) (operations_of rest.items)) }
+{
+    if rest.is_empty() {
+        return Ok(first);
+    }
+    let first = Box::new(alloc, first)?;
+    Ok(Expr::Binary { first, rest })
+}
+
+fn call(function: Ident, arguments: Vec<Expr>) -> Expr
+    ensures { view_expression result ≡ Call (view_name function) (expressions_of arguments.items) }
+{
+    Expr::Call {
+        function,
+        arguments,
+    }
+}
+
+fn struct_fields(name: Ident, regions: Vec<Ident>, values: Vec<Expr>) -> Initial
+    ensures { view_initial result ≡ Fields (view_name name) (map view_name regions.items) (expressions_of values.items) }
+{
+    Initial::Fields {
+        name,
+        regions,
+        values,
+    }
+}

@@ -1,0 +1,204 @@
+//! The parser of types.
+ghost use Rattle.std.specs.Prelude.{◌≡◌, ℕ, suc, map, option_map, []};
+ghost use Rattle.cyc_syntax.specs.TreeView.{place_of_span, view_name, view_pointer, view_base, view_type};
+ghost use Rattle.cyc_parse.specs.Code.{Gives};
+ghost use Rattle.cyc_parse.specs.Parsing.{next, starts, begins_region, region_name, more_items, regions, region_list};
+ghost use Rattle.cyc_parse.specs.Steps.{after_comma, one_pointer};
+ghost use Rattle.cyc_parse.specs.Types.{begins_type, mark_at, optional_region, region_of, pointers_of, with_pointers, optional_regions, written_type};
+
+use crate::cursor::{Parser, refusal};
+use crate::stop::{Reason, Stop};
+use crate::symbol::Terminal;
+use cyc_syntax::{BaseType, Ident, Keyword, Pointer, PointerKind, Sign, Span, WrittenType};
+
+/// The most items that a list may have.
+pub(crate) const MAX_ITEMS: u32 = 64;
+
+impl<'a> Parser<'a> {
+    pub(crate) fn begins_region(&self) -> bool
+        ensures { result ≡ starts begins_region (next self.now) }
+    {
+        matches!(self.next(), Some(Terminal::RegionName(_)))
+    }
+
+    pub(crate) fn begins_type(&self) -> bool
+        ensures { result ≡ starts begins_type (next self.now) }
+    {
+        matches!(
+            self.next(),
+            Some(Terminal::Word(
+                Keyword::Int | Keyword::Struct | Keyword::RegionType | Keyword::KeyType
+            ))
+        )
+    }
+
+    #[tactic(auto, unfolding(crate::specs::Steps::after_comma, crate::specs::Parsing::if_sees, crate::specs::Parsing::bind))]
+    fn region_after_comma(&mut self) -> Result<Option<Ident>, Stop>
+        ensures { (room : ℕ) → Gives (option_map view_name) result (after_comma (suc room) (region_name (suc room)) self.old) self.new }
+    {
+        if !self.sees(Sign::Comma) {
+            return Ok(None);
+        }
+        self.sign(Sign::Comma)?;
+        Ok(Some(self.region_name()?))
+    }
+
+    /// After as many regions as a list may have: one more is too long.
+    #[tactic(auto, unfolding(crate::specs::Parsing::more_items, crate::specs::Parsing::if_sees, crate::specs::Parsing::bind, crate::specs::Parsing::refuse_item))]
+    fn end_of_regions(&mut self) -> Result<(), Stop>
+        ensures { (room : ℕ) → Gives (λ _. []) result (more_items (suc room) begins_region (region_name (suc room)) 0 self.old) self.new }
+    {
+        if !self.sees(Sign::Comma) {
+            return Ok(());
+        }
+        self.sign(Sign::Comma)?;
+        Err(refusal(self.begins_region(), Reason::TooLong))
+    }
+
+    /// Region names with commas between.
+    #[tactic(auto, unfolding(crate::specs::Parsing::regions, crate::specs::Parsing::separated, crate::specs::Parsing::bind))]
+    pub(crate) fn regions(&mut self) -> Result<Vec<Ident>, Stop>
+        ensures { (room : ℕ) → Gives (λ v. map view_name v.items) result (regions (suc room) self.old) self.new }
+    {
+        let first = self.region_name()?;
+        let mut regions = Vec::new(self.alloc());
+        regions.push(first)?;
+        for _ in 1..MAX_ITEMS {
+            let Some(region) = self.region_after_comma()? else {
+                return Ok(regions);
+            };
+            regions.push(region)?;
+        }
+        self.end_of_regions()?;
+        Ok(regions)
+    }
+
+    /// Region arguments in their brackets.
+    #[tactic(auto, unfolding(crate::specs::Parsing::region_list, crate::specs::Parsing::bind))]
+    pub(crate) fn region_list(&mut self) -> Result<Vec<Ident>, Stop>
+        ensures { (room : ℕ) → Gives (λ v. map view_name v.items) result (region_list (suc room) self.old) self.new }
+    {
+        self.sign(Sign::Less)?;
+        let regions = self.regions()?;
+        self.sign(Sign::Greater)?;
+        Ok(regions)
+    }
+
+    #[tactic(auto, unfolding(crate::specs::Types::optional_regions, crate::specs::Parsing::if_sees))]
+    pub(crate) fn optional_regions(&mut self) -> Result<Vec<Ident>, Stop>
+        ensures { (room : ℕ) → Gives (λ v. map view_name v.items) result (optional_regions (suc room) self.old) self.new }
+    {
+        if self.sees(Sign::Less) {
+            self.region_list()
+        } else {
+            Ok(Vec::new(self.alloc()))
+        }
+    }
+
+    /// The one region of a handle's or a key's type, in its brackets.
+    #[tactic(auto, unfolding(crate::specs::Types::region_of, crate::specs::Parsing::bind))]
+    pub(crate) fn region_of(&mut self) -> Result<Ident, Stop>
+        ensures { (room : ℕ) → Gives view_name result (region_of (suc room) self.old) self.new }
+    {
+        self.sign(Sign::Less)?;
+        let region = self.region_name()?;
+        self.sign(Sign::Greater)?;
+        Ok(region)
+    }
+
+    #[tactic(auto, unfolding(crate::specs::Types::optional_region, crate::specs::Parsing::if_starts, crate::specs::Parsing::bind))]
+    fn optional_region(&mut self) -> Result<Option<Ident>, Stop>
+        ensures { (room : ℕ) → Gives (option_map view_name) result (optional_region (suc room) self.old) self.new }
+    {
+        if !self.begins_region() {
+            return Ok(None);
+        }
+        Ok(Some(self.region_name()?))
+    }
+
+    /// The next symbol, if it is a pointer mark.
+    fn mark(&self) -> Option<PointerKind>
+        ensures { result ≡ mark_at (next self.now) }
+    {
+        match self.next() {
+            Some(Terminal::Mark(Sign::Star)) => Some(PointerKind::Nullable),
+            Some(Terminal::Mark(Sign::At)) => Some(PointerKind::NonNull),
+            Some(Terminal::Mark(Sign::Question)) => Some(PointerKind::Fat),
+            _ => None,
+        }
+    }
+
+    #[tactic(auto, unfolding(crate::specs::Steps::one_pointer, crate::specs::Parsing::choose, crate::specs::Parsing::bind))]
+    fn pointer(&mut self) -> Result<Option<Pointer>, Stop>
+        ensures { (room : ℕ) → Gives (option_map view_pointer) result (one_pointer (suc room) self.old) self.new }
+    {
+        let Some(kind) = self.mark() else {
+            return Ok(None);
+        };
+        self.advance()?;
+        let region = self.optional_region()?;
+        Ok(Some(Pointer { kind, region }))
+    }
+
+    #[tactic(auto, unfolding(crate::specs::Types::pointers_of, crate::specs::Parsing::if_is))]
+    fn end_of_pointers(&mut self) -> Result<(), Stop>
+        ensures { (room : ℕ) → Gives (λ _. []) result (pointers_of (suc room) 0 self.old) self.new }
+    {
+        match self.mark() {
+            Some(_) => Err(Stop::Refused(Reason::TooLong)),
+            None => Ok(()),
+        }
+    }
+
+    /// The pointer marks of a type.
+    fn pointers(&mut self) -> Result<Vec<Pointer>, Stop>
+        ensures { (room : ℕ) → Gives (λ v. map view_pointer v.items) result (pointers_of (suc room) 64 self.old) self.new }
+    {
+        let mut pointers = Vec::new(self.alloc());
+        for _ in 0..MAX_ITEMS {
+            let Some(pointer) = self.pointer()? else {
+                return Ok(pointers);
+            };
+            pointers.push(pointer)?;
+        }
+        self.end_of_pointers()?;
+        Ok(pointers)
+    }
+
+    #[tactic(auto, unfolding(crate::specs::Types::with_pointers, crate::specs::Parsing::bind))]
+    pub(crate) fn with_pointers(&mut self, span: Span, base: BaseType) -> Result<WrittenType, Stop>
+        ensures { (room : ℕ) → Gives view_type result (with_pointers (suc room) (place_of_span span) (view_base base) self.old) self.new }
+    {
+        let marks = self.pointers()?;
+        Ok(WrittenType { span, base, marks })
+    }
+
+    #[tactic(auto, unfolding(crate::specs::Types::written_type, crate::specs::Parsing::choose, crate::specs::Parsing::bind))]
+    pub(crate) fn written_type(&mut self) -> Result<WrittenType, Stop>
+        ensures { (room : ℕ) → Gives view_type result (written_type (suc room) self.old) self.new }
+    {
+        match self.next() {
+            Some(Terminal::Word(Keyword::Int)) => {
+                let span = self.advance()?;
+                self.with_pointers(span, BaseType::Int)
+            }
+            Some(Terminal::Word(Keyword::Struct)) => {
+                let span = self.advance()?;
+                let name = self.identifier()?;
+                let regions = self.optional_regions()?;
+                self.with_pointers(span, BaseType::Struct { name, regions })
+            }
+            Some(Terminal::Word(Keyword::RegionType)) => {
+                let span = self.advance()?;
+                let region = self.region_of()?;
+                self.with_pointers(span, BaseType::Handle { region })
+            }
+            Some(Terminal::Word(Keyword::KeyType)) => {
+                let span = self.advance()?;
+                let region = self.region_of()?;
+                self.with_pointers(span, BaseType::Key { region })
+            }
+            _ => Err(Stop::Refused(Reason::Unexpected)),
+        }
+    }
+}
