@@ -13,7 +13,7 @@ use Rattle.cyc_syntax.specs.Tokens.{kind_of, token_of}
 use Rattle.cyc_syntax.specs.TokenRule.{IsRead, Part, IsCut, bytes_of, part_tokens, tokens_of, IsSmall, IsWithinLimits, LiesIn, line_behind, column_behind, max_bytes, max_tokens}
 use Rattle.cyc_syntax.proofs.CutLemmas.{piece_nonempty, IsCut-push, bytes_of-push, tokens_of-append}
 use Rattle.cyc_lex.specs.Found.{IsReadAs, IsFound}
-use Rattle.cyc_lex.specs.Place.{IsBehind}
+use Rattle.cyc_syntax.specs.Place.{IsBehind}
 use Rattle.cyc_lex.specs.Refusals.{IsAccepted}
 
 -- a piece that was found has bytes

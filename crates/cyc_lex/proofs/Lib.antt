@@ -5,7 +5,6 @@ pub mod LexLemmas
 pub mod NameReading
 pub mod NumberLemmas
 pub mod NumberReading
-pub mod PlaceLemmas
 pub mod ShapeLemmas
 pub mod SlashReading
 pub mod SpellingLemmas

@@ -7,8 +7,7 @@ ghost use Rattle.cyc_syntax.specs.TokenRule.{AreTokensOf};
 ghost use Rattle.cyc_lex.specs.Refusals.{IsAccepted, IsRefused, memory_fault};
 
 use crate::pieces::read_piece;
-use crate::place::place_behind;
-use cyc_syntax::{Span, Token};
+use cyc_syntax::{Span, Token, place_behind};
 use cyc_words::{Code, Fault};
 use std::alloc::Global;
 

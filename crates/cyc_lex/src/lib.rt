@@ -5,7 +5,6 @@ mod classes;
 pub mod laws;
 mod lexer;
 mod pieces;
-mod place;
 mod runs;
 mod spellings;
 #[cfg(test)]

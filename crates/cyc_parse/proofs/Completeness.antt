@@ -1,13 +1,13 @@
 -- COMPLETENESS: where symbols have a tree, the parser answers that tree, or the refusal of the first limit that it breaks.
-use Rattle.std.proofs.Common.{◌≡◌, ℕ, zero, suc, ◌+◌, ◌≤◌, ◌<◌, Bool, true, false, List, [], ◌∷◌, ◌++◌, length, Option, Some, None, Ok, Err, refl, sym, ap, subst, ◌∙◌, arith, append-nil, zero-le, length-append}
-use Rattle.cyc_syntax.specs.Symbols.{Place, Terminal, Symbol}
+use Rattle.std.proofs.Common.{◌≡◌, ℕ, zero, suc, ◌≤◌, List, [], ◌∷◌, ◌++◌, length, Some, None, Ok, refl, sym, ap, subst, ◌∙◌, arith, length-append}
+use Rattle.cyc_syntax.specs.Symbols.{Symbol}
 use Rattle.cyc_syntax.specs.Trees.{Declaration, StructType, Exceptions, Global, Function, WrittenType, BaseType, Int, Struct, Handle, Key}
 use Rattle.cyc_syntax.specs.Yields.{Leaf, Yield}
 use Rattle.cyc_syntax.specs.Yields as yields
-use Rattle.cyc_syntax.specs.Grammar.{IsLeaf, IsSpelled, HasTree, IsNonempty, IsDeclaration, AreDeclarations, IsWithin, IsWithinLimits, max_nesting, max_items}
-use Rattle.cyc_parse.specs.Parsing.{Parser, pure, next, bind, choose}
+use Rattle.cyc_syntax.specs.Grammar.{IsSpelled, HasTree, IsDeclaration, AreDeclarations}
+use Rattle.cyc_parse.specs.Parsing.{pure, bind, choose}
 use Rattle.cyc_parse.specs.Declarations.{declaration, declarations_in, program, program_of}
-use Rattle.cyc_parse.proofs.Rules.{Front, judge, judge-within, Reads, Always, leaf_at, leaf_of, front-next, front-length, then_reads, last_reads, pure_reads, reads_as}
+use Rattle.cyc_parse.proofs.Rules.{Front, judge, Reads, Always, front-length, then_reads, last_reads, pure_reads, reads_as}
 use Rattle.cyc_parse.proofs.DeclarationReads.{all_declarations}
 
 -- the text ends

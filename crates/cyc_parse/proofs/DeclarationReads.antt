@@ -1,5 +1,5 @@
 -- Declarations are read as they are written, and with them programs.
-use Rattle.std.proofs.Common.{◌≡◌, ℕ, zero, suc, ◌+◌, ◌≤◌, ◌<◌, Bool, true, false, cond, List, [], ◌∷◌, ◌++◌, length, Option, Some, None, is_some, Ok, Err, refl, sym, ap, subst, ◌∙◌, arith, append-nil, append_assoc, zero-le, length-append, ◌⊎◌, inl, inr}
+use Rattle.std.proofs.Common.{◌≡◌, ℕ, zero, suc, ◌≤◌, Bool, true, false, List, [], ◌∷◌, ◌++◌, Option, Some, None, is_some, refl, sym, ap, ◌∙◌, arith, append_assoc, zero-le, ◌⊎◌, inl, inr}
 use Rattle.std.specs.List.{AllByRecursion}
 use Rattle.cyc_syntax.specs.declared.tokens.Keyword.TheVariants as words
 use Rattle.cyc_syntax.specs.declared.tokens.Sign.TheVariants as signs
@@ -11,16 +11,15 @@ use Rattle.cyc_syntax.specs.Symbols as terminals
 use Rattle.cyc_syntax.specs.Trees.{Named, Pointer, BaseType, Int, Struct, Handle, Key, WrittenType, Body, Braces, Member, Constructor, GlobalValue, Positive, Negative, Byte, NullPointer, Constraint, ParameterList, Void, Listed, Parameters, Declaration, StructType, Exceptions, Global, Function}
 use Rattle.cyc_syntax.specs.Yields.{Leaf, Yield}
 use Rattle.cyc_syntax.specs.Yields as yields
-use Rattle.cyc_syntax.specs.Grammar.{IsLeaf, max_nesting, max_items, IsBody, IsNonempty, IsDeclaration, AreDeclarations}
-use Rattle.cyc_parse.specs.Parsing.{Parser, ◌>>=◌, ◌>>◌, pure, refuse, next, inside, sees, sees_terminal, if_sees, starts, if_starts, sign, word, identifier, region_name, begins_region, regions, bind, choose, advance, take, is_word, separated}
-use Rattle.cyc_parse.specs.Types.{begins_type, written_type, with_pointers, optional_regions}
-use Rattle.cyc_parse.specs.Statements.{nested_statements, body}
-use Rattle.cyc_parse.specs.Declarations.{number_value, begins_constructor, member, field, constructor, more_of, some_of, parameter_list, effect, constraint, constraints, parameters, value_by, global_value, function, typed, struct_fields, struct_or_typed, exceptions, declaration_by, declaration, declarations_in, program}
-use Rattle.cyc_parse.proofs.Rules.{Front, Reads, Fits, Starts, Always, starts-next, item-next, starts_append, starts_number, starting_reads, leaf_of, leaf_at, front-next, front-length, then_reads, last_reads, nothing_reads, pure_reads, bare_reads, reads_as, reads_before, token_reads, word_reads, sign_reads, identifier_reads, region_reads, choose_reads, advance_reads, advance_reads_at, sees_reads, unseen_reads, seen_reads, sign_deep_reads, starts_reads, unstarted_reads, yield_reads}
-use Rattle.cyc_parse.proofs.Lists.{IsRead, EndsList, EndsItems, separated_reads, some_of_reads}
-use Rattle.cyc_parse.proofs.TypeReads.{EndsType, NotLess, NoRegion, type_starts, type_reads, with_pointers_reads, optional_regions_reads}
+use Rattle.cyc_syntax.specs.Grammar.{max_nesting, IsBody, IsDeclaration}
+use Rattle.cyc_parse.specs.Parsing.{◌>>=◌, ◌>>◌, pure, next, sees, sees_terminal, starts, sign, begins_region, bind, is_word}
+use Rattle.cyc_parse.specs.Types.{begins_type, written_type}
+use Rattle.cyc_parse.specs.Declarations.{number_value, begins_void, begins_constructor, member, field, has_int, constructor, parameter_list, effect_regions, effect, constraint, constraints, parameters, value_by, value, global_value, global, function, typed, struct_fields, struct_or_typed, exceptions, declaration_by, declaration}
+use Rattle.cyc_parse.proofs.Rules.{Front, Reads, Fits, Starts, Always, item-next, starts_append, starts_number, starting_reads, leaf_of, leaf_at, front-next, then_reads, last_reads, pure_reads, reads_before, token_reads, word_reads, sign_reads, identifier_reads, region_reads, choose_reads, advance_reads, advance_reads_at, sees_reads, unseen_reads, seen_reads, sign_deep_reads, starts_reads, unstarted_reads, yield_reads}
+use Rattle.cyc_parse.proofs.Lists.{IsRead, EndsList, separated_reads, some_of_reads}
+use Rattle.cyc_parse.proofs.TypeReads.{EndsType, NoRegion, type_starts, type_reads, with_pointers_reads, optional_regions_reads}
 use Rattle.cyc_parse.proofs.RegionReads.{regions_reads}
-use Rattle.cyc_parse.proofs.ExpressionReads.{deeper, shallow, NoParen}
+use Rattle.cyc_parse.proofs.ExpressionReads.{deeper, NoParen}
 use Rattle.cyc_parse.proofs.ItemReads.{all_bodies}
 
 -- the bracket that closes a function's head follows
@@ -58,7 +57,8 @@ module _ (room d : ℕ) (fits : Fits room d) (within : d ≤ max_nesting) where
   fields_read (m ∷ ms) = (field_read m, fields_read ms)
 
 has_int_reads : (room d : ℕ) → Fits room d → (b : Bool)
-    → Reads (if_sees signs.LeftParen (sign room signs.LeftParen >> word (inside room) words.Int >> sign (inside room) signs.RightParen >> pure true) (pure false)) b (yields.has_int d b) NoParen
+    → Reads (has_int room) b (yields.has_int d b) NoParen
+unfolding has_int
 has_int_reads room d fits false = unseen_reads signs.LeftParen _ _ (λ ts rest front ends. ap (sees signs.LeftParen) front ∙ ends.paren) (pure_reads false NoParen)
 has_int_reads zero d fits true = sees_reads signs.LeftParen _ _ (leaf_of d (Mark signs.LeftParen)) _ refl (sign_deep_reads d signs.LeftParen _ (omega arith))
 has_int_reads (suc room) d fits true = sees_reads signs.LeftParen _ _ (leaf_of d (Mark signs.LeftParen)) _ refl (sign_reads (suc room) d signs.LeftParen _ fits (λ p. word_reads room (suc d) words.Int _ (deeper room d fits) (λ p.
@@ -80,7 +80,7 @@ constructors_read room d fits (c ∷ cs) = (constructor_read room d fits c, cons
 
 -- what may follow each part of a function's head
 pub record EndsParameters (ts : List Symbol) : Type 0 where
-  pub void : starts (λ t. is_some (is_word words.Void t)) (next ts) ≡ false
+  pub void : starts begins_void (next ts) ≡ false
   pub member : starts begins_type (next ts) ≡ false
   pub comma : sees signs.Comma ts ≡ false
 
@@ -99,11 +99,11 @@ pub record NoColon (ts : List Symbol) : Type 0 where
 module _ (room d : ℕ) (fits : Fits room d) (within : d ≤ max_nesting) where
   list_reads : (ps : ParameterList) → Reads (parameter_list room) ps (yields.parameter_list d ps) EndsParameters
   unfolding parameter_list
-  list_reads Void = starts_reads (λ t. is_some (is_word words.Void t)) _ _ (leaf_of d (Word words.Void)) [] refl (advance_reads _ (leaf_of d (Word words.Void)) within zero-le (λ p _. pure_reads Void EndsParameters))
-  list_reads (Listed []) = unstarted_reads _ _ _ (λ ts rest front ends. ap (λ (w : List Symbol). starts (λ t. is_some (is_word words.Void t)) (next w)) front ∙ ends.void)
+  list_reads Void = starts_reads begins_void _ _ (leaf_of d (Word words.Void)) [] refl (advance_reads _ (leaf_of d (Word words.Void)) within zero-le (λ p _. pure_reads Void EndsParameters))
+  list_reads (Listed []) = unstarted_reads _ _ _ (λ ts rest front ends. ap (λ (w : List Symbol). starts begins_void (next w)) front ∙ ends.void)
       (unstarted_reads begins_type _ _ (λ ts rest front ends. ap (λ (w : List Symbol). starts begins_type (next w)) front ∙ ends.member) (pure_reads (Listed []) EndsParameters))
   list_reads (Listed (m ∷ ms)) = unstarted_reads _ _ _ (λ ts rest front ends.
-      ap (starts (λ t. is_some (is_word words.Void t))) (item-next first 1 (yields.more (yields.member d) d 2 ms) ts rest front) ∙ type_not_void (first.first.terminal) (first.begin))
+      ap (starts begins_void) (item-next first 1 (yields.more (yields.member d) d 2 ms) ts rest front) ∙ type_not_void (first.first.terminal) (first.begin))
       (starting_reads begins_type d _ _ (starts_append (yields.more (yields.member d) d 2 ms) (starts_number 1 (omega arith) first))
       (last_reads (λ (v : List Member). pure (Listed v)) (λ ts. refl) (reads_before (EndsList Always) (separated_reads room d fits within begins_type (member room) (yields.member d) Always (λ ts e. tt) m ms (members_read room d fits within (m ∷ ms)))
       (λ rest ends. record { item = tt; comma = ends.comma }))))
@@ -130,7 +130,7 @@ module _ (room d : ℕ) (fits : Fits room d) (within : d ≤ max_nesting) where
 
 module _ (room d : ℕ) (fits : Fits (suc (suc room)) d) where
   effect_reads : (e : Option (List Named)) → Reads (effect (suc (suc room))) e (yields.optional (yields.effect d) e) NoSemicolon
-  unfolding effect
+  unfolding effect effect_regions
   effect_reads None = unseen_reads signs.Semicolon _ _ (λ ts rest front ends. ap (sees signs.Semicolon) front ∙ ends.semicolon) (pure_reads None NoSemicolon)
   effect_reads (Some []) = sees_reads signs.Semicolon _ _ (leaf_of d (Mark signs.Semicolon)) _ refl (sign_reads (suc (suc room)) d signs.Semicolon _ fits (λ p. sign_reads (suc (suc room)) d signs.LeftBrace _ fits (λ p.
       then_reads _ (unstarted_reads begins_region _ _ (λ ts rest front ends. ap (λ (w : List Symbol). starts begins_region (next w)) front ∙ ends.none) (pure_reads [] NoRegion))
@@ -152,11 +152,11 @@ module _ (room d : ℕ) (fits : Fits (suc (suc room)) d) where
 
   after_list : (e : Option (List Named)) (cs : List Constraint) (mid rest : List Symbol) → Front (yields.optional (yields.effect d) e ++ yields.constraints d cs) mid rest → next rest ≡ Some (Mark signs.RightParen) → EndsParameters mid
   after_list None cs mid rest front ends = elim (colon_or_end cs mid rest front ends) [
-    | inl n ↦ record { void = ap (starts (λ t. is_some (is_word words.Void t))) n; member = ap (starts begins_type) n; comma = ap (sees_terminal signs.Comma) n }
-    | inr n ↦ record { void = ap (starts (λ t. is_some (is_word words.Void t))) n; member = ap (starts begins_type) n; comma = ap (sees_terminal signs.Comma) n }
+    | inl n ↦ record { void = ap (starts begins_void) n; member = ap (starts begins_type) n; comma = ap (sees_terminal signs.Comma) n }
+    | inr n ↦ record { void = ap (starts begins_void) n; member = ap (starts begins_type) n; comma = ap (sees_terminal signs.Comma) n }
   ]
   after_list (Some rs) cs mid rest (t, more, e, is_leaf, front) ends = let n : next mid ≡ Some (Mark signs.Semicolon) = ap next e ∙ ap Some is_leaf.terminal in
-      record { void = ap (starts (λ t. is_some (is_word words.Void t))) n; member = ap (starts begins_type) n; comma = ap (sees_terminal signs.Comma) n }
+      record { void = ap (starts begins_void) n; member = ap (starts begins_type) n; comma = ap (sees_terminal signs.Comma) n }
 
   pub parameters_reads : (ps : Parameters) → Reads (parameters (suc (suc room))) ps (yields.parameters d ps) Closes
   unfolding parameters
@@ -179,7 +179,8 @@ module _ (room d : ℕ) (fits : Fits (suc (suc (suc room))) d) where
       (sign_reads R (suc d) signs.RightParen _ (omega arith) (λ x. last_reads (λ (v : Body). pure (Function t f ps v)) (λ ts. refl) (all_bodies p is q R d fits are Always)))
       (λ mid rest front ends. record { paren = front-next (leaf_of (suc d) (Mark signs.RightParen)) (yields.body d (Braces p is q)) mid rest front }))
 
-  given_reads : (v : GlobalValue) (Ends : List Symbol → Type 0) → Reads (sign (suc R) signs.Assign >> choose (value_by R) >>= (λ w. pure (Some w))) (Some v) (yields.global_value d v) Ends
+  given_reads : (v : GlobalValue) (Ends : List Symbol → Type 0) → Reads (sign (suc R) signs.Assign >> value R >>= (λ w. pure (Some w))) (Some v) (yields.global_value d v) Ends
+  unfolding value
   given_reads (Positive p n) Ends = sign_reads (suc R) d signs.Assign _ fits (λ x. last_reads (λ (w : GlobalValue). pure (Some w)) (λ ts. refl) (choose_reads (value_by R) (leaf_at (suc d) (terminals.Number n) p) [] (advance_reads_at (suc d) (terminals.Number n) p _ (omega arith) (pure_reads (Positive p n) Ends))))
   given_reads (Negative p n) Ends = sign_reads (suc R) d signs.Assign _ fits (λ x. last_reads (λ (w : GlobalValue). pure (Some w)) (λ ts. refl) (choose_reads (value_by R) (leaf_at (suc d) (Mark signs.Minus) p) _ (advance_reads_at (suc d) (Mark signs.Minus) p _ (omega arith)
       (token_reads (suc room) number_value (λ m q. m) _ (leaf_of (suc (suc d)) (terminals.Number n)) n (omega arith) zero-le refl (λ q _. pure_reads (Negative p n) Ends)))))
@@ -199,7 +200,7 @@ module _ (room d : ℕ) (fits : Fits (suc (suc (suc room))) d) where
 
   -- behind a type: a global, or a function
   global_reads : (t : WrittenType) (x : Named) (v : Option GlobalValue) → Reads (typed R t) (Global t x v) (leaf_at d (Identifier x.name) x.place ∷ (yields.optional (yields.global_value d) v ++ leaf_of d (Mark signs.Semicolon) ∷ [])) Always
-  unfolding typed
+  unfolding typed global
   global_reads t x v = identifier_reads (suc R) d x _ fits (unseen_reads signs.LeftParen _ _ (λ ts rest front ends. no_paren v ts rest front)
       (then_reads _ (value_reads v) (sign_reads (suc R) d signs.Semicolon _ fits (λ p. pure_reads (Global t x v) Always))
       (λ mid rest front ends. record { assign = ap (sees_terminal signs.Assign) (front-next (leaf_of d (Mark signs.Semicolon)) [] mid rest front) })))

@@ -1,17 +1,17 @@
 -- Each production of expressions is read as it is written, given how its parts are read.
-use Rattle.std.proofs.Common.{◌≡◌, ℕ, zero, suc, ◌+◌, ◌≤◌, ◌<◌, Bool, true, false, List, [], ◌∷◌, ◌++◌, Option, Some, None, Ok, Err, refl, sym, ap, subst, ◌∙◌, arith, append-nil}
+use Rattle.std.proofs.Common.{◌≡◌, ℕ, zero, suc, ◌+◌, ◌≤◌, true, false, List, [], ◌∷◌, ◌++◌, Some, None, Ok, refl, sym, ap, subst, ◌∙◌, arith}
 use Rattle.std.specs.List.{AllByRecursion}
 use Rattle.cyc_syntax.specs.declared.tokens.Keyword.TheVariants as words
 use Rattle.cyc_syntax.specs.declared.tokens.Sign.TheVariants as signs
 use Rattle.cyc_syntax.specs.Symbols.{Place, Terminal, Identifier, RegionName, Word, Mark, Symbol}
 use Rattle.cyc_syntax.specs.Symbols as terminals
-use Rattle.cyc_syntax.specs.Trees.{Named, Expression, Number, Character, Null, HeapRegion, UniqueRegion, Variable, Call, Bracketed, NumberOfElements, FreeUnique, FreeKey, Chained, Prefixed, New, RegionNew, Binary, Assign, Initial, Plain, Fields, Array, Expressions, NoExpressions, MoreExpressions, Postfixes, NoPostfixes, ThenIndex, ThenField, Operations, NoOperations, ThenOperation}
+use Rattle.cyc_syntax.specs.Trees.{Named, Expression, Number, Character, Null, HeapRegion, UniqueRegion, Variable, Call, Bracketed, NumberOfElements, FreeUnique, FreeKey, Chained, Prefixed, New, RegionNew, Binary, Assign, Expressions, NoExpressions, MoreExpressions, Postfixes, NoPostfixes, ThenIndex, ThenField}
 use Rattle.cyc_syntax.specs.Yields.{Leaf, Yield}
 use Rattle.cyc_syntax.specs.Yields as yields
-use Rattle.cyc_syntax.specs.Grammar.{max_nesting, max_items, is_primary, level, IsExpression, AreExpressions, ArePostfixes, AreOperations, IsInitial}
-use Rattle.cyc_parse.specs.Parsing.{Parser, ◌>>=◌, pure, sees, sees_terminal, if_sees, next, sign, identifier, bind, separated, begins_region, regions, region_name, region_list}
-use Rattle.cyc_parse.specs.Expressions.{begins_expression, Nested, nested, group, arguments, from_name, primary, primary_by, postfixes, chained, chain_of, with_postfixes}
-use Rattle.cyc_parse.proofs.Rules.{Front, Reads, Fits, Starts, Always, starts_append, starts_number, item-next, seen_reads, leaf_of, leaf_at, front-next, then_reads, last_reads, nothing_reads, pure_reads, reads_as, reads_before, sign_reads, identifier_reads, region_reads, choose_reads, advance_reads_at, sees_reads, unseen_reads, sign_reads_item, long_leaf_reads, deep_reads, deep_then_reads}
+use Rattle.cyc_syntax.specs.Grammar.{max_nesting, max_items, is_primary}
+use Rattle.cyc_parse.specs.Parsing.{Parser, pure, sees, sees_terminal, next, separated}
+use Rattle.cyc_parse.specs.Expressions.{begins_expression, nested, group, arguments, from_name, primary, primary_by, postfixes, chained, chain_of, with_postfixes}
+use Rattle.cyc_parse.proofs.Rules.{Front, Reads, Fits, starts_append, starts_number, item-next, seen_reads, leaf_of, leaf_at, front-next, then_reads, last_reads, pure_reads, reads_before, sign_reads, identifier_reads, choose_reads, advance_reads_at, sees_reads, unseen_reads, sign_reads_item, long_leaf_reads, deep_then_reads}
 use Rattle.cyc_parse.proofs.Lists.{IsRead, EndsList, separated_reads}
 use Rattle.cyc_parse.proofs.Stops.{Stops, stops_leaf, no_paren, no_bracket, no_arrow}
 use Rattle.cyc_parse.proofs.Starts.{expression_starts}

@@ -1,6 +1,5 @@
 -- What stands behind `new` is read as it is written, and with it all expressions.
-use Rattle.std.proofs.Common.{◌≡◌, ℕ, zero, suc, ◌+◌, ◌≤◌, ◌<◌, Bool, true, false, cond, List, [], ◌∷◌, ◌++◌, length, Option, Some, None, is_some, Ok, Err, refl, sym, ap, subst, ◌∙◌, arith, append-nil, zero-le, length-append, inl, inr}
-use Rattle.std.specs.List.{AllByRecursion}
+use Rattle.std.proofs.Common.{◌≡◌, ℕ, zero, suc, ◌≤◌, ◌<◌, Bool, true, false, cond, List, [], ◌∷◌, ◌++◌, length, Some, refl, sym, ap, subst, ◌∙◌, arith, length-append, inl, inr}
 use Rattle.std.proofs.lemmas.Bool.Decides.{eqb_tells}
 use Rattle.cyc_syntax.specs.declared.tokens.Keyword.TheVariants as words
 use Rattle.cyc_syntax.specs.declared.tokens.Sign.TheVariants as signs
@@ -9,17 +8,17 @@ use Rattle.cyc_syntax.specs.Symbols as terminals
 use Rattle.cyc_syntax.specs.Trees.{Named, Expression, Number, Character, Null, HeapRegion, UniqueRegion, Variable, Call, Bracketed, NumberOfElements, FreeUnique, FreeKey, Chained, Prefixed, New, RegionNew, Binary, Assign, Initial, Plain, Fields, Array, Expressions, NoExpressions, MoreExpressions, Postfixes, NoPostfixes, ThenIndex, ThenField, Operations, NoOperations, ThenOperation}
 use Rattle.cyc_syntax.specs.Yields.{Leaf, Yield}
 use Rattle.cyc_syntax.specs.Yields as yields
-use Rattle.cyc_syntax.specs.Grammar.{IsLeaf, max_nesting, max_items, is_primary, IsExpression, AreExpressions, ArePostfixes, AreOperations, IsInitial, IsSomePostfix, IsSomeOperation, IsSomeExpression}
-use Rattle.cyc_parse.specs.Parsing.{Parser, TooDeep, ◌>>=◌, and_then, pure, refuse_item, next, sees, sees_terminal, if_sees, is_sign, sign, word, identifier, bind, choose, advance, opens_regions, region_list}
-use Rattle.cyc_parse.specs.Expressions.{begins_expression, begins_initial, Nested, nested, group, from_name, primary, primary_by, postfixes, chained, with_postfixes, unary, unary_by, climb, assignment, binary, expression, initial, initial_by, initial_from_name, fields, array, values, more_values}
-use Rattle.cyc_parse.proofs.Rules.{Front, Reads, Fits, Starts, Always, starts_append, starts-next, leaf_of, leaf_at, front-next, front-length, then_reads, last_reads, nothing_reads, pure_reads, reads_as, reads_before, word_reads_at, sign_reads, identifier_reads, choose_reads, advance_reads_at, sees_reads, unseen_reads, deep_reads, deep_then_reads, between_then}
+use Rattle.cyc_syntax.specs.Grammar.{IsExpression, AreExpressions, ArePostfixes, AreOperations, IsInitial, IsSomePostfix, IsSomeOperation, IsSomeExpression}
+use Rattle.cyc_parse.specs.Parsing.{Parser, pure, sees, sees_terminal, if_sees, bind, choose, opens_regions, region_list}
+use Rattle.cyc_parse.specs.Expressions.{begins_expression, begins_initial, nested, from_name, primary, chained, with_postfixes, unary, unary_by, climb, assignment, binary, expression, initial, initial_by, initial_from_name, fields, array, values, more_values}
+use Rattle.cyc_parse.proofs.Rules.{Front, Reads, Fits, Always, leaf_of, leaf_at, front-next, front-length, then_reads, last_reads, pure_reads, reads_as, word_reads_at, sign_reads, identifier_reads, choose_reads, advance_reads_at, sees_reads, unseen_reads, deep_reads, between_then}
 use Rattle.cyc_parse.proofs.Lists.{EndsList}
-use Rattle.cyc_parse.proofs.Stops.{Stops, stops-less, stops_leaf, no_assign, no_brace, no_regions, binds, binds_terminal}
+use Rattle.cyc_parse.proofs.Stops.{Stops, stops_leaf, no_brace, no_regions, binds, binds_terminal}
 use Rattle.cyc_parse.proofs.Starts.{expression_starts, initial_starts, IsSecond, alone, goes_on, second}
 use Rattle.cyc_parse.proofs.RegionReads.{region_list_reads, regions_open, regions_next}
-use Rattle.cyc_parse.proofs.OperatorReads.{OperationParts, climb_all, climb_more, chain_reads}
-use Rattle.cyc_parse.proofs.ExpressionReads.{deeper, shallow, ReadsDeeper, AreRead, list_of, Parts, PostfixParts, group_reads}
-use Rattle.cyc_parse.proofs.OperandReads.{IsReadAll, IsInitialRead, from_unary, chained_reads, alone_reads, prefixed_reads, new_reads, nested_group_reads, unassigned, deep_unary, deep_operand, deep_expression}
+use Rattle.cyc_parse.proofs.OperatorReads.{OperationParts, climb_more, chain_reads}
+use Rattle.cyc_parse.proofs.ExpressionReads.{deeper, shallow, ReadsDeeper, AreRead, list_of, PostfixParts}
+use Rattle.cyc_parse.proofs.OperandReads.{IsReadAll, IsInitialRead, from_unary, chained_reads, alone_reads, prefixed_reads, new_reads, nested_group_reads, unassigned, deep_operand, deep_expression}
 
 module _ (room d : ℕ) (fits : Fits (suc room) d) where
   pub region_new_reads : (p : Place) (h : Expression) (i : Initial) → IsReadAll h → IsExpression 11 h → Reads (nested room).initial i (yields.initial (suc d) i) (Stops 0)

@@ -1,22 +1,20 @@
 -- Items, blocks and clauses are read as they are written, and with them all statements.
-use Rattle.std.proofs.Common.{◌≡◌, ℕ, zero, suc, ◌+◌, ◌≤◌, ◌<◌, Bool, true, false, cond, ◌||◌, List, [], ◌∷◌, ◌++◌, length, Option, Some, None, Ok, Err, refl, sym, ap, subst, ◌∙◌, arith, append-nil, append_assoc, zero-le, length-append}
+use Rattle.std.proofs.Common.{◌≡◌, ℕ, zero, suc, ◌≤◌, true, false, List, [], ◌∷◌, ◌++◌, length, Option, Some, None, refl, sym, ap, subst, ◌∙◌, arith, append-nil, zero-le, length-append}
 use Rattle.cyc_syntax.specs.declared.tokens.Keyword.TheVariants as words
 use Rattle.cyc_syntax.specs.declared.tokens.Sign.TheVariants as signs
 use Rattle.cyc_syntax.specs.Symbols.{Place, Terminal, Identifier, RegionName, Word, Mark, Symbol}
-use Rattle.cyc_syntax.specs.Symbols as terminals
-use Rattle.cyc_syntax.specs.Trees.{Named, WrittenType, Expression, Statement, Block, Labelled, Empty, Evaluate, Swap, If, IfElse, While, Return, Break, Continue, Throw, Try, Body, Braces, Items, NoItems, MoreItems, Item, Execute, Local, Region, Alias, DynamicRegion, Clauses, NoClauses, Default, Case}
+use Rattle.cyc_syntax.specs.Trees.{Named, WrittenType, Expression, Statement, Block, Labelled, Empty, Evaluate, Swap, If, IfElse, While, Return, Break, Continue, Throw, Try, Braces, Items, NoItems, MoreItems, Item, Execute, Local, Region, Alias, DynamicRegion, Clauses, NoClauses, Default, Case}
 use Rattle.cyc_syntax.specs.Yields.{Leaf, Yield}
 use Rattle.cyc_syntax.specs.Yields as yields
-use Rattle.cyc_syntax.specs.Grammar.{IsLeaf, max_nesting, max_items, IsExpression, IsExpressionOrNone, wants_else, IsStatement, IsBody, AreItems, IsItem, AreClauses, IsSomeClause}
-use Rattle.cyc_parse.specs.Parsing.{Parser, TooDeep, ◌>>=◌, ◌>>◌, and_then, pure, refuse, refuse_item, next, inside, sees, sees_terminal, if_sees, starts, if_starts, sign, word, identifier, bind, choose, advance, take, is_word, only_place}
-use Rattle.cyc_parse.specs.Types.{begins_type, written_type, region_of}
-use Rattle.cyc_parse.specs.Expressions.{nested}
-use Rattle.cyc_parse.specs.Statements.{begins_statement, begins_item, begins_clause, is_case, is_default, is_else, Nested, nested_statements, statement, item, item_by, local, local_value, region, opened_key, alias, new_key, dynamic_region, let_by, items_in, items, caught, clauses_in, clauses, body}
-use Rattle.cyc_parse.proofs.Rules.{Front, Reads, starting_reads, deep_refusal, Fits, Starts, Always, starts-next, starts_append, leaf_of, leaf_at, front-next, front-length, then_reads, last_reads, nothing_reads, pure_reads, reads_as, reads_before, word_reads, sign_reads, identifier_reads, choose_reads, advance_reads, sees_reads, unseen_reads, word_deep_reads, sign_deep_reads, starts_reads, unstarted_reads, deep_reads, between_then, yield_reads}
+use Rattle.cyc_syntax.specs.Grammar.{IsExpressionOrNone, wants_else, IsStatement, AreItems, IsItem, AreClauses, IsSomeClause}
+use Rattle.cyc_parse.specs.Parsing.{Parser, ◌>>=◌, ◌>>◌, pure, next, inside, sees, sees_terminal, starts, sign, word, identifier, bind, choose}
+use Rattle.cyc_parse.specs.Types.{begins_type, region_of}
+use Rattle.cyc_parse.specs.Statements.{begins_statement, begins_item, begins_clause, is_case, is_default, is_else, nested_statements, statement, item, item_by, local, local_value, region, opened_key, alias, new_key, dynamic_region, let_by, items_in, items, caught, clauses_in, clauses, body}
+use Rattle.cyc_parse.proofs.Rules.{Front, Reads, starting_reads, deep_refusal, Fits, Always, starts-next, starts_append, leaf_of, leaf_at, front-next, front-length, then_reads, last_reads, pure_reads, reads_as, reads_before, word_reads, sign_reads, identifier_reads, choose_reads, advance_reads, sees_reads, unseen_reads, word_deep_reads, sign_deep_reads, starts_reads, unstarted_reads, deep_reads}
 use Rattle.cyc_parse.proofs.Stops.{Stops, stops_leaf}
-use Rattle.cyc_parse.proofs.TypeReads.{EndsType, type_starts, type_reads, region_of_reads_any}
+use Rattle.cyc_parse.proofs.TypeReads.{type_starts, type_reads, region_of_reads_any}
 use Rattle.cyc_parse.proofs.ExpressionReads.{deeper, shallow, NoParen}
-use Rattle.cyc_parse.proofs.StatementStarts.{statement_starts, item_starts, in_item}
+use Rattle.cyc_parse.proofs.StatementStarts.{statement_starts, item_starts}
 use Rattle.cyc_parse.proofs.StatementReads.{EndsStatement, EndsBlock, EndsClauses, expression_at, ReadsStatement, ReadsItems, body_reads, block_reads, labelled_reads, empty_reads, evaluate_reads, swap_reads, if_reads, if_else_reads, while_reads, return_reads, break_reads, continue_reads, throw_reads, try_reads}
 
 -- what may follow an item

@@ -1,5 +1,5 @@
 -- The parsers at a level of nesting or of operators that is not the last, and parts of trees by their lists.
-use Rattle.std.proofs.Common.{◌≡◌, ℕ, zero, suc, ◌-◌, ◌<◌, List, [], ◌∷◌, map, length, Ok, refl, sym, ap, ◌∙◌, arith}
+use Rattle.std.proofs.Common.{◌≡◌, ℕ, suc, ◌-◌, ◌<◌, List, [], ◌∷◌, map, length, Ok, refl, sym, ap, ◌∙◌, arith}
 use Rattle.std.specs.declared.vec.Vec.{Vec}
 use Rattle.std.specs.declared.boxed.Box.{Box}
 use Rattle.std.specs.declared.alloc.Global.{Global as Heap}
@@ -10,10 +10,9 @@ use Rattle.cyc_syntax.specs.declared.tree.Postfix.TheVariants as postfix
 use Rattle.cyc_syntax.specs.declared.tree.Operation.{Operation}
 use Rattle.cyc_syntax.specs.Symbols.{Symbol}
 use Rattle.cyc_syntax.specs.Trees.{Expression, MoreExpressions, Chained, Binary, NoPostfixes, NoOperations}
-use Rattle.cyc_syntax.specs.TreeView.{view_expression, expressions_of, postfixes_of, operations_of, then_postfix}
+use Rattle.cyc_syntax.specs.TreeView.{view_expression, expressions_of, postfixes_of, operations_of}
 use Rattle.cyc_syntax.proofs.TreeViewLemmas.{view_chained, view_binary}
-use Rattle.cyc_parse.specs.Parsing.{Parser}
-use Rattle.cyc_parse.specs.Expressions.{Nested, nested, unary, binary, expression, group, initial, climb, chain_of, chained, binary_of}
+use Rattle.cyc_parse.specs.Expressions.{nested, unary, binary, expression, group, initial, climb, chain_of, chained, binary_of}
 use Rattle.cyc_parse.specs.Steps.{one_level}
 
 pub nested_unary : (room : ℕ) (ts : List Symbol) → 0 < room → (nested room).unary ts ≡ unary (room - 1) (nested (room - 1)) ts

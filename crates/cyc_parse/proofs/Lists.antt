@@ -1,11 +1,10 @@
 -- Lists with commas are read as they are written, up to their limit.
-use Rattle.std.proofs.Common.{◌≡◌, ℕ, zero, suc, ◌+◌, ◌≤◌, ◌<◌, Bool, true, false, cond, List, [], ◌∷◌, ◌++◌, Option, Some, None, Ok, Err, refl, sym, ap, subst, ◌∙◌, arith, lt-ltb, le-ltb}
-use Rattle.std.specs.Prelude.{nat_lt}
+use Rattle.std.proofs.Common.{◌≡◌, ℕ, zero, suc, ◌+◌, ◌≤◌, ◌<◌, Bool, false, List, [], ◌∷◌, ◌++◌, Some, Ok, Err, refl, sym, ap, subst, ◌∙◌, arith}
 use Rattle.std.specs.List.{AllByRecursion}
 use Rattle.cyc_syntax.specs.declared.tokens.Sign.TheVariants as signs
 use Rattle.cyc_syntax.specs.Symbols.{Terminal, Mark, Symbol}
 use Rattle.cyc_syntax.specs.Yields.{Leaf, Yield, item_number, each, more, separated}
-use Rattle.cyc_syntax.specs.Grammar.{IsLeaf, max_nesting, max_items}
+use Rattle.cyc_syntax.specs.Grammar.{max_nesting, max_items}
 use Rattle.cyc_parse.specs.Parsing.{Parser, TooDeep, TooLong, refuse_item, pure, sign, sees, if_sees, starts, if_starts, next, bind, more_items}
 use Rattle.cyc_parse.specs.Parsing as parsing
 use Rattle.cyc_parse.specs.Declarations.{more_of, some_of}

@@ -1,5 +1,5 @@
 -- A list that the code reads in a loop is what the parser of the list gives.
-use Rattle.std.proofs.Common.{◌≡◌, ℕ, zero, suc, ◌+◌, ◌-◌, ◌<◌, ◌≤◌, Bool, true, false, cond, List, [], ◌∷◌, ◌++◌, map, Option, Some, None, option_map, Result, Ok, Err, refl, sym, ap, ◌∙◌, arith}
+use Rattle.std.proofs.Common.{◌≡◌, ℕ, suc, ◌+◌, ◌-◌, ◌<◌, ◌≤◌, Bool, true, false, cond, List, [], ◌∷◌, ◌++◌, map, Option, Some, None, option_map, Ok, Err, refl, sym, ap, ◌∙◌, arith}
 use Rattle.cyc_syntax.specs.declared.tokens.Sign.TheVariants as signs
 use Rattle.cyc_syntax.specs.Symbols.{Terminal, Symbol}
 use Rattle.cyc_parse.specs.declared.stop.Stop.{Stop}
@@ -12,11 +12,12 @@ use Rattle.cyc_syntax.specs.declared.tree.Expr.{Expr}
 use Rattle.cyc_syntax.specs.declared.tree.Postfix.{Postfix}
 use Rattle.cyc_syntax.specs.declared.tree.Operation.{Operation}
 use Rattle.cyc_syntax.specs.declared.tree.BinaryOperator.{BinaryOperator}
-use Rattle.cyc_syntax.specs.Trees.{Expression, Expressions, NoExpressions, MoreExpressions, Postfixes, NoPostfixes, ThenIndex, ThenField, Operations, NoOperations, ThenOperation}
+use Rattle.cyc_syntax.specs.Trees.{Declaration, Expression, NoExpressions, MoreExpressions, NoPostfixes, Operations, NoOperations, ThenOperation}
 use Rattle.cyc_syntax.specs.TreeView.{view_expression, expressions_of, postfixes_of, operations_of, then_postfix}
 use Rattle.cyc_parse.specs.Expressions.{Nested, operator_at, operations, postfixes, more_values}
-use Rattle.cyc_parse.specs.Steps.{after_comma, one_pointer, one_postfix, one_operation, then_operation}
-use Rattle.cyc_parse.specs.Parsing.{Parser, Outcome, Refusal, Unexpected, TooLong, and_then, bind, pure, choose, next, advance, if_sees, sees, sign, identifier, refuse_item, more_items, if_is, on_some}
+use Rattle.cyc_parse.specs.Steps.{after_comma, one_pointer, one_postfix, one_operation, then_operation, one_of, one_declaration}
+use Rattle.cyc_parse.specs.Parsing.{Parser, Outcome, and_then, bind, pure, choose, next, advance, if_sees, sees, starts, if_starts, sign, identifier, more_items, if_is, on_some}
+use Rattle.cyc_parse.specs.Declarations.{more_of, declaration, declarations_in}
 
 -- what is still to be read behind one step of a list
 abbrev pub behind : {Y B : Type 0} → (Y → B → B) → Parser B → Parser B → Option Y → Parser B
@@ -142,11 +143,11 @@ unfolding pointers_of one_pointer choose if_is
 pointers_of_steps room = record { step = λ n ts. by_mark room (pointers_of room n) (mark_at (next ts)) ts }
 
 -- a step, and then what follows it
-lift : {A B C : Type 0} (k : C → Parser B) (o : Outcome A) (f : A → Parser C) (g : A → Parser B) → ((a : A) (us : List Symbol) → g a us ≡ and_then (f a us) k) → and_then o g ≡ and_then (and_then o f) k
+pub lift : {A B C : Type 0} (k : C → Parser B) (o : Outcome A) (f : A → Parser C) (g : A → Parser B) → ((a : A) (us : List Symbol) → g a us ≡ and_then (f a us) k) → and_then o g ≡ and_then (and_then o f) k
 lift k (Ok p) f g h = h p.0 p.1
 lift k (Err e) f g h = refl
 
-by_test : {B C : Type 0} (k : C → Parser B) (b : Bool) (p q : Parser B) (p' q' : Parser C) (ts : List Symbol) → p ts ≡ and_then (p' ts) k → q ts ≡ and_then (q' ts) k → cond b p q ts ≡ and_then (cond b p' q' ts) k
+pub by_test : {B C : Type 0} (k : C → Parser B) (b : Bool) (p q : Parser B) (p' q' : Parser C) (ts : List Symbol) → p ts ≡ and_then (p' ts) k → q ts ≡ and_then (q' ts) k → cond b p q ts ≡ and_then (cond b p' q' ts) k
 by_test k true p q p' q' ts a b = a
 by_test k false p q p' q' ts a b = b
 
@@ -172,3 +173,18 @@ operations_steps operand k = record { step = λ n ts. by_operator operand (opera
 pub more_values_steps : (room : ℕ) (inner : Nested) → Steps MoreExpressions (pure NoExpressions) (after_comma room inner.expression) (more_values room inner)
 unfolding more_values after_comma if_sees
 more_values_steps room inner = record { step = λ n ts. by_comma MoreExpressions NoExpressions room inner.expression (more_values room inner n) ts (sees signs.Comma ts) }
+
+pub more_of_steps : {A : Type 0} (begins : Terminal → Bool) (item : Parser A) → Steps (λ x xs. x ∷ xs) (pure []) (one_of begins item) (more_of begins item)
+unfolding more_of one_of if_starts bind
+more_of_steps begins item = record { step = λ n ts. by_test _ (starts begins (next ts)) _ _ _ _ ts (lift _ (item ts) _ _ (λ x us. refl)) refl }
+
+by_symbol : (room : ℕ) (rest : Parser (List Declaration)) (next : Option Terminal) (ts : List Symbol)
+    → (elim next as (λ _. Parser (List Declaration)) [ None ↦ pure [] | Some t ↦ bind (declaration room) (λ d. bind rest (λ ds. pure (d ∷ ds))) ]) ts
+    ≡ and_then ((elim next as (λ _. Parser (Option Declaration)) [ None ↦ pure None | Some t ↦ bind (declaration room) (λ d. pure (Some d)) ]) ts) (behind (λ d ds. d ∷ ds) (pure []) rest)
+unfolding bind
+by_symbol room rest None ts = refl
+by_symbol room rest (Some t) ts = lift _ (declaration room ts) _ _ (λ d us. refl)
+
+pub declarations_steps : (room : ℕ) → Steps (λ d ds. d ∷ ds) (pure []) (one_declaration room) (declarations_in room)
+unfolding declarations_in one_declaration choose
+declarations_steps room = record { step = λ n ts. by_symbol room (declarations_in room n) (next ts) ts }

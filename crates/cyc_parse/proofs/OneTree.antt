@@ -1,5 +1,5 @@
 -- A list of symbols has one tree at most among those that keep the limits: the parser answers it.
-use Rattle.std.specs.Prelude.{◌≡◌, ℕ, ◌≤◌, Bool, true, false, cond, nat_lt, List, [], ◌∷◌, Result, Ok, Err}
+use Rattle.std.specs.Prelude.{◌≡◌, Bool, true, false, cond, nat_lt, List, [], ◌∷◌, Ok, Err}
 use Rattle.std.specs.List.{AllByRecursion}
 use Rattle.std.proofs.Common.{sym, ◌∙◌, ap, refl}
 use Rattle.cyc_syntax.specs.Symbols.{Symbol}
@@ -12,7 +12,7 @@ use Rattle.cyc_parse.proofs.Rules.{judge, within}
 use Rattle.cyc_parse.proofs.Completeness.{program_of-complete}
 
 -- leaves that keep the limits change no outcome
-judge-within : {A : Type 0} (leaves : Yield) (ts : List Symbol) (outcome : Outcome A) → AllByRecursion IsWithin leaves → judge leaves ts outcome ≡ outcome
+pub judge-within : {A : Type 0} (leaves : Yield) (ts : List Symbol) (outcome : Outcome A) → AllByRecursion IsWithin leaves → judge leaves ts outcome ≡ outcome
 judge-within [] ts outcome all = refl
 judge-within (l ∷ ls) [] outcome all = refl
 judge-within (l ∷ ls) (t ∷ ts) outcome (one, more) = rw (within max_nesting l.nesting one.nesting, within max_items l.item one.item) (judge-within ls ts outcome more)

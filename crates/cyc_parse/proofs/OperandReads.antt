@@ -1,25 +1,22 @@
 -- Expressions are read as they are written.
-use Rattle.std.proofs.Common.{◌≡◌, ℕ, zero, suc, ◌+◌, ◌≤◌, ◌<◌, Bool, true, false, cond, List, [], ◌∷◌, ◌++◌, length, Option, Some, None, is_some, Ok, Err, refl, sym, ap, subst, ◌∙◌, arith, append-nil, zero-le}
-use Rattle.std.specs.List.{AllByRecursion}
+use Rattle.std.proofs.Common.{◌≡◌, ℕ, zero, suc, ◌≤◌, true, List, [], ◌∷◌, ◌++◌, Option, Some, is_some, refl, ap, subst, ◌∙◌, arith, append-nil, zero-le}
 use Rattle.cyc_syntax.specs.declared.tokens.Keyword.TheVariants as words
 use Rattle.cyc_syntax.specs.declared.tokens.Sign.TheVariants as signs
 use Rattle.cyc_syntax.specs.declared.tree.PrefixOperator.{PrefixOperator}
 use Rattle.cyc_syntax.specs.declared.tree.PrefixOperator.TheVariants as prefixes
 use Rattle.cyc_syntax.specs.Symbols.{Place, Terminal, Identifier, RegionName, Word, Mark, Symbol}
 use Rattle.cyc_syntax.specs.Symbols as terminals
-use Rattle.cyc_syntax.specs.Trees.{Named, Expression, Number, Character, Null, HeapRegion, UniqueRegion, Variable, Call, Bracketed, NumberOfElements, FreeUnique, FreeKey, Chained, Prefixed, New, RegionNew, Binary, Assign, Initial, Plain, Fields, Array, Expressions, NoExpressions, MoreExpressions, Postfixes, NoPostfixes, ThenIndex, ThenField, Operations, NoOperations, ThenOperation}
+use Rattle.cyc_syntax.specs.Trees.{Expression, Prefixed, New, Initial, Postfixes, NoPostfixes}
 use Rattle.cyc_syntax.specs.Yields.{Leaf, Yield, prefix_sign}
 use Rattle.cyc_syntax.specs.Yields as yields
-use Rattle.cyc_syntax.specs.Grammar.{IsLeaf, max_nesting, max_items, is_primary, IsExpression, AreExpressions, ArePostfixes, AreOperations, IsInitial, IsSomePostfix}
-use Rattle.cyc_parse.specs.Parsing.{Parser, TooDeep, pure, refuse_item, next, sees, sees_terminal, if_sees, is_sign, sign, word, identifier, bind, choose, advance, opens_regions, region_list}
-use Rattle.cyc_parse.specs.Expressions.{begins_expression, begins_initial, Nested, nested, group, from_name, primary, postfixes, chained, with_postfixes, unary, unary_by, climb, assignment, binary, expression, initial, initial_by, initial_from_name, fields, array, values, more_values}
-use Rattle.cyc_parse.proofs.Rules.{Front, Reads, Fits, Starts, Always, starts_append, starts-next, leaf_of, leaf_at, front-next, front-length, then_reads, last_reads, nothing_reads, pure_reads, reads_as, reads_before, word_reads_at, sign_reads, identifier_reads, choose_reads, advance_reads_at, sees_reads, unseen_reads, deep_reads, deep_then_reads}
-use Rattle.cyc_parse.proofs.Lists.{EndsList}
-use Rattle.cyc_parse.proofs.Stops.{Stops, stops-less, stops_leaf, no_assign, no_brace, no_regions, binds, binds_terminal}
-use Rattle.cyc_parse.proofs.Starts.{expression_starts, initial_starts, begins_primary, primary_starts, IsSecond, second}
-use Rattle.cyc_parse.proofs.RegionReads.{region_list_reads, regions_open}
-use Rattle.cyc_parse.proofs.OperatorReads.{OperationParts, climb_all, climb_more, chain_reads}
-use Rattle.cyc_parse.proofs.ExpressionReads.{deeper, shallow, ReadsDeeper, AreRead, list_of, Parts, PostfixParts, NoParen, group_reads, primary_reads, with_postfixes_reads}
+use Rattle.cyc_syntax.specs.Grammar.{is_primary, IsExpression, IsInitial}
+use Rattle.cyc_parse.specs.Parsing.{Parser, pure, sees, is_sign, bind, choose}
+use Rattle.cyc_parse.specs.Expressions.{begins_expression, Nested, nested, primary, chained, with_postfixes, unary, unary_by, climb, assignment, binary, expression}
+use Rattle.cyc_parse.proofs.Rules.{Reads, Fits, starts-next, leaf_of, leaf_at, last_reads, nothing_reads, pure_reads, reads_as, choose_reads, advance_reads_at, unseen_reads, deep_reads, deep_then_reads}
+use Rattle.cyc_parse.proofs.Stops.{Stops, stops-less, no_assign}
+use Rattle.cyc_parse.proofs.Starts.{expression_starts, begins_primary, primary_starts}
+use Rattle.cyc_parse.proofs.OperatorReads.{climb_all}
+use Rattle.cyc_parse.proofs.ExpressionReads.{deeper, shallow, Parts, PostfixParts, group_reads, primary_reads, with_postfixes_reads}
 
 -- How an expression is read wherever it may stand, by its level.
 pub record IsReadAll (e : Expression) : Type 0 where

@@ -1,6 +1,5 @@
 -- Chains of binary operators are read by their levels.
-use Rattle.std.proofs.Common.{◌≡◌, ℕ, zero, suc, ◌+◌, ◌≤◌, ◌<◌, Bool, true, false, cond, ◌&&◌, is_some, List, [], ◌∷◌, ◌++◌, Option, Some, None, Ok, Err, refl, sym, ap, subst, ◌∙◌, arith}
-use Rattle.std.specs.Prelude.{nat_eq}
+use Rattle.std.proofs.Common.{◌≡◌, ℕ, zero, suc, ◌+◌, ◌≤◌, ◌<◌, Bool, true, false, cond, ◌&&◌, is_some, List, ◌∷◌, ◌++◌, Some, Ok, Err, refl, sym, ap, subst, ◌∙◌, arith}
 use Rattle.std.proofs.lemmas.Bool.{eq-eqb}
 use Rattle.cyc_syntax.specs.declared.tokens.Sign.TheVariants as signs
 use Rattle.cyc_syntax.specs.declared.tree.BinaryOperator.{BinaryOperator}
@@ -9,11 +8,11 @@ use Rattle.cyc_syntax.specs.Symbols.{Place, Terminal, Mark, RegionName, Symbol}
 use Rattle.cyc_syntax.specs.Trees.{Expression, Binary, Operations, NoOperations, ThenOperation}
 use Rattle.cyc_syntax.specs.Yields.{Leaf, Yield, operator_sign}
 use Rattle.cyc_syntax.specs.Yields as yields
-use Rattle.cyc_syntax.specs.Grammar.{IsLeaf, max_nesting, max_items, level, IsSomeOperation}
-use Rattle.cyc_parse.specs.Parsing.{Parser, Outcome, and_then, pure, next, starts, begins_region, opens_regions, is_sign, sees_terminal, bind, advance}
+use Rattle.cyc_syntax.specs.Grammar.{max_nesting, max_items, level, IsSomeOperation}
+use Rattle.cyc_parse.specs.Parsing.{Parser, Outcome, and_then, pure, next, starts, begins_region, opens_regions, is_sign, bind}
 use Rattle.cyc_parse.specs.Expressions.{begins_expression, binary_operator, of_level, operator_at, operations, climb, binary_of}
-use Rattle.cyc_parse.proofs.Rules.{Front, Reads, Starts, starts-next, then_reads, last_reads, nothing_reads, pure_reads, reads_as, is_reads, isnt_reads, advance_reads_item, long_leaf_reads}
-use Rattle.cyc_parse.proofs.Stops.{Stops, stops-less, binds, binds_terminal, no_operator}
+use Rattle.cyc_parse.proofs.Rules.{Front, Reads, starts-next, then_reads, last_reads, nothing_reads, pure_reads, reads_as, is_reads, isnt_reads, advance_reads_item, long_leaf_reads}
+use Rattle.cyc_parse.proofs.Stops.{Stops, stops-less, binds_terminal, no_operator}
 use Rattle.cyc_parse.proofs.Starts.{expression_starts}
 
 operator-sign : (o : BinaryOperator) → binary_operator (operator_sign o) ≡ Some o

@@ -1,14 +1,14 @@
 -- Lists of regions are read as they are written.
-use Rattle.std.proofs.Common.{◌≡◌, ℕ, zero, suc, ◌+◌, ◌≤◌, ◌<◌, Bool, true, false, List, [], ◌∷◌, ◌++◌, Option, Some, None, is_some, ◌&&◌, Ok, Err, refl, sym, ap, subst, ◌∙◌, arith, zero-le}
+use Rattle.std.proofs.Common.{◌≡◌, ℕ, ◌≤◌, true, List, [], ◌∷◌, ◌++◌, Some, refl, ap, ◌∙◌, arith, zero-le}
 use Rattle.std.specs.List.{AllByRecursion}
 use Rattle.cyc_syntax.specs.declared.tokens.Sign.TheVariants as signs
-use Rattle.cyc_syntax.specs.Symbols.{Terminal, RegionName, Mark, Symbol}
+use Rattle.cyc_syntax.specs.Symbols.{RegionName, Mark, Symbol}
 use Rattle.cyc_syntax.specs.Trees.{Named}
 use Rattle.cyc_syntax.specs.Yields.{Leaf, Yield}
 use Rattle.cyc_syntax.specs.Yields as yields
-use Rattle.cyc_syntax.specs.Grammar.{IsLeaf, max_nesting, max_items}
-use Rattle.cyc_parse.specs.Parsing.{Parser, pure, next, sees, sees_terminal, starts, is_sign, begins_region, regions, region_name, region_list, opens_regions, bind}
-use Rattle.cyc_parse.proofs.Rules.{Front, Reads, Fits, Starts, Always, leaf_of, leaf_at, front-next, then_reads, pure_reads, bare_reads, sign_reads, region_reads}
+use Rattle.cyc_syntax.specs.Grammar.{max_nesting}
+use Rattle.cyc_parse.specs.Parsing.{next, sees_terminal, starts, begins_region, regions, region_name, region_list, opens_regions}
+use Rattle.cyc_parse.proofs.Rules.{Front, Reads, Fits, Always, leaf_of, leaf_at, front-next, then_reads, pure_reads, bare_reads, sign_reads, region_reads}
 use Rattle.cyc_parse.proofs.Lists.{IsRead, EndsList, separated_reads}
 
 region_read : (room d : ℕ) → Fits room d → (r : Named) → IsRead d begins_region (region_name room) (yields.region_name d) Always r

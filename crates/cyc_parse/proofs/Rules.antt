@@ -1,7 +1,7 @@
 -- What a parser does on symbols that begin with a yield, and the rules by which this follows for parsers made of parsers.
-use Rattle.std.proofs.Common.{◌≡◌, ℕ, zero, suc, ◌+◌, ◌≤◌, ◌<◌, Bool, true, false, cond, List, [], ◌∷◌, ◌++◌, Option, Some, None, Result, Ok, Err, refl, sym, ap, subst, ◌∙◌, arith, le-ltb, lt-ltb, append-nil, append_assoc, length, zero-le, suc-le-suc}
+use Rattle.std.proofs.Common.{◌≡◌, ℕ, zero, suc, ◌+◌, ◌≤◌, ◌<◌, Bool, true, false, cond, List, [], ◌∷◌, ◌++◌, Option, Some, None, Ok, Err, refl, sym, ap, subst, ◌∙◌, arith, le-ltb, lt-ltb, append-nil, append_assoc, length, zero-le, suc-le-suc}
 use Rattle.std.specs.Option.{IfSome}
-use Rattle.std.specs.Prelude.{nat_lt, if◌then◌else◌}
+use Rattle.std.specs.Prelude.{nat_lt}
 use denote.Enum.Bare.{true_same}
 use Rattle.cyc_syntax.specs.declared.tokens.Keyword.{Keyword}
 use Rattle.cyc_syntax.specs.declared.tokens.Sign.{Sign}
@@ -10,8 +10,8 @@ use Rattle.cyc_syntax.specs.contracts.tokens.Sign as signs
 use Rattle.cyc_syntax.specs.Symbols.{Place, Terminal, Identifier, RegionName, Word, Mark, Symbol}
 use Rattle.cyc_syntax.specs.Trees.{Named}
 use Rattle.cyc_syntax.specs.Yields.{Leaf, Yield, item_number}
-use Rattle.cyc_syntax.specs.Grammar.{IsLeaf, max_nesting, max_items, level}
-use Rattle.cyc_parse.specs.Parsing.{Parser, Outcome, Refusal, Reason, Unexpected, TooDeep, TooLong, and_then, bind, choose, next, take, is_sign, is_word, identifier_name, region_of_terminal, named, only_place, sign, word, identifier, region_name, accept, accept_if, advance, if_sees, sees, sees_terminal, refuse, refuse_item, starts, if_starts, on_some, if_is, pure}
+use Rattle.cyc_syntax.specs.Grammar.{IsLeaf, max_nesting, max_items}
+use Rattle.cyc_parse.specs.Parsing.{Parser, Outcome, Reason, TooDeep, TooLong, and_then, bind, choose, next, take, is_sign, is_word, identifier_name, region_of_terminal, named, only_place, sign, word, identifier, region_name, accept, accept_if, advance, if_sees, sees, sees_terminal, refuse, refuse_item, starts, if_starts, on_some, if_is, pure}
 
 -- the symbols begin with the yield, and these follow it
 abbrev pub Front : Yield → List Symbol → List Symbol → Type 0

@@ -1,5 +1,5 @@
 -- How the yields of expressions begin.
-use Rattle.std.proofs.Common.{◌≡◌, ℕ, zero, suc, ◌+◌, ◌≤◌, ◌<◌, Bool, true, false, List, [], ◌∷◌, ◌++◌, Option, Some, None, refl, sym, ap, subst, ◌∙◌, arith, zero-le}
+use Rattle.std.proofs.Common.{◌≡◌, ℕ, ◌≤◌, ◌<◌, Bool, true, false, [], ◌∷◌, ◌++◌, Some, refl, arith, zero-le}
 use Rattle.cyc_syntax.specs.declared.tokens.Sign.TheVariants as signs
 use Rattle.cyc_syntax.specs.declared.tree.PrefixOperator.{PrefixOperator}
 use Rattle.cyc_syntax.specs.declared.tree.PrefixOperator.TheVariants as prefixes
@@ -8,11 +8,11 @@ use Rattle.cyc_syntax.specs.declared.tree.BinaryOperator.TheVariants as operator
 use Rattle.cyc_syntax.specs.declared.tokens.Keyword.TheVariants as words
 use Rattle.cyc_syntax.specs.Symbols as terminals
 use Rattle.cyc_syntax.specs.Symbols.{Terminal, Identifier, RegionName, Word, Mark, Symbol}
-use Rattle.cyc_syntax.specs.Trees.{Named, Expression, Number, Character, Null, HeapRegion, UniqueRegion, Variable, Call, Bracketed, NumberOfElements, FreeUnique, FreeKey, Chained, Prefixed, New, RegionNew, Binary, Assign, Initial, Plain, Fields, Array, Expressions, Postfixes, NoPostfixes, ThenIndex, ThenField, Operations, NoOperations, ThenOperation}
+use Rattle.cyc_syntax.specs.Trees.{Expression, Number, Character, Null, HeapRegion, UniqueRegion, Variable, Call, Bracketed, NumberOfElements, FreeUnique, FreeKey, Chained, Prefixed, New, RegionNew, Binary, Assign, Initial, Plain, Fields, Array, Postfixes, NoPostfixes, ThenIndex, ThenField, Operations, NoOperations, ThenOperation}
 use Rattle.cyc_syntax.specs.Yields.{Leaf, Yield, expression, initial, postfixes, operations, prefix_sign, operator_sign}
-use Rattle.cyc_syntax.specs.Grammar.{max_items, is_primary, level, IsExpression, AreOperations}
+use Rattle.cyc_syntax.specs.Grammar.{is_primary, level, IsExpression, AreOperations}
 use Rattle.cyc_parse.specs.Parsing.{sees_terminal}
-use Rattle.cyc_parse.specs.Expressions.{begins_expression, begins_initial, begins_by_sign, begins_by_word}
+use Rattle.cyc_parse.specs.Expressions.{begins_expression, begins_initial, begins_by_sign}
 use Rattle.cyc_parse.proofs.Rules.{Starts, starts_append}
 use Rattle.cyc_parse.proofs.Stops.{binds_terminal}
 

@@ -1,26 +1,23 @@
 -- Each production of statements is read as it is written, given how its parts are read.
-use Rattle.std.proofs.Common.{◌≡◌, ℕ, zero, suc, ◌+◌, ◌≤◌, ◌<◌, Bool, true, false, cond, ◌&&◌, List, [], ◌∷◌, ◌++◌, length, Option, Some, None, is_some, Ok, Err, refl, sym, ap, subst, ◌∙◌, arith, append-nil, append_assoc, zero-le, length-append}
+use Rattle.std.proofs.Common.{◌≡◌, ℕ, suc, ◌≤◌, Bool, true, false, cond, ◌&&◌, List, [], ◌∷◌, ◌++◌, Option, Some, None, refl, sym, ap, subst, ◌∙◌, arith, append-nil}
 use Rattle.cyc_syntax.specs.declared.tokens.Keyword.TheVariants as words
 use Rattle.cyc_syntax.specs.declared.tokens.Sign.TheVariants as signs
 use Rattle.cyc_syntax.specs.Symbols.{Place, Terminal, Identifier, RegionName, Word, Mark, Symbol}
 use Rattle.cyc_syntax.specs.Symbols as terminals
-use Rattle.cyc_syntax.specs.Trees.{Named, Expression, Number, Character, Null, HeapRegion, UniqueRegion, Variable, Call, Bracketed, NumberOfElements, FreeUnique, FreeKey, Chained, Prefixed, New, RegionNew, Binary, Assign, Statement, Block, Labelled, Empty, Evaluate, Swap, If, IfElse, While, Return, Break, Continue, Throw, Try, Body, Braces, Items, NoItems, MoreItems, Item, Clauses, NoClauses, Default, Case}
+use Rattle.cyc_syntax.specs.Trees.{Named, Expression, Number, Character, Null, HeapRegion, UniqueRegion, Variable, Call, Bracketed, NumberOfElements, FreeUnique, FreeKey, Chained, Prefixed, New, RegionNew, Binary, Assign, Statement, Block, Labelled, Empty, Evaluate, Swap, If, IfElse, While, Return, Break, Continue, Throw, Try, Body, Braces, Items, Clauses}
 use Rattle.cyc_syntax.specs.Yields.{Leaf, Yield}
 use Rattle.cyc_syntax.specs.Yields as yields
-use Rattle.cyc_syntax.specs.Grammar.{IsLeaf, max_nesting, max_items, IsExpression, IsExpressionOrNone, wants_else}
-use Rattle.cyc_parse.specs.Parsing.{Parser, ◌>>=◌, and_then, pure, refuse, next, inside, sees, sees_terminal, if_sees, starts, if_starts, sign, word, identifier, bind, choose, advance}
-use Rattle.cyc_parse.specs.Expressions.{begins_expression, nested, from_name, primary, with_postfixes, unary, climb, assignment, binary, expression}
-use Rattle.cyc_parse.specs.Expressions as expressions
+use Rattle.cyc_syntax.specs.Grammar.{IsExpression, IsExpressionOrNone, wants_else}
+use Rattle.cyc_parse.specs.Parsing.{Parser, pure, next, sees, sees_terminal, if_sees, starts, sign, bind, choose}
+use Rattle.cyc_parse.specs.Expressions.{begins_expression, nested, primary, with_postfixes, unary, binary, expression}
 use Rattle.cyc_parse.specs.Statements.{begins_statement, begins_item, begins_clause, is_else, is_unary, end_of_swap, Nested, nested_statements, body, expression_from, swap, behind, statement_from_name, else_part, return_value, thrown, if_statement, while_statement, throw_statement, try_statement, statement, statement_by, clauses}
 use Rattle.cyc_parse.specs.Statements as statements
-use Rattle.cyc_parse.proofs.Rules.{Front, Reads, Fits, Starts, Always, starts-next, leaf_of, leaf_at, front-next, front-length, then_reads, last_reads, nothing_reads, pure_reads, reads_as, reads_before, word_reads, sign_reads, sign_reads_at, identifier_reads, choose_reads, advance_reads_at, sees_reads, unseen_reads, seen_reads, starts_reads, unstarted_reads, deep_reads, between_then, yield_reads}
-use Rattle.cyc_parse.proofs.Lists.{EndsItems}
+use Rattle.cyc_parse.proofs.Rules.{Front, Reads, Fits, Always, starts-next, leaf_of, leaf_at, front-next, then_reads, last_reads, nothing_reads, pure_reads, reads_as, reads_before, word_reads, sign_reads, sign_reads_at, identifier_reads, choose_reads, advance_reads_at, sees_reads, unseen_reads, seen_reads, starts_reads, unstarted_reads, between_then}
 use Rattle.cyc_parse.proofs.Stops.{Stops, stops_leaf, binds_terminal}
 use Rattle.cyc_parse.proofs.Starts.{expression_starts, IsSecond, alone, goes_on, second}
-use Rattle.cyc_parse.proofs.ExpressionReads.{deeper, shallow, NoParen, group_reads}
-use Rattle.cyc_parse.proofs.OperandReads.{IsReadAll, nested_group_reads}
+use Rattle.cyc_parse.proofs.ExpressionReads.{deeper, shallow, NoParen}
+use Rattle.cyc_parse.proofs.OperandReads.{nested_group_reads}
 use Rattle.cyc_parse.proofs.InitialReads.{all_read}
-use Rattle.cyc_parse.proofs.StatementStarts.{statement_starts}
 
 -- no `else` follows a statement that would take it
 pub record EndsStatement (wants : Bool) (ts : List Symbol) : Type 0 where

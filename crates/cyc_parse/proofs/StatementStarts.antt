@@ -1,18 +1,18 @@
 -- How statements and items begin.
-use Rattle.std.proofs.Common.{◌≡◌, ℕ, zero, suc, ◌+◌, ◌≤◌, ◌<◌, Bool, true, false, List, [], ◌∷◌, ◌++◌, Option, Some, None, refl, sym, ap, subst, ◌∙◌, arith, zero-le}
+use Rattle.std.proofs.Common.{◌≡◌, ℕ, Bool, true, refl, zero-le}
 use Rattle.cyc_syntax.specs.declared.tokens.Keyword.{Keyword}
 use Rattle.cyc_syntax.specs.declared.tokens.Keyword.TheVariants as words
 use Rattle.cyc_syntax.specs.declared.tokens.Sign.{Sign}
 use Rattle.cyc_syntax.specs.declared.tokens.Sign.TheVariants as signs
 use Rattle.cyc_syntax.specs.Symbols.{Place, Terminal, Identifier, RegionName, Word, Mark, Symbol}
 use Rattle.cyc_syntax.specs.Symbols as terminals
-use Rattle.cyc_syntax.specs.Trees.{Statement, Block, Labelled, Empty, Evaluate, Swap, If, IfElse, While, Return, Break, Continue, Throw, Try, Body, Braces, Items, Item, Execute, Local, Region, Alias, DynamicRegion}
+use Rattle.cyc_syntax.specs.Trees.{Statement, Block, Labelled, Empty, Evaluate, Swap, If, IfElse, While, Return, Break, Continue, Throw, Try, Braces, Item, Execute, Local, Region, Alias, DynamicRegion}
 use Rattle.cyc_syntax.specs.Yields.{Leaf, Yield}
 use Rattle.cyc_syntax.specs.Yields as yields
 use Rattle.cyc_parse.specs.Types.{begins_type, is_type_word}
 use Rattle.cyc_parse.specs.Expressions.{begins_expression, begins_by_word, begins_by_sign}
 use Rattle.cyc_parse.specs.Statements.{begins_statement, begins_item, statement_word, statement_sign, item_word}
-use Rattle.cyc_parse.proofs.Rules.{Starts, starts_append, leaf_at, leaf_of}
+use Rattle.cyc_parse.proofs.Rules.{Starts, starts_append, leaf_at}
 use Rattle.cyc_parse.proofs.Starts.{expression_starts}
 use Rattle.cyc_parse.proofs.TypeReads.{type_starts}
 

@@ -1,15 +1,13 @@
 -- What may follow an expression of a level: nothing that goes on with it.
-use Rattle.std.proofs.Common.{◌≡◌, ℕ, zero, suc, ◌+◌, ◌≤◌, ◌<◌, Bool, true, false, cond, List, [], ◌∷◌, ◌++◌, Option, Some, None, is_some, refl, sym, ap, subst, ◌∙◌, arith}
+use Rattle.std.proofs.Common.{◌≡◌, ℕ, ◌≤◌, ◌<◌, Bool, true, false, cond, List, [], ◌∷◌, Option, Some, None, refl, sym, subst, arith}
 use Rattle.std.proofs.lemmas.Bool.{ne_eqb}
-use Rattle.std.specs.Prelude.{nat_eq}
 use Rattle.cyc_syntax.specs.declared.tokens.Sign.{Sign}
 use Rattle.cyc_syntax.specs.declared.tokens.Sign.TheVariants as signs
 use Rattle.cyc_syntax.specs.declared.tree.BinaryOperator.{BinaryOperator}
-use Rattle.cyc_syntax.specs.declared.tree.BinaryOperator.TheVariants as operators
 use Rattle.cyc_syntax.specs.Symbols.{Terminal, Identifier, RegionName, Number, Character, Word, Mark, Symbol}
 use Rattle.cyc_syntax.specs.Yields.{Leaf, Yield}
-use Rattle.cyc_syntax.specs.Grammar.{IsLeaf, level}
-use Rattle.cyc_parse.specs.Parsing.{is_sign, sees, sees_terminal, starts, begins_region, next, opens_regions}
+use Rattle.cyc_syntax.specs.Grammar.{level}
+use Rattle.cyc_parse.specs.Parsing.{sees, sees_terminal, next, opens_regions}
 use Rattle.cyc_parse.specs.Expressions.{binary_operator, of_level, operator_at}
 use Rattle.cyc_parse.proofs.Rules.{Front}
 

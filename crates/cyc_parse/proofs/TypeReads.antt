@@ -1,5 +1,5 @@
 -- Types are read as they are written.
-use Rattle.std.proofs.Common.{◌≡◌, ℕ, zero, suc, ◌+◌, ◌≤◌, ◌<◌, Bool, true, false, List, [], ◌∷◌, ◌++◌, Option, Some, None, Ok, Err, refl, sym, ap, subst, ◌∙◌, arith, zero-le}
+use Rattle.std.proofs.Common.{◌≡◌, ℕ, zero, suc, ◌+◌, ◌≤◌, false, List, [], ◌∷◌, ◌++◌, Option, Some, None, refl, ap, ◌∙◌, arith, zero-le}
 use Rattle.cyc_syntax.specs.declared.tokens.Keyword.TheVariants as words
 use Rattle.cyc_syntax.specs.declared.tokens.Sign.TheVariants as signs
 use Rattle.cyc_syntax.specs.declared.tree.PointerKind.{PointerKind}
@@ -8,10 +8,10 @@ use Rattle.cyc_syntax.specs.Symbols.{Place, Terminal, Identifier, RegionName, Wo
 use Rattle.cyc_syntax.specs.Trees.{Named, Pointer, BaseType, Int, Struct, Handle, Key, WrittenType}
 use Rattle.cyc_syntax.specs.Yields.{Leaf, Yield, mark_sign}
 use Rattle.cyc_syntax.specs.Yields as yields
-use Rattle.cyc_syntax.specs.Grammar.{IsLeaf, max_nesting, max_items}
-use Rattle.cyc_parse.specs.Parsing.{Parser, pure, next, sees, sees_terminal, starts, begins_region, region_name, region_list, bind, advance}
+use Rattle.cyc_syntax.specs.Grammar.{max_nesting, max_items}
+use Rattle.cyc_parse.specs.Parsing.{pure, next, sees, sees_terminal, starts, begins_region}
 use Rattle.cyc_parse.specs.Types.{begins_type, mark_at, optional_region, pointers_of, with_pointers, optional_regions, region_of, base_by, written_type}
-use Rattle.cyc_parse.proofs.Rules.{Front, Reads, Fits, Starts, Always, leaf_of, leaf_at, front-next, then_reads, last_reads, pure_reads, reads_before, sign_reads, identifier_reads, region_reads, choose_reads, advance_reads, advance_reads_at, sees_reads, unseen_reads, starts_reads, unstarted_reads, is_reads, isnt_reads, long_leaf_reads}
+use Rattle.cyc_parse.proofs.Rules.{Front, Reads, Fits, Starts, Always, leaf_of, leaf_at, then_reads, last_reads, pure_reads, sign_reads, identifier_reads, region_reads, choose_reads, advance_reads, advance_reads_at, sees_reads, unseen_reads, starts_reads, unstarted_reads, is_reads, isnt_reads, long_leaf_reads}
 use Rattle.cyc_parse.proofs.RegionReads.{region_list_reads}
 
 -- A name follows each type.

@@ -1,5 +1,5 @@
 -- What the code has to do with the parser of symbols: the symbols that it reads, and what its functions give.
-use Rattle.std.specs.Prelude.{◌≡◌, ℕ, List, [], ◌∷◌, map, Option, Some, None, Result, Ok, Err}
+use Rattle.std.specs.Prelude.{◌≡◌, ℕ, List, [], ◌∷◌, Result, Ok, Err}
 use Rattle.cyc_syntax.specs.Symbols as terminals
 use Rattle.cyc_syntax.specs.Symbols.{Symbol, Terminal, Place}
 use Rattle.cyc_syntax.specs.TreeView.{place_of_span}

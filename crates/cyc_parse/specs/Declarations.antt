@@ -1,11 +1,11 @@
 -- The parser of declarations and of programs.
-use Rattle.std.specs.Prelude.{ℕ, zero, suc, Bool, true, false, List, [], ◌∷◌, length, Option, Some, None, is_some, Result, Ok, Err, if◌then◌else◌}
+use Rattle.std.specs.Prelude.{ℕ, zero, suc, Bool, true, false, List, [], ◌∷◌, length, Option, Some, None, is_some, Result}
 use Rattle.cyc_syntax.specs.declared.tokens.Keyword.TheVariants as words
 use Rattle.cyc_syntax.specs.declared.tokens.Sign.TheVariants as signs
 use Rattle.cyc_syntax.specs.Symbols.{Place, Terminal, Identifier, Word, Mark, Symbol}
 use Rattle.cyc_syntax.specs.Symbols as terminals
 use Rattle.cyc_syntax.specs.Trees.{Named, Struct, WrittenType, Member, Constructor, GlobalValue, Positive, Negative, Byte, NullPointer, Constraint, ParameterList, Void, Listed, Parameters, Declaration, StructType, Exceptions, Global, Function}
-use Rattle.cyc_parse.specs.Parsing.{Parser, Refusal, Unexpected, TooLong, ◌>>=◌, ◌>>◌, pure, refuse, inside, next, choose, advance, take, starts, if_starts, if_sees, is_word, separated, begins_region, regions, sign, word, identifier, region_name, identifier_name}
+use Rattle.cyc_parse.specs.Parsing.{Parser, Refusal, Unexpected, TooLong, ◌>>=◌, ◌>>◌, pure, refuse, inside, choose, advance, take, if_starts, if_sees, is_word, separated, begins_region, regions, sign, word, identifier, region_name, identifier_name}
 use Rattle.cyc_parse.specs.Types.{begins_type, written_type, with_pointers, optional_regions}
 use Rattle.cyc_parse.specs.Statements.{nested_statements, body}
 
@@ -16,6 +16,9 @@ number_value _ = None
 abbrev pub begins_constructor : Terminal → Bool
 begins_constructor t = is_some (identifier_name t)
 
+abbrev pub begins_void : Terminal → Bool
+begins_void t = is_some (is_word words.Void t)
+
 unfoldable pub member : ℕ → Parser Member
 member room = written_type room >>= (λ t. identifier room >>= (λ x. pure (record { of_type = t; name = x })))
 
@@ -24,8 +27,12 @@ member room = written_type room >>= (λ t. identifier room >>= (λ x. pure (reco
 unfoldable pub field : ℕ → Parser Member
 field room = member room >>= (λ m. sign room signs.Semicolon >> pure m)
 
+-- whether a constructor has an `int`
+unfoldable pub has_int : ℕ → Parser Bool
+has_int room = if_sees signs.LeftParen (sign room signs.LeftParen >> word (inside room) words.Int >> sign (inside room) signs.RightParen >> pure true) (pure false)
+
 unfoldable pub constructor : ℕ → Parser Constructor
-constructor room = identifier room >>= (λ c. (if_sees signs.LeftParen (sign room signs.LeftParen >> word (inside room) words.Int >> sign (inside room) signs.RightParen >> pure true) (pure false)) >>= (λ b. sign room signs.Semicolon >> pure (record { name = c; has_int = b })))
+constructor room = identifier room >>= (λ c. has_int room >>= (λ b. sign room signs.Semicolon >> pure (record { name = c; has_int = b })))
 
 unfoldable pub more_of : {A : Type 0} → (Terminal → Bool) → Parser A → ℕ → Parser (List A)
 more_of begins item zero = if_starts begins (refuse TooLong) (pure [])
@@ -37,11 +44,15 @@ some_of begins item = item >>= (λ x. more_of begins item 63 >>= (λ xs. pure (x
 -- ---- parameters
 
 unfoldable pub parameter_list : ℕ → Parser ParameterList
-parameter_list room = if_starts (λ t. is_some (is_word words.Void t)) (advance >> pure Void)
+parameter_list room = if_starts begins_void (advance >> pure Void)
     (if_starts begins_type (separated room begins_type (member room) >>= (λ ms. pure (Listed ms))) (pure (Listed [])))
 
+-- the regions of an effect, up to its closing brace
+unfoldable pub effect_regions : ℕ → Parser (List Named)
+effect_regions room = if_starts begins_region (regions room) (pure [])
+
 unfoldable pub effect : ℕ → Parser (Option (List Named))
-effect room = if_sees signs.Semicolon (sign room signs.Semicolon >> sign room signs.LeftBrace >> if_starts begins_region (regions (inside room)) (pure []) >>= (λ rs. sign (inside room) signs.RightBrace >> pure (Some rs))) (pure None)
+effect room = if_sees signs.Semicolon (sign room signs.Semicolon >> sign room signs.LeftBrace >> effect_regions (inside room) >>= (λ rs. sign (inside room) signs.RightBrace >> pure (Some rs))) (pure None)
 
 unfoldable pub constraint : ℕ → Parser Constraint
 constraint room = region_name room >>= (λ a. sign room signs.Greater >> region_name room >>= (λ b. pure (record { longer = a; shorter = b })))
@@ -61,19 +72,26 @@ value_by room (Some (Word words.Null)) = advance >>= (λ p. pure (NullPointer p)
 value_by room (Some (Mark signs.Minus)) = advance >>= (λ p. take (inside room) number_value (λ n q. n) >>= (λ n. pure (Negative p n)))
 value_by room _ = refuse Unexpected
 
+unfoldable pub value : ℕ → Parser GlobalValue
+value room = choose (value_by room)
+
 module _ (room : ℕ) where
   abbrev pub here : ℕ
   here = suc room
 
   unfoldable pub global_value : Parser (Option GlobalValue)
-  global_value = if_sees signs.Assign (sign here signs.Assign >> choose (value_by room) >>= (λ v. pure (Some v))) (pure None)
+  global_value = if_sees signs.Assign (sign here signs.Assign >> value room >>= (λ v. pure (Some v))) (pure None)
+
+  -- behind a type and a name
+  unfoldable pub global : WrittenType → Named → Parser Declaration
+  global t x = global_value >>= (λ v. sign here signs.Semicolon >> pure (Global t x v))
 
   unfoldable pub function : Option WrittenType → Named → Parser Declaration
   function t f = sign here signs.LeftParen >> parameters room >>= (λ ps. sign room signs.RightParen >> body room (nested_statements room) >>= (λ b. pure (Function t f ps b)))
 
   -- behind the type that a declaration begins with
   unfoldable pub typed : WrittenType → Parser Declaration
-  typed t = identifier here >>= (λ x. if_sees signs.LeftParen (function (Some t) x) (global_value >>= (λ v. sign here signs.Semicolon >> pure (Global t x v))))
+  typed t = identifier here >>= (λ x. if_sees signs.LeftParen (function (Some t) x) (global t x))
 
   unfoldable pub struct_fields : Named → List Named → Parser Declaration
   struct_fields s rs = sign here signs.LeftBrace >> some_of begins_type (field room) >>= (λ fs. sign room signs.RightBrace >> sign here signs.Semicolon >> pure (StructType s rs fs))

@@ -1,5 +1,5 @@
 -- The parser of expressions, by recursive descent: chains of binary operators by their levels, from the tightest.
-use Rattle.std.specs.Prelude.{ℕ, zero, suc, ◌+◌, Bool, true, false, ◌&&◌, ◌||◌, nat_eq, List, [], ◌∷◌, length, Option, Some, None, is_some, Result, Ok, Err, if◌then◌else◌}
+use Rattle.std.specs.Prelude.{ℕ, zero, suc, Bool, true, false, nat_eq, List, [], ◌∷◌, length, Option, Some, None, is_some, if◌then◌else◌}
 use Rattle.cyc_syntax.specs.declared.tokens.Keyword.{Keyword}
 use Rattle.cyc_syntax.specs.declared.tokens.Keyword.TheVariants as words
 use Rattle.cyc_syntax.specs.declared.tokens.Sign.{Sign}
@@ -11,7 +11,7 @@ use Rattle.cyc_syntax.specs.Symbols.{Place, Terminal, Identifier, RegionName, Wo
 use Rattle.cyc_syntax.specs.Symbols as terminals
 use Rattle.cyc_syntax.specs.Trees.{Named, Expression, Number, Character, Null, HeapRegion, UniqueRegion, Variable, Call, Bracketed, NumberOfElements, FreeUnique, FreeKey, Chained, Prefixed, New, RegionNew, Binary, Assign, Initial, Plain, Fields, Array, Expressions, NoExpressions, MoreExpressions, Postfixes, NoPostfixes, ThenIndex, ThenField, Operations, NoOperations, ThenOperation}
 use Rattle.cyc_syntax.specs.Grammar.{level, max_items}
-use Rattle.cyc_parse.specs.Parsing.{Parser, Outcome, Refusal, Reason, Unexpected, TooDeep, TooLong, ◌>>=◌, ◌>>◌, pure, refuse, next, choose, advance, if_is, sees, if_sees, refuse_item, is_sign, separated, region_list, opens_regions, sign, word, identifier, region_name}
+use Rattle.cyc_parse.specs.Parsing.{Parser, Unexpected, TooDeep, TooLong, ◌>>=◌, ◌>>◌, pure, refuse, choose, advance, if_is, if_sees, refuse_item, is_sign, separated, region_list, opens_regions, sign, word, identifier}
 
 -- ---- what begins an expression, and what goes on with one
 

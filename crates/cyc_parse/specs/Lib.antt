@@ -4,4 +4,8 @@ pub mod Steps
 pub mod Expressions
 pub mod Types
 pub mod Statements
+pub mod StatementSteps
 pub mod Declarations
+pub mod Answers
+pub mod Refusals
+pub mod Acceptance

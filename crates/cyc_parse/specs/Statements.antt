@@ -1,5 +1,5 @@
 -- The parser of statements and of the items of blocks.
-use Rattle.std.specs.Prelude.{ℕ, zero, suc, Bool, true, false, ◌&&◌, ◌||◌, List, [], ◌∷◌, length, Option, Some, None, Ok, Err, if◌then◌else◌}
+use Rattle.std.specs.Prelude.{ℕ, zero, suc, Bool, true, false, ◌&&◌, ◌||◌, length, Option, Some, None, if◌then◌else◌}
 use Rattle.cyc_syntax.specs.declared.tokens.Keyword.{Keyword}
 use Rattle.cyc_syntax.specs.declared.tokens.Keyword.TheVariants as words
 use Rattle.cyc_syntax.specs.declared.tokens.Sign.{Sign}
@@ -7,8 +7,8 @@ use Rattle.cyc_syntax.specs.declared.tokens.Sign.TheVariants as signs
 use Rattle.cyc_syntax.specs.Symbols.{Place, Terminal, Identifier, RegionName, Word, Mark, Symbol}
 use Rattle.cyc_syntax.specs.Symbols as terminals
 use Rattle.cyc_syntax.specs.Trees.{Named, Expression, Number, Character, Null, HeapRegion, UniqueRegion, Variable, Call, Bracketed, NumberOfElements, FreeUnique, FreeKey, Chained, Prefixed, New, RegionNew, Binary, Assign, Initial, Plain, Fields, Array, Statement, Block, Labelled, Empty, Evaluate, Swap, If, IfElse, While, Return, Break, Continue, Throw, Try, Body, Braces, Items, NoItems, MoreItems, Item, Execute, Local, Region, Alias, DynamicRegion, Clauses, NoClauses, Default, Case}
-use Rattle.cyc_parse.specs.Parsing.{Parser, Unexpected, TooDeep, ◌>>=◌, ◌>>◌, pure, refuse, inside, next, choose, advance, is_word, starts, if_starts, sees, if_sees, refuse_item, sign, word, identifier, region_name}
-use Rattle.cyc_parse.specs.Types.{begins_type, written_type, region_of}
+use Rattle.cyc_parse.specs.Parsing.{Parser, Unexpected, TooDeep, ◌>>=◌, ◌>>◌, pure, refuse, inside, choose, advance, if_starts, sees, if_sees, refuse_item, sign, word, identifier}
+use Rattle.cyc_parse.specs.Types.{written_type, region_of}
 use Rattle.cyc_parse.specs.Expressions.{begins_by_sign, begins_by_word, nested, from_name, with_postfixes, climb, assignment}
 
 -- ---- what begins statements and items

@@ -1,14 +1,16 @@
 -- Parts of the parser that are functions of their own in the code, and one step of each list that the code reads in a loop: the
 -- next item, if the list goes on.
-use Rattle.std.specs.Prelude.{ℕ, suc, Option, Some, None}
+use Rattle.std.specs.Prelude.{ℕ, suc, Bool, Option, Some, None}
 use Rattle.cyc_syntax.specs.declared.tokens.Sign.TheVariants as signs
 use Rattle.cyc_syntax.specs.declared.tree.PrefixOperator.{PrefixOperator}
 use Rattle.cyc_syntax.specs.declared.tree.Operation.{Operation}
 use Rattle.cyc_syntax.specs.Grammar.{max_items}
-use Rattle.cyc_syntax.specs.Trees.{Pointer, Expression, Bracketed, FreeKey, Prefixed, New, RegionNew, Postfixes, ThenIndex, ThenField, Operations, ThenOperation}
+use Rattle.cyc_syntax.specs.Symbols.{Terminal}
+use Rattle.cyc_syntax.specs.Trees.{Declaration, Pointer, Expression, Bracketed, FreeKey, Prefixed, New, RegionNew, Postfixes, ThenIndex, ThenField, Operations, ThenOperation}
 use Rattle.cyc_syntax.specs.TreeView.{place_of_span, view_expression}
-use Rattle.cyc_parse.specs.Parsing.{Parser, ◌>>=◌, ◌>>◌, pure, if_sees, choose, advance, sign, identifier}
+use Rattle.cyc_parse.specs.Parsing.{Parser, ◌>>=◌, ◌>>◌, pure, if_sees, if_starts, choose, advance, sign, identifier}
 use Rattle.cyc_parse.specs.Types.{mark_at, optional_region}
+use Rattle.cyc_parse.specs.Declarations.{declaration}
 use Rattle.cyc_parse.specs.Expressions.{Nested, operator_at, chained, binary_of, operations, climb, postfixes, unary}
 
 -- an item behind a comma
@@ -20,6 +22,10 @@ one_pointer room = choose (λ t. elim (mark_at t) [
   | None ↦ pure None
   | Some k ↦ advance >> optional_region room >>= (λ r. pure (Some (record { kind = k; region = r })))
 ])
+
+-- the next item, where one begins
+unfoldable pub one_of : {A : Type 0} → (Terminal → Bool) → Parser A → Parser (Option A)
+one_of begins item = if_starts begins (item >>= (λ x. pure (Some x))) (pure None)
 
 -- ---- expressions
 
@@ -65,3 +71,11 @@ one_operation operand k = choose (λ t. elim (operator_at k t) [
 -- goes on from a first operand by the operators of the level above this one
 unfoldable pub one_level : ℕ → Nested → ℕ → Expression → Parser Expression
 one_level room inner below e = climb (unary room inner) below e >>= (λ first. operations (operand room inner below) (suc below) max_items >>= (λ os. pure (binary_of first os)))
+
+-- ---- declarations
+
+unfoldable pub one_declaration : ℕ → Parser (Option Declaration)
+one_declaration room = choose (λ t. elim t [
+  | None ↦ pure None
+  | Some t ↦ declaration room >>= (λ d. pure (Some d))
+])

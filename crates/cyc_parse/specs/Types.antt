@@ -1,14 +1,14 @@
 -- The parser of types.
-use Rattle.std.specs.Prelude.{ℕ, zero, suc, Bool, true, false, List, [], ◌∷◌, Option, Some, None, is_some, Ok, Err, if◌then◌else◌}
+use Rattle.std.specs.Prelude.{ℕ, zero, suc, Bool, true, false, List, [], ◌∷◌, Option, Some, None}
 use Rattle.cyc_syntax.specs.declared.tokens.Keyword.{Keyword}
 use Rattle.cyc_syntax.specs.declared.tokens.Keyword.TheVariants as words
 use Rattle.cyc_syntax.specs.declared.tokens.Sign.TheVariants as signs
 use Rattle.cyc_syntax.specs.declared.tree.PointerKind.{PointerKind}
 use Rattle.cyc_syntax.specs.declared.tree.PointerKind.TheVariants as pointers
-use Rattle.cyc_syntax.specs.Symbols.{Place, Terminal, Word, Mark, Symbol}
+use Rattle.cyc_syntax.specs.Symbols.{Place, Terminal, Word, Mark}
 use Rattle.cyc_syntax.specs.Trees.{Named, Pointer, BaseType, Int, Struct, Handle, Key, WrittenType}
 use Rattle.cyc_syntax.specs.Grammar.{max_items}
-use Rattle.cyc_parse.specs.Parsing.{Parser, Unexpected, TooLong, ◌>>=◌, ◌>>◌, pure, refuse, next, choose, advance, if_is, starts, if_starts, if_sees, begins_region, region_list, sign, identifier, region_name}
+use Rattle.cyc_parse.specs.Parsing.{Parser, Unexpected, TooLong, ◌>>=◌, ◌>>◌, pure, refuse, choose, advance, if_is, if_starts, if_sees, begins_region, region_list, sign, identifier, region_name}
 
 abbrev pub is_type_word : Keyword → Bool
 is_type_word words.Int = true

@@ -1,9 +1,10 @@
 //! The symbols that are left, and the parsers of one symbol.
-ghost use Rattle.std.specs.Prelude.{◌≡◌, ℕ, suc, length, option_map, if◌then◌else◌};
+ghost use Rattle.std.specs.Prelude.{◌≡◌, ℕ, suc, length, map, option_map, if◌then◌else◌};
 ghost use Rattle.cyc_parse.specs.declared.stop.Reason.TheVariants as reasons;
 ghost use Rattle.cyc_parse.specs.declared.stop.Stop.TheVariants.{Refused};
 ghost use Rattle.cyc_syntax.specs.TreeView.{place_of_span, view_name};
-ghost use Rattle.cyc_parse.specs.Code.{Gives, view_terminal, accepted};
+ghost use Rattle.cyc_parse.specs.Code.{Gives, view_terminal, view_symbol, accepted};
+ghost use Rattle.cyc_parse.specs.Answers.{place_at};
 ghost use Rattle.cyc_parse.specs.Parsing.{next, sees, opens_regions, advance, sign, word, identifier, region_name};
 
 use crate::stop::{Reason, Stop};
@@ -30,6 +31,25 @@ impl<'a> Model for Parser<'a> {
 }
 
 impl<'a> Parser<'a> {
+    pub(crate) fn new(alloc: Global, symbols: &'a [Symbol]) -> Parser<'a>
+        ensures { result ≡ map view_symbol symbols.now }
+    {
+        Parser {
+            alloc,
+            left: symbols,
+        }
+    }
+
+    /// The place of the next symbol, or with none the end of the text.
+    pub(crate) fn place(&self, end: Span) -> Span
+        ensures { place_of_span result ≡ place_at (place_of_span end) self.now }
+    {
+        match self.left {
+            [first, ..] => first.span,
+            [] => end,
+        }
+    }
+
     pub(crate) fn next(&self) -> Option<Terminal>
         ensures { option_map view_terminal result ≡ next self.now }
     {

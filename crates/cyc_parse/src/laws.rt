@@ -3,8 +3,15 @@ ghost use Rattle.std.specs.Prelude.{◌≡◌, List};
 ghost use Rattle.cyc_syntax.specs.Symbols.{Symbol};
 ghost use Rattle.cyc_syntax.specs.Trees.{Declaration};
 ghost use Rattle.cyc_syntax.specs.Grammar.{HasTree, IsWithinLimits};
+ghost use Rattle.cyc_parse.specs.Parsing.{Refusal};
+ghost use Rattle.cyc_parse.specs.Refusals.{IsRefused};
 
 /// The grammar leaves no choice: where a list of symbols has a tree that keeps the limits, it has no other.
 pub fn one_tree()
     ensures { (symbols : List Symbol) (a b : List Declaration) → HasTree symbols a → IsWithinLimits a → HasTree symbols b → a ≡ b }
+{}
+
+/// What is refused has no tree that keeps the limits.
+pub fn refused_has_no_tree()
+    ensures { (symbols : List Symbol) (refusal : Refusal) (tree : List Declaration) → IsRefused symbols refusal → HasTree symbols tree → IsWithinLimits tree → ⊥ }
 {}

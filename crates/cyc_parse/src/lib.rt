@@ -2,8 +2,13 @@
 #![tactic(auto)]
 
 mod cursor;
+mod declarations;
 mod expressions;
 pub mod laws;
+mod statements;
 mod stop;
 mod symbol;
+mod tree;
 mod types;
+
+pub use tree::parse;

@@ -1,4 +1,5 @@
 pub mod Names
+pub mod Place
 pub mod Spelling
 pub mod TokenExamples
 pub mod TokenRule

@@ -3,6 +3,7 @@
 #![tactic(auto)]
 
 pub use interning::{Name, Names};
+pub use place::place_behind;
 pub use tokens::{Keyword, Sign, Span, Token, TokenKind};
 pub use tree::{
     BaseType, BinaryOperator, Block, Clause, Constraint, Constructor, Declaration, Expr,
@@ -12,6 +13,7 @@ pub use tree::{
 
 mod interning;
 pub mod laws;
+mod place;
 mod tokens;
 mod tree;
 pub mod tree_laws;

@@ -4,7 +4,7 @@ use Rattle.std.proofs.lemmas.List.{take_rest}
 use Rattle.cyc_words.specs.declared.fault.Code.TheVariants as codes
 use Rattle.cyc_syntax.specs.declared.tokens.Token.{Token as CodeToken}
 use Rattle.cyc_syntax.specs.TokenRule.{max_tokens}
-use Rattle.cyc_lex.specs.Place.{IsBehind}
+use Rattle.cyc_syntax.specs.Place.{IsBehind}
 use Rattle.cyc_lex.specs.Found.{IsFound, IsReadAs}
 use Rattle.cyc_lex.specs.Refusals.{FailsHere, IsFirstFault}
 use Rattle.cyc_lex.proofs.FaultLemmas.{fails_first, too_many_first}

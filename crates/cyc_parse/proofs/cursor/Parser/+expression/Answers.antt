@@ -1,7 +1,7 @@
 use Rattle.std.proofs.Common.{◌≡◌, ℕ, suc, List, [], map, Ok, refl}
 use Rattle.std.proofs.lemmas.Result.{err_from_is_err_and}
 use Rattle.cyc_syntax.specs.Symbols.{Symbol}
-use Rattle.cyc_syntax.specs.Trees.{NoPostfixes, NoOperations, NoExpressions, MoreExpressions}
+use Rattle.cyc_syntax.specs.Trees.{NoPostfixes, NoOperations, NoExpressions}
 use Rattle.cyc_syntax.specs.TreeView.{view_expression, then_postfix, postfixes_of, operations_of, expressions_of}
 use Rattle.cyc_parse.specs.Expressions.{nested, begins_expression, more_values}
 use Rattle.cyc_parse.specs.Steps.{operand, then_operation}

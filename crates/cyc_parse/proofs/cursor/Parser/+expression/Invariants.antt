@@ -1,4 +1,4 @@
-use Rattle.std.proofs.Common.{◌≡◌, ℕ, suc, ◌+◌, ◌-◌, ◌*◌, ◌∷◌}
+use Rattle.std.proofs.Common.{◌≡◌, suc, ◌+◌, ◌-◌, ◌*◌, ◌∷◌}
 use Rattle.cyc_syntax.specs.Trees.{MoreExpressions}
 use Rattle.cyc_syntax.specs.TreeView.{view_expression, then_postfix}
 use Rattle.cyc_parse.specs.Parsing.{separated, more_items}

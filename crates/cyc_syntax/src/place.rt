@@ -1,8 +1,8 @@
 //! Places of a text.
 ghost use Rattle.std.specs.Prelude.{◌≡◌, ℕ, ◌+◌, ◌^◌, ◌<◌, List, ◌++◌, length};
-ghost use Rattle.cyc_lex.specs.Place.{IsBehind};
+ghost use Rattle.cyc_syntax.specs.Place.{IsBehind};
 
-use cyc_syntax::Span;
+use crate::Span;
 
 /// The place behind some bytes, from the place before them.
 pub fn place_behind(place: Span, bytes: &[u8]) -> Span

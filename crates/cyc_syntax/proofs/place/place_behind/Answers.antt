@@ -2,10 +2,10 @@ use Rattle.std.proofs.Common.{subst, ◌++◌, get_or, take, arith}
 use Rattle.std.proofs.lemmas.Bool.{ne_eqb}
 use Rattle.std.proofs.lemmas.List.{take_all}
 use Rattle.cyc_syntax.specs.declared.tokens.Span.{Span}
-use Rattle.cyc_lex.specs.Place.{IsBehind}
-use Rattle.cyc_lex.proofs.PlaceLemmas.{behind_line_feed, behind_other, front_more}
-use Rattle.cyc_lex.proofs.place.place_behind.Goals as goal
-use Rattle.cyc_lex.proofs.place.place_behind.Goals.{then-b-eq10, else-b-eq10}
+use Rattle.cyc_syntax.specs.Place.{IsBehind}
+use Rattle.cyc_syntax.proofs.PlaceLemmas.{behind_line_feed, behind_other, front_more}
+use Rattle.cyc_syntax.proofs.place.place_behind.Goals as goal
+use Rattle.cyc_syntax.proofs.place.place_behind.Goals.{then-b-eq10, else-b-eq10}
 
 pub loop-b-preserved : goal.loop-b-preserved
 loop-b-preserved c =

@@ -1,6 +1,6 @@
 use Rattle.std.proofs.Common.{◌+◌, ◌≤◌, List, ℕ, ◌++◌, take}
-use Rattle.cyc_lex.specs.Place.{IsBehind}
-use Rattle.cyc_lex.proofs.place.place_behind.Given as goal
+use Rattle.cyc_syntax.specs.Place.{IsBehind}
+use Rattle.cyc_syntax.proofs.place.place_behind.Given as goal
 
 abbrev pub invariant-loop-b : goal.invariant-loop-b
 invariant-loop-b l = record {

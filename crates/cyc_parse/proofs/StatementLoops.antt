@@ -1,0 +1,50 @@
+-- The lists of items and of clauses that the code reads in a loop are what the parser of the list gives.
+use Rattle.std.proofs.Common.{◌≡◌, ℕ, suc, ◌+◌, ◌-◌, ◌<◌, List, [], ◌∷◌, Option, None, option_map, Ok, Err, refl, sym, ap, ◌∙◌, arith}
+use Rattle.cyc_syntax.specs.declared.tokens.Keyword.TheVariants as words
+use Rattle.cyc_syntax.specs.declared.tokens.Sign.TheVariants as signs
+use Rattle.cyc_syntax.specs.declared.tree.Item.{Item as ItemCode}
+use Rattle.cyc_syntax.specs.declared.tree.Clause.{Clause}
+use Rattle.cyc_syntax.specs.Symbols.{Symbol}
+use Rattle.cyc_syntax.specs.Trees.{NoItems, MoreItems, Clauses}
+use Rattle.cyc_syntax.specs.TreeView.{view_item, items_of, clauses_of}
+use Rattle.cyc_parse.specs.declared.stop.Stop.{Stop}
+use Rattle.cyc_parse.specs.declared.stop.Stop.TheVariants as stops
+use Rattle.cyc_parse.specs.Code.{Stops, view_reason}
+use Rattle.cyc_parse.specs.Parsing.{Parser, Outcome, and_then, bind, pure, next, starts, if_starts, sign, word, identifier}
+use Rattle.cyc_parse.specs.Statements.{Nested, begins_item, is_case, caught, clauses_in, item, items_in}
+use Rattle.cyc_parse.specs.StatementSteps.{one_item, one_clause, then_clause, default_clause}
+use Rattle.cyc_parse.proofs.Loops.{Steps, behind, onto, with_front, lift, by_test}
+
+pub onto-items : (xs : List ItemCode) → onto view_item MoreItems xs NoItems ≡ items_of xs
+onto-items [] = refl
+onto-items (x ∷ xs) = ap (MoreItems (view_item x)) (onto-items xs)
+
+pub onto-clauses : (xs : List Clause) (default : Clauses) → onto then_clause (λ f cs. f cs) xs default ≡ clauses_of xs default
+onto-clauses [] default = refl
+onto-clauses (x ∷ xs) default = ap (then_clause x) (onto-clauses xs default)
+
+pub items_in_steps : (room : ℕ) (inner : Nested) → Steps MoreItems (pure NoItems) (one_item room inner) (items_in room inner)
+unfolding items_in one_item if_starts bind
+items_in_steps room inner = record {
+  step = λ n ts. by_test _ (starts begins_item (next ts)) _ _ _ _ ts (lift _ (item room inner ts) _ _ (λ i us. refl)) refl;
+}
+
+pub clauses_in_steps : (room : ℕ) (inner : Nested) → Steps (λ f cs. f cs) (default_clause room inner) (one_clause room inner) (clauses_in room inner)
+unfolding clauses_in one_clause default_clause if_starts bind
+clauses_in_steps room inner = record {
+  step = λ n ts. by_test _ (starts is_case (next ts)) _ _ _ _ ts
+      (lift _ (word room words.Case ts) _ _ (λ _ us. lift _ (sign room signs.And us) _ _ (λ _ vs. lift _ (identifier room vs) _ _ (λ x ws.
+      lift _ (caught room inner ws) _ _ (λ v xs. lift _ (sign room signs.Colon xs) _ _ (λ _ ys. lift _ (inner.items ys) _ _ (λ is zs. refl)))))))
+      refl;
+}
+
+module _ {X Y B : Type 0} (view : X → Y) (add : Y → B → B) (last : Parser B) (one : Parser (Option Y)) (many : ℕ → Parser B) (steps : Steps add last one many) where
+  -- what follows the last step fails
+  pub ends_badly : (e : Stop) (front : List X) (count i : ℕ) (ts us vs : List Symbol) (read : Option X) (whole : Outcome B) → i < count → one ts ≡ Ok (option_map view read, us) → read ≡ None → Stops e (last us) vs
+      → with_front view add front (many (count - i) ts) ≡ whole → Stops e whole vs
+  ends_badly stops.Memory front count i ts us vs read whole lt h is rest so_far = tt
+  ends_badly (stops.Refused why) front count i ts us vs read whole lt h is rest so_far =
+      let k : count - i ≡ suc (count - (i + 1)) = omega arith in
+      let found : one ts ≡ Ok (None, us) = h ∙ ap (λ (o : Option X). Ok (option_map view o, us)) is in
+      let step : many (count - i) ts ≡ Err (record { reason = view_reason why; left = vs }) = ap (λ (n : ℕ). many n ts) k ∙ steps.step _ ts ∙ ap (λ (o : Outcome (Option Y)). and_then o (behind add last (many (count - (i + 1))))) found ∙ rest in
+      sym so_far ∙ ap (with_front view add front) step

@@ -1,0 +1,31 @@
+-- Parts of the parser of statements that are functions of their own in the code, and one step of each list that the code reads in
+-- a loop: the next item or clause, if the list goes on.
+use Rattle.std.specs.Prelude.{ℕ, suc, Option, Some, None, option_map}
+use Rattle.cyc_syntax.specs.declared.tokens.Keyword.TheVariants as words
+use Rattle.cyc_syntax.specs.declared.tokens.Sign.TheVariants as signs
+use Rattle.cyc_syntax.specs.declared.tree.Clause.{Clause}
+use Rattle.cyc_syntax.specs.Symbols.{Place}
+use Rattle.cyc_syntax.specs.Trees.{Statement, Return, Item, Clauses, NoClauses, Default, Case}
+use Rattle.cyc_syntax.specs.TreeView.{view_name, items_of}
+use Rattle.cyc_parse.specs.Parsing.{Parser, ◌>>=◌, ◌>>◌, pure, choose, if_starts, sign, word, identifier}
+use Rattle.cyc_parse.specs.Statements.{Nested, begins_item, is_case, is_default, return_value, caught, let_by, item}
+
+module _ (room : ℕ) (inner : Nested) where
+  unfoldable pub return_statement : Place → Parser Statement
+  return_statement p = return_value room inner >>= (λ v. sign (suc room) signs.Semicolon >> pure (Return p v))
+
+  unfoldable pub let_item : Parser Item
+  let_item = choose (let_by room inner)
+
+  unfoldable pub one_item : Parser (Option Item)
+  one_item = if_starts begins_item (item room inner >>= (λ i. pure (Some i))) (pure None)
+
+  -- a clause, as what it makes of those behind it
+  unfoldable pub one_clause : Parser (Option (Clauses → Clauses))
+  one_clause = if_starts is_case (word room words.Case >> sign room signs.And >> identifier room >>= (λ x. caught room inner >>= (λ v. sign room signs.Colon >> inner.items >>= (λ is. pure (Some (Case x v is)))))) (pure None)
+
+  unfoldable pub default_clause : Parser Clauses
+  default_clause = if_starts is_default (word room words.Default >> sign room signs.Colon >> inner.items >>= (λ is. pure (Default is))) (pure NoClauses)
+
+abbrev pub then_clause : Clause → Clauses → Clauses
+then_clause c = Case (view_name c.exception) (option_map view_name c.variable) (items_of c.items.items)

@@ -1,0 +1,697 @@
+//! The parser of statements and of the items of blocks. A function with `room` reads at a level of nesting below which so many
+//! are left.
+ghost use Rattle.std.specs.Prelude.{◌≡◌, ℕ, suc, length, option_map};
+ghost use Rattle.cyc_syntax.specs.TreeView.{place_of_span, view_name, view_expression, view_initial, view_statement, view_item, view_block, items_of, clauses_of, default_of};
+ghost use Rattle.cyc_syntax.specs.Trees as trees;
+ghost use Rattle.cyc_parse.specs.Code.{Gives};
+ghost use Rattle.cyc_parse.specs.Parsing.{next, starts, inside, sign};
+ghost use Rattle.cyc_parse.specs.Types.{region_of};
+ghost use Rattle.cyc_parse.specs.Statements.{begins_statement, begins_item, is_case, is_default, begins_clause, is_else, is_unary, ends_in_new, ends_in_name, end_of_swap, nested_statements, body, expression_from, swap, behind, statement_from_name, else_part, return_value, thrown, caught, clauses_in, clauses, if_statement, while_statement, throw_statement, try_statement, statement, local_value, local, opened_key, region, alias, new_key, dynamic_region, item, items};
+ghost use Rattle.cyc_parse.specs.StatementSteps.{one_item, one_clause, then_clause, default_clause, return_statement, let_item};
+
+use crate::cursor::{Parser, refusal};
+use crate::expressions::LEVELS;
+use crate::stop::{Reason, Stop};
+use crate::symbol::Terminal;
+use cyc_syntax::{Block, Clause, Expr, Ident, Initial, Item, Keyword, Sign, Span, Stmt};
+
+/// What stands between the brackets of a `catch`: its clauses, and the items of its default clause, where there is one.
+#[derive(Drop)]
+struct Handlers {
+    clauses: Vec<Clause>,
+    default: Option<Vec<Item>>,
+}
+
+impl<'a> Parser<'a> {
+    fn begins_statement(&self) -> bool
+        ensures { result ≡ starts begins_statement (next self.now) }
+    {
+        match self.next() {
+            Some(Terminal::Mark(Sign::LeftBrace | Sign::Semicolon)) => true,
+            Some(
+                Terminal::Word(
+                    Keyword::If
+                    | Keyword::While
+                    | Keyword::Return
+                    | Keyword::Break
+                    | Keyword::Continue
+                    | Keyword::Throw
+                    | Keyword::Try,
+                ),
+            ) => true,
+            _ => self.begins_expression(),
+        }
+    }
+
+    fn begins_item(&self) -> bool
+        ensures { result ≡ starts begins_item (next self.now) }
+    {
+        match self.next() {
+            Some(
+                Terminal::Word(
+                    Keyword::Int
+                    | Keyword::Struct
+                    | Keyword::RegionType
+                    | Keyword::KeyType
+                    | Keyword::Region
+                    | Keyword::Let,
+                ),
+            ) => true,
+            _ => self.begins_statement(),
+        }
+    }
+
+    fn begins_case(&self) -> bool
+        ensures { result ≡ starts is_case (next self.now) }
+    {
+        matches!(self.next(), Some(Terminal::Word(Keyword::Case)))
+    }
+
+    fn begins_default(&self) -> bool
+        ensures { result ≡ starts is_default (next self.now) }
+    {
+        matches!(self.next(), Some(Terminal::Word(Keyword::Default)))
+    }
+
+    fn begins_clause(&self) -> bool
+        ensures { result ≡ starts begins_clause (next self.now) }
+    {
+        matches!(
+            self.next(),
+            Some(Terminal::Word(Keyword::Case | Keyword::Default))
+        )
+    }
+
+    fn begins_else(&self) -> bool
+        ensures { result ≡ starts is_else (next self.now) }
+    {
+        matches!(self.next(), Some(Terminal::Word(Keyword::Else)))
+    }
+
+    // ---- one level deeper
+
+    #[cycle(statement)]
+    #[tactic(auto, unfolding(crate::specs::Statements::nested_statements, crate::specs::Parsing::refuse_item), using(crate::proofs::StatementLevels::nested_statement))]
+    fn statement(&mut self, room: u32) -> Result<Stmt, Stop>
+        ensures { Gives view_statement result ((nested_statements room).statement self.old) self.new }
+    {
+        if room == 0 {
+            return Err(refusal(self.begins_statement(), Reason::TooDeep));
+        }
+        self.statement_here(room - 1)
+    }
+
+    /// The items of a block.
+    #[cycle(statement)]
+    #[tactic(auto, unfolding(crate::specs::Statements::nested_statements, crate::specs::Parsing::if_starts), using(crate::proofs::StatementLevels::nested_items))]
+    fn items(&mut self, room: u32) -> Result<Vec<Item>, Stop>
+        ensures { Gives (λ v. items_of v.items) result ((nested_statements room).items self.old) self.new }
+    {
+        if room > 0 {
+            return self.items_here(room - 1);
+        }
+        if self.begins_item() {
+            return Err(Stop::Refused(Reason::TooDeep));
+        }
+        Ok(Vec::new(self.alloc()))
+    }
+
+    /// A sign inside one more bracket.
+    fn sign_deeper(&mut self, room: u32, wanted: Sign) -> Result<Span, Stop>
+        ensures { Gives place_of_span result (sign (inside room) wanted self.old) self.new }
+    {
+        self.sign_inside(inside(room), wanted)
+    }
+
+    // ---- statements that begin with expressions
+
+    /// Behind the right side of a swap. There `<` may be the begin of region arguments, and then what follows it is unexpected.
+    #[tactic(auto, unfolding(crate::specs::Statements::end_of_swap, crate::specs::Parsing::if_sees, crate::specs::Parsing::bind))]
+    fn end_of_swap(&mut self, right: &Expr) -> Result<Span, Stop>
+        ensures { (room : ℕ) → Gives place_of_span result (end_of_swap (suc room) (view_expression right.now) self.old) self.new }
+    {
+        if self.sees(Sign::Semicolon) {
+            return self.sign(Sign::Semicolon);
+        }
+        if self.sees(Sign::Less) && ends_in_new(right) {
+            self.advance()?;
+        }
+        Err(Stop::Refused(Reason::Unexpected))
+    }
+
+    #[tactic(auto, unfolding(crate::specs::Statements::swap, crate::specs::Expressions::nested, crate::specs::Parsing::bind))]
+    fn swap(&mut self, room: u32, left: Expr) -> Result<Stmt, Stop>
+        ensures { Gives view_statement result (swap room (nested_statements room) (view_expression left) self.old) self.new }
+    {
+        self.sign(Sign::Swap)?;
+        let right = self.unary_here(room)?;
+        self.end_of_swap(&right)?;
+        Ok(Stmt::Swap { left, right })
+    }
+
+    /// Goes on behind the expression that a statement begins with.
+    #[tactic(auto, unfolding(crate::specs::Statements::behind, crate::specs::Parsing::bind))]
+    fn behind(&mut self, room: u32, value: Expr) -> Result<Stmt, Stop>
+        ensures { Gives view_statement result (behind room (nested_statements room) (view_expression value) self.old) self.new }
+    {
+        if self.sees(Sign::Swap) && is_unary(&value) {
+            return self.swap(room, value);
+        }
+        self.sign(Sign::Semicolon)?;
+        Ok(Stmt::Expression { value })
+    }
+
+    /// An expression that begins with this name.
+    #[tactic(auto, unfolding(crate::specs::Statements::expression_from, crate::specs::Expressions::nested, crate::specs::Expressions::with_postfixes, crate::specs::Parsing::bind, crate::specs::Steps::with_chain))]
+    fn expression_from(&mut self, room: u32, name: Ident) -> Result<Expr, Stop>
+        ensures { Gives view_expression result (expression_from room (nested_statements room) (view_name name) self.old) self.new }
+    {
+        let base = self.from_name(room, name)?;
+        let operand = self.with_postfixes(room, base)?;
+        let target = self.climb(room, LEVELS, operand)?;
+        self.assignment(room, target)
+    }
+
+    /// A label's colon follows the name, or the name begins an expression.
+    #[cycle(statement)]
+    #[tactic(auto, unfolding(crate::specs::Statements::statement_from_name, crate::specs::Parsing::if_sees, crate::specs::Parsing::bind))]
+    fn statement_from_name(&mut self, room: u32, name: Ident) -> Result<Stmt, Stop>
+        ensures { Gives view_statement result (statement_from_name room (nested_statements room) (view_name name) self.old) self.new }
+    {
+        if self.sees(Sign::Colon) {
+            self.sign(Sign::Colon)?;
+            let block = self.body(room)?;
+            return Ok(labelled(name, block));
+        }
+        let value = self.expression_from(room, name)?;
+        self.behind(room, value)
+    }
+
+    // ---- statements that begin with words
+
+    /// Items in braces.
+    #[cycle(statement)]
+    #[tactic(auto, unfolding(crate::specs::Statements::body, crate::specs::Parsing::bind))]
+    pub(crate) fn body(&mut self, room: u32) -> Result<Block, Stop>
+        ensures { Gives view_block result (body room (nested_statements room) self.old) self.new }
+    {
+        let span = self.sign(Sign::LeftBrace)?;
+        let items = self.items(room)?;
+        let end = self.sign_inside(room, Sign::RightBrace)?;
+        Ok(Block { span, items, end })
+    }
+
+    #[cycle(statement)]
+    #[tactic(auto, unfolding(crate::specs::Statements::else_part, crate::specs::Parsing::if_starts, crate::specs::Parsing::bind))]
+    fn else_part(
+        &mut self,
+        room: u32,
+        span: Span,
+        condition: Expr,
+        then: Stmt,
+    ) -> Result<Stmt, Stop>
+        ensures { Gives view_statement result (else_part room (nested_statements room) (place_of_span span) (view_expression condition) (view_statement then) self.old) self.new }
+    {
+        let alloc = self.alloc();
+        let then = Box::new(alloc, then)?;
+        if !self.begins_else() {
+            return Ok(Stmt::If {
+                span,
+                condition,
+                then,
+                otherwise: None,
+            });
+        }
+        self.word(Keyword::Else)?;
+        let otherwise = self.statement(room)?;
+        let otherwise = Some(Box::new(alloc, otherwise)?);
+        Ok(Stmt::If {
+            span,
+            condition,
+            then,
+            otherwise,
+        })
+    }
+
+    /// Behind `if`.
+    #[cycle(statement)]
+    #[tactic(auto, unfolding(crate::specs::Statements::if_statement, crate::specs::Expressions::nested, crate::specs::Parsing::bind))]
+    fn if_statement(&mut self, room: u32, span: Span) -> Result<Stmt, Stop>
+        ensures { Gives view_statement result (if_statement room (nested_statements room) (place_of_span span) self.old) self.new }
+    {
+        let condition = self.group_here(room)?;
+        let then = self.statement(room)?;
+        self.else_part(room, span, condition, then)
+    }
+
+    /// Behind `while`.
+    #[cycle(statement)]
+    #[tactic(auto, unfolding(crate::specs::Statements::while_statement, crate::specs::Expressions::nested, crate::specs::Parsing::bind))]
+    fn while_statement(&mut self, room: u32, span: Span) -> Result<Stmt, Stop>
+        ensures { Gives view_statement result (while_statement room (nested_statements room) (place_of_span span) self.old) self.new }
+    {
+        let condition = self.group_here(room)?;
+        let body = self.statement(room)?;
+        let body = Box::new(self.alloc(), body)?;
+        Ok(Stmt::While {
+            span,
+            condition,
+            body,
+        })
+    }
+
+    #[tactic(auto, unfolding(crate::specs::Statements::return_value, crate::specs::Statements::expression, crate::specs::Expressions::nested, crate::specs::Parsing::if_sees, crate::specs::Parsing::bind))]
+    fn return_value(&mut self, room: u32) -> Result<Option<Expr>, Stop>
+        ensures { Gives (option_map view_expression) result (return_value room (nested_statements room) self.old) self.new }
+    {
+        if self.sees(Sign::Semicolon) {
+            return Ok(None);
+        }
+        Ok(Some(self.expression_here(room)?))
+    }
+
+    /// Behind `return`.
+    #[tactic(auto, unfolding(crate::specs::StatementSteps::return_statement, crate::specs::Parsing::bind))]
+    fn return_statement(&mut self, room: u32, span: Span) -> Result<Stmt, Stop>
+        ensures { Gives view_statement result (return_statement room (nested_statements room) (place_of_span span) self.old) self.new }
+    {
+        let value = self.return_value(room)?;
+        self.sign(Sign::Semicolon)?;
+        Ok(Stmt::Return { span, value })
+    }
+
+    /// The value of an exception, in round brackets.
+    #[tactic(auto, unfolding(crate::specs::Statements::thrown, crate::specs::Parsing::if_sees, crate::specs::Parsing::bind))]
+    fn thrown(&mut self, room: u32) -> Result<Option<Expr>, Stop>
+        ensures { Gives (option_map view_expression) result (thrown room (nested_statements room) self.old) self.new }
+    {
+        if !self.sees(Sign::LeftParen) {
+            return Ok(None);
+        }
+        Ok(Some(self.group(room)?))
+    }
+
+    /// Behind `throw`.
+    #[tactic(auto, unfolding(crate::specs::Statements::throw_statement, crate::specs::Parsing::bind))]
+    fn throw_statement(&mut self, room: u32, span: Span) -> Result<Stmt, Stop>
+        ensures { Gives view_statement result (throw_statement room (nested_statements room) (place_of_span span) self.old) self.new }
+    {
+        self.word(Keyword::New)?;
+        let exception = self.identifier_inside(room)?;
+        let value = self.thrown(room)?;
+        self.sign(Sign::Semicolon)?;
+        Ok(Stmt::Throw {
+            span,
+            exception,
+            value,
+        })
+    }
+
+    /// The variable of a clause, in round brackets.
+    #[tactic(auto, unfolding(crate::specs::Statements::caught, crate::specs::Parsing::if_sees, crate::specs::Parsing::bind))]
+    fn caught(&mut self, room: u32) -> Result<Option<Ident>, Stop>
+        ensures { Gives (option_map view_name) result (caught room (nested_statements room) self.old) self.new }
+    {
+        if !self.sees(Sign::LeftParen) {
+            return Ok(None);
+        }
+        self.sign_inside(room, Sign::LeftParen)?;
+        let variable = self.identifier_inside(inside(room))?;
+        self.sign_deeper(room, Sign::RightParen)?;
+        Ok(Some(variable))
+    }
+
+    /// `case &exception(variable): ..`, if one comes next.
+    #[cycle(statement)]
+    #[tactic(auto, unfolding(crate::specs::StatementSteps::one_clause, crate::specs::Parsing::if_starts, crate::specs::Parsing::bind))]
+    fn clause(&mut self, room: u32) -> Result<Option<Clause>, Stop>
+        ensures { Gives (option_map then_clause) result (one_clause room (nested_statements room) self.old) self.new }
+    {
+        if !self.begins_case() {
+            return Ok(None);
+        }
+        self.word_inside(room, Keyword::Case)?;
+        self.sign_inside(room, Sign::And)?;
+        let exception = self.identifier_inside(room)?;
+        let variable = self.caught(room)?;
+        self.sign_inside(room, Sign::Colon)?;
+        let items = self.items(room)?;
+        Ok(Some(Clause {
+            exception,
+            variable,
+            items,
+        }))
+    }
+
+    /// The items of `default: ..`, if it comes next.
+    #[cycle(statement)]
+    #[tactic(auto, unfolding(crate::specs::StatementSteps::default_clause, crate::specs::Parsing::if_starts, crate::specs::Parsing::bind))]
+    fn default_clause(&mut self, room: u32) -> Result<Option<Vec<Item>>, Stop>
+        ensures { Gives default_of result (default_clause room (nested_statements room) self.old) self.new }
+    {
+        if !self.begins_default() {
+            return Ok(None);
+        }
+        self.word_inside(room, Keyword::Default)?;
+        self.sign_inside(room, Sign::Colon)?;
+        Ok(Some(self.items(room)?))
+    }
+
+    #[cycle(statement)]
+    fn handlers(&mut self, room: u32) -> Result<Handlers, Stop>
+        ensures { Gives (λ h. clauses_of h.clauses.items (default_of h.default)) result (clauses_in room (nested_statements room) (length self.old) self.old) self.new }
+    {
+        let mut clauses = Vec::new(self.alloc());
+        let most = self.len();
+        for _ in 0..most {
+            let Some(clause) = self.clause(room)? else {
+                let default = self.default_clause(room)?;
+                return Ok(Handlers { clauses, default });
+            };
+            clauses.push(clause)?;
+        }
+        Ok(Handlers {
+            clauses,
+            default: None,
+        })
+    }
+
+    /// The clauses of a `catch`, at least one.
+    #[cycle(statement)]
+    #[tactic(auto, unfolding(crate::specs::Statements::clauses, crate::specs::Parsing::if_starts))]
+    fn clauses(&mut self, room: u32) -> Result<Handlers, Stop>
+        ensures { Gives (λ h. clauses_of h.clauses.items (default_of h.default)) result (clauses room (nested_statements room) self.old) self.new }
+    {
+        if !self.begins_clause() {
+            return Err(Stop::Refused(Reason::Unexpected));
+        }
+        self.handlers(room)
+    }
+
+    /// Behind `try`.
+    #[cycle(statement)]
+    #[tactic(auto, unfolding(crate::specs::Statements::try_statement, crate::specs::Parsing::bind))]
+    fn try_statement(&mut self, room: u32, span: Span) -> Result<Stmt, Stop>
+        ensures { Gives view_statement result (try_statement room (nested_statements room) (place_of_span span) self.old) self.new }
+    {
+        let body = self.statement(room)?;
+        self.word(Keyword::Catch)?;
+        self.sign(Sign::LeftBrace)?;
+        let handlers = self.clauses(room)?;
+        self.sign_inside(room, Sign::RightBrace)?;
+        let body = Box::new(self.alloc(), body)?;
+        Ok(guarded(span, body, handlers))
+    }
+
+    #[cycle(statement)]
+    #[tactic(auto, unfolding(crate::specs::Statements::statement, crate::specs::Statements::expression, crate::specs::Expressions::nested, crate::specs::Parsing::choose, crate::specs::Parsing::bind, crate::specs::StatementSteps::return_statement))]
+    fn statement_here(&mut self, room: u32) -> Result<Stmt, Stop>
+        ensures { Gives view_statement result (statement room (nested_statements room) self.old) self.new }
+    {
+        match self.next() {
+            Some(Terminal::Identifier(name)) => {
+                let span = self.advance()?;
+                self.statement_from_name(room, Ident { name, span })
+            }
+            Some(Terminal::Mark(Sign::LeftBrace)) => Ok(block(self.body(room)?)),
+            Some(Terminal::Mark(Sign::Semicolon)) => {
+                let span = self.advance()?;
+                Ok(Stmt::Empty { span })
+            }
+            Some(Terminal::Word(Keyword::If)) => {
+                let span = self.advance()?;
+                self.if_statement(room, span)
+            }
+            Some(Terminal::Word(Keyword::While)) => {
+                let span = self.advance()?;
+                self.while_statement(room, span)
+            }
+            Some(Terminal::Word(Keyword::Return)) => {
+                let span = self.advance()?;
+                self.return_statement(room, span)
+            }
+            Some(Terminal::Word(Keyword::Break)) => {
+                let span = self.advance()?;
+                self.sign(Sign::Semicolon)?;
+                Ok(Stmt::Break { span })
+            }
+            Some(Terminal::Word(Keyword::Continue)) => {
+                let span = self.advance()?;
+                self.sign(Sign::Semicolon)?;
+                Ok(Stmt::Continue { span })
+            }
+            Some(Terminal::Word(Keyword::Throw)) => {
+                let span = self.advance()?;
+                self.throw_statement(room, span)
+            }
+            Some(Terminal::Word(Keyword::Try)) => {
+                let span = self.advance()?;
+                self.try_statement(room, span)
+            }
+            _ => {
+                let value = self.expression_here(room)?;
+                self.behind(room, value)
+            }
+        }
+    }
+
+    // ---- items
+
+    #[tactic(auto, unfolding(crate::specs::Statements::local_value, crate::specs::Parsing::if_sees, crate::specs::Parsing::bind))]
+    fn local_value(&mut self, room: u32) -> Result<Option<Expr>, Stop>
+        ensures { Gives (option_map view_expression) result (local_value room (nested_statements room) self.old) self.new }
+    {
+        if !self.sees(Sign::Assign) {
+            return Ok(None);
+        }
+        self.sign(Sign::Assign)?;
+        Ok(Some(self.expression(room)?))
+    }
+
+    #[tactic(auto, unfolding(crate::specs::Statements::local, crate::specs::Parsing::bind))]
+    fn local(&mut self, room: u32) -> Result<Item, Stop>
+        ensures { Gives view_item result (local room (nested_statements room) self.old) self.new }
+    {
+        let of_type = self.written_type()?;
+        let name = self.identifier()?;
+        let value = self.local_value(room)?;
+        self.sign(Sign::Semicolon)?;
+        Ok(Item::Local {
+            of_type,
+            name,
+            value,
+        })
+    }
+
+    /// `= open(key)`
+    #[tactic(auto, unfolding(crate::specs::Statements::opened_key, crate::specs::Parsing::if_sees, crate::specs::Parsing::bind))]
+    fn opened_key(&mut self, room: u32) -> Result<Option<Ident>, Stop>
+        ensures { Gives (option_map view_name) result (opened_key room (nested_statements room) self.old) self.new }
+    {
+        if !self.sees(Sign::Assign) {
+            return Ok(None);
+        }
+        self.sign(Sign::Assign)?;
+        self.word_inside(room, Keyword::Open)?;
+        self.sign_inside(room, Sign::LeftParen)?;
+        let key = self.identifier_inside(inside(room))?;
+        self.sign_deeper(room, Sign::RightParen)?;
+        Ok(Some(key))
+    }
+
+    #[tactic(auto, unfolding(crate::specs::Statements::region, crate::specs::Parsing::bind))]
+    fn region(&mut self, room: u32) -> Result<Item, Stop>
+        ensures { Gives view_item result (region room (nested_statements room) self.old) self.new }
+    {
+        self.word(Keyword::Region)?;
+        let region = self.region_of()?;
+        let handle = self.identifier()?;
+        let key = self.opened_key(room)?;
+        self.sign(Sign::Semicolon)?;
+        Ok(Item::Region {
+            region,
+            handle,
+            key,
+        })
+    }
+
+    /// Behind `let`.
+    #[tactic(auto, unfolding(crate::specs::Statements::alias, crate::specs::Parsing::bind))]
+    fn alias(&mut self, room: u32) -> Result<Item, Stop>
+        ensures { Gives view_item result (alias room (nested_statements room) self.old) self.new }
+    {
+        self.word(Keyword::Alias)?;
+        let region = self.region_of()?;
+        let of_type = self.written_type()?;
+        let name = self.identifier()?;
+        self.sign(Sign::Assign)?;
+        let source = self.identifier_inside(room)?;
+        self.sign(Sign::Semicolon)?;
+        Ok(Item::Alias {
+            region,
+            of_type,
+            name,
+            source,
+        })
+    }
+
+    /// The one region of a type, in its brackets.
+    #[tactic(auto, unfolding(crate::specs::Types::region_of, crate::specs::Parsing::bind))]
+    fn region_inside(&mut self, room: u32) -> Result<Ident, Stop>
+        ensures { Gives view_name result (region_of room self.old) self.new }
+    {
+        self.sign_inside(room, Sign::Less)?;
+        let region = self.region_name_inside(room)?;
+        self.sign_inside(room, Sign::Greater)?;
+        Ok(region)
+    }
+
+    /// `= new_ukey();`
+    #[tactic(auto, unfolding(crate::specs::Statements::new_key, crate::specs::Parsing::bind))]
+    fn new_key(&mut self, room: u32) -> Result<(), Stop>
+        ensures { Gives (λ _. tt) result (new_key room (nested_statements room) self.old) self.new }
+    {
+        self.sign(Sign::Assign)?;
+        self.word_inside(room, Keyword::NewKey)?;
+        self.sign_inside(room, Sign::LeftParen)?;
+        self.sign_deeper(room, Sign::RightParen)?;
+        self.sign(Sign::Semicolon)?;
+        Ok(())
+    }
+
+    /// Behind `let`.
+    #[tactic(auto, unfolding(crate::specs::Statements::dynamic_region, crate::specs::Parsing::bind))]
+    fn dynamic_region(&mut self, room: u32) -> Result<Item, Stop>
+        ensures { Gives view_item result (dynamic_region room (nested_statements room) self.old) self.new }
+    {
+        self.word(Keyword::NewDynamicRegion)?;
+        self.sign(Sign::LeftBrace)?;
+        let region = self.region_inside(room)?;
+        let key = self.identifier_inside(room)?;
+        self.sign_inside(room, Sign::RightBrace)?;
+        self.new_key(room)?;
+        Ok(Item::DynamicRegion { region, key })
+    }
+
+    /// Behind `let`.
+    #[tactic(auto, unfolding(crate::specs::StatementSteps::let_item, crate::specs::Parsing::choose))]
+    fn let_item(&mut self, room: u32) -> Result<Item, Stop>
+        ensures { Gives view_item result (let_item room (nested_statements room) self.old) self.new }
+    {
+        match self.next() {
+            Some(Terminal::Word(Keyword::Alias)) => self.alias(room),
+            Some(Terminal::Word(Keyword::NewDynamicRegion)) => self.dynamic_region(room),
+            _ => Err(Stop::Refused(Reason::Unexpected)),
+        }
+    }
+
+    #[cycle(statement)]
+    #[tactic(auto, unfolding(crate::specs::Statements::item, crate::specs::Parsing::choose, crate::specs::Parsing::bind, crate::specs::StatementSteps::let_item))]
+    fn item(&mut self, room: u32) -> Result<Item, Stop>
+        ensures { Gives view_item result (item room (nested_statements room) self.old) self.new }
+    {
+        match self.next() {
+            Some(
+                Terminal::Word(
+                    Keyword::Int | Keyword::Struct | Keyword::RegionType | Keyword::KeyType,
+                ),
+            ) => self.local(room),
+            Some(Terminal::Word(Keyword::Region)) => self.region(room),
+            Some(Terminal::Word(Keyword::Let)) => {
+                self.advance()?;
+                self.let_item(room)
+            }
+            _ => {
+                let statement = self.statement_here(room)?;
+                Ok(Item::Statement { statement })
+            }
+        }
+    }
+
+    /// An item, if one comes next.
+    #[cycle(statement)]
+    #[tactic(auto, unfolding(crate::specs::StatementSteps::one_item, crate::specs::Parsing::if_starts, crate::specs::Parsing::bind))]
+    fn next_item(&mut self, room: u32) -> Result<Option<Item>, Stop>
+        ensures { Gives (option_map view_item) result (one_item room (nested_statements room) self.old) self.new }
+    {
+        if !self.begins_item() {
+            return Ok(None);
+        }
+        Ok(Some(self.item(room)?))
+    }
+
+    #[cycle(statement)]
+    #[tactic(auto, unfolding(crate::specs::Statements::items))]
+    fn items_here(&mut self, room: u32) -> Result<Vec<Item>, Stop>
+        ensures { Gives (λ v. items_of v.items) result (items room (nested_statements room) self.old) self.new }
+    {
+        let mut items = Vec::new(self.alloc());
+        let most = self.len();
+        for _ in 0..most {
+            let Some(item) = self.next_item(room)? else {
+                return Ok(items);
+            };
+            items.push(item)?;
+        }
+        Ok(items)
+    }
+}
+
+/// The room inside one more bracket.
+fn inside(room: u32) -> u32
+    ensures { result ≡ inside room }
+{
+    room.saturating_sub(1)
+}
+
+/// Whether an expression is an operand with its prefixes and postfixes: what may stand in a swap.
+fn is_unary(value: &Expr) -> bool
+    ensures { result ≡ is_unary (view_expression value.now) }
+{
+    !matches!(value, Expr::Binary { .. } | Expr::Assign { .. })
+}
+
+/// Whether an expression ends in `new` and a name, so that `<` may follow it with region arguments.
+#[cycle(ends_in_new)]
+fn ends_in_new(value: &Expr) -> bool
+    ensures { result ≡ ends_in_new (view_expression value.now) }
+{
+    match value {
+        Expr::Prefixed { operand, .. } => ends_in_new(operand),
+        Expr::New { value, .. } | Expr::RegionNew { value, .. } => ends_in_name(value),
+        _ => false,
+    }
+}
+
+#[cycle(ends_in_new)]
+fn ends_in_name(initial: &Initial) -> bool
+    ensures { result ≡ ends_in_name (view_initial initial.now) }
+{
+    match initial {
+        Initial::Plain { value } => matches!(value, Expr::Variable { .. }) || ends_in_new(value),
+        _ => false,
+    }
+}
+
+fn block(block: Block) -> Stmt
+    ensures { view_statement result ≡ trees.Block (view_block block) }
+{
+    Stmt::Block { block }
+}
+
+fn labelled(label: Ident, block: Block) -> Stmt
+    ensures { view_statement result ≡ trees.Labelled (view_name label) (view_block block) }
+{
+    Stmt::Labelled { label, block }
+}
+
+fn guarded(span: Span, body: Box<Stmt>, handlers: Handlers) -> Stmt
+    ensures { view_statement result ≡ trees.Try (place_of_span span) (view_statement body.value) (clauses_of handlers.clauses.items (default_of handlers.default)) }
+{
+    Stmt::Try {
+        span,
+        body,
+        clauses: handlers.clauses,
+        default: handlers.default,
+    }
+}

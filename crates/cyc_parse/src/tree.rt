@@ -1,0 +1,152 @@
+//! From the tokens of a text to its tree, or to its fault.
+ghost use Rattle.std.specs.Prelude.{◌≡◌, ◌≤◌, ◌⊎◌, List, [], ◌∷◌, length, map, fold, All, Ok, IfOk, IfErr, OnOk, MatchResult};
+ghost use Rattle.cyc_syntax.specs.Names.{with_text};
+ghost use Rattle.cyc_syntax.specs.Tokens.{token_of};
+ghost use Rattle.cyc_syntax.specs.TokenRule.{LiesIn, AreTokensOf, max_bytes};
+ghost use Rattle.cyc_syntax.specs.Symbols.{texts_in, symbol_of, symbols_of};
+ghost use Rattle.cyc_syntax.specs.Grammar.{HasTree, IsWithinLimits};
+ghost use Rattle.cyc_syntax.specs.Trees as pure;
+ghost use Rattle.cyc_syntax.specs.TreeView.{place_of_span, view_declaration};
+ghost use Rattle.cyc_parse.specs.Code.{Gives, view_reason, view_symbol};
+ghost use Rattle.cyc_parse.specs.Parsing.{Refusal};
+ghost use Rattle.cyc_parse.specs.Answers.{whole_program, code_of, end_of, fault_of, memory_fault, IsAnswer};
+ghost use Rattle.cyc_parse.specs.Answers as answers;
+ghost use Rattle.cyc_parse.specs.Acceptance.{declarations_of, IsAccepted, IsRefused, BreaksLimit};
+
+use crate::cursor::Parser;
+use crate::stop::{Reason, Stop};
+use crate::symbol::{Symbol, Terminal};
+use cyc_syntax::{Declaration, Names, Span, Token, TokenKind, Tree, place_behind};
+use cyc_words::{Code, Fault};
+use std::alloc::{AllocError, Global};
+
+/// The tree of a text that has these tokens, or its fault.
+///
+/// A token is refused that no program goes on with, that stands too deep, or that begins an item too many of its list; and so is
+/// the end of the text, where its tokens are not yet a program. Any growth of the tree may be refused for want of memory.
+pub fn parse(alloc: Global, tokens: &[Token], text: &[u8]) -> Result<Tree, Fault>
+    requires short { length text.now ≤ max_bytes }
+    requires tokens { AreTokensOf text.now tokens.now }
+    // What is accepted has this tree. What is refused is so for what its code says at its place.
+    ensures accepted { IfOk result (λ tree. IsAccepted (map (token_of text.now) tokens.now) tree) }
+    ensures refused { IfErr result (λ f. (f ≡ memory_fault) ⊎ IsRefused text.now (map (token_of text.now) tokens.now) f) }
+
+    // And the other way round, want of memory aside.
+    ensures accepts { (tree : List pure.Declaration) → HasTree (symbols_of (map (token_of text.now) tokens.now)) tree → IsWithinLimits tree
+        → MatchResult result (λ t. declarations_of t ≡ tree) (λ f. f ≡ memory_fault) }
+    ensures limits { (refusal : Refusal) → BreaksLimit (map (token_of text.now) tokens.now) refusal
+        → MatchResult result (λ _. ⊥) (λ f. (f ≡ memory_fault) ⊎ (f ≡ fault_of (end_of text.now) refusal)) }
+{
+    answer(alloc, tokens, text)
+}
+
+/// What the parser of symbols answers, as a tree or a fault of the text.
+fn answer(alloc: Global, tokens: &[Token], text: &[u8]) -> Result<Tree, Fault>
+    requires short { length text.now ≤ max_bytes }
+    requires tokens { AreTokensOf text.now tokens.now }
+    ensures { IsAnswer text.now (map (token_of text.now) tokens.now) result }
+{
+    let Ok(mut names) = Names::new(alloc) else {
+        return Err(Fault::memory());
+    };
+    let Ok(symbols) = symbols_of_tokens(alloc, tokens, text, &mut names) else {
+        return Err(Fault::memory());
+    };
+    let end = place_behind(Span { line: 1, column: 1 }, text);
+    let declarations = declarations_of(alloc, &symbols, end)?;
+    Ok(Tree {
+        declarations,
+        names,
+    })
+}
+
+// ---- from tokens to symbols
+
+/// The symbol that a token is. Its name, if it has one, is numbered.
+fn symbol_of_token(token: Token, text: &[u8], names: &mut Names) -> Result<Symbol, AllocError>
+    requires { LiesIn text.now token }
+    ensures names { OnOk result (names.new ≡ fold with_text names.old (texts_in (token_of text.now token ∷ []))) }
+    ensures symbol { IfOk result (λ s. view_symbol s ≡ symbol_of names.new (token_of text.now token)) }
+{
+    let spelling = &text[token.start..token.end];
+    let terminal = match token.kind {
+        TokenKind::Identifier => Terminal::Identifier(names.intern(spelling)?),
+        TokenKind::RegionName => Terminal::RegionName(names.intern(&spelling[1..])?),
+        TokenKind::Number(value) => Terminal::Number(value),
+        TokenKind::Character(value) => Terminal::Character(value),
+        TokenKind::Keyword(word) => Terminal::Word(word),
+        TokenKind::Sign(sign) => Terminal::Mark(sign),
+    };
+    Ok(Symbol {
+        terminal,
+        span: token.span,
+    })
+}
+
+/// The symbols that tokens are, with their names numbered in the order in which they first come.
+fn symbols_of_tokens(
+    alloc: Global,
+    tokens: &[Token],
+    text: &[u8],
+    names: &mut Names,
+) -> Result<Vec<Symbol>, AllocError>
+    requires { All (LiesIn text.now) tokens.now }
+    ensures names { OnOk result (names.new ≡ fold with_text names.old (texts_in (map (token_of text.now) tokens.now))) }
+    ensures symbols { IfOk result (λ v. map view_symbol v.items ≡ map (symbol_of names.new) (map (token_of text.now) tokens.now)) }
+{
+    let mut symbols = Vec::new(alloc);
+    for token in tokens {
+        let symbol = symbol_of_token(*token, text, names)?;
+        symbols.push(symbol)?;
+    }
+    Ok(symbols)
+}
+
+// ---- from symbols to declarations
+
+/// The declarations that symbols spell, or their fault, in a text that ends at this place.
+#[tactic(auto, using(crate::proofs::Ends::whole_ends))]
+fn declarations_of(alloc: Global, symbols: &[Symbol], end: Span) -> Result<Vec<Declaration>, Fault>
+    ensures read { IfOk result (λ v. whole_program (map view_symbol symbols.now) ≡ Ok (map view_declaration v.items, [])) }
+    ensures refused { IfErr result (λ f. (f ≡ memory_fault) ⊎ answers.IsRefused (place_of_span end) (map view_symbol symbols.now) f) }
+{
+    let mut parser = Parser::new(alloc, symbols);
+    match parser.whole_program() {
+        Ok(declarations) => Ok(declarations),
+        Err(Stop::Memory) => Err(Fault::memory()),
+        Err(Stop::Refused(reason)) => Err(parser.fault(reason, end)),
+    }
+}
+
+impl<'a> Parser<'a> {
+    /// A program, and nothing behind it.
+    #[tactic(auto, unfolding(crate::specs::Answers::whole_program, crate::specs::Parsing::bind))]
+    fn whole_program(&mut self) -> Result<Vec<Declaration>, Stop>
+        ensures { Gives (λ v. map view_declaration v.items) result (whole_program self.old) self.new }
+    {
+        let declarations = self.program()?;
+        match self.next() {
+            Some(_) => Err(Stop::Refused(Reason::Unexpected)),
+            None => Ok(declarations),
+        }
+    }
+
+    fn code(&self, reason: Reason) -> Code
+        ensures { result ≡ code_of (view_reason reason) self.now }
+    {
+        match (reason, self.next()) {
+            (Reason::Unexpected, None) => Code::UnexpectedEnd,
+            (Reason::Unexpected, Some(_)) => Code::UnexpectedToken,
+            (Reason::TooDeep, _) => Code::NestingTooDeep,
+            (Reason::TooLong, _) => Code::ListTooLong,
+        }
+    }
+
+    /// The fault of a refusal at what is left, in a text that ends at this place.
+    fn fault(&self, reason: Reason, end: Span) -> Fault
+        ensures { result ≡ fault_of (place_of_span end) (record { reason = view_reason reason; left = self.now }) }
+    {
+        let place = self.place(end);
+        Fault::new(self.code(reason), place.line, place.column)
+    }
+}
