@@ -1,7 +1,7 @@
 # make build   proves and builds the program, crates/cyclone/out/cyclone
 # make demo    builds it, and shows it at work on the texts in examples/
 # make cases   builds it, and runs the command-line suite
-# make bench   builds it, and prints figures of its speed beside qemu-mips (Debian's qemu-user)
+# make bench   builds it, and prints figures of its speed beside qemu-mips, tcc and gcc (Debian's qemu-user, tcc, gcc)
 # make test    the gate: every proof, must-fail edit and test from nothing, and the command-line suite;
 #              the last line is `N passed, M failed`
 .PHONY: build demo cases bench test
@@ -18,6 +18,7 @@ cases: build
 
 bench: build
 	@python3 bench/machine.py
+	@python3 bench/checker.py
 
 test:
 	@bash tests/gate.sh

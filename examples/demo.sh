@@ -21,4 +21,5 @@ show cyclone compile hello.cyc -o "$room/hello.elf"
 show cyclone run "$room/hello.elf"
 show cyclone disasm "$room/hello.elf"
 show cyclone run "$room/hello.elf" --steps 1
+show cyclone check wrong.cyc
 show cyclone compile wrong.cyc -o "$room/wrong.elf"

@@ -17,6 +17,8 @@ import tempfile
 HERE = os.path.dirname(os.path.abspath(__file__))
 PROGRAM = os.path.join(HERE, "..", "crates", "cyclone", "out", "cyclone")
 SECONDS = 60
+# The file that holds the text of a line `? LINE | TEXT`.
+TEXT_FILE = "text.cyc"
 # A long value is shown by its two ends.
 SHOWN = 400
 
@@ -107,7 +109,11 @@ class Reader:
 
     def with_names(self, text):
         names = {**self.shared, **self.own}
-        return re.sub(r"\$([A-Z][A-Z0-9_]*)", lambda m: names.get(m.group(1), m.group(0)), text)
+        return re.sub(
+            r"\$(?:\{([A-Z][A-Z0-9_]*)\}|([A-Z][A-Z0-9_]*))",
+            lambda m: names.get(m.group(1) or m.group(2), m.group(0)),
+            text,
+        )
 
     def read(self):
         while self.at < len(self.lines):
@@ -136,12 +142,25 @@ class Reader:
         elif word in (">", "$"):
             self.step = Step(self.at, shlex.split(self.with_names(rest)), word == ">")
             self.cases[-1].actions.append(self.step)
+        elif word == "?":
+            self.check_text(rest)
         elif word in FILES:
             self.cases[-1].actions.append(FILES[word](self, rest))
         elif self.step is None:
             raise BadCase(f"`{word}` is no word of a case, or no command stands before it")
         else:
             self.expect(word, rest)
+
+    def check_text(self, rest):
+        """Makes a file of a text, and a step that checks it."""
+        said, bar, text = rest.partition("|")
+        if not bar:
+            raise BadCase("a text is checked by a line `? LINE | TEXT`")
+        content = unescaped(self.with_names(text.strip()))
+        self.step = Step(self.at, ["check", TEXT_FILE], True)
+        self.step.last = said.strip()
+        self.step.status = 0 if self.step.last == "done" else 2
+        self.cases[-1].actions += [made(self, TEXT_FILE, content), self.step]
 
     def expect(self, word, rest):
         step = self.step

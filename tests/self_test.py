@@ -12,6 +12,7 @@ case "$1" in
 say) printf '%s' "$2"; echo said >&2; exit 3;;
 echo) cat 2>/dev/null || exit 8; echo done >&2;;
 make) printf '%s' "$3" > "$2"; echo done >&2;;
+check) case "$(cat "$2")" in good*) echo done >&2;; *) echo 'fault 1 at 1:1' >&2; exit 2;; esac;;
 silent) exit 0;;
 *) echo 'first line' >&2; echo usage >&2; exit 9;;
 esac
@@ -61,6 +62,14 @@ $ wc -c w.elf
 out-has 88
 ends 0
 
+== texts that are checked
+let MORE = "1 | " * 2
+? done | good
+? done | good ${MORE}2 | 3
+? fault 1 at 1:1 |
+err-has fault
+? fault 1 at 1:1 | bad\n
+
 == streams
 > echo
 in x
@@ -101,6 +110,8 @@ absent a
 == a file that holds something else
 bytes a x
 holds a y
+== a text that has no fault
+? fault 1 at 1:1 | good
 == a file that is not there
 holds a y
 """
@@ -122,7 +133,7 @@ def main():
             file.write(STAND_IN)
         os.chmod(program, 0o755)
         failed = False
-        for cases, wanted in ((GOOD, ("4 passed, 0 failed", 0)), (BAD, ("0 passed, 9 failed", 1))):
+        for cases, wanted in ((GOOD, ("5 passed, 0 failed", 0)), (BAD, ("0 passed, 10 failed", 1))):
             line, status, all_of_it = last_line_of_run(cases, folder)
             if (line, status) != wanted:
                 print(f"the runner said {line!r} with status {status} and should have said {wanted}:\n{all_of_it}")

@@ -2,11 +2,12 @@
 use Rattle.std.specs.Prelude.{◌≡◌, ℕ, ◌≤◌, List, codes, Option, Some, IfSome}
 use Rattle.std.specs.Str.Parse.{digits_value}
 use Rattle.cyclone.specs.declared.arguments.Request.{Request}
-use Rattle.cyclone.specs.declared.arguments.Request.TheVariants.{Compile, Run, Disassemble}
+use Rattle.cyclone.specs.declared.arguments.Request.TheVariants.{Check, Compile, Run, Disassemble}
 
 -- a run is allowed from 1 to 1,000,000,000,000 instructions
 abbrev pub IsWithinBudget : Request → Type 0
 IsWithinBudget (Run image limits budget) = (1 ≤ budget) × (budget ≤ 1000000000000)
+IsWithinBudget (Check source) = Unit {0}
 IsWithinBudget (Compile source image) = Unit {0}
 IsWithinBudget (Disassemble image) = Unit {0}
 
@@ -21,5 +22,6 @@ IsRunRequest given (Run image limits budget) = (given (codes "image") ≡ Some i
     × IsNumberOf given (codes "calls") limits.calls
     × IsNumberOf given (codes "steps") budget
     × (1 ≤ budget) × (budget ≤ 1000000000000)
+IsRunRequest given (Check source) = ⊥
 IsRunRequest given (Compile source image) = ⊥
 IsRunRequest given (Disassemble image) = ⊥

@@ -11,7 +11,7 @@ use std::fmt;
 /// How a call of the program came out. Its `Display` is the last line on standard error.
 #[derive(Clone, Copy, Debug, PartialEq, Eq)]
 pub enum Answer {
-    /// The text was compiled, or the image listed.
+    /// The text was checked or compiled, or the image listed.
     Done,
     /// The run ended with this value.
     Returned(i32),

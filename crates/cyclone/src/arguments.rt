@@ -13,6 +13,10 @@ use std::alloc::{AllocError, Global};
 /// What the words of a command line ask for.
 #[derive(Clone, Copy, Debug, PartialEq, Eq)]
 pub enum Request<'a> {
+    /// `check F`: to say what is wrong with the text in the file `source`.
+    Check {
+        source: &'a str,
+    },
     /// `compile F -o I`: to make an image of the text in the file `source`, and write it to `image`.
     Compile {
         source: &'a str,
@@ -36,10 +40,11 @@ const MOST_CALLS: u64 = 4096;
 
 const MOST_STEPS: u64 = 1_000_000_000_000;
 
-const ABOUT: &str = "Compiles programs in an integer profile of Cyclone, a safe C with regions, \
-     to MIPS32 images, and runs and lists those images.";
+const ABOUT: &str = "Checks programs in an integer profile of Cyclone, a safe C with regions, \
+     compiles them to MIPS32 images, and runs and lists those images.";
 
 const EXAMPLES: &str = "Examples:
+  cyclone check hello.cyc                   say what is wrong with the program
   cyclone compile hello.cyc -o hello.elf    make an image of the program
   cyclone run hello.elf                     run it: what it returns is the exit status
   cyclone disasm hello.elf                  list its instructions
@@ -48,6 +53,13 @@ Exit status: 0 done, or the low 8 bits of what the program returned; 2 the text 
 3 not an image; 4 an exception was not caught; 5 out of pages or calls; 6 the machine
 trapped; 7 out of steps; 8 reading, writing or memory failed; 9 a wrong command line.
 The last line on standard error says which.";
+
+const CHECK_HELP: &str = "Example:
+  cyclone check hello.cyc
+
+A message says what is wrong first in the text, and where. So far the text's tokens and its
+grammar are checked; its types and its variables are not, so a text that has no such mistake
+ends with fault 60, \"not built yet\".";
 
 const COMPILE_HELP: &str = "Example:
   cyclone compile hello.cyc -o hello.elf
@@ -81,6 +93,17 @@ fn limit<'a>(alloc: Global, id: &'a str, default: &'a str, help: &'a str) -> Arg
         .help(help)
 }
 
+fn source<'a>(alloc: Global) -> Arg<'a> {
+    file(alloc, "source", "The file with the program's text").value_name("F")
+}
+
+fn check_command<'a>(alloc: Global) -> Result<Command<'a>, AllocError> {
+    Command::new(alloc, "check")
+        .about("Checks a text, and says what is wrong with it")
+        .after_help(CHECK_HELP)
+        .arg(source(alloc))
+}
+
 fn compile_command<'a>(alloc: Global) -> Result<Command<'a>, AllocError> {
     let image = Arg::new(alloc, "image")
         .short('o')
@@ -91,7 +114,7 @@ fn compile_command<'a>(alloc: Global) -> Result<Command<'a>, AllocError> {
     Command::new(alloc, "compile")
         .about("Compiles a text to an image")
         .after_help(COMPILE_HELP)
-        .arg(file(alloc, "source", "The file with the program's text").value_name("F"))?
+        .arg(source(alloc))?
         .arg(image)
 }
 
@@ -133,6 +156,7 @@ fn program<'a>(alloc: Global) -> Result<Command<'a>, AllocError> {
         .about(ABOUT)
         .after_help(EXAMPLES)
         .subcommand_required(true)
+        .subcommand(check_command(alloc)?)?
         .subcommand(compile_command(alloc)?)?
         .subcommand(run_command(alloc)?)?
         .subcommand(disasm_command(alloc)?)
@@ -204,6 +228,10 @@ pub fn read<'a>(alloc: Global, words: &'a [String]) -> Result<Request<'a>, Error
     let mut program = program(alloc)?;
     let matches = program.try_get_matches_from_mut(words)?;
     match matches.subcommand() {
+        Some(("check", matches)) => {
+            let source = file_of(&mut program, matches, "source")?;
+            Ok(Request::Check { source })
+        }
         Some(("compile", matches)) => {
             let source = file_of(&mut program, matches, "source")?;
             let image = file_of(&mut program, matches, "image")?;

@@ -1,4 +1,4 @@
-//! The program `cyclone`: compiles a text to an image, runs an image, and lists one.
+//! The program `cyclone`: checks a text, compiles one to an image, runs an image, and lists one.
 #![tactic(auto)]
 
 mod advice;

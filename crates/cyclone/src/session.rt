@@ -6,7 +6,7 @@ use crate::arguments::Request;
 use crate::console::{Keyboard, Screen};
 use crate::files::{read_image, read_text, write_image};
 use crate::message::Message;
-use crate::work::{list_image, run_image};
+use crate::work::{check, list_image, run_image};
 use clap::error::ErrorKind;
 use cyc_machine::Limits;
 use cyc_system::compile;
@@ -24,6 +24,16 @@ fn refused(rt: &HostRuntime, name: &str, text: &[u8], fault: Fault) -> Answer {
         let _ = rt.eprint(Message { name, text, fault });
     }
     answer
+}
+
+/// `check F`.
+fn check_file(rt: &HostRuntime, source: &str) -> Result<Answer, Answer> {
+    let text = read_text(rt, source)?;
+    let text = text.as_slice();
+    match check(rt.alloc(), text) {
+        Ok(()) => Ok(Answer::Done),
+        Err(fault) => Err(refused(rt, source, text, fault)),
+    }
 }
 
 /// `compile F -o I`. The file I is opened only where there is an image to write.
@@ -88,6 +98,7 @@ fn list_file(rt: &HostRuntime, image: &str) -> Result<Answer, Answer> {
 
 fn carry_out(rt: &HostRuntime, request: Request<'_>) -> Answer {
     let result = match request {
+        Request::Check { source } => check_file(rt, source),
         Request::Compile { source, image } => compile_file(rt, source, image),
         Request::Run {
             image,

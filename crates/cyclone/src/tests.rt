@@ -187,6 +187,7 @@ fn request(rt: &HostRuntime, words: &str) -> Result<String, Fail> {
 #[test]
 fn words_make_requests(rt: HostRuntime) -> Result<(), Fail> {
     let rows = [
+        ("cyclone check a.cyc", "Check { source: \"a.cyc\" }"),
         (
             "cyclone compile a.cyc -o a.elf",
             "Compile { source: \"a.cyc\", image: \"a.elf\" }",
@@ -201,7 +202,8 @@ fn words_make_requests(rt: HostRuntime) -> Result<(), Fail> {
             "Run { image: \"a.elf\", limits: Limits { pages: 8, calls: 32 }, budget: 5 }",
         ),
         ("cyclone", "MissingSubcommand"),
-        ("cyclone check a.cyc", "InvalidSubcommand"),
+        ("cyclone check", "MissingRequiredArgument"),
+        ("cyclone link a.cyc", "InvalidSubcommand"),
         ("cyclone compile a.cyc", "MissingRequiredArgument"),
         ("cyclone run a.elf --pages 2", "ValueValidation"),
         ("cyclone run a.elf --steps 5 --steps 5", "ArgumentConflict"),

@@ -1,12 +1,15 @@
-//! The three works of the program, over bytes, a reader and a writer.
+//! The works of the program, over bytes, a reader and a writer.
 ghost use Rattle.std.specs.Prelude.{◌≡◌, ◌⊎◌, IfOk, IfSome, take};
 ghost use Rattle.std.specs.Io.KnownBytes.{Keeps};
-ghost use Rattle.cyclone.specs.Work.{AnswersListing, AnswersRun};
+ghost use Rattle.cyclone.specs.Work.{AnswersCheck, AnswersListing, AnswersRun, AnswersTree};
 
 use crate::answer::Answer;
+use cyc_lex::lex;
 use cyc_machine::Limits;
+use cyc_parse::parse;
+use cyc_syntax::Tree;
 use cyc_system::{disassemble, run};
-use cyc_words::{ByteIn, ByteOut, Reader, Writer};
+use cyc_words::{ByteIn, ByteOut, Code, Fault, Reader, Writer};
 use std::alloc::Global;
 use std::io;
 use std::io::{Read, Write};
@@ -18,6 +21,23 @@ pub fn read_up_to<R: Read + Drop>(alloc: Global, reader: R, most: u64) -> io::Re
     let mut bytes = Vec::new(alloc);
     reader.take(most).read_to_end(&mut bytes)?;
     Ok(bytes)
+}
+
+/// The tree of a text.
+fn tree_of(alloc: Global, text: &[u8]) -> Result<Tree, Fault>
+    ensures { AnswersTree text.now result }
+{
+    let tokens = lex(alloc, text)?;
+    parse(alloc, &tokens, text)
+}
+
+/// Checks a text: its tokens, and then its grammar. What comes behind them is not built yet, so a text
+/// with no such mistake is refused at 1:1 for that.
+pub fn check(alloc: Global, text: &[u8]) -> Result<(), Fault>
+    ensures { AnswersCheck text.now result }
+{
+    tree_of(alloc, text)?;
+    Err(Fault::new(Code::NotBuiltYet, 1, 1))
 }
 
 /// The answer, or a write fault where what was written could not all be passed on.

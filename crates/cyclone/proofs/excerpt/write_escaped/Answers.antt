@@ -1,5 +1,5 @@
 -- `{:02x}` writes the two hexadecimal digits of a byte.
-use Rattle.std.proofs.Common.{arith, ◌≡◌, ◌<◌, false, ap, ◌∷◌, List, ℕ}
+use Rattle.std.proofs.Common.{arith, ◌<◌, false, ap, ◌∷◌, List, ℕ}
 use Rattle.std.proofs.lemmas.Fmt.{hex_byte}
 use Rattle.std.proofs.Output.{has_written_of_eq}
 use Rattle.cyclone.proofs.excerpt.write_escaped.Goals as goal

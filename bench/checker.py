@@ -1,0 +1,86 @@
+#!/usr/bin/env python3
+"""How fast a text of 60,000 tokens is checked, beside tcc and gcc on the same text. Not a test: it prints figures.
+
+    make bench
+
+The text is a program of this language and of C: functions over ints with loops and calls. `cyclone check` reads its tokens and
+its tree so far; `tcc -c` also compiles it, in the same pass; `gcc -fsyntax-only` checks its types and compiles nothing. The
+fastest of many runs counts, and beside it stands the fastest on a program of one line, which is the time to start.
+"""
+import os
+import shutil
+import subprocess
+import sys
+import tempfile
+import time
+
+HERE = os.path.dirname(os.path.abspath(__file__))
+PROGRAM = os.path.join(HERE, "..", "crates", "cyclone", "out", "cyclone")
+RUNS = 40
+TOKENS = 60_000
+
+# Each word between spaces is one token.
+FUNCTION = """
+int f{0} ( int a , int b ) {{
+  int c = a * 3 + b ; int d = 0 ;
+  while ( c > 10 && d < 100 ) {{
+    c = c / 2 - ( d << 1 ) ;
+    if ( c == b ) d = d + f{1} ( c - 1 , a ) ; else {{ d = d + 2 ; }}
+  }}
+  return c * d - ( a + b ) % 7 ;
+}}
+"""
+MAIN = "int main ( ) { @ return f0 ( 1 , 2 ) ; }"
+SMALL = "int main ( ) { return 0 ; }"
+
+
+def text_of(count):
+    """A program of so many tokens. It is filled up with empty statements in `main`."""
+    functions, tokens = [], len(MAIN.split()) - 1
+    while True:
+        function = FUNCTION.format(len(functions), max(len(functions) - 1, 0))
+        tokens += len(function.split())
+        if tokens > count:
+            break
+        functions.append(function)
+    text = "".join(functions) + MAIN
+    return text.replace("@", ";" * (count - len(text.split()) + 1))
+
+
+def milliseconds(words, statuses):
+    """The fastest of the runs."""
+    best = None
+    for _ in range(RUNS):
+        start = time.perf_counter()
+        done = subprocess.run(words, stdout=subprocess.DEVNULL, stderr=subprocess.PIPE)
+        taken = (time.perf_counter() - start) * 1000
+        if done.returncode not in statuses:
+            sys.exit(f"{' '.join(words)}: status {done.returncode}\n{done.stderr.decode('latin-1')}")
+        best = taken if best is None else min(best, taken)
+    return best
+
+
+def main():
+    with tempfile.TemporaryDirectory() as folder:
+        text, small, output = (os.path.join(folder, name) for name in ("text.c", "small.c", "text.o"))
+        for path, program in ((text, text_of(TOKENS)), (small, SMALL)):
+            with open(path, "w", encoding="ascii") as file:
+                file.write(program)
+        print(f"a text of {TOKENS} tokens, {os.path.getsize(text)} bytes")
+        # Until all of a text is checked, an accepted one ends with status 2.
+        tools = (
+            ("cyclone check", [PROGRAM, "check"], (0, 2)),
+            ("tcc -c", ["tcc", "-c", "-o", output], (0,)),
+            ("gcc -fsyntax-only", ["gcc", "-fsyntax-only"], (0,)),
+        )
+        for name, words, statuses in tools:
+            if not shutil.which(words[0]):
+                print(f"{words[0]} is not here (Debian's package {words[0]} has it)")
+                continue
+            taken = milliseconds(words + [text], statuses)
+            start = milliseconds(words + [small], statuses)
+            print(f"{name + ':':19}{taken:7.1f} ms, of which {start:.1f} ms to start")
+
+
+if __name__ == "__main__":
+    main()
