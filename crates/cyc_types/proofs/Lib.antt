@@ -1,0 +1,10 @@
+pub mod Judged
+pub mod Answered
+pub mod FlowAnswered
+pub mod FlowLemmas
+pub mod TypedTreeViewLemmas
+pub mod NumberedLemmas
+pub mod RegionLemmas
+pub mod ClosureLemmas
+pub mod TableLemmas
+pub mod SearchLemmas

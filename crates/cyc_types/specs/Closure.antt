@@ -1,0 +1,75 @@
+-- The outlives relation as tests that compute, and what a table of constraints keeps.
+use Rattle.std.specs.Prelude.{◌≡◌, ℕ, Bool, true, false, ◌&&◌, ◌||◌, not, if◌then◌else◌, List, [], ◌∷◌, map, reverse, take, Option, Some, None}
+use Rattle.std.specs.List.{list_any, list_all}
+use Rattle.cyc_types.specs.declared.region.Region.{Region}
+use Rattle.cyc_types.specs.declared.region.Region.TheVariants.{Heap, Unique}
+use Rattle.cyc_types.specs.declared.scope.Scope.{Scope}
+use Rattle.cyc_types.specs.declared.constraints.Constraint.{Constraint}
+use Rattle.cyc_types.specs.Regions.{region_eq, is_among}
+use Rattle.cyc_types.specs.Outlives.{RegionContext, live_regions, is_outlived_by_live, names_no_unique}
+
+-- whether the pairs lead from a to b: a path that uses the first pair goes to it, over it, and on from it
+abbrev pub above : List (Region × Region) → Region → Region → Bool
+above [] a b = region_eq a b
+above (p ∷ ps) a b = above ps a b || (above ps a p.0 && above ps p.1 b)
+
+-- whether the pairs lead from a to one of these regions, the unique region aside
+abbrev pub above_one_of : List (Region × Region) → List Region → Region → Bool
+above_one_of written regions a = list_any (λ r. not (region_eq r Unique) && above written a r) regions
+
+-- the same of the regions of scopes
+abbrev pub above_one_opened : List (Region × Region) → List Scope → Region → Bool
+above_one_opened written scopes a = list_any (λ s. not (region_eq s.region Unique) && above written a s.region) scopes
+
+-- whether the pairs and the open scopes, newest first, lead from a to b
+abbrev pub leads : List (Region × Region) → List Region → List Scope → Region → Region → Bool
+leads written live [] a b = above written a b
+leads written live (s ∷ earlier) a b =
+    leads written live earlier a b
+    || (is_outlived_by_live s.kind && above_one_of written (live_regions live earlier) a && leads written live earlier s.region b)
+
+-- whether the pairs lead from a to what was live when the scope at this place opened; the scopes are oldest first
+abbrev pub is_above_known : List (Region × Region) → List Region → List Scope → Option ℕ → Region → Bool
+is_above_known written live scopes None a = false
+is_above_known written live scopes (Some k) a = above_one_of written (live_regions live (reverse (take k scopes))) a
+
+-- whether a outlives b, where no constraint and no scope has the unique region
+abbrev pub is_outliving : RegionContext → Region → Region → Bool
+is_outliving c a b =
+    region_eq a b
+    || (not (region_eq b Unique) && (leads c.written c.live c.opened a b || leads c.written c.live c.opened a Heap))
+
+-- ---- the table
+
+-- whether an entry says that its longer-lived region outlives b
+abbrev pub entry_leads : Constraint → Region → Bool
+entry_leads c b = region_eq c.longer b || is_among b c.outlived.items
+
+-- whether the table says that a outlives b: the first entry of a decides
+abbrev pub table_leads : List Constraint → Region → Region → Bool
+table_leads [] a b = region_eq a b
+table_leads (c ∷ cs) a b = (if region_eq c.longer a then entry_leads c b else table_leads cs a b)
+
+-- whether an entry is there for this region
+abbrev pub has_entry : List Constraint → Region → Bool
+has_entry constraints a = list_any (λ c. region_eq c.longer a) constraints
+
+abbrev pub written_in : List Constraint → List (Region × Region)
+written_in constraints = map (λ c. (c.longer, c.shorter)) constraints
+
+-- the table says what its pairs lead to
+abbrev pub IsClosed : List Constraint → Type 0
+IsClosed constraints = (a b : Region) → table_leads constraints a b ≡ above (written_in constraints) a b
+
+abbrev pub names_no_unique_scope : List Scope → Bool
+names_no_unique_scope scopes = list_all (λ s. not (region_eq s.region Unique)) scopes
+
+-- what the fields of an `Outlives` keep
+pub record IsSound (constraints : List Constraint) (scopes : List Scope) : Type 0 where
+  pub closed : IsClosed constraints
+  pub no_unique : names_no_unique (written_in constraints) ≡ true
+  pub no_unique_scope : names_no_unique_scope (reverse scopes) ≡ true
+
+-- what they stand for
+abbrev pub context_of : List Constraint → List Region → List Scope → RegionContext
+context_of constraints live scopes = record { written = written_in constraints; live = live; opened = reverse scopes }

@@ -1,0 +1,105 @@
+-- What a typed tree keeps of its own accord, and later phases rely on: each number that it has names something that is there, each
+-- call passes as many arguments as its function has parameters, and a break or a continue stands in a loop.
+use Rattle.std.specs.Prelude.{◌≡◌, ℕ, zero, suc, ◌+◌, ◌<◌, Bool, true, false, List, [], ◌∷◌, Option, Some, None}
+use Rattle.cyc_types.specs.declared.typed.Callee.{Callee}
+use Rattle.cyc_types.specs.declared.typed.Callee.TheVariants as callees
+use Rattle.cyc_types.specs.Types.{Ty, Int}
+use Rattle.cyc_types.specs.TypedTrees.{Lvalue, Local, Global, Expression, Number, Copy, Call, Unary, Binary, Assign, Converted, Convert, Arguments, NoArguments, MoreArguments, Operations, NoOperations, ThenCompute, ThenTest, Statement, Block, Empty, Evaluate, If, While, Return, Break, Continue, Items, NoItems, MoreItems, Execute, Declare, Function, Program}
+use Rattle.cyc_types.specs.Scopes.{Signature}
+use Rattle.cyc_types.specs.TypingRules.{count}
+
+-- the element with this number
+abbrev pub numbered : {A : Type 0} → List A → ℕ → Option A
+numbered [] n = None
+numbered (x ∷ xs) zero = Some x
+numbered (x ∷ xs) (suc n) = numbered xs n
+
+abbrev pub signature_of : Function → Signature
+signature_of h = record { parameters = h.parameters; result = h.result }
+
+abbrev pub signatures_of : List Function → List Signature
+signatures_of [] = []
+signatures_of (h ∷ hs) = signature_of h ∷ signatures_of hs
+
+-- what there is to name
+pub record Bounds : Type 0 where
+  pub globals : ℕ
+  pub functions : List Signature
+  -- of the function
+  pub locals : ℕ
+  pub regions : ℕ
+  pub result : Option Ty
+
+-- the signature of what is called
+abbrev pub IsSignature : Bounds → Callee → Signature → Type 0
+IsSignature b callees.Putchar s = s ≡ record { parameters = Int ∷ []; result = Some Int }
+IsSignature b callees.Getchar s = s ≡ record { parameters = []; result = Some Int }
+IsSignature b (callees.Function n) s = numbered b.functions n ≡ Some s
+
+abbrev pub argument_count : Arguments → ℕ
+argument_count NoArguments = 0
+argument_count (MoreArguments c cs) = suc (argument_count cs)
+
+abbrev pub IsWithin : Bounds → Lvalue → Type 0
+IsWithin b (Local p n) = n < b.locals
+IsWithin b (Global n) = n < b.globals
+
+abbrev mutual
+  pub IsNumbered : Bounds → Expression → Type 0
+  IsNumbered b (Number n) = Unit {0}
+  IsNumbered b (Copy l t) = IsWithin b l
+  IsNumbered b (Call f cs t) = (s : Signature) × IsSignature b f s × (argument_count cs ≡ count s.parameters) × (t ≡ s.result) × AreNumberedArguments b cs
+  IsNumbered b (Unary o a) = IsNumbered b a
+  IsNumbered b (Binary a os t) = IsNumbered b a × AreNumberedOperations b os
+  IsNumbered b (Assign l c t) = IsWithin b l × IsNumberedConverted b c
+
+  pub IsNumberedConverted : Bounds → Converted → Type 0
+  IsNumberedConverted b (Convert from to a) = IsNumbered b a
+
+  pub AreNumberedArguments : Bounds → Arguments → Type 0
+  AreNumberedArguments b NoArguments = Unit {0}
+  AreNumberedArguments b (MoreArguments c cs) = IsNumberedConverted b c × AreNumberedArguments b cs
+
+  pub AreNumberedOperations : Bounds → Operations → Type 0
+  AreNumberedOperations b NoOperations = Unit {0}
+  AreNumberedOperations b (ThenCompute o a os) = IsNumbered b a × AreNumberedOperations b os
+  AreNumberedOperations b (ThenTest o a os) = IsNumbered b a × AreNumberedOperations b os
+
+-- a value is returned exactly by a function with a result
+abbrev pub IsNumberedReturn : Bounds → Option Ty → Option Converted → Type 0
+IsNumberedReturn b None None = Unit {0}
+IsNumberedReturn b None (Some c) = ⊥
+IsNumberedReturn b (Some t) None = ⊥
+IsNumberedReturn b (Some t) (Some c) = IsNumberedConverted b c
+
+abbrev pub IsNumberedInitial : Bounds → Option Converted → Type 0
+IsNumberedInitial b None = Unit {0}
+IsNumberedInitial b (Some c) = IsNumberedConverted b c
+
+abbrev mutual
+  pub IsNumberedStatement : Bounds → (in_loop : Bool) → Statement → Type 0
+  IsNumberedStatement b l (Block r js) = (r < b.regions) × AreNumberedItems b l js
+  IsNumberedStatement b l Empty = Unit {0}
+  IsNumberedStatement b l (Evaluate a) = IsNumbered b a
+  IsNumberedStatement b l (If a s t) = IsNumbered b a × IsNumberedStatement b l s × IsNumberedStatement b l t
+  IsNumberedStatement b l (While p a s) = IsNumbered b a × IsNumberedStatement b true s
+  IsNumberedStatement b l (Return v) = IsNumberedReturn b b.result v
+  IsNumberedStatement b l Break = l ≡ true
+  IsNumberedStatement b l Continue = l ≡ true
+
+  pub AreNumberedItems : Bounds → Bool → Items → Type 0
+  AreNumberedItems b l NoItems = Unit {0}
+  AreNumberedItems b l (MoreItems (Execute s) js) = IsNumberedStatement b l s × AreNumberedItems b l js
+  AreNumberedItems b l (MoreItems (Declare n t v) js) = (n < b.locals) × IsNumberedInitial b v × AreNumberedItems b l js
+
+abbrev pub bounds_of : ℕ → List Signature → Function → Bounds
+bounds_of globals functions h = record { globals = globals; functions = functions; locals = count h.parameters + count h.locals; regions = h.regions; result = h.result }
+
+abbrev pub AreNumberedFunctions : ℕ → List Signature → List Function → Type 0
+AreNumberedFunctions globals functions [] = Unit {0}
+AreNumberedFunctions globals functions (h ∷ hs) = AreNumberedItems (bounds_of globals functions h) false h.body × AreNumberedFunctions globals functions hs
+
+-- `main` is a function without parameters, whose result is an int
+pub record IsNumberedProgram (p : Program) : Type 0 where
+  pub functions : AreNumberedFunctions (count p.globals) (signatures_of p.functions) p.functions
+  pub main : numbered (signatures_of p.functions) p.main ≡ Some (record { parameters = []; result = Some Int })

@@ -1,0 +1,11 @@
+-- The view of the code's types: the same type, without where it lies in memory.
+use Rattle.cyc_types.specs.declared.ty.Ty.{Ty as TyCode}
+use Rattle.cyc_types.specs.declared.ty.Ty.TheVariants as ty
+use Rattle.cyc_types.specs.Types.{Ty, Int, Pointer, Handle, Key, Struct}
+
+abbrev pub view_ty : TyCode → Ty
+view_ty ty.Int = Int
+view_ty (ty.Pointer' k b t r) = Pointer k (view_ty t) r
+view_ty (ty.Handle r) = Handle r
+view_ty (ty.Key r) = Key r
+view_ty (ty.Struct n rs) = Struct n rs.items

@@ -1,0 +1,36 @@
+-- Types as all definitions speak of them: values with no memory behind them.
+use Rattle.std.specs.Prelude.{ℕ, List, map}
+use Rattle.cyc_syntax.specs.declared.tree.PointerKind.{PointerKind}
+use Rattle.cyc_syntax.specs.declared.tree.PointerKind.TheVariants.{Nullable, NonNull, Fat}
+use Rattle.cyc_types.specs.declared.region.Region.{Region}
+use Rattle.cyc_types.specs.Regions.{substituted_region}
+
+pub data Ty : Type 0 where
+  Int : Ty
+  -- the mark, the target, and the region of the target
+  Pointer : PointerKind → Ty → Region → Ty
+  Handle : Region → Ty
+  Key : Region → Ty
+  -- its number among the structs, and a region for each of its parameters
+  Struct : ℕ → List Region → Ty
+
+-- each region variable replaced by the region at its number in the list
+abbrev pub substituted_ty : List Region → Ty → Ty
+substituted_ty regions Int = Int
+substituted_ty regions (Pointer k t r) = Pointer k (substituted_ty regions t) (substituted_region regions r)
+substituted_ty regions (Handle r) = Handle (substituted_region regions r)
+substituted_ty regions (Key r) = Key (substituted_region regions r)
+substituted_ty regions (Struct n rs) = Struct n (map (substituted_region regions) rs)
+
+abbrev pub words_of_mark : PointerKind → ℕ
+words_of_mark Nullable = 1
+words_of_mark NonNull = 1
+words_of_mark Fat = 3
+
+-- the words of a cell: a fat pointer has three, any other value one
+abbrev pub words_of : Ty → ℕ
+words_of Int = 1
+words_of (Pointer k t r) = words_of_mark k
+words_of (Handle r) = 1
+words_of (Key r) = 1
+words_of (Struct n rs) = 1

@@ -1,0 +1,156 @@
+//! The outlives constraints of a function, closed under transitivity once and for all.
+ghost use Rattle.std.specs.Prelude.{◌≡◌, ◌||◌, ◌&&◌, [], IfOk, OnOk, MatchOption, IfSome, IsTrue};
+ghost use Rattle.cyc_types.specs.declared.region.Region.{Region};
+ghost use Rattle.cyc_types.specs.Regions.{region_eq, is_among};
+ghost use Rattle.cyc_types.specs.Closure.{above, entry_leads, table_leads, written_in, IsClosed, has_entry};
+
+use crate::Region;
+use std::alloc::{AllocError, Global};
+
+/// A constraint as it is written, and all that its longer-lived region outlives by the constraints.
+#[derive(Drop)]
+pub struct Constraint {
+    pub longer: Region,
+    pub shorter: Region,
+    pub outlived: Vec<Region>,
+}
+
+/// Whether the list has the region.
+pub(crate) fn is_among(region: Region, regions: &[Region]) -> bool
+    ensures { result ≡ is_among region regions.now }
+{
+    regions.contains(&region)
+}
+
+impl Constraint {
+    /// The constraint, with nothing known of what the longer-lived region outlives.
+    fn new(alloc: Global, longer: Region, shorter: Region) -> Constraint
+        ensures longer { result.longer ≡ longer }
+        ensures shorter { result.shorter ≡ shorter }
+        ensures outlived { result.outlived.items ≡ [] }
+    {
+        Constraint {
+            longer,
+            shorter,
+            outlived: Vec::new(alloc),
+        }
+    }
+
+    /// Whether the longer-lived region is known to outlive this one.
+    fn leads_to(&self, region: Region) -> bool
+        ensures { result ≡ entry_leads self.now region }
+    {
+        self.longer == region || is_among(region, &self.outlived)
+    }
+
+    /// Adds one region to those that the longer-lived one outlives.
+    fn add(&mut self, region: Region) -> Result<(), AllocError>
+        ensures longer { OnOk result (self.new.longer ≡ self.old.longer) }
+        ensures shorter { OnOk result (self.new.shorter ≡ self.old.shorter) }
+        ensures leads { OnOk result ((b : Region) → entry_leads self.new b ≡ (entry_leads self.old b || region_eq region b)) }
+    {
+        if !self.leads_to(region) {
+            self.outlived.push(region)?;
+        }
+        Ok(())
+    }
+
+    /// If the longer-lived region outlives `via`, adds all of `below` to what it outlives.
+    fn extend(&mut self, via: Region, below: &[Region]) -> Result<(), AllocError>
+        ensures longer { OnOk result (self.new.longer ≡ self.old.longer) }
+        ensures shorter { OnOk result (self.new.shorter ≡ self.old.shorter) }
+        ensures leads { OnOk result ((b : Region) → entry_leads self.new b ≡ (entry_leads self.old b || (entry_leads self.old via && is_among b below.now))) }
+    {
+        if self.leads_to(via) {
+            for region in below {
+                self.add(*region)?;
+            }
+        }
+        Ok(())
+    }
+}
+
+/// The entry that says what the region outlives, if a constraint begins with it.
+fn entry_of(constraints: &[Constraint], region: Region) -> Option<&Constraint>
+    ensures entry { MatchOption result ((b : Region) → table_leads constraints.now region b ≡ region_eq region b) (λ c. (b : Region) → table_leads constraints.now region b ≡ entry_leads c.now b) }
+    ensures longer { IfSome result (λ c. c.now.longer ≡ region) }
+{
+    for constraint in constraints {
+        if constraint.longer == region {
+            return Some(constraint);
+        }
+    }
+    None
+}
+
+/// Whether the first region outlives the second by the constraints.
+pub(crate) fn table_leads(constraints: &[Constraint], a: Region, b: Region) -> bool
+    ensures { result ≡ table_leads constraints.now a b }
+{
+    match entry_of(constraints, a) {
+        Some(constraint) => constraint.leads_to(b),
+        None => a == b,
+    }
+}
+
+/// The region and all that it outlives.
+fn all_below(
+    alloc: Global,
+    constraints: &[Constraint],
+    region: Region,
+) -> Result<Vec<Region>, AllocError>
+    ensures { IfOk result (λ below. (b : Region) → is_among b below.items ≡ table_leads constraints.now region b) }
+{
+    let mut below = match entry_of(constraints, region) {
+        Some(constraint) => Vec::from_slice(alloc, &constraint.outlived)?,
+        None => Vec::new(alloc),
+    };
+    below.push(region)?;
+    Ok(below)
+}
+
+/// Each entry that leads to `via` leads to all of `below` too.
+fn extend_all(
+    constraints: &mut [Constraint],
+    via: Region,
+    below: &[Region],
+) -> Result<(), AllocError>
+    requires { IsTrue (has_entry constraints.old via) }
+    ensures written { OnOk result (written_in constraints.new ≡ written_in constraints.old) }
+    ensures leads { OnOk result ((a b : Region) → table_leads constraints.new a b ≡ (table_leads constraints.old a b || (table_leads constraints.old a via && is_among b below.now))) }
+{
+    for constraint in constraints.iter_mut() {
+        constraint.extend(via, below)?;
+    }
+    Ok(())
+}
+
+/// The constraints, where each region is known to outlive itself alone.
+fn unclosed(alloc: Global, written: &[(Region, Region)]) -> Result<Vec<Constraint>, AllocError>
+    ensures written { IfOk result (λ constraints. written_in constraints.items ≡ written.now) }
+    ensures leads { IfOk result (λ constraints. (a b : Region) → table_leads constraints.items a b ≡ region_eq a b) }
+{
+    let mut constraints = Vec::new(alloc);
+    for pair in written {
+        let entry = Constraint::new(alloc, pair.0, pair.1);
+        constraints.push(entry)?;
+    }
+    Ok(constraints)
+}
+
+/// The constraints with all that they lead to.
+pub(crate) fn closed(
+    alloc: Global,
+    written: &[(Region, Region)],
+) -> Result<Vec<Constraint>, AllocError>
+    ensures written { IfOk result (λ constraints. written_in constraints.items ≡ written.now) }
+    ensures closed { IfOk result (λ constraints. IsClosed constraints.items) }
+{
+    let mut constraints = unclosed(alloc, written)?;
+    for i in (0..written.len()).rev() {
+        let (longer, shorter) = written[i];
+        let below = all_below(alloc, &constraints, shorter)?;
+        extend_all(&mut constraints, longer, &below)?;
+    }
+    Ok(constraints)
+}

@@ -1,0 +1,54 @@
+//! Laws of the definitions in `specs/`. Each function does nothing: what it ensures is the law.
+ghost use Rattle.std.specs.Prelude.{◌≡◌, ◌↔◌, ℕ, List, Ok, Err};
+ghost use Rattle.cyc_words.specs.declared.fault.Fault.{Fault};
+ghost use Rattle.cyc_syntax.specs.Trees.{Declaration};
+ghost use Rattle.cyc_types.specs.TypedTrees.{Program};
+ghost use Rattle.cyc_types.specs.TypingRules.{IsTypedProgram};
+ghost use Rattle.cyc_types.specs.Refusals.{IsRefusedProgram};
+ghost use Rattle.cyc_types.specs.Checking.{check_of};
+ghost use Rattle.cyc_types.specs.FlowRules.{IsAllowedProgram};
+ghost use Rattle.cyc_types.specs.FlowRefusals.{IsStoppedProgram};
+ghost use Rattle.cyc_types.specs.FlowChecking.{flow_of};
+ghost use Rattle.cyc_types.specs.Numbered.{IsNumberedProgram};
+
+/// The typing rules leave no choice: a tree has at most one typed tree.
+pub fn one_typed_tree()
+    ensures { (texts : List (List ℕ)) (tree : List Declaration) (p q : Program) → IsTypedProgram texts tree p → IsTypedProgram texts tree q → p ≡ q }
+{}
+
+/// A tree has at most one first fault.
+pub fn one_fault()
+    ensures { (texts : List (List ℕ)) (tree : List Declaration) (f g : Fault) → IsRefusedProgram texts tree f → IsRefusedProgram texts tree g → f ≡ g }
+{}
+
+/// No tree is both well typed and refused.
+pub fn typed_or_refused()
+    ensures { (texts : List (List ℕ)) (tree : List Declaration) (p : Program) (f : Fault) → IsTypedProgram texts tree p → IsRefusedProgram texts tree f → ⊥ }
+{}
+
+/// The checking function answers a typed tree exactly where the rules derive it, and a fault exactly where it is the first.
+pub fn checking_is_typing()
+    ensures typed { (texts : List (List ℕ)) (tree : List Declaration) (p : Program) → (check_of texts tree ≡ Ok p) ↔ IsTypedProgram texts tree p }
+    ensures refused { (texts : List (List ℕ)) (tree : List Declaration) (f : Fault) → (check_of texts tree ≡ Err f) ↔ IsRefusedProgram texts tree f }
+{}
+
+/// No typed tree both keeps the flow rules and is refused by one.
+pub fn allowed_or_stopped()
+    ensures { (program : Program) (f : Fault) → IsAllowedProgram program → IsStoppedProgram program f → ⊥ }
+{}
+
+/// A typed tree has at most one first fault of flow.
+pub fn one_flow_fault()
+    ensures { (program : Program) (f g : Fault) → IsStoppedProgram program f → IsStoppedProgram program g → f ≡ g }
+{}
+
+/// The function of the flow rules answers nothing exactly where they are kept, and a fault exactly where it is the first.
+pub fn flow_checking_is_flow()
+    ensures kept { (program : Program) → (flow_of program ≡ Ok tt) ↔ IsAllowedProgram program }
+    ensures refused { (program : Program) (f : Fault) → (flow_of program ≡ Err f) ↔ IsStoppedProgram program f }
+{}
+
+/// The typed tree of a program keeps its numbers in range, its calls in step with its functions, and its breaks in loops.
+pub fn typed_trees_are_numbered()
+    ensures { (texts : List (List ℕ)) (tree : List Declaration) (p : Program) → IsTypedProgram texts tree p → IsNumberedProgram p }
+{}

@@ -1,0 +1,189 @@
+//! Which region outlives which, by the constraints of a function and the scopes that are open.
+ghost use Rattle.std.specs.Prelude.{◌≡◌, ◌≢◌, ◌↔◌, ◌||◌, [], ◌∷◌, reverse, IsTrue, IfOk, OnOk, OnErr, length, ◌<◌};
+ghost use Rattle.std.specs.Option.{ForSome};
+ghost use Rattle.cyc_types.specs.declared.scope.Scope.{Scope};
+ghost use Rattle.cyc_types.specs.Outlives.{OutlivesIn, live_regions, names_no_unique, is_outlived_by_live};
+ghost use Rattle.cyc_types.specs.Closure.{IsClosed, above, above_one_of, above_one_opened, context_of, is_outliving, is_above_known, leads, written_in};
+
+use crate::Region;
+use crate::constraints::{Constraint, closed, table_leads};
+use crate::scope::{Kind, Scope, is_outlived_by_live};
+use std::alloc::{AllocError, Global};
+use std::marker::Model;
+
+/// The outlives relation of a function at one place of its body: the constraints that are written, what is live before any
+/// scope opens, and the open scopes.
+///
+/// The heap outlives every region but the unique one. What is live when a block or a lexical scope opens outlives its region;
+/// opening a dynamic or an alias region adds nothing. The unique region is related to itself alone. Questions take no memory.
+#[derive(Drop)]
+pub struct Outlives {
+    constraints: Vec<Constraint>,
+    live: Vec<Region>,
+    /// Oldest first.
+    scopes: Vec<Scope>,
+}
+
+impl Model for Outlives {
+    ghost use Rattle.cyc_types.specs.Outlives.{RegionContext};
+    ghost use Rattle.cyc_types.specs.Closure.{IsSound, context_of};
+
+    ghost Value = { RegionContext };
+
+    ghost view = { λ o. context_of o.constraints.items o.live.items o.scopes.items };
+
+    ghost invariant = { λ o. IsSound o.constraints.items o.scopes.items };
+}
+
+impl Outlives {
+    /// No scope is open yet. The first region of each pair of `written` outlives the second, and none is the unique region; `live`
+    /// are the regions that are live at the start.
+    pub fn new(
+        alloc: Global,
+        written: &[(Region, Region)],
+        live: &[Region],
+    ) -> Result<Outlives, AllocError>
+        requires { IsTrue (names_no_unique written.now) }
+        ensures written { IfOk result (λ outlives. outlives.written ≡ written.now) }
+        ensures live { IfOk result (λ outlives. outlives.live ≡ live.now) }
+        ensures opened { IfOk result (λ outlives. outlives.opened ≡ []) }
+    {
+        Ok(Outlives {
+            constraints: closed(alloc, written)?,
+            live: Vec::from_slice(alloc, live)?,
+            scopes: Vec::new(alloc),
+        })
+    }
+
+    /// Whether `a` outlives `b`.
+    pub fn outlives(&self, a: Region, b: Region) -> bool
+        ensures { IsTrue result ↔ OutlivesIn self.now a b }
+    {
+        is_outliving(&self.constraints, &self.live, &self.scopes, a, b)
+    }
+
+    /// Opens a scope. Its region, which is not the unique one, is live until the scope is closed. It may be a region that the
+    /// constraints name or that is live already, as the region of a key is.
+    pub fn open_scope(&mut self, region: Region, kind: Kind) -> Result<(), AllocError>
+        requires { region ≢ Region.Unique }
+        ensures opened { OnOk result (self.new ≡ record self.old { opened = record { region = region; kind = kind } ∷ self.old.opened }) }
+        ensures unchanged { OnErr result (self.new ≡ self.old) }
+    {
+        self.scopes.push(Scope { region, kind })?;
+        Ok(())
+    }
+
+    /// Closes the newest open scope.
+    pub fn close_scope(&mut self)
+        requires { self.old.opened ≢ [] }
+        ensures context { (scope : Scope) × (self.old ≡ record self.new { opened = scope ∷ self.new.opened }) }
+    {
+        let _ = self.scopes.pop();
+    }
+}
+
+/// Whether `a` outlives `b`: by the constraints and the scopes, or because it outlives the heap.
+fn is_outliving(
+    constraints: &[Constraint],
+    live: &[Region],
+    scopes: &[Scope],
+    a: Region,
+    b: Region,
+) -> bool
+    requires { IsClosed constraints.now }
+    ensures { result ≡ is_outliving (context_of constraints.now live.now scopes.now) a b }
+{
+    if a == b {
+        return true;
+    }
+    b != Region::Unique
+        && (leads(constraints, live, scopes, a, b)
+            || leads(constraints, live, scopes, a, Region::Heap))
+}
+
+/// Whether the constraints lead from `a` to one of these regions, the unique region aside.
+fn is_above_one_of(constraints: &[Constraint], regions: &[Region], a: Region) -> bool
+    requires { IsClosed constraints.now }
+    ensures { result ≡ above_one_of (written_in constraints.now) regions.now a }
+{
+    for region in regions {
+        if *region != Region::Unique && table_leads(constraints, a, *region) {
+            return true;
+        }
+    }
+    false
+}
+
+/// The same of the regions of scopes.
+fn is_above_one_opened(constraints: &[Constraint], scopes: &[Scope], a: Region) -> bool
+    requires { IsClosed constraints.now }
+    ensures { result ≡ above_one_opened (written_in constraints.now) scopes.now a }
+{
+    for scope in scopes {
+        if scope.region != Region::Unique && table_leads(constraints, a, scope.region) {
+            return true;
+        }
+    }
+    false
+}
+
+/// The same of all that is live where these scopes are open.
+fn is_above_live(constraints: &[Constraint], live: &[Region], scopes: &[Scope], a: Region) -> bool
+    requires { IsClosed constraints.now }
+    ensures { result ≡ above_one_of (written_in constraints.now) (live_regions live.now (reverse scopes.now)) a }
+{
+    is_above_one_of(constraints, live, a) || is_above_one_opened(constraints, scopes, a)
+}
+
+/// Whether the constraints and the open scopes lead from `a` to `b`.
+///
+/// The scopes are passed from the oldest to the newest. Once all that is live at some scope is known to outlive `b`, a later scope
+/// matters only where its own region leads to `b`, and then all that is live there outlives `b` too.
+fn leads(
+    constraints: &[Constraint],
+    live: &[Region],
+    scopes: &[Scope],
+    a: Region,
+    b: Region,
+) -> bool
+    requires { IsClosed constraints.now }
+    ensures { result ≡ leads (written_in constraints.now) live.now (reverse scopes.now) a b }
+{
+    if table_leads(constraints, a, b) {
+        return true;
+    }
+    let mut known: Option<usize> = None;
+    for i in 0..scopes.len() {
+        let scope = scopes[i];
+        if is_outlived_by_live(scope.kind)
+            && is_known(constraints, live, scopes, known, scope.region, b)
+        {
+            if is_above_live(constraints, live, &scopes[..i], a) {
+                return true;
+            }
+            known = Some(i);
+        }
+    }
+    false
+}
+
+/// Whether `a` leads to `b`, where all that was live when the scope at `known` opened does, and nothing else but what the
+/// constraints say.
+fn is_known(
+    constraints: &[Constraint],
+    live: &[Region],
+    scopes: &[Scope],
+    known: Option<usize>,
+    a: Region,
+    b: Region,
+) -> bool
+    requires closed { IsClosed constraints.now }
+    requires known { ForSome known (λ k. k < length scopes.now) }
+    ensures { result ≡ (above (written_in constraints.now) a b || is_above_known (written_in constraints.now) live.now scopes.now known a) }
+{
+    table_leads(constraints, a, b)
+        || match known {
+            Some(k) => is_above_live(constraints, live, &scopes[..k], a),
+            None => false,
+        }
+}

@@ -1,0 +1,139 @@
+//! Types with all their regions.
+
+use crate::Region;
+use cyc_syntax::PointerKind;
+use smallvec::SmallVec;
+use std::alloc::{AllocError, Global};
+
+/// A type in which each region stands: a formed type of the subset, or a struct as the target of a pointer.
+#[derive(Drop)]
+pub enum Ty {
+    Int,
+    Pointer {
+        kind: PointerKind,
+        target: Box<Ty>,
+        region: Region,
+    },
+    /// `region_t<..>`
+    Handle {
+        region: Region,
+    },
+    /// `uregion_key_t<..>`
+    Key {
+        region: Region,
+    },
+    /// The struct of this number with its region arguments, one for each of its region parameters.
+    Struct {
+        number: usize,
+        regions: SmallVec<Region, 2>,
+    },
+}
+
+impl Ty {
+    ghost use Rattle.std.specs.Prelude.{◌≡◌, IsTrue, IfOk, ◌↔◌};
+    ghost use Rattle.cyc_types.specs.Types.{substituted_ty, words_of};
+    ghost use Rattle.cyc_types.specs.TypeView.{view_ty};
+
+    /// Whether the types are equal in all parts: marks, regions and structs, at each depth.
+    pub fn equals(&self, other: &Ty) -> bool
+        ensures { IsTrue result ↔ (view_ty self.now ≡ view_ty other.now) }
+    {
+        match (self, other) {
+            (Ty::Int, Ty::Int) => true,
+            (
+                Ty::Pointer {
+                    kind,
+                    target,
+                    region,
+                },
+                Ty::Pointer {
+                    kind: other_kind,
+                    target: other_target,
+                    region: other_region,
+                },
+            ) => *kind == *other_kind && *region == *other_region && target.equals(other_target),
+            (
+                Ty::Handle { region },
+                Ty::Handle {
+                    region: other_region,
+                },
+            ) => *region == *other_region,
+            (
+                Ty::Key { region },
+                Ty::Key {
+                    region: other_region,
+                },
+            ) => *region == *other_region,
+            (
+                Ty::Struct { number, regions },
+                Ty::Struct {
+                    number: other_number,
+                    regions: other_regions,
+                },
+            ) => *number == *other_number && regions.as_slice() == other_regions.as_slice(),
+            _ => false,
+        }
+    }
+
+    /// The type with each region variable replaced by the region at its number in `map`; a variable past the end of `map` stays.
+    pub fn substituted(&self, alloc: Global, map: &[Region]) -> Result<Ty, AllocError>
+        ensures { IfOk result (λ ty. view_ty ty ≡ substituted_ty map.now (view_ty self.now)) }
+    {
+        Ok(match self {
+            Ty::Int => Ty::Int,
+            Ty::Pointer {
+                kind,
+                target,
+                region,
+            } => {
+                let target = target.substituted(alloc, map)?;
+                Ty::Pointer {
+                    kind: *kind,
+                    target: Box::new(alloc, target)?,
+                    region: region.substituted(map),
+                }
+            }
+            Ty::Handle { region } => Ty::Handle {
+                region: region.substituted(map),
+            },
+            Ty::Key { region } => Ty::Key {
+                region: region.substituted(map),
+            },
+            Ty::Struct { number, regions } => Ty::Struct {
+                number: *number,
+                regions: all_substituted(alloc, regions.as_slice(), map)?,
+            },
+        })
+    }
+
+    /// The words of a cell of this type: three for a fat pointer, else one.
+    pub fn words(&self) -> u32
+        ensures { result ≡ words_of (view_ty self.now) }
+    {
+        match self {
+            Ty::Pointer {
+                kind: PointerKind::Fat,
+                ..
+            } => 3,
+            _ => 1,
+        }
+    }
+}
+
+ghost use Rattle.std.specs.Prelude.{◌≡◌, IfOk, map};
+ghost use Rattle.cyc_types.specs.Regions.{substituted_region};
+
+/// Each region of a list substituted.
+fn all_substituted(
+    alloc: Global,
+    regions: &[Region],
+    replacements: &[Region],
+) -> Result<SmallVec<Region, 2>, AllocError>
+    ensures { IfOk result (λ all. all.items ≡ map (substituted_region replacements.now) regions.now) }
+{
+    let mut all = SmallVec::new(alloc);
+    for region in regions {
+        all.push(region.substituted(replacements))?;
+    }
+    Ok(all)
+}
