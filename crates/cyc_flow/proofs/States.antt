@@ -1,0 +1,136 @@
+-- The loops over two lists of what is known, and the meeting of states.
+use Rattle.std.proofs.Common.{◌≡◌, ℕ, ◌+◌, ◌<◌, ◌≤◌, min, Bool, true, false, ◌&&◌, List, [], ◌∷◌, ◌++◌, length, get_or, take, drop, map, replicate, refl, sym, ap, subst, ◌∙◌, arith}
+use Rattle.std.proofs.Math.ListN.{set}
+use Rattle.std.proofs.lemmas.List.{take_more_set, drop-set-lt, drop_more, length-drop}
+use Rattle.cyc_flow.specs.declared.state.Fullness.{Fullness as FullnessCode}
+use Rattle.cyc_types.specs.Types.{Ty}
+use Rattle.cyc_types.specs.FlowRules.{Fullness, Vacant, Locked, Full, State, Unreached, Reached, lower, lower_each, meet, is_as_full, are_as_full, each_is}
+use Rattle.cyc_flow.specs.Code.{view_fullness}
+
+abbrev views : List FullnessCode → List Fullness
+views = map view_fullness
+
+-- one element on
+pub next : {X : Type 0} (xs : List X) (i : ℕ) (x : X) → i < length xs → x ≡ get_or xs i x → drop i xs ≡ x ∷ drop (i + 1) xs
+next xs i x h e = drop_more xs i x h ∙ ap (λ y. y ∷ drop (i + 1) xs) (sym e)
+
+-- ---- the lower of each
+
+-- so many are done, the rest are as they were
+abbrev pub Lowered : List FullnessCode → List FullnessCode → ℕ → List Fullness → Type 0
+Lowered xs ys i whole = map view_fullness (take i xs) ++ lower_each (map view_fullness (drop i xs)) (map view_fullness (drop i ys)) ≡ whole
+
+joined : (front xs ys : List FullnessCode) (r x y : FullnessCode) → view_fullness r ≡ lower (view_fullness x) (view_fullness y)
+    → views (front ++ r ∷ []) ++ lower_each (views xs) (views ys) ≡ views front ++ lower_each (views (x ∷ xs)) (views (y ∷ ys))
+joined [] xs ys r x y e = ap (λ a. a ∷ lower_each (views xs) (views ys)) e
+joined (f ∷ front) xs ys r x y e = ap (λ as'. view_fullness f ∷ as') (joined front xs ys r x y e)
+
+pub lowered_more : (xs ys : List FullnessCode) (whole : List Fullness) (i : ℕ) (r x y : FullnessCode) → i < length xs → i < length ys → x ≡ get_or xs i x → y ≡ get_or ys i y
+    → view_fullness r ≡ lower (view_fullness x) (view_fullness y) → Lowered xs ys i whole → Lowered (set xs i r) ys (i + 1) whole
+lowered_more xs ys whole i r x y lx ly ex ey e h =
+    let a : take (i + 1) (set xs i r) ≡ take i xs ++ r ∷ [] = take_more_set xs i r lx in
+    let b : drop (i + 1) (set xs i r) ≡ drop (i + 1) xs = drop-set-lt (i + 1) xs i r (omega arith) in
+    let p = next xs i x lx ex in
+    let q = next ys i y ly ey in
+    let k : views (take i xs) ++ lower_each (views (x ∷ drop (i + 1) xs)) (views (y ∷ drop (i + 1) ys)) ≡ whole
+    = ap (λ (zs : List FullnessCode). views (take i xs) ++ lower_each (views zs) (views (y ∷ drop (i + 1) ys))) (sym p) ∙ ap (λ (zs : List FullnessCode). views (take i xs) ++ lower_each (views (drop i xs)) (views zs)) (sym q) ∙ h in
+    ap (λ (zs : List FullnessCode). views zs ++ lower_each (views (drop (i + 1) (set xs i r))) (views (drop (i + 1) ys))) a
+    ∙ ap (λ (zs : List FullnessCode). views (take i xs ++ r ∷ []) ++ lower_each (views zs) (views (drop (i + 1) ys))) b
+    ∙ joined (take i xs) (drop (i + 1) xs) (drop (i + 1) ys) r x y e ∙ k
+
+none_left : (xs ys : List FullnessCode) → min (length xs) (length ys) ≡ 0 → lower_each (views xs) (views ys) ≡ []
+none_left [] ys h = refl
+none_left (x ∷ xs) [] h = refl
+none_left (x ∷ xs) (y ∷ ys) h = absurd (omega arith)
+
+append_none : (xs ys : List Fullness) → ys ≡ [] → xs ++ ys ≡ xs
+append_none [] ys e = e
+append_none (x ∷ xs) ys e = ap (λ zs. x ∷ zs) (append_none xs ys e)
+
+pub lowered_all : (xs ys : List FullnessCode) (whole : List Fullness) (i n : ℕ) → i ≡ n → n ≡ min (length xs) (length ys) → Lowered xs ys i whole → map view_fullness (take n xs) ≡ whole
+lowered_all xs ys whole i n d e k =
+    let h : Lowered xs ys n whole = let P : ℕ → Type 0 = λ m. Lowered xs ys m whole in subst P d k in
+    let none : min (length (drop n xs)) (length (drop n ys)) ≡ 0 = omega (arith, length-drop n xs, length-drop n ys) in
+    sym (append_none (views (take n xs)) (lower_each (views (drop n xs)) (views (drop n ys))) (none_left (drop n xs) (drop n ys) none)) ∙ h
+
+-- ---- nothing is emptier
+
+-- all before is as full
+abbrev pub Compared : List FullnessCode → List FullnessCode → ℕ → Bool → Type 0
+Compared xs ys i whole = are_as_full (map view_fullness (drop i xs)) (map view_fullness (drop i ys)) ≡ whole
+
+and_true : (a b whole : Bool) → true ≡ a → (a && b) ≡ whole → b ≡ whole
+and_true true b whole e h = h
+and_true false b whole e h = absurd (cc)
+
+and_false : (a b whole : Bool) → false ≡ a → (a && b) ≡ whole → false ≡ whole
+and_false true b whole e h = absurd (cc)
+and_false false b whole e h = h
+
+at_next : (xs ys : List FullnessCode) (whole : Bool) (i : ℕ) (x y : FullnessCode) → i < length xs → i < length ys → x ≡ get_or xs i x → y ≡ get_or ys i y
+    → Compared xs ys i whole → (is_as_full (view_fullness x) (view_fullness y) && are_as_full (views (drop (i + 1) xs)) (views (drop (i + 1) ys))) ≡ whole
+at_next xs ys whole i x y lx ly ex ey h =
+    let p = next xs i x lx ex in
+    let q = next ys i y ly ey in
+    ap (λ (zs : List FullnessCode). are_as_full (views zs) (views (y ∷ drop (i + 1) ys))) (sym p) ∙ ap (λ (zs : List FullnessCode). are_as_full (views (drop i xs)) (views zs)) (sym q) ∙ h
+
+pub compared_more : (xs ys : List FullnessCode) (whole : Bool) (i : ℕ) (x y : FullnessCode) → i < length xs → i < length ys → x ≡ get_or xs i x → y ≡ get_or ys i y
+    → true ≡ is_as_full (view_fullness x) (view_fullness y) → Compared xs ys i whole → Compared xs ys (i + 1) whole
+compared_more xs ys whole i x y lx ly ex ey e h = and_true _ _ whole e (at_next xs ys whole i x y lx ly ex ey h)
+
+pub compared_fails : (xs ys : List FullnessCode) (whole : Bool) (i : ℕ) (x y : FullnessCode) → i < length xs → i < length ys → x ≡ get_or xs i x → y ≡ get_or ys i y
+    → false ≡ is_as_full (view_fullness x) (view_fullness y) → Compared xs ys i whole → false ≡ whole
+compared_fails xs ys whole i x y lx ly ex ey e h = and_false _ _ whole e (at_next xs ys whole i x y lx ly ex ey h)
+
+none_to_compare : (xs ys : List FullnessCode) → min (length xs) (length ys) ≡ 0 → are_as_full (views xs) (views ys) ≡ true
+none_to_compare [] ys h = refl
+none_to_compare (x ∷ xs) [] h = refl
+none_to_compare (x ∷ xs) (y ∷ ys) h = absurd (omega arith)
+
+pub compared_all : (xs ys : List FullnessCode) (whole : Bool) (n : ℕ) → min (length xs) (length ys) ≤ n → Compared xs ys n whole → true ≡ whole
+compared_all xs ys whole n e h =
+    let none : min (length (drop n xs)) (length (drop n ys)) ≡ 0 = omega (arith, length-drop n xs, length-drop n ys) in
+    sym (none_to_compare (drop n xs) (drop n ys) none) ∙ h
+
+-- ---- the state at the start of a function
+
+each_known : {X : Type 0} (view : X → Ty) (a : FullnessCode) (ts : List X) → map view_fullness (replicate (length ts) a) ≡ each_is (view_fullness a) (map view ts)
+each_known view a [] = refl
+each_known view a (t ∷ ts) = ap (λ as'. view_fullness a ∷ as') (each_known view a ts)
+
+both_known : {X : Type 0} (view : X → Ty) (a b : FullnessCode) (ts us : List X)
+    → map view_fullness (replicate (length ts) a ++ replicate (length us) b) ≡ each_is (view_fullness a) (map view ts) ++ each_is (view_fullness b) (map view us)
+both_known view a b [] us = each_known view b us
+both_known view a b (t ∷ ts) us = ap (λ as'. view_fullness a ∷ as') (both_known view a b ts us)
+
+pub all_known : {X : Type 0} (view : X → Ty) (a b : FullnessCode) (n m : ℕ) (ts us : List X) → n ≡ length ts → m ≡ length us
+    → map view_fullness (replicate n a ++ replicate m b) ≡ each_is (view_fullness a) (map view ts) ++ each_is (view_fullness b) (map view us)
+all_known view a b n m ts us d e =
+    ap (λ (k : ℕ). map view_fullness (replicate k a ++ replicate m b)) d ∙ ap (λ (k : ℕ). map view_fullness (replicate (length ts) a ++ replicate k b)) e ∙ both_known view a b ts us
+
+-- ---- where states meet
+
+lower-assoc : (a b c : Fullness) → lower (lower a b) c ≡ lower a (lower b c)
+lower-assoc Vacant b c = refl
+lower-assoc Locked Vacant c = refl
+lower-assoc Locked Locked Vacant = refl
+lower-assoc Locked Locked Locked = refl
+lower-assoc Locked Locked Full = refl
+lower-assoc Locked Full c = refl
+lower-assoc Full b c = refl
+
+lower_each-assoc : (as' bs cs : List Fullness) → lower_each (lower_each as' bs) cs ≡ lower_each as' (lower_each bs cs)
+lower_each-assoc [] bs cs = refl
+lower_each-assoc (a ∷ as') [] cs = refl
+lower_each-assoc (a ∷ as') (b ∷ bs) [] = refl
+lower_each-assoc (a ∷ as') (b ∷ bs) (c ∷ cs) = ap (λ d. d ∷ lower_each (lower_each as' bs) cs) (lower-assoc a b c) ∙ ap (λ ds. lower a (lower b c) ∷ ds) (lower_each-assoc as' bs cs)
+
+pub meet_assoc : (f g h : State) → meet (meet f g) h ≡ meet f (meet g h)
+meet_assoc Unreached g h = refl
+meet_assoc (Reached as') Unreached h = refl
+meet_assoc (Reached as') (Reached bs) Unreached = refl
+meet_assoc (Reached as') (Reached bs) (Reached cs) = ap Reached (lower_each-assoc as' bs cs)
+
+pub meet_unreached : (f : State) → meet f Unreached ≡ f
+meet_unreached Unreached = refl
+meet_unreached (Reached as') = refl

@@ -1,0 +1,85 @@
+//! The flow check of a program.
+ghost use Rattle.std.specs.Prelude.{◌≡◌, ◌⊎◌, map, IfOk, IfErr, MatchResult};
+ghost use Rattle.cyc_words.specs.declared.fault.Fault.{Fault};
+ghost use Rattle.cyc_types.specs.TypedTreeView.{view_function, view_program};
+ghost use Rattle.cyc_types.specs.FlowRules.{start_of, IsAllowedProgram};
+ghost use Rattle.cyc_types.specs.FlowRefusals.{IsStoppedProgram};
+ghost use Rattle.cyc_types.specs.FlowChecking.{keep_end, keep_function, keep_functions};
+ghost use Rattle.cyc_flow.specs.Code.{view_state, memory_fault, Allows};
+
+use crate::expressions::refusal;
+use crate::state::{Fullness, State, add};
+use crate::statements::Walk;
+use crate::stop::Stop;
+use cyc_types::TypedTree;
+use cyc_types::typed::Function;
+use cyc_words::{Code, Fault};
+use std::alloc::{AllocError, Global};
+
+/// A typed tree that keeps the flow rules.
+#[derive(Drop)]
+pub struct Flowed {
+    pub tree: TypedTree,
+    pub ghost allowed: { ∥ IsAllowedProgram (view_program tree) ∥₁ },
+}
+
+/// Whether a typed tree keeps the flow rules: each variable holds a value where it is used, a loop leaves none emptier than it was
+/// at its head, and no path through a function with a result reaches its end.
+///
+/// The first fault is the answer, by the order in which a program is run. Of its four codes a text of the int language has only
+/// `EmptyVariable` and `MissingReturn`, since nothing there empties or locks a variable. Any copy of what is known may be refused for
+/// want of memory.
+pub fn flow(alloc: Global, tree: TypedTree) -> Result<Flowed, Fault>
+    // What is accepted is this tree, and keeps the rules. What is refused has this fault.
+    ensures accepted { IfOk result (λ v. (v.tree ≡ tree) × IsAllowedProgram (view_program tree)) }
+    ensures refused { IfErr result (λ f. (f ≡ memory_fault) ⊎ IsStoppedProgram (view_program tree) f) }
+
+    // And the other way round, want of memory aside.
+    ensures accepts { IsAllowedProgram (view_program tree) → MatchResult result (λ v. v.tree ≡ tree) (λ f. f ≡ memory_fault) }
+    ensures refuses { (fault : Fault) → IsStoppedProgram (view_program tree) fault
+        → MatchResult result (λ _. ⊥) (λ f. (f ≡ memory_fault) ⊎ (f ≡ fault)) }
+{
+    match check_functions(alloc, &tree.functions) {
+        Ok(()) => Ok(Flowed { tree }),
+        Err(Stop::Memory) => Err(Fault::memory()),
+        Err(Stop::Refused(fault)) => Err(fault),
+    }
+}
+
+fn check_functions(alloc: Global, functions: &[Function]) -> Result<(), Stop>
+    ensures { Allows result (keep_functions (map view_function functions.now)) }
+{
+    for function in functions {
+        check_function(alloc, function)?;
+    }
+    Ok(())
+}
+
+fn check_function(alloc: Global, function: &Function) -> Result<(), Stop>
+    ensures { Allows result (keep_function (view_function function.now)) }
+{
+    let start = start_of(alloc, function)?;
+    let mut walk = Walk::new(alloc);
+    let end = walk.items(None, &function.body, start)?;
+    check_end(function, &end)
+}
+
+/// At the start of a function its parameters are full.
+fn start_of(alloc: Global, function: &Function) -> Result<State, AllocError>
+    ensures { IfOk result (λ s. view_state s ≡ start_of (view_function function.now)) }
+{
+    let mut locals = Vec::new(alloc);
+    add(&mut locals, function.parameters.len(), Fullness::Full)?;
+    add(&mut locals, function.locals.len(), Fullness::Vacant)?;
+    Ok(State::Reached(locals))
+}
+
+/// The end of a function with a result is never reached.
+fn check_end(function: &Function, state: &State) -> Result<(), Stop>
+    ensures { Allows result (keep_end (view_function function.now).result (view_state state.now) (view_function function.now).end) }
+{
+    match (&function.result, state) {
+        (Some(_), State::Reached(_)) => Err(refusal(Code::MissingReturn, function.end)),
+        _ => Ok(()),
+    }
+}

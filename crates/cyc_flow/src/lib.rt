@@ -1,0 +1,12 @@
+//! The flow check: whether a typed tree keeps the flow rules, by what is known of each local at each place.
+#![tactic(auto)]
+
+pub use check::{Flowed, flow};
+
+mod check;
+mod expressions;
+mod state;
+mod statements;
+mod stop;
+#[cfg(test)]
+mod tests;

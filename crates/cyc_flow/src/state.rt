@@ -1,0 +1,146 @@
+//! What is known of each local at a place of a function.
+ghost use Rattle.std.specs.Prelude.{◌≡◌, ◌++◌, IfOk, List, ℕ, map, replicate};
+ghost use Rattle.cyc_types.specs.FlowRules.{Full, meet, is_at_least, fullness, with_fullness, lower, lower_each, is_as_full, are_as_full};
+ghost use Rattle.cyc_flow.specs.Code.{view_fullness, view_state};
+
+use std::alloc::{AllocError, Global};
+
+/// What is known of a local, in rising order.
+#[derive(Clone, Copy, Debug, PartialEq, Eq)]
+pub(crate) enum Fullness {
+    /// It may hold nothing.
+    Vacant,
+    /// It holds a value that is lent out.
+    Locked,
+    /// It holds a value.
+    Full,
+}
+
+impl Fullness {
+    fn lower(self, other: Fullness) -> Fullness
+        ensures { view_fullness result ≡ lower (view_fullness self) (view_fullness other) }
+    {
+        match (self, other) {
+            (Fullness::Vacant, _) | (Fullness::Locked, Fullness::Vacant) => Fullness::Vacant,
+            (Fullness::Locked, _) => Fullness::Locked,
+            (Fullness::Full, _) => other,
+        }
+    }
+
+    fn is_as_full(self, other: Fullness) -> bool
+        ensures { result ≡ is_as_full (view_fullness self) (view_fullness other) }
+    {
+        match (self, other) {
+            (Fullness::Vacant, Fullness::Locked | Fullness::Full)
+            | (Fullness::Locked, Fullness::Full) => false,
+            _ => true,
+        }
+    }
+}
+
+#[derive(Drop)]
+pub(crate) enum State {
+    /// The code here is never run.
+    Unreached,
+    /// What is known of each local, by its number.
+    Reached(Vec<Fullness>),
+}
+
+impl State {
+    /// In code that is never run each local counts as full.
+    pub(crate) fn fullness(&self, number: usize) -> Fullness
+        ensures { view_fullness result ≡ fullness (view_state self.now) number }
+    {
+        match self {
+            State::Unreached => Fullness::Full,
+            State::Reached(locals) => {
+                if number < locals.len() {
+                    locals[number]
+                } else {
+                    Fullness::Vacant
+                }
+            }
+        }
+    }
+
+    /// The same but for one local, of which this is known. Of code that is never run nothing is kept.
+    pub(crate) fn with_fullness(mut self, number: usize, fullness: Fullness) -> State
+        ensures { view_state result ≡ with_fullness (view_fullness fullness) (view_state self) number }
+    {
+        if let State::Reached(locals) = &mut self {
+            if number < locals.len() {
+                locals[number] = fullness;
+            }
+        }
+        self
+    }
+
+    /// Whether nothing is emptier here than there.
+    pub(crate) fn is_at_least(&self, other: &State) -> bool
+        ensures { result ≡ is_at_least (view_state self.now) (view_state other.now) }
+    {
+        match (self, other) {
+            (State::Unreached, _) => true,
+            (State::Reached(_), State::Unreached) => false,
+            (State::Reached(here), State::Reached(there)) => are_as_full(here, there),
+        }
+    }
+
+    pub(crate) fn copy(&self, alloc: Global) -> Result<State, AllocError>
+        ensures { IfOk result (λ s. view_state s ≡ view_state self.now) }
+    {
+        match self {
+            State::Unreached => Ok(State::Unreached),
+            State::Reached(locals) => Ok(State::Reached(locals.to_vec(alloc)?)),
+        }
+    }
+}
+
+/// What is known where two branches meet.
+pub(crate) fn meet(one: State, other: State) -> State
+    ensures { view_state result ≡ meet (view_state one) (view_state other) }
+{
+    match (one, other) {
+        (State::Unreached, other) => other,
+        (one, State::Unreached) => one,
+        (State::Reached(one), State::Reached(other)) => State::Reached(lower_each(one, &other)),
+    }
+}
+
+/// Of each local what is known at both places, as far as both lists go.
+fn lower_each(mut one: Vec<Fullness>, other: &[Fullness]) -> Vec<Fullness>
+    ensures { map view_fullness result.items ≡ lower_each (map view_fullness one.items) (map view_fullness other.now) }
+{
+    let count = one.len().min(other.len());
+    for i in 0..count {
+        one[i] = one[i].lower(other[i]);
+    }
+    one.truncate(count);
+    one
+}
+
+fn are_as_full(one: &[Fullness], other: &[Fullness]) -> bool
+    ensures { result ≡ are_as_full (map view_fullness one.now) (map view_fullness other.now) }
+{
+    let count = one.len().min(other.len());
+    for i in 0..count {
+        if !one[i].is_as_full(other[i]) {
+            return false;
+        }
+    }
+    true
+}
+
+/// Adds as many locals of which this is known.
+pub(crate) fn add(
+    locals: &mut Vec<Fullness>,
+    count: usize,
+    fullness: Fullness,
+) -> Result<(), AllocError>
+    ensures { IfOk result (λ _. locals.new.items ≡ locals.old.items ++ replicate count fullness) }
+{
+    for _ in 0..count {
+        locals.push(fullness)?;
+    }
+    Ok(())
+}
