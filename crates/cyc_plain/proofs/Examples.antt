@@ -1,0 +1,214 @@
+-- Worked examples of the plain machine, each proved by computation.
+use Rattle.std.proofs.Common.{◌≡◌, ℕ, List, [], ◌∷◌, pos, negsuc, true, false, refl}
+use Rattle.cyc_words.specs.Word.{slt_of, sar_of, div_of, rem_of}
+use Rattle.cyc_words.specs.Ending.{Returned, Uncaught, Full}
+use Rattle.cyc_plain.specs.declared.instruction.Instruction.{Instruction}
+use Rattle.cyc_plain.specs.declared.instruction.Instruction.TheVariants.{Constant, Move, Unary, Binary, Jump, JumpIfZero, JumpIfNonzero, Call, Return, ReadByte, WriteByte, LoadGlobal, StoreGlobal}
+use Rattle.cyc_plain.specs.declared.instruction.Instruction.TheVariants as instructions
+use Rattle.cyc_plain.specs.declared.instruction.UnaryOperator.{UnaryOperator}
+use Rattle.cyc_plain.specs.declared.instruction.UnaryOperator.TheVariants as unary
+use Rattle.cyc_plain.specs.declared.instruction.BinaryOperator.{BinaryOperator}
+use Rattle.cyc_plain.specs.declared.instruction.BinaryOperator.TheVariants as binary
+use Rattle.cyc_plain.specs.Simulation.{Status, Ended, Failed}
+use Rattle.cyc_plain.specs.Simulation as simulation
+use Rattle.cyc_plain.specs.Program.{Routine, Program, size, places_of}
+use Rattle.cyc_plain.specs.State.{State, output_of, input_of, status_of, depth}
+use Rattle.cyc_plain.specs.Step.{run, start}
+use Rattle.cyc_plain.specs.Checking.{is_well_formed}
+use Rattle.cyc_plain.proofs.RunLaws.{zeros}
+
+-- a function with four slots that takes so many words and returns one
+abbrev function : ℕ → List Instruction → Routine
+function parameters code = record {
+  name = record { line = 1; column = 1 };
+  parameters = parameters;
+  results = 1;
+  slots = 4;
+  frame_count = 12;
+  code = code;
+}
+
+abbrev program : List Instruction → Program
+program code = record { functions = function 0 code ∷ []; globals = 3 ∷ []; main = 0 }
+
+-- the state of a program after so many steps, with room for so many calls
+abbrev after : ℕ → ℕ → Program → List ℕ → State
+after steps calls p input = run p 3 calls zeros steps (start p input)
+
+-- ---- constants and operators
+
+abbrev of_one : UnaryOperator → ℕ → Status
+of_one operator a = status_of (after 3 1 (program (Constant 0 a ∷ Unary operator 1 0 ∷ Return 1 ∷ [])) [])
+
+abbrev of_two : BinaryOperator → ℕ → ℕ → Status
+of_two operator a b = status_of (after 4 1 (program (Constant 0 a ∷ Constant 1 b ∷ Binary operator 2 0 1 ∷ Return 2 ∷ [])) [])
+
+constant : status_of (after 2 1 (program (Constant 0 7 ∷ Return 0 ∷ [])) []) ≡ Ended (Returned (pos 7))
+constant = refl
+
+not_ended_before : status_of (after 1 1 (program (Constant 0 7 ∷ Return 0 ∷ [])) []) ≡ simulation.Running
+not_ended_before = refl
+
+negative : status_of (after 3 1 (program (Constant 0 0xffffffff ∷ Move 1 0 ∷ Return 1 ∷ [])) []) ≡ Ended (Returned (negsuc 0))
+negative = refl
+
+negate_wraps : of_one unary.Negate 0x80000000 ≡ Ended (Returned (negsuc 2147483647))
+negate_wraps = refl
+
+complement : of_one unary.Complement 0 ≡ Ended (Returned (negsuc 0))
+complement = refl
+
+not_of_zero : of_one unary.Not 0 ≡ Ended (Returned (pos 1))
+not_of_zero = refl
+
+not_of_five : of_one unary.Not 5 ≡ Ended (Returned (pos 0))
+not_of_five = refl
+
+sum_wraps : of_two binary.Add 2147483647 1 ≡ Ended (Returned (negsuc 2147483647))
+sum_wraps = refl
+
+difference_wraps : of_two binary.Subtract 0x80000000 1 ≡ Ended (Returned (pos 2147483647))
+difference_wraps = refl
+
+product_wraps : of_two binary.Multiply 65536 65537 ≡ Ended (Returned (pos 65536))
+product_wraps = refl
+
+quotient_toward_zero : of_two binary.Divide 0xfffffff9 2 ≡ Ended (Returned (negsuc 2))
+unfolding div_of
+quotient_toward_zero = refl
+
+quotient_wraps : of_two binary.Divide 0x80000000 0xffffffff ≡ Ended (Returned (negsuc 2147483647))
+unfolding div_of
+quotient_wraps = refl
+
+remainder_of_negative : of_two binary.Remainder 0xfffffff9 2 ≡ Ended (Returned (negsuc 0))
+unfolding rem_of
+remainder_of_negative = refl
+
+division_by_zero_is_stuck : of_two binary.Divide 1 0 ≡ Failed
+division_by_zero_is_stuck = refl
+
+bits : of_two binary.Xor 12 10 ≡ Ended (Returned (pos 6))
+bits = refl
+
+shift_left_by_33 : of_two binary.ShiftLeft 3 33 ≡ Ended (Returned (pos 6))
+shift_left_by_33 = refl
+
+shift_right_of_negative : of_two binary.ShiftRight 0xfffffff8 1 ≡ Ended (Returned (negsuc 3))
+unfolding sar_of
+shift_right_of_negative = refl
+
+equal : of_two binary.Equal 5 5 ≡ Ended (Returned (pos 1))
+equal = refl
+
+not_equal : of_two binary.NotEqual 5 5 ≡ Ended (Returned (pos 0))
+not_equal = refl
+
+less_is_signed : of_two binary.Less 0xffffffff 0 ≡ Ended (Returned (pos 1))
+unfolding slt_of
+less_is_signed = refl
+
+less_or_equal : of_two binary.LessOrEqual 7 7 ≡ Ended (Returned (pos 1))
+less_or_equal = refl
+
+greater_is_signed : of_two binary.Greater 0xffffffff 0 ≡ Ended (Returned (pos 0))
+unfolding slt_of
+greater_is_signed = refl
+
+greater_or_equal : of_two binary.GreaterOrEqual 0x80000000 0x7fffffff ≡ Ended (Returned (pos 0))
+greater_or_equal = refl
+
+-- ---- branches
+
+-- the sum of 5, 4, .. 1
+abbrev sum_down : Program
+sum_down = program (
+    Constant 0 0 ∷ Constant 1 5 ∷ Constant 2 1
+    ∷ JumpIfZero 1 7
+    ∷ Binary binary.Add 0 0 1 ∷ Binary binary.Subtract 1 1 2 ∷ Jump 3
+    ∷ Return 0 ∷ [])
+
+sums_up : status_of (after 25 1 sum_down []) ≡ Ended (Returned (pos 15))
+sums_up = refl
+
+loops_for_ever : status_of (after 100 1 (program (Jump 0 ∷ [])) []) ≡ simulation.Running
+loops_for_ever = refl
+
+jumps_if_nonzero : status_of (after 3 1 (program (Constant 0 2 ∷ JumpIfNonzero 0 3 ∷ Return 1 ∷ Return 0 ∷ [])) []) ≡ Ended (Returned (pos 2))
+jumps_if_nonzero = refl
+
+runs_off_the_end : status_of (after 2 1 (program (Constant 0 1 ∷ [])) []) ≡ Failed
+runs_off_the_end = refl
+
+-- ---- calls
+
+-- f prints A and calls itself with one less, down to 0; main calls f(3)
+abbrev recursion : Program
+recursion = record {
+  functions =
+      function 0 (Constant 0 3 ∷ Call 1 0 1 0 ∷ Return 0 ∷ [])
+      ∷ function 1 (
+      Constant 1 65 ∷ WriteByte 1 ∷ JumpIfZero 0 6
+      ∷ Constant 1 1 ∷ Binary binary.Subtract 1 0 1 ∷ Call 1 1 1 0
+      ∷ Return 0 ∷ [])
+      ∷ [];
+  globals = [];
+  main = 0;
+}
+
+recursion_ends : status_of (after 40 5 recursion []) ≡ Ended (Returned (pos 0))
+recursion_ends = refl
+
+recursion_prints : output_of (after 40 5 recursion []) ≡ 65 ∷ 65 ∷ 65 ∷ 65 ∷ []
+recursion_prints = refl
+
+-- with room for four calls there is none for the fifth, and the output is as before it
+recursion_is_full : status_of (after 40 4 recursion []) ≡ Ended Full
+recursion_is_full = refl
+
+full_prints : output_of (after 40 4 recursion []) ≡ 65 ∷ 65 ∷ 65 ∷ []
+full_prints = refl
+
+recursion_depth : depth (after 9 5 recursion []) ≡ 3
+recursion_depth = refl
+
+recursion_is_well_formed : is_well_formed recursion ≡ true
+recursion_is_well_formed = refl
+
+one_more_argument_is_not : is_well_formed (record recursion { functions = function 1 (Return 0 ∷ []) ∷ [] }) ≡ false
+one_more_argument_is_not = refl
+
+call_counts_its_argument : size (function 0 (Constant 0 3 ∷ Call 1 0 1 0 ∷ Return 0 ∷ [])) ≡ 4
+call_counts_its_argument = refl
+
+-- ---- services, globals and exceptions
+
+abbrev echo : Program
+echo = program (
+    ReadByte 0 ∷ Constant 1 0 ∷ Binary binary.Less 2 0 1 ∷ JumpIfNonzero 2 6 ∷ WriteByte 0 ∷ Jump 0 ∷ Return 1 ∷ [])
+
+echo_prints : output_of (after 20 1 echo (104 ∷ 105 ∷ [])) ≡ 104 ∷ 105 ∷ []
+unfolding slt_of
+echo_prints = refl
+
+echo_ends : status_of (after 20 1 echo (104 ∷ 105 ∷ [])) ≡ Ended (Returned (pos 0))
+unfolding slt_of
+echo_ends = refl
+
+end_of_input : status_of (after 2 1 (program (ReadByte 0 ∷ Return 0 ∷ [])) []) ≡ Ended (Returned (negsuc 0))
+end_of_input = refl
+
+one_byte_is_read : input_of (after 1 1 (program (ReadByte 0 ∷ Return 0 ∷ [])) (7 ∷ 8 ∷ [])) ≡ 8 ∷ []
+one_byte_is_read = refl
+
+low_byte_is_printed : output_of (after 2 1 (program (Constant 0 321 ∷ WriteByte 0 ∷ Return 0 ∷ [])) []) ≡ 65 ∷ []
+low_byte_is_printed = refl
+
+global_is_counted_up : status_of (after 6 1 (program (LoadGlobal 0 0 ∷ Constant 1 1 ∷ Binary binary.Add 0 0 1 ∷ StoreGlobal 0 0 ∷ LoadGlobal 2 0 ∷ Return 2 ∷ [])) []) ≡ Ended (Returned (pos 4))
+global_is_counted_up = refl
+
+uncaught : status_of (after 2 1 (program (Constant 0 0 ∷ instructions.Uncaught 4 0 ∷ [])) []) ≡ Ended (Uncaught 4 (pos 0))
+uncaught = refl
+
+places : places_of (program (Constant 0 0 ∷ Return 0 ∷ [])) ≡ record { function = 0; index = 0 } ∷ record { function = 0; index = 1 } ∷ []
+places = refl

@@ -1,0 +1,185 @@
+-- In a run of a well-formed program every place is in its function's code.
+use Rattle.std.proofs.Common.{◌≡◌, ℕ, zero, suc, ◌+◌, ◌-◌, ◌<◌, Bool, true, false, not, List, [], ◌∷◌, length, Option, None, Some, slice_get, refl, sym, ap, subst, ◌∙◌, arith, inl, inr}
+use Rattle.std.proofs.lemmas.Bool.{cases_lt}
+use Rattle.std.proofs.lemmas.Option.{get_or_from_slice_get}
+use Rattle.std.specs.Prelude.{All, IsSomeAnd, ◌==◌, if◌then◌else◌}
+use Rattle.std.specs.List.{AllByRecursion}
+use Rattle.cyc_words.specs.Ending.{Full}
+use Rattle.cyc_plain.specs.declared.instruction.Instruction.{Instruction}
+use Rattle.cyc_plain.specs.declared.instruction.Instruction.TheVariants as instructions
+use Rattle.cyc_plain.specs.declared.instruction.BinaryOperator.{BinaryOperator}
+use Rattle.cyc_plain.specs.Operators.{has_no_result, binary_result}
+use Rattle.cyc_plain.specs.Simulation as simulation
+use Rattle.cyc_plain.specs.Simulation.{Run}
+use Rattle.cyc_plain.specs.Program.{Routine, Program, no_routine, routine_at}
+use Rattle.cyc_plain.specs.State.{Frame, Configuration, State, Running, Ended, Stuck, status_of, place_of}
+use Rattle.cyc_plain.specs.Step.{Choice, gives, returns, performed, executed, instruction_at, step, Step, start, machine}
+use Rattle.cyc_plain.specs.WellFormed.{IsInRange, IsRoutine, IsWellFormed, leaves, DividesByZero}
+use Rattle.cyc_plain.proofs.RunLaws.{limited_either, if_either}
+
+-- ---- lists
+
+pub below_of_get : {X : Type 0} (xs : List X) (k : ℕ) (x : X) → slice_get xs k ≡ Some x → k < length xs
+below_of_get [] k x at = absurd (let e : None ≡ Some x = at in cc)
+below_of_get (y ∷ ys) zero x at = omega arith
+below_of_get (y ∷ ys) (suc k) x at = omega (arith, below_of_get ys k x at)
+
+get_below : {X : Type 0} (xs : List X) (k : ℕ) → k < length xs → (x : X) × (slice_get xs k ≡ Some x)
+get_below [] k below = absurd (omega arith)
+get_below (y ∷ ys) zero below = (y, refl)
+get_below (y ∷ ys) (suc k) below = get_below ys k (omega arith)
+
+-- what holds of all elements holds of one
+pub holds_at : {X : Type 0} (P : X → Type 0) (xs : List X) (k : ℕ) (x : X) → All P xs → slice_get xs k ≡ Some x → P x
+holds_at P xs k x all at = subst P (get_or_from_slice_get xs k x x at) (all k x (below_of_get xs k x at))
+
+-- ---- well-formed programs
+
+pub routine_in : (program : Program) (function : ℕ) → IsWellFormed program → function < length program.functions → IsRoutine program (routine_at program function)
+routine_in program function well below =
+    well.functions function no_routine below
+
+some_last : (r : Routine) → IsSomeAnd (slice_get r.code (length r.code - 1)) (λ i. leaves i ≡ true) → (i : Instruction) → slice_get r.code (length r.code - 1) ≡ Some i → leaves i ≡ true
+some_last r last i at = subst (λ (o : Option Instruction). IsSomeAnd o (λ j. leaves j ≡ true)) at last
+
+-- a function has code
+pub has_code : (program : Program) (r : Routine) → IsRoutine program r → 0 < length r.code
+has_code program r routine = go r.code routine.last
+  where
+    go : (code : List Instruction) → IsSomeAnd (slice_get code (length code - 1)) (λ i. leaves i ≡ true) → 0 < length code
+    go [] last = absurd last
+    go (i ∷ code) last = omega arith
+
+-- behind an instruction that does not leave stands another
+pub goes_behind : (program : Program) (r : Routine) (place : ℕ) (i : Instruction) → IsRoutine program r → slice_get r.code place ≡ Some i → leaves i ≡ false → place + 1 < length r.code
+goes_behind program r place i routine at stays =
+    elim (cases_lt (place + 1) (length r.code)) [
+      | inl below ↦ below
+      | inr end ↦
+          let inside = below_of_get r.code place i at in
+          let last : length r.code - 1 ≡ place = omega arith in
+          let left : leaves i ≡ true = some_last r routine.last i (ap (slice_get r.code) last ∙ at) in
+          absurd (let e : false ≡ true = sym stays ∙ left in cc)
+    ]
+
+-- ---- states
+
+abbrev pub IsPlacedAt : Program → (function next : ℕ) → Type 0
+IsPlacedAt program function next = (function < length program.functions) × (next < length (routine_at program function).code)
+
+abbrev pub IsWaiting : Program → Frame → Type 0
+IsWaiting program f = IsPlacedAt program f.caller.function f.caller.next
+
+-- the place of a run that goes on, and those of the calls that wait
+abbrev pub IsPlaced : Program → State → Type 0
+IsPlaced program (Running c) = IsPlacedAt program c.active.function c.active.next × AllByRecursion (IsWaiting program) c.frames
+IsPlaced program (Ended ending output input) = Unit {0}
+IsPlaced program (Stuck output input) = Unit {0}
+
+returned : (program : Program) (c : Configuration) (value results : ℕ) (frames : List Frame) → AllByRecursion (IsWaiting program) frames → IsPlaced program (returns c value results frames)
+returned program c value results [] waiting = tt
+returned program c value results (f ∷ frames) (first, rest) = (first, rest)
+
+module _ (program : Program) (well : IsWellFormed program) (choice : Choice) (c : Configuration) (inside : c.active.function < length program.functions) (waiting : AllByRecursion (IsWaiting program) c.frames) where
+  abbrev here : Routine
+  here = routine_at program c.active.function
+
+  routine : IsRoutine program here
+  routine = routine_in program c.active.function well inside
+
+  -- the place behind an instruction that does not leave
+  behind : (i : Instruction) → slice_get here.code c.active.next ≡ Some i → leaves i ≡ false → IsPlacedAt program c.active.function (c.active.next + 1)
+  behind i at stays = (inside, goes_behind program here c.active.next i routine at stays)
+
+  chosen : (b : Bool) (target : ℕ) → IsPlacedAt program c.active.function target → IsPlacedAt program c.active.function (c.active.next + 1) → IsPlacedAt program c.active.function (if b then target else c.active.next + 1)
+  chosen true target first second = first
+  chosen false target first second = second
+
+  performs : (i : Instruction) → slice_get here.code c.active.next ≡ Some i → IsInRange program here i → IsPlaced program (performed program choice c i)
+  performs (instructions.Constant destination word) at range = (behind _ at refl, waiting)
+  performs (instructions.Move destination source) at range = (behind _ at refl, waiting)
+  performs (instructions.Unary operator destination operand) at range = (behind _ at refl, waiting)
+  performs (instructions.Binary operator destination left right) at range =
+      if_either (IsPlaced program) (has_no_result operator (c.active.slots right)) (Stuck c.output c.input) (gives c destination (binary_result operator (c.active.slots left) (c.active.slots right))) tt (behind (instructions.Binary operator destination left right) at refl, waiting)
+  performs (instructions.Jump target) at range = ((inside, range), waiting)
+  performs (instructions.JumpIfZero condition target) at range =
+      (chosen (c.active.slots condition == 0) target (inside, range.1) (behind (instructions.JumpIfZero condition target) at refl), waiting)
+  performs (instructions.JumpIfNonzero condition target) at range =
+      (chosen (not (c.active.slots condition == 0)) target (inside, range.1) (behind (instructions.JumpIfNonzero condition target) at refl), waiting)
+  performs (instructions.Call function arguments count result) at range =
+      ((range.function_in_range, has_code program (routine_at program function) (routine_in program function well range.function_in_range)), (behind _ at refl, waiting))
+  performs (instructions.Return value) at range = returned program c value here.results c.frames waiting
+  performs (instructions.ReadByte destination) at range = (behind _ at refl, waiting)
+  performs (instructions.WriteByte source) at range = (behind _ at refl, waiting)
+  performs (instructions.LoadGlobal destination global) at range = (behind _ at refl, waiting)
+  performs (instructions.StoreGlobal global source) at range = (behind _ at refl, waiting)
+  performs (instructions.Uncaught tag value) at range = tt
+
+  executes : (o : Option Instruction) → slice_get here.code c.active.next ≡ o → IsPlaced program (executed program choice c o)
+  executes (Some i) at = performs i at (holds_at (IsInRange program here) here.code c.active.next i routine.instructions at)
+  executes None at = tt
+
+-- each step goes to a place in the code
+pub placed_step : (program : Program) (choice : Choice) (s : State) → IsWellFormed program → IsPlaced program s → IsPlaced program (step program choice s)
+placed_step program choice (Running c) well ((inside, next), waiting) = executes program well choice c inside waiting (instruction_at program (place_of (Running c))) refl
+placed_step program choice (Ended ending output input) well placed = tt
+placed_step program choice (Stuck output input) well placed = tt
+
+pub placed_run : (program : Program) (pages calls n : ℕ) (old new : State) → IsWellFormed program → IsPlaced program old → Run (machine program pages calls) n old new → IsPlaced program new
+placed_run program pages calls zero old new well placed run = subst (IsPlaced program) (sym run) placed
+placed_run program pages calls (suc n) old new well placed (mid, (choice, allowed, is), rest) =
+    let next : IsPlaced program mid =
+    subst (IsPlaced program) (sym is)
+    (limited_either (IsPlaced program) pages calls old (step program choice old) (λ within. placed_step program choice old well placed) tt) in
+    placed_run program pages calls n mid new well next rest
+
+pub placed_start : (program : Program) (input : List ℕ) → IsWellFormed program → IsPlaced program (start program input)
+placed_start program input well = ((well.main, has_code program (routine_at program program.main) (routine_in program program.main well well.main)), tt)
+
+-- ---- getting stuck
+
+not_failed : (c : Configuration) → simulation.Running ≡ simulation.Failed → ⊥
+not_failed c e = cc
+
+divides : (program : Program) (c : Configuration) (operator : BinaryOperator) (destination left right : ℕ) (b : Bool) → has_no_result operator (c.active.slots right) ≡ b
+    → instruction_at program (place_of (Running c)) ≡ Some (instructions.Binary operator destination left right)
+    → status_of (if b then Stuck c.output c.input else gives c destination (binary_result operator (c.active.slots left) (c.active.slots right))) ≡ simulation.Failed → DividesByZero program (Running c)
+divides program c operator destination left right true is at failed = (operator, destination, left, right, at, is)
+divides program c operator destination left right false is at failed = absurd (not_failed c failed)
+
+returns_not : (c : Configuration) (value results : ℕ) (frames : List Frame) → status_of (returns c value results frames) ≡ simulation.Failed → ⊥
+returns_not c value results [] failed = let e : status_of (returns c value results []) ≡ simulation.Failed = failed in cc
+returns_not c value results (f ∷ frames) failed = not_failed c failed
+
+fails : (program : Program) (choice : Choice) (c : Configuration) (i : Instruction) → instruction_at program (place_of (Running c)) ≡ Some i → status_of (performed program choice c i) ≡ simulation.Failed → DividesByZero program (Running c)
+fails program choice c (instructions.Binary operator destination left right) at failed = divides program c operator destination left right (has_no_result operator (c.active.slots right)) refl at failed
+fails program choice c (instructions.Return value) at failed = absurd (returns_not c value (routine_at program c.active.function).results c.frames failed)
+fails program choice c (instructions.Uncaught tag value) at failed = absurd (let e : status_of (performed program choice c (instructions.Uncaught tag value)) ≡ simulation.Failed = failed in cc)
+fails program choice c (instructions.Constant destination word) at failed = absurd (not_failed c failed)
+fails program choice c (instructions.Move destination source) at failed = absurd (not_failed c failed)
+fails program choice c (instructions.Unary operator destination operand) at failed = absurd (not_failed c failed)
+fails program choice c (instructions.Jump target) at failed = absurd (not_failed c failed)
+fails program choice c (instructions.JumpIfZero condition target) at failed = absurd (not_failed c failed)
+fails program choice c (instructions.JumpIfNonzero condition target) at failed = absurd (not_failed c failed)
+fails program choice c (instructions.Call function arguments count result) at failed = absurd (not_failed c failed)
+fails program choice c (instructions.ReadByte destination) at failed = absurd (not_failed c failed)
+fails program choice c (instructions.WriteByte source) at failed = absurd (not_failed c failed)
+fails program choice c (instructions.LoadGlobal destination global) at failed = absurd (not_failed c failed)
+fails program choice c (instructions.StoreGlobal global source) at failed = absurd (not_failed c failed)
+
+fails_placed : (program : Program) (choice : Choice) (s : State) → IsPlaced program s → status_of s ≡ simulation.Running → status_of (step program choice s) ≡ simulation.Failed → DividesByZero program s
+fails_placed program choice (Running c) ((inside, next), waiting) running failed =
+    let (i, at) = get_below (routine_at program c.active.function).code c.active.next next in
+    fails program choice c i at (subst (λ (o : Option Instruction). status_of (executed program choice c o) ≡ simulation.Failed) at failed)
+fails_placed program choice (Ended ending output input) placed running failed = absurd (let e : simulation.Ended ending ≡ simulation.Running = running in cc)
+fails_placed program choice (Stuck output input) placed running failed = absurd (let e : simulation.Failed ≡ simulation.Running = running in cc)
+
+-- A run of a well-formed program gets stuck only where it divides by 0.
+pub stuck_only_by_division : (program : Program) (pages calls n : ℕ) (input : List ℕ) (old new : State) → IsWellFormed program → Run (machine program pages calls) n (start program input) old
+    → status_of old ≡ simulation.Running → Step program pages calls old new → status_of new ≡ simulation.Failed → DividesByZero program old
+stuck_only_by_division program pages calls n input old new well run running (choice, allowed, is) failed =
+    let placed = placed_run program pages calls n (start program input) old well (placed_start program input well) run in
+    limited_either (λ (s : State). status_of s ≡ simulation.Failed → DividesByZero program old) pages calls old (step program choice old)
+    (λ within fails. fails_placed program choice old placed running fails)
+    (λ fails. absurd (let e : simulation.Ended Full ≡ simulation.Failed = fails in cc))
+    (ap status_of (sym is) ∙ failed)

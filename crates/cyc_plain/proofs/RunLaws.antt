@@ -1,0 +1,151 @@
+-- Laws of the plain machine.
+use Rattle.std.proofs.Common.{◌≡◌, ℕ, zero, suc, ◌≤◌, Bool, true, false, List, [], ◌∷◌, ◌++◌, drop, Option, Some, None, refl, sym, ap, subst, ◌∙◌, arith, append_assoc}
+use Rattle.std.specs.Prelude.{if◌then◌else◌}
+use Rattle.std.proofs.lemmas.Bool.{le-leb, and_from}
+use Rattle.cyc_words.specs.Ending.{Ending, Full}
+use Rattle.cyc_words.specs.Prefix.{IsPrefix}
+use Rattle.cyc_words.proofs.PrefixLemmas.{IsPrefix-refl, IsPrefix-append}
+use Rattle.cyc_plain.specs.declared.instruction.Instruction.{Instruction}
+use Rattle.cyc_plain.specs.declared.instruction.Instruction.TheVariants as instructions
+use Rattle.cyc_plain.specs.Operators.{has_no_result, binary_result}
+use Rattle.cyc_plain.specs.Simulation as simulation
+use Rattle.cyc_plain.specs.Simulation.{Status, IsLawful, Run}
+use Rattle.cyc_plain.specs.Program.{Program, routine_at}
+use Rattle.cyc_plain.specs.State.{Frame, Configuration, State, Running, Ended, Stuck, output_of, input_of, status_of, place_of}
+use Rattle.cyc_plain.specs.Step.{Choice, IsAllowed, gives, returns, performed, executed, instruction_at, step, is_within, limited, limited_step, Step, start, machine}
+use Rattle.cyc_plain.proofs.Simulation.{Run-grows, Run-stays}
+
+-- ---- limits
+
+pub over_within : (pages calls : ℕ) (ending : Ending) (output input : List ℕ) → is_within pages calls (Ended ending output input) ≡ true
+over_within pages calls ending output input = and_from _ _ (le-leb 0 pages (omega arith)) (le-leb 0 calls (omega arith))
+
+pub stuck_within : (pages calls : ℕ) (output input : List ℕ) → is_within pages calls (Stuck output input) ≡ true
+stuck_within pages calls output input = and_from _ _ (le-leb 0 pages (omega arith)) (le-leb 0 calls (omega arith))
+
+-- a step within the limits is the step, and any other ends the run
+pub limited-within : (pages calls : ℕ) (old new : State) → is_within pages calls new ≡ true → limited pages calls old new ≡ new
+limited-within pages calls old new within = ap (λ (b : Bool). if b then new else Ended Full (output_of old) (input_of old)) within
+
+pub limited-full : (pages calls : ℕ) (old new : State) → is_within pages calls new ≡ false → limited pages calls old new ≡ Ended Full (output_of old) (input_of old)
+limited-full pages calls old new within = ap (λ (b : Bool). if b then new else Ended Full (output_of old) (input_of old)) within
+
+-- what holds of a step, and of the end in its place, holds of the limited step
+pub limited_either : (P : State → Type 0) (pages calls : ℕ) (old new : State) → (is_within pages calls new ≡ true → P new) → P (Ended Full (output_of old) (input_of old)) → P (limited pages calls old new)
+limited_either P pages calls old new first second = go (is_within pages calls new) refl
+  where
+    go : (b : Bool) → is_within pages calls new ≡ b → P (if b then new else Ended Full (output_of old) (input_of old))
+    go true e = first e
+    go false e = second
+
+-- ---- output and input
+
+pub if_either : (P : State → Type 0) (b : Bool) (s t : State) → P s → P t → P (if b then s else t)
+if_either P true s t first second = first
+if_either P false s t first second = second
+
+-- nothing is printed but by the one instruction
+-- what was printed stays, and what is left to read is a rest of what was
+abbrev Shrinks : List ℕ → List ℕ → Type 0
+Shrinks old new = (read : List ℕ) × (old ≡ read ++ new)
+
+abbrev GoesOn : Configuration → State → Type 0
+GoesOn c s = IsPrefix c.output (output_of s) × Shrinks c.input (input_of s)
+
+same : (c : Configuration) → IsPrefix c.output c.output × Shrinks c.input c.input
+same c = (IsPrefix-refl c.output, ([], refl))
+
+one_read : (input : List ℕ) → Shrinks input (drop 1 input)
+one_read [] = ([], refl)
+one_read (b ∷ input) = (b ∷ [], refl)
+
+returned : (c : Configuration) (value results : ℕ) (frames : List Frame) → GoesOn c (returns c value results frames)
+returned c value results [] = same c
+returned c value results (f ∷ frames) = same c
+
+performs : (program : Program) (choice : Choice) (c : Configuration) (i : Instruction) → GoesOn c (performed program choice c i)
+performs program choice c (instructions.Constant destination word) = same c
+performs program choice c (instructions.Move destination source) = same c
+performs program choice c (instructions.Unary operator destination operand) = same c
+performs program choice c (instructions.Binary operator destination left right) = if_either (GoesOn c) (has_no_result operator (c.active.slots right)) (Stuck c.output c.input) (gives c destination (binary_result operator (c.active.slots left) (c.active.slots right))) (same c) (same c)
+performs program choice c (instructions.Jump target) = same c
+performs program choice c (instructions.JumpIfZero condition target) = same c
+performs program choice c (instructions.JumpIfNonzero condition target) = same c
+performs program choice c (instructions.Call function arguments count result) = same c
+performs program choice c (instructions.Return value) = returned c value (routine_at program c.active.function).results c.frames
+performs program choice c (instructions.ReadByte destination) = (IsPrefix-refl c.output, one_read c.input)
+performs program choice c (instructions.WriteByte source) = (IsPrefix-append c.output _, ([], refl))
+performs program choice c (instructions.LoadGlobal destination global) = same c
+performs program choice c (instructions.StoreGlobal global source) = same c
+performs program choice c (instructions.Uncaught tag value) = same c
+
+executes : (program : Program) (choice : Choice) (c : Configuration) (o : Option Instruction) → GoesOn c (executed program choice c o)
+executes program choice c (Some i) = performs program choice c i
+executes program choice c None = same c
+
+abbrev StateGoesOn : State → State → Type 0
+StateGoesOn old new = IsPrefix (output_of old) (output_of new) × Shrinks (input_of old) (input_of new)
+
+steps : (program : Program) (choice : Choice) (s : State) → StateGoesOn s (step program choice s)
+steps program choice (Running c) = executes program choice c (instruction_at program (place_of (Running c)))
+steps program choice (Ended ending output input) = (IsPrefix-refl output, ([], refl))
+steps program choice (Stuck output input) = (IsPrefix-refl output, ([], refl))
+
+limited_steps : (program : Program) (pages calls : ℕ) (old new : State) → Step program pages calls old new → StateGoesOn old new
+limited_steps program pages calls old new (choice, allowed, is) =
+    subst (StateGoesOn old) (sym is)
+    (limited_either (StateGoesOn old) pages calls old (step program choice old) (λ within. steps program choice old) (IsPrefix-refl (output_of old), ([], refl)))
+
+-- ---- a run that is over
+
+-- any choice will do
+abbrev pub zeros : Choice
+zeros = record { contents = λ (slot : ℕ). 0 }
+
+pub zeros_allowed : IsAllowed zeros
+zeros_allowed slot = omega arith
+
+over_steps : (program : Program) (pages calls : ℕ) (choice : Choice) (s : State) (ending : Ending) → status_of s ≡ simulation.Ended ending → limited_step program pages calls choice s ≡ s
+over_steps program pages calls choice (Running c) ending ended = absurd (let e : simulation.Running ≡ simulation.Ended ending = ended in cc)
+over_steps program pages calls choice (Ended other output input) ending ended =
+    limited-within pages calls (Ended other output input) (Ended other output input) (over_within pages calls other output input)
+over_steps program pages calls choice (Stuck output input) ending ended = absurd (let e : simulation.Failed ≡ simulation.Ended ending = ended in cc)
+
+pub lawful : (program : Program) (pages calls : ℕ) → IsLawful (machine program pages calls)
+lawful program pages calls = record {
+  grows = λ old new stepped. (limited_steps program pages calls old new stepped).0;
+  stays = λ old new ending ended stepped. stepped.2 ∙ over_steps program pages calls stepped.0 old ending ended;
+  rests = λ s ending ended. (zeros, zeros_allowed, sym (over_steps program pages calls zeros s ending ended));
+}
+
+-- ---- whole runs
+
+pub ended_stays : (program : Program) (pages calls n : ℕ) (old new : State) (ending : Ending) → status_of old ≡ simulation.Ended ending → Run (machine program pages calls) n old new → new ≡ old
+ended_stays program pages calls n old new ending ended run = Run-stays (machine program pages calls) (lawful program pages calls) n old new ending ended run
+
+pub output_grows : (program : Program) (pages calls n : ℕ) (old new : State) → Run (machine program pages calls) n old new → IsPrefix (output_of old) (output_of new)
+output_grows program pages calls n old new run = Run-grows (machine program pages calls) (lawful program pages calls) n old new run
+
+pub input_shrinks : (program : Program) (pages calls n : ℕ) (old new : State) → Run (machine program pages calls) n old new → (read : List ℕ) × (input_of old ≡ read ++ input_of new)
+input_shrinks program pages calls zero old new run = ([], sym (ap input_of run))
+input_shrinks program pages calls (suc n) old new (mid, stepped, rest) =
+    let first = (limited_steps program pages calls old mid stepped).1 in
+    let later = input_shrinks program pages calls n mid new rest in
+    (first.0 ++ later.0, first.1 ∙ ap (λ (l : List ℕ). first.0 ++ l) later.1 ∙ sym (append_assoc first.0 later.0 (input_of new)))
+
+pub always_goes_on : (program : Program) (pages calls n : ℕ) (old : State) → (new : State) × Run (machine program pages calls) n old new
+always_goes_on program pages calls zero old = (old, refl)
+always_goes_on program pages calls (suc n) old =
+    let (new, run) = always_goes_on program pages calls n (limited_step program pages calls zeros old) in
+    (new, (limited_step program pages calls zeros old, (zeros, zeros_allowed, refl), run))
+
+-- a run that starts within its limits stays within them
+pub stays_within : (program : Program) (pages calls n : ℕ) (old new : State) → is_within pages calls old ≡ true → Run (machine program pages calls) n old new → is_within pages calls new ≡ true
+stays_within program pages calls zero old new within run = ap (is_within pages calls) run ∙ within
+stays_within program pages calls (suc n) old new within (mid, (choice, allowed, is), rest) =
+    let next : is_within pages calls mid ≡ true =
+    ap (is_within pages calls) is ∙ limited_either (λ (s : State). is_within pages calls s ≡ true) pages calls old (step program choice old) (λ (w : is_within pages calls (step program choice old) ≡ true). w) (over_within pages calls Full (output_of old) (input_of old)) in
+    stays_within program pages calls n mid new next rest
+
+pub starts_within : (program : Program) (pages calls : ℕ) (input : List ℕ) → 1 ≤ pages → 1 ≤ calls → is_within pages calls (start program input) ≡ true
+starts_within program pages calls input some_page some_call = and_from _ _ (le-leb 1 pages some_page) (le-leb 1 calls some_call)

@@ -1,0 +1,143 @@
+-- Every value in a run is a word.
+use Rattle.std.proofs.Common.{◌≡◌, ℕ, zero, suc, ◌+◌, ◌-◌, ◌^◌, ◌<◌, Bool, true, false, not, ◌&&◌, List, [], ◌∷◌, length, drop, Option, Some, None, slice_get, refl, sym, subst, arith, inl, inr}
+use Rattle.std.specs.Prelude.{◌==◌, if◌then◌else◌, nat_le, nat_lt, int_le, slice_index, unwrap_or}
+use Rattle.std.specs.List.{AllByRecursion}
+use Rattle.std.proofs.lemmas.Bool.{cases_lt}
+use Rattle.std.proofs.lemmas.List.{get_or_past}
+use Rattle.cyc_words.specs.Word.{IsWord, signed}
+use Rattle.cyc_words.proofs.WordLemmas.{IsWord-add_of, IsWord-sub_of, IsWord-shl_of, IsWord-sar_of, IsWord-div_of, IsWord-rem_of, IsWord-slt_of, IsWord-bit_and, IsWord-bit_or, IsWord-bit_xor}
+use Rattle.cyc_plain.specs.declared.instruction.UnaryOperator.{UnaryOperator}
+use Rattle.cyc_plain.specs.declared.instruction.UnaryOperator.TheVariants as unary
+use Rattle.cyc_plain.specs.declared.instruction.BinaryOperator.{BinaryOperator}
+use Rattle.cyc_plain.specs.declared.instruction.BinaryOperator.TheVariants as binary
+use Rattle.cyc_plain.specs.declared.instruction.Instruction.{Instruction}
+use Rattle.cyc_plain.specs.declared.instruction.Instruction.TheVariants as instructions
+use Rattle.cyc_plain.specs.Operators.{truth, unary_result, binary_result, has_no_result}
+use Rattle.cyc_plain.specs.Simulation.{Run}
+use Rattle.cyc_plain.specs.Program.{Program, CodePlace, no_routine, routine_at}
+use Rattle.cyc_plain.specs.State.{Words, AreWords, put, copied, Frame, Configuration, State, Running, Ended, Stuck, place_of, HoldsWords}
+use Rattle.cyc_plain.specs.Step.{Choice, IsAllowed, gives, returns, performed, executed, instruction_at, step, start, machine}
+use Rattle.cyc_plain.specs.WellFormed.{HasWord, HasWords}
+use Rattle.cyc_plain.proofs.RunLaws.{limited_either, if_either}
+use Rattle.cyc_plain.proofs.Placed.{holds_at}
+use Rattle.cyc_plain.proofs.Steps.{function_known}
+
+-- ---- operators
+
+truth_word : (b : Bool) → IsWord (truth b)
+truth_word true = omega arith
+truth_word false = omega arith
+
+pub IsWord-unary_result : (operator : UnaryOperator) (a : ℕ) → IsWord a → IsWord (unary_result operator a)
+IsWord-unary_result unary.Negate a w = IsWord-sub_of 0 a
+IsWord-unary_result unary.Complement a w = omega arith
+IsWord-unary_result unary.Not a w = truth_word (a == 0)
+
+pub IsWord-binary_result : (operator : BinaryOperator) (a b : ℕ) → IsWord a → IsWord b → IsWord (binary_result operator a b)
+IsWord-binary_result binary.Add a b v w = IsWord-add_of a b
+IsWord-binary_result binary.Subtract a b v w = IsWord-sub_of a b
+IsWord-binary_result binary.Multiply a b v w = omega arith
+IsWord-binary_result binary.Divide a b v w = IsWord-div_of a b
+IsWord-binary_result binary.Remainder a b v w = IsWord-rem_of a b
+IsWord-binary_result binary.And a b v w = IsWord-bit_and a b v
+IsWord-binary_result binary.Or a b v w = IsWord-bit_or a b v w
+IsWord-binary_result binary.Xor a b v w = IsWord-bit_xor a b v w
+IsWord-binary_result binary.ShiftLeft a b v w = IsWord-shl_of a b
+IsWord-binary_result binary.ShiftRight a b v w = IsWord-sar_of a b
+IsWord-binary_result binary.Equal a b v w = truth_word (a == b)
+IsWord-binary_result binary.NotEqual a b v w = truth_word (not (a == b))
+IsWord-binary_result binary.Less a b v w = IsWord-slt_of a b
+IsWord-binary_result binary.LessOrEqual a b v w = truth_word (int_le (signed a) (signed b))
+IsWord-binary_result binary.Greater a b v w = IsWord-slt_of b a
+IsWord-binary_result binary.GreaterOrEqual a b v w = truth_word (int_le (signed b) (signed a))
+
+-- ---- slots and input
+
+either_word : (b : Bool) (x y : ℕ) → IsWord x → IsWord y → IsWord (if b then x else y)
+either_word true x y v w = v
+either_word false x y v w = w
+
+put_words : (words : Words) (number word : ℕ) → AreWords words → IsWord word → AreWords (put words number word)
+put_words words number word all w other = either_word (other == number) word (words other) w (all other)
+
+copied_words : (from to : Words) (source count destination : ℕ) → AreWords from → AreWords to → AreWords (copied from source count to destination)
+copied_words from to source count destination v w number =
+    either_word (nat_le destination number && nat_lt number (destination + count)) (from (source + (number - destination))) (to number) (v (source + (number - destination))) (w number)
+
+first_word : (input : List ℕ) → AllByRecursion IsWord input → IsWord (unwrap_or (slice_get input 0) (2 ^ 32 - 1))
+first_word [] all = omega arith
+first_word (b ∷ input) (first, rest) = first
+
+rest_words : (input : List ℕ) → AllByRecursion IsWord input → AllByRecursion IsWord (drop 1 input)
+rest_words [] all = tt
+rest_words (b ∷ input) (first, rest) = rest
+
+-- ---- steps
+
+abbrev AreFrames : List Frame → Type 0
+AreFrames frames = AllByRecursion (λ f. AreWords f.caller.slots) frames
+
+known_word : (program : Program) (place : CodePlace) (i : Instruction) → HasWords program → instruction_at program place ≡ Some i → HasWord i
+known_word program place i words at =
+    holds_at HasWord (routine_at program place.function).code place.index i (words.functions place.function no_routine (function_known program place i at)) at
+
+module _ (program : Program) (choice : Choice) (allowed : IsAllowed choice) (c : Configuration) (slots : AreWords c.active.slots) (frames : AreFrames c.frames) (globals : AreWords c.globals) (input : AllByRecursion IsWord c.input) where
+  given : (destination word : ℕ) → IsWord word → HoldsWords (gives c destination word)
+  given destination word w = (put_words c.active.slots destination word slots w, frames, globals, input)
+
+  returned : (value results : ℕ) (waiting : List Frame) → AreFrames waiting → HoldsWords (returns c value results waiting)
+  returned value results [] all = tt
+  returned value results (f ∷ waiting) (first, rest) = (copied_words c.active.slots f.caller.slots value results f.result slots first, rest, globals, input)
+
+  performs : (i : Instruction) → HasWord i → HoldsWords (performed program choice c i)
+  performs (instructions.Constant destination word) w = given destination word w
+  performs (instructions.Move destination source) w = given destination (c.active.slots source) (slots source)
+  performs (instructions.Unary operator destination operand) w =
+      given destination (unary_result operator (c.active.slots operand)) (IsWord-unary_result operator (c.active.slots operand) (slots operand))
+  performs (instructions.Binary operator destination left right) w =
+      if_either HoldsWords (has_no_result operator (c.active.slots right)) (Stuck c.output c.input) (gives c destination (binary_result operator (c.active.slots left) (c.active.slots right)))
+      tt (given destination (binary_result operator (c.active.slots left) (c.active.slots right)) (IsWord-binary_result operator (c.active.slots left) (c.active.slots right) (slots left) (slots right)))
+  performs (instructions.Jump target) w = (slots, frames, globals, input)
+  performs (instructions.JumpIfZero condition target) w = (slots, frames, globals, input)
+  performs (instructions.JumpIfNonzero condition target) w = (slots, frames, globals, input)
+  performs (instructions.Call function arguments count result) w =
+      (copied_words c.active.slots choice.contents arguments count 0 slots allowed, (slots, frames), globals, input)
+  performs (instructions.Return value) w = returned value (routine_at program c.active.function).results c.frames frames
+  performs (instructions.ReadByte destination) w =
+      (put_words c.active.slots destination (unwrap_or (slice_get c.input 0) (2 ^ 32 - 1)) slots (first_word c.input input), frames, globals, rest_words c.input input)
+  performs (instructions.WriteByte source) w = (slots, frames, globals, input)
+  performs (instructions.LoadGlobal destination global) w = given destination (c.globals global) (globals global)
+  performs (instructions.StoreGlobal global source) w =
+      (slots, frames, put_words c.globals global (c.active.slots source) globals (slots source), input)
+  performs (instructions.Uncaught tag value) w = tt
+
+  executes : (o : Option Instruction) → ((i : Instruction) → o ≡ Some i → HasWord i) → HoldsWords (executed program choice c o)
+  executes (Some i) w = performs i (w i refl)
+  executes None w = tt
+
+words_step : (program : Program) (choice : Choice) (s : State) → HasWords program → IsAllowed choice → HoldsWords s → HoldsWords (step program choice s)
+words_step program choice (Running c) words allowed (slots, frames, globals, input) =
+    executes program choice allowed c slots frames globals input (instruction_at program (place_of (Running c))) (λ i at. known_word program (place_of (Running c)) i words at)
+words_step program choice (Ended ending output input) words allowed holds = tt
+words_step program choice (Stuck output input) words allowed holds = tt
+
+-- every value in a run is a word
+pub words_stay : (program : Program) (pages calls n : ℕ) (old new : State) → HasWords program → HoldsWords old → Run (machine program pages calls) n old new → HoldsWords new
+words_stay program pages calls zero old new words holds run = subst HoldsWords (sym run) holds
+words_stay program pages calls (suc n) old new words holds (mid, (choice, allowed, is), rest) =
+    let next : HoldsWords mid =
+    subst HoldsWords (sym is) (limited_either HoldsWords pages calls old (step program choice old) (λ within. words_step program choice old words allowed holds) tt) in
+    words_stay program pages calls n mid new words next rest
+
+bytes_are_words : (input : List ℕ) → AllByRecursion (λ b. b < 256) input → AllByRecursion IsWord input
+bytes_are_words [] all = tt
+bytes_are_words (b ∷ input) (first, rest) = ((omega (arith, first)), bytes_are_words input rest)
+
+pub words_at_start : (program : Program) (input : List ℕ) → HasWords program → AllByRecursion (λ b. b < 256) input → HoldsWords (start program input)
+words_at_start program input words bytes =
+    let global_words : (global : ℕ) → IsWord (slice_index program.globals global) = λ global.
+    elim (cases_lt global (length program.globals)) [
+      | inl below ↦ words.globals global 0 below
+      | inr past ↦ subst IsWord (sym (get_or_past program.globals global 0 past)) (let e : 0 < 2 ^ 32 = omega arith in e)
+    ] in
+    ((λ slot. omega arith), tt, global_words, bytes_are_words input bytes)

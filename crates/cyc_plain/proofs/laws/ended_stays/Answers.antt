@@ -1,0 +1,6 @@
+-- A run that is over.
+use Rattle.cyc_plain.proofs.RunLaws.{ended_stays}
+use Rattle.cyc_plain.proofs.laws.ended_stays.Goals as goal
+
+pub returns : goal.returns
+returns c = ended_stays

@@ -1,0 +1,7 @@
+-- Words.
+use Rattle.cyc_plain.specs.Step.{start}
+use Rattle.cyc_plain.proofs.WordLaws.{words_stay, words_at_start}
+use Rattle.cyc_plain.proofs.laws.values_are_words.Goals as goal
+
+pub returns : goal.returns
+returns c = λ program pages calls count input new words bytes run. words_stay program pages calls count (start program input) new words (words_at_start program input words bytes) run

@@ -1,0 +1,147 @@
+-- What a plain program does: a step is a function of the state and of what is chosen. So the steps of a program are a
+-- relation, since nothing is said of the choice but that it is allowed.
+use Rattle.std.specs.Prelude.{◌≡◌, ℕ, zero, suc, ◌+◌, ◌-◌, ◌%◌, ◌^◌, ◌==◌, Bool, not, ◌&&◌, nat_le, List, [], ◌∷◌, ◌++◌, drop, Option, Some, None, unwrap_or, slice_get, slice_index, if◌then◌else◌}
+use Rattle.cyc_words.specs.Word.{signed}
+use Rattle.cyc_words.specs.Ending.{Returned, Uncaught, Full}
+use Rattle.cyc_plain.specs.declared.instruction.Instruction.{Instruction}
+use Rattle.cyc_plain.specs.declared.instruction.Instruction.TheVariants as instructions
+use Rattle.cyc_plain.specs.Operators.{unary_result, binary_result, has_no_result}
+use Rattle.cyc_plain.specs.Program.{Program, CodePlace, routine_at}
+use Rattle.cyc_plain.specs.Simulation.{Machine}
+use Rattle.cyc_plain.specs.State.{Words, AreWords, put, copied, Frame, Configuration, State, Running, Ended, Stuck, start_store, output_of, input_of, status_of, place_of, demand, depth}
+
+-- What a step may choose freely: the words that are in the slots of a new call before they are written.
+pub record Choice : Type 0 where
+  pub contents : Words
+
+abbrev pub IsAllowed : Choice → Type 0
+IsAllowed choice = AreWords choice.contents
+
+-- Parts of a configuration changed.
+
+abbrev pub with_slots : Configuration → Words → Configuration
+with_slots c slots = record c { active = record c.active { slots = slots } }
+
+abbrev pub at : Configuration → ℕ → Configuration
+at c index = record c { active = record c.active { next = index } }
+
+-- the next instruction of the code is executed next
+abbrev pub advanced : Configuration → Configuration
+advanced c = at c (c.active.next + 1)
+
+-- a slot gets a word, and then the next instruction
+abbrev pub gives : Configuration → ℕ → ℕ → State
+gives c destination word = Running (advanced (with_slots c (put c.active.slots destination word)))
+
+abbrev pub branches : Configuration → Bool → ℕ → State
+branches c taken target = Running (at c (if taken then target else c.active.next + 1))
+
+-- A call: the new activation has its arguments in its first slots, and the caller waits behind the call.
+abbrev pub calls : Choice → Configuration → (function arguments count result : ℕ) → State
+calls choice c function arguments count result =
+    Running (record c {
+      active = record {
+        function = function;
+        next = 0;
+        slots = copied c.active.slots arguments count choice.contents 0;
+        handlers = [];
+      };
+      frames = record { caller = (advanced c).active; result = result } ∷ c.frames;
+    })
+
+-- a return of so many words to the newest caller; with none it is `main` that returns
+abbrev pub returns : Configuration → (value results : ℕ) → List Frame → State
+returns c value results [] = Ended (Returned (signed (c.active.slots value))) c.output c.input
+returns c value results (f ∷ frames) =
+    Running (record c {
+      active = record f.caller { slots = copied c.active.slots value results f.caller.slots f.result };
+      frames = frames;
+    })
+
+-- what an instruction does
+abbrev pub performed : Program → Choice → Configuration → Instruction → State
+performed program choice c (instructions.Constant destination word) = gives c destination word
+performed program choice c (instructions.Move destination source) = gives c destination (c.active.slots source)
+performed program choice c (instructions.Unary operator destination operand) =
+    gives c destination (unary_result operator (c.active.slots operand))
+performed program choice c (instructions.Binary operator destination left right) =
+    if has_no_result operator (c.active.slots right)
+    then Stuck c.output c.input
+    else gives c destination (binary_result operator (c.active.slots left) (c.active.slots right))
+performed program choice c (instructions.Jump target) = Running (at c target)
+performed program choice c (instructions.JumpIfZero condition target) =
+    branches c (c.active.slots condition == 0) target
+performed program choice c (instructions.JumpIfNonzero condition target) =
+    branches c (not (c.active.slots condition == 0)) target
+performed program choice c (instructions.Call function arguments count result) =
+    calls choice c function arguments count result
+performed program choice c (instructions.Return value) =
+    returns c value (routine_at program c.active.function).results c.frames
+performed program choice c (instructions.ReadByte destination) =
+    gives (record c { input = drop 1 c.input }) destination (unwrap_or (slice_get c.input 0) (2 ^ 32 - 1))
+performed program choice c (instructions.WriteByte source) =
+    Running (advanced (record c { output = c.output ++ c.active.slots source % 256 ∷ [] }))
+performed program choice c (instructions.LoadGlobal destination global) = gives c destination (c.globals global)
+performed program choice c (instructions.StoreGlobal global source) =
+    Running (advanced (record c { globals = put c.globals global (c.active.slots source) }))
+performed program choice c (instructions.Uncaught tag value) =
+    Ended (Uncaught tag (signed (c.active.slots value))) c.output c.input
+
+-- the instruction to be executed
+abbrev pub instruction_at : Program → CodePlace → Option Instruction
+instruction_at program place = slice_get (routine_at program place.function).code place.index
+
+abbrev pub executed : Program → Choice → Configuration → Option Instruction → State
+executed program choice c (Some instruction) = performed program choice c instruction
+executed program choice c None = Stuck c.output c.input
+
+-- One step, without limits. A run that is over stays as it is.
+abbrev pub step : Program → Choice → State → State
+step program choice (Running c) = executed program choice c (instruction_at program (place_of (Running c)))
+step program choice (Ended ending output input) = Ended ending output input
+step program choice (Stuck output input) = Stuck output input
+
+-- Limits: so many pages of the store, and so many calls under way. A step that would go past one of them ends the run
+-- instead, with output and input as before it.
+abbrev pub is_within : (pages calls : ℕ) → State → Bool
+is_within pages calls s = nat_le (demand s) pages && nat_le (depth s) calls
+
+abbrev pub limited : (pages calls : ℕ) → (old new : State) → State
+limited pages calls old new = if is_within pages calls new then new else Ended Full (output_of old) (input_of old)
+
+abbrev pub limited_step : Program → (pages calls : ℕ) → Choice → State → State
+limited_step program pages calls choice s = limited pages calls s (step program choice s)
+
+-- from old, a program with these limits may step to new
+abbrev pub Step : Program → (pages calls : ℕ) → State → State → Type 0
+Step program pages calls old new =
+    (choice : Choice) × IsAllowed choice × (new ≡ limited_step program pages calls choice old)
+
+-- `main` is called, nothing is printed yet, and all of the input is still to be read
+abbrev pub start : Program → List ℕ → State
+start program input =
+    Running (record {
+      active = record { function = program.main; next = 0; slots = λ (slot : ℕ). 0; handlers = [] };
+      frames = [];
+      globals = λ (global : ℕ). slice_index program.globals global;
+      store = start_store;
+      output = [];
+      input = input;
+    })
+
+-- a program with limits, as a machine
+abbrev pub machine : Program → (pages calls : ℕ) → Machine
+machine program pages calls = record {
+  State = State;
+  Place = CodePlace;
+  Step = Step program pages calls;
+  place = place_of;
+  output = output_of;
+  status = status_of;
+}
+
+-- the state after so many steps, where each makes the same choice
+abbrev pub run : Program → (pages calls : ℕ) → Choice → ℕ → State → State
+run program pages calls choice zero s = s
+run program pages calls choice (suc n) s =
+    run program pages calls choice n (limited_step program pages calls choice s)

@@ -1,0 +1,88 @@
+-- A well-formed plain program: all that it names is there, and its frames have room.
+use Rattle.std.specs.Prelude.{◌≡◌, ℕ, ◌+◌, ◌-◌, ◌<◌, ◌≤◌, Bool, true, false, length, All, IsSomeAnd, Some, slice_get}
+use Rattle.cyc_words.specs.Word.{IsWord}
+use Rattle.cyc_plain.specs.declared.instruction.Instruction.{Instruction}
+use Rattle.cyc_plain.specs.declared.instruction.Instruction.TheVariants as instructions
+use Rattle.cyc_plain.specs.Operators.{has_no_result}
+use Rattle.cyc_plain.specs.declared.instruction.BinaryOperator.{BinaryOperator}
+use Rattle.cyc_plain.specs.State.{State, Running, Ended, Stuck, place_of}
+use Rattle.cyc_plain.specs.Step.{instruction_at}
+use Rattle.cyc_plain.specs.Program.{Routine, Program, routine_at, layout_words, greatest_value, most_globals}
+
+-- the words from a slot on are slots of the function
+abbrev pub HasSlots : Routine → (first count : ℕ) → Type 0
+HasSlots r first count = first + count ≤ r.slots
+
+-- A call of a function of the program, which takes as many words as are passed. They are slots, and so are those that
+-- get what it returns.
+pub record IsCallInRange (program : Program) (r : Routine) (function arguments count result : ℕ) : Type 0 where
+  pub function_in_range : function < length program.functions
+  pub takes : count ≡ (routine_at program function).parameters
+  pub arguments_in_range : HasSlots r arguments count
+  pub result_in_range : HasSlots r result (routine_at program function).results
+
+-- the slots, targets, globals and functions that an instruction of a function names are there
+abbrev pub IsInRange : Program → Routine → Instruction → Type 0
+IsInRange program r (instructions.Constant destination word) = destination < r.slots
+IsInRange program r (instructions.Move destination source) = (destination < r.slots) × (source < r.slots)
+IsInRange program r (instructions.Unary operator destination operand) =
+    (destination < r.slots) × (operand < r.slots)
+IsInRange program r (instructions.Binary operator destination left right) =
+    (destination < r.slots) × (left < r.slots) × (right < r.slots)
+IsInRange program r (instructions.Jump target) = target < length r.code
+IsInRange program r (instructions.JumpIfZero condition target) = (condition < r.slots) × (target < length r.code)
+IsInRange program r (instructions.JumpIfNonzero condition target) = (condition < r.slots) × (target < length r.code)
+IsInRange program r (instructions.Call function arguments count result) =
+    IsCallInRange program r function arguments count result
+IsInRange program r (instructions.Return value) = HasSlots r value r.results
+IsInRange program r (instructions.ReadByte destination) = destination < r.slots
+IsInRange program r (instructions.WriteByte source) = source < r.slots
+IsInRange program r (instructions.LoadGlobal destination global) =
+    (destination < r.slots) × (global < length program.globals)
+IsInRange program r (instructions.StoreGlobal global source) =
+    (global < length program.globals) × (source < r.slots)
+IsInRange program r (instructions.Uncaught tag value) = value < r.slots
+
+-- after these the instruction behind them is never executed next
+abbrev pub leaves : Instruction → Bool
+leaves (instructions.Jump target) = true
+leaves (instructions.Return value) = true
+leaves (instructions.Uncaught tag value) = true
+leaves instruction = false
+
+-- A function: its parameters are slots, what it returns is at most one value, its frame has room for its slots and for
+-- what `layout` adds, all that its instructions name is there, and its code does not run off its end.
+pub record IsRoutine (program : Program) (r : Routine) : Type 0 where
+  pub parameters : r.parameters ≤ r.slots
+  pub results : r.results ≤ greatest_value
+  pub frame : r.slots + layout_words ≤ r.frame_count
+  pub instructions : All (IsInRange program r) r.code
+  pub last : IsSomeAnd (slice_get r.code (length r.code - 1)) (λ i. leaves i ≡ true)
+
+-- A program: each of its functions is one, `main` is among them, takes nothing and returns one word, and there are not
+-- too many globals.
+pub record IsWellFormed (program : Program) : Type 0 where
+  pub functions : All (IsRoutine program) program.functions
+  pub main : program.main < length program.functions
+  pub main_parameters : (routine_at program program.main).parameters ≡ 0
+  pub main_results : (routine_at program program.main).results ≡ 1
+  pub globals : length program.globals ≤ most_globals
+
+-- Numbers are words wherever a program has some: its constants, its tags, and what its globals hold at the start.
+abbrev pub HasWord : Instruction → Type 0
+HasWord (instructions.Constant destination word) = IsWord word
+HasWord (instructions.Uncaught tag value) = IsWord tag
+HasWord instruction = Unit {0}
+
+pub record HasWords (program : Program) : Type 0 where
+  pub functions : All (λ r. All HasWord r.code) program.functions
+  pub globals : All IsWord program.globals
+
+-- the instruction to be executed next divides by 0
+abbrev pub DividesByZero : Program → State → Type 0
+DividesByZero program (Running c) =
+    (operator : BinaryOperator) × (destination left right : ℕ)
+    × (instruction_at program (place_of (Running c)) ≡ Some (instructions.Binary operator destination left right))
+    × (has_no_result operator (c.active.slots right) ≡ true)
+DividesByZero program (Ended ending output input) = ⊥
+DividesByZero program (Stuck output input) = ⊥

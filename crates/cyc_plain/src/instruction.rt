@@ -1,0 +1,106 @@
+//! The instructions of a plain program.
+//!
+//! A slot is named by its number in its function, a target by the index of an instruction in the same function's code,
+//! and a function and a global by their index in the program.
+
+/// An operation on one word.
+#[derive(Clone, Copy)]
+pub enum UnaryOperator {
+    Negate,
+    Complement,
+    /// 1 for 0, and 0 for any other word.
+    Not,
+}
+
+/// An operation on two words, which are signed numbers. Sums, differences and products wrap, a shift counts modulo 32,
+/// and a comparison is 1 where it holds and 0 elsewhere.
+#[derive(Clone, Copy)]
+pub enum BinaryOperator {
+    Add,
+    Subtract,
+    Multiply,
+    /// Rounded toward zero. The right operand is not 0.
+    Divide,
+    /// With the sign of the left operand. The right operand is not 0.
+    Remainder,
+    And,
+    Or,
+    Xor,
+    ShiftLeft,
+    /// The sign comes in.
+    ShiftRight,
+    Equal,
+    NotEqual,
+    Less,
+    LessOrEqual,
+    Greater,
+    GreaterOrEqual,
+}
+
+/// An instruction. After it the next one in the code is executed, where it says nothing else.
+#[derive(Clone, Copy)]
+pub enum Instruction {
+    Constant {
+        destination: usize,
+        word: u32,
+    },
+    Move {
+        destination: usize,
+        source: usize,
+    },
+    Unary {
+        operator: UnaryOperator,
+        destination: usize,
+        operand: usize,
+    },
+    Binary {
+        operator: BinaryOperator,
+        destination: usize,
+        left: usize,
+        right: usize,
+    },
+    Jump {
+        target: usize,
+    },
+    JumpIfZero {
+        condition: usize,
+        target: usize,
+    },
+    JumpIfNonzero {
+        condition: usize,
+        target: usize,
+    },
+    /// The `count` words from the slot `arguments` on become the first slots of the function, and what it returns comes
+    /// into the slots from `result` on.
+    Call {
+        function: usize,
+        arguments: usize,
+        count: usize,
+        result: usize,
+    },
+    /// As many words from the slot `value` on as the function returns. What `main` returns is the run's end.
+    Return {
+        value: usize,
+    },
+    /// The next byte of the input, or -1 at its end.
+    ReadByte {
+        destination: usize,
+    },
+    /// The low 8 bits are printed.
+    WriteByte {
+        source: usize,
+    },
+    LoadGlobal {
+        destination: usize,
+        global: usize,
+    },
+    StoreGlobal {
+        global: usize,
+        source: usize,
+    },
+    /// The run ends, with an exception of this tag and the word of this slot that nothing caught.
+    Uncaught {
+        tag: u32,
+        value: usize,
+    },
+}

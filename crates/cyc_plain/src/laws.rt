@@ -1,0 +1,78 @@
+//! Laws of the definitions in `specs/`. Each function does nothing: its contract is the law, and so it is proved with
+//! the crate. The lemmas behind them stand in `proofs/` for other proofs to cite.
+
+ghost use Rattle.std.specs.Prelude.{◌≡◌, ◌≢◌, ℕ, ◌+◌, ◌<◌, ◌≤◌, List, ◌++◌, true, false, Some, Contains};
+ghost use Rattle.std.specs.List.{AllByRecursion};
+ghost use Rattle.cyc_words.specs.Ending.{Ending, Full};
+ghost use Rattle.cyc_words.specs.Prefix.{IsPrefix};
+ghost use Rattle.cyc_plain.specs.Program.{Program, CodePlace, places_of};
+ghost use Rattle.cyc_plain.specs.declared.instruction.Instruction.{Instruction};
+ghost use Rattle.cyc_plain.specs.Simulation.{Run};
+ghost use Rattle.cyc_plain.specs.Simulation as simulation;
+ghost use Rattle.cyc_plain.specs.State.{Words, State, HoldsWords, put, copied, output_of, input_of, status_of};
+ghost use Rattle.cyc_plain.specs.State as state;
+ghost use Rattle.cyc_plain.specs.Step.{Choice, Step, instruction_at, is_within, limited_step, machine, start, step};
+ghost use Rattle.cyc_plain.specs.WellFormed.{IsWellFormed, HasWords, DividesByZero};
+
+/// A run that is over stays as it is.
+pub fn ended_stays()
+    ensures { (program : Program) (pages calls count : ℕ) (old new : State) (ending : Ending) → status_of old ≡ simulation.Ended ending
+        → Run (machine program pages calls) count old new → new ≡ old }
+{}
+
+/// What was printed stays printed, and input is read from its front.
+pub fn output_grows()
+    ensures output { (program : Program) (pages calls count : ℕ) (old new : State) → Run (machine program pages calls) count old new
+        → IsPrefix (output_of old) (output_of new) }
+    ensures input { (program : Program) (pages calls count : ℕ) (old new : State) → Run (machine program pages calls) count old new
+        → (read : List ℕ) × (input_of old ≡ read ++ input_of new) }
+{}
+
+/// From every state there is a run of every number of steps.
+pub fn always_goes_on()
+    ensures { (program : Program) (pages calls count : ℕ) (old : State) → (new : State) × Run (machine program pages calls) count old new }
+{}
+
+/// A run keeps its limits: a step that keeps them is the program's own, and one that does not ends the run with `Full`, with
+/// output and input as before it.
+pub fn limits_are_kept()
+    ensures starts { (program : Program) (pages calls : ℕ) (input : List ℕ) → 1 ≤ pages → 1 ≤ calls
+        → is_within pages calls (start program input) ≡ true }
+    ensures stays { (program : Program) (pages calls count : ℕ) (old new : State) → is_within pages calls old ≡ true
+        → Run (machine program pages calls) count old new → is_within pages calls new ≡ true }
+    ensures within { (program : Program) (pages calls : ℕ) (choice : Choice) (old : State) → is_within pages calls (step program choice old) ≡ true
+        → limited_step program pages calls choice old ≡ step program choice old }
+    ensures full { (program : Program) (pages calls : ℕ) (choice : Choice) (old : State) → is_within pages calls (step program choice old) ≡ false
+        → limited_step program pages calls choice old ≡ state.Ended Full (output_of old) (input_of old) }
+{}
+
+/// A run of a well-formed program is never stuck but at a division by 0.
+pub fn only_division_is_stuck()
+    ensures { (program : Program) (pages calls count : ℕ) (input : List ℕ) (old new : State) → IsWellFormed program
+        → Run (machine program pages calls) count (start program input) old → status_of old ≡ simulation.Running
+        → Step program pages calls old new → status_of new ≡ simulation.Failed → DividesByZero program old }
+{}
+
+/// In a run of a program whose numbers are words, on an input of bytes, every value is a word.
+pub fn values_are_words()
+    ensures { (program : Program) (pages calls count : ℕ) (input : List ℕ) (new : State) → HasWords program
+        → AllByRecursion (λ b. b < 256) input → Run (machine program pages calls) count (start program input) new → HoldsWords new }
+{}
+
+/// Where an instruction stands is one of the program's places.
+pub fn places_are_listed()
+    ensures { (program : Program) (place : CodePlace) (i : Instruction) → instruction_at program place ≡ Some i
+        → Contains (places_of program) place }
+{}
+
+/// A slot holds what was last put or copied into it.
+pub fn slots_hold()
+    ensures same { (words : Words) (number word : ℕ) → put words number word number ≡ word }
+    ensures other { (words : Words) (number other word : ℕ) → other ≢ number → put words number word other ≡ words other }
+    ensures inside { (from to : Words) (source count destination k : ℕ) → k < count
+        → copied from source count to destination (destination + k) ≡ from (source + k) }
+    ensures below { (from to : Words) (source count destination number : ℕ) → number < destination
+        → copied from source count to destination number ≡ to number }
+    ensures above { (from to : Words) (source count destination number : ℕ) → destination + count ≤ number
+        → copied from source count to destination number ≡ to number }
+{}
