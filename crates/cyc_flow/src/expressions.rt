@@ -51,6 +51,7 @@ impl State {
         Ok(self.with_fullness(number, Fullness::Full))
     }
 
+    /// Behind an expression.
     #[cycle(expression)]
     pub(crate) fn evaluated(self, alloc: Global, value: &Expr) -> Result<State, Stop>
         ensures { Gives result (keep (view_expression value.now) (view_state self)) (after (view_expression value.now) (view_state self)) }
@@ -74,6 +75,7 @@ impl State {
         }
     }
 
+    /// Behind an expression whose value is converted.
     #[cycle(expression)]
     pub(crate) fn converted(self, alloc: Global, converted: &Converted) -> Result<State, Stop>
         ensures { Gives result (keep_converted (view_converted converted.now) (view_state self)) (after_converted (view_converted converted.now) (view_state self)) }
@@ -108,6 +110,7 @@ impl State {
         }
     }
 
+    /// Behind the rest of a chain.
     #[cycle(expression)]
     fn operated(self, alloc: Global, operations: &[Operation]) -> Result<State, Stop>
         ensures { Gives result (keep_operations (operations_of operations.now) (view_state self)) (after_operations (operations_of operations.now) (view_state self)) }

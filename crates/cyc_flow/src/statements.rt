@@ -77,6 +77,7 @@ impl Walk {
         State::Unreached
     }
 
+    /// Behind a statement in this loop, if one is around it.
     #[cycle(statement)]
     #[tactic(auto, using(crate::proofs::States::meet_unreached, crate::proofs::States::meet_assoc))]
     fn statement(
@@ -135,6 +136,7 @@ impl Walk {
         }
     }
 
+    /// Behind the items of a block.
     #[cycle(statement)]
     pub(crate) fn items(
         &mut self,
