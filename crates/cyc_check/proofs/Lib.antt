@@ -1,0 +1,11 @@
+pub mod BindingLemmas
+pub mod EntryLemmas
+pub mod TypedViews
+pub mod Conversions
+pub mod Arguments
+pub mod Loops
+pub mod Chains
+pub mod Orders
+pub mod Walks
+pub mod Nested
+pub mod LocalTypes

@@ -1,0 +1,42 @@
+-- The view of a typed node with a list of nodes, by the list that its `Vec` holds.
+use Rattle.std.proofs.Common.{◌≡◌, ℕ, Option, option_map, refl, ap, ◌∙◌}
+use Rattle.std.specs.declared.vec.Vec.{Vec}
+use Rattle.std.specs.declared.boxed.Box.{Box}
+use Rattle.std.specs.declared.alloc.Global.{Global as Heap}
+use Rattle.cyc_types.specs.declared.ty.Ty.{Ty as TyCode}
+use Rattle.cyc_types.specs.declared.typed.Callee.{Callee}
+use Rattle.cyc_types.specs.declared.typed.Expr.{Expr, Row_of-Converted, end_of-Converted, more_of-Converted, items-the_row-Converted, Row_of-Operation, end_of-Operation, more_of-Operation, items-the_row-Operation}
+use Rattle.cyc_types.specs.declared.typed.Expr.TheBlock.{hidden-the_row-Converted-0, items_hidden-the_row-Converted-0, hidden-the_row-Operation-1, items_hidden-the_row-Operation-1}
+use Rattle.cyc_types.specs.declared.typed.Expr.TheVariants as expr
+use Rattle.cyc_types.specs.declared.typed.Converted.{Converted}
+use Rattle.cyc_types.specs.declared.typed.Operation.{Operation}
+use Rattle.cyc_types.specs.declared.typed.Operation.TheVariants as operation
+use Rattle.cyc_types.specs.declared.typed.Stmt.{Row_of-Item, end_of-Item, more_of-Item, items-the_row-Item}
+use Rattle.cyc_types.specs.declared.typed.Item.TheBlock.{hidden-the_row-Item-0, items_hidden-the_row-Item-0}
+use Rattle.cyc_types.specs.declared.typed.Stmt.TheVariants as stmt
+use Rattle.cyc_types.specs.declared.typed.Item.{Item}
+use Rattle.cyc_types.specs.TypeView.{view_ty}
+use Rattle.cyc_types.specs.TypedTrees.{Call, Binary, Convert, MoreArguments, ThenCompute, ThenTest, Block, MoreItems}
+use Rattle.cyc_types.specs.TypedTreeView.{view_expression, view_arguments, view_operations, arguments_of, operations_of, view_statement, view_items, view_item, items_of}
+
+view_arguments-items : {m : _} (row : Row_of-Converted m) → view_arguments row ≡ arguments_of (items-the_row-Converted m row)
+view_arguments-items end_of-Converted = refl
+view_arguments-items (more_of-Converted f t e row) = ap (MoreArguments (Convert f t (view_expression e))) (view_arguments-items row)
+
+view_operations-items : {m : _} (row : Row_of-Operation m) → view_operations row ≡ operations_of (items-the_row-Operation m row)
+view_operations-items end_of-Operation = refl
+view_operations-items (more_of-Operation (operation.Compute o e) row) = ap (ThenCompute o (view_expression e)) (view_operations-items row)
+view_operations-items (more_of-Operation (operation.Test o e) row) = ap (ThenTest o (view_expression e)) (view_operations-items row)
+
+view_items-items : {m : _} (row : Row_of-Item m) → view_items row ≡ items_of (items-the_row-Item m row)
+view_items-items end_of-Item = refl
+view_items-items (more_of-Item i row) = ap (MoreItems (view_item i)) (view_items-items row)
+
+pub call_view : (f : Callee) (v : Vec Converted Heap) (t : Option TyCode) → view_expression (expr.Call f v t) ≡ Call f (arguments_of v.items) (option_map view_ty t)
+call_view f v t = ap (λ as'. Call f as' (option_map view_ty t)) (view_arguments-items (hidden-the_row-Converted-0 v) ∙ ap arguments_of (items_hidden-the_row-Converted-0 v))
+
+pub binary_view : (b : Box Expr Heap) (v : Vec Operation Heap) (t : TyCode) → view_expression (expr.Binary b v t) ≡ Binary (view_expression b.value) (operations_of v.items) (view_ty t)
+binary_view b v t = ap (λ os. Binary (view_expression b.value) os (view_ty t)) (view_operations-items (hidden-the_row-Operation-1 v) ∙ ap operations_of (items_hidden-the_row-Operation-1 v))
+
+pub block_view : (region : ℕ) (v : Vec Item Heap) → view_statement (stmt.Block region v) ≡ Block region (items_of v.items)
+block_view region v = ap (Block region) (view_items-items (hidden-the_row-Item-0 v) ∙ ap items_of (items_hidden-the_row-Item-0 v))

@@ -1,0 +1,86 @@
+use borrow.Enum.Total.{values_d_at}
+use borrow.Enum.Known.{ValuesAt}
+use Rattle.cyc_syntax.specs.contracts.tree.Stmt.{enum}
+use Rattle.std.proofs.Common.{rules, arith, ◌≡◌, ℕ, suc, Some, Ok, OnOk, ◌+◌, ◌≤◌, length, drop, get_or, ◌∷◌, sym, ap, subst, ◌∙◌}
+use Rattle.std.proofs.lemmas.List.{drop_more}
+use Rattle.std.proofs.lemmas.Result.{err_from_is_err_and}
+use Rattle.cyc_syntax.specs.declared.tree.Stmt.TheVariants as stmt
+use Rattle.cyc_syntax.specs.TreeView.{place_of_span, view_expression, view_statement, view_item, items_of}
+use Rattle.cyc_syntax.specs.Trees as trees
+use Rattle.cyc_syntax.proofs.TreeViewLemmas.{view_statement_block}
+use Rattle.cyc_types.specs.TypedTrees as nodes
+use Rattle.cyc_types.specs.TypedTreeView as typed_view
+use Rattle.cyc_types.specs.Checking.{and_then, check_statement, check_items}
+use Rattle.cyc_check.specs.declared.checker.Checker.{Checker}
+use Rattle.cyc_check.specs.Code.{Gives, Stops}
+use Rattle.cyc_check.specs.Checkers.{scope_of, one_item, behind_statement, behind_block, in_block}
+use Rattle.cyc_check.proofs.Loops.{drop_all}
+use Rattle.cyc_check.proofs.Walks.{Walked, walk_goes_on, walk_fails, walk_gives}
+use Rattle.cyc_check.proofs.Nested.{stops_within, otherwise_stops}
+use Rattle.cyc_check.proofs.checker.Checker.+statement.Goals as goal
+
+pub block-returns-in_err-items-clause-gives : goal.block-returns-in_err-items-clause-gives
+block-returns-in_err-items-clause-gives t c =
+    let next : c.in-Some.next ≡ suc c.args.self.now.next_region = omega (arith, c.in-Some.ensures.1) in
+    let p = err_from_is_err_and c.from_residual.result c.from_residual.ensures.1 in
+    rw (p.1, p.2)
+    (stops_within c.in_err-items.field-0.0 (check_items (scope_of (in_block c.args.self.now)) (items_of c.args.items.now)) (λ js. Ok (nodes.Block c.args.self.now.next_region js))
+    (subst (λ (k : ℕ). Stops c.in_err-items.field-0.0 (check_items (scope_of (record (in_block c.args.self.now) { next_region = k })) (items_of c.args.items.now))) next c.in_err-items.ensures.gives))
+
+pub item-returns-in-Local-clause-gives : goal.item-returns-in-Local-clause-gives
+item-returns-in-Local-clause-gives t c =
+    subst (λ i. Gives typed_view.view_item c.local.result (one_item i (scope_of c.args.self.now))) (sym (ap view_item c.in-Local.is)) c.local.ensures.gives
+
+pub items-returns-in_err-item-clause-gives : goal.items-returns-in_err-item-clause-gives
+items-returns-in_err-item-clause-gives t c =
+    let there : get_or c.args.items.now c.loop-item.item-index c.item-item.result ≡ c.item-item.result = search rules in
+    let is : drop c.loop-item.item-index c.args.items.now ≡ c.item-item.result ∷ drop (c.loop-item.item-index + 1) c.args.items.now =
+    drop_more c.args.items.now c.loop-item.item-index c.item-item.result c.loop-item-test.true ∙ ap (λ x. x ∷ drop (c.loop-item.item-index + 1) c.args.items.now) there in
+    let p = err_from_is_err_and c.from_residual.result c.from_residual.ensures.1 in
+    rw (p.1, p.2)
+    (walk_fails c.in_err-item.field-0.0 c.args.self.now c.loop-item.self c.loop-item.all.items (view_item c.item-item.result) (items_of (drop (c.loop-item.item-index + 1) c.args.items.now)) (items_of c.args.items.now)
+    (subst (λ xs. Walked c.args.self.now c.loop-item.self c.loop-item.all.items (items_of xs) (items_of c.args.items.now)) is c.loop-item.invariant) c.in_err-item.ensures.gives)
+
+pub items-loop-item-preserved : goal.items-loop-item-preserved
+items-loop-item-preserved t c =
+    let there : get_or c.args.items.now c.loop-item.item-index c.item-item.result ≡ c.item-item.result = search rules in
+    let is : drop c.loop-item.item-index c.args.items.now ≡ c.item-item.result ∷ drop (c.loop-item.item-index + 1) c.args.items.now =
+    drop_more c.args.items.now c.loop-item.item-index c.item-item.result c.loop-item-test.true ∙ ap (λ x. x ∷ drop (c.loop-item.item-index + 1) c.args.items.now) there in
+    rw (c.in_ok-item.ensures.behind, c.in_ok-push.ensures.items)
+    (walk_goes_on c.args.self.now c.loop-item.self c.loop-item.all.items (view_item c.item-item.result) (items_of (drop (c.loop-item.item-index + 1) c.args.items.now)) (items_of c.args.items.now) c.in_ok-item.item
+    (subst (λ xs. Walked c.args.self.now c.loop-item.self c.loop-item.all.items (items_of xs) (items_of c.args.items.now)) is c.loop-item.invariant) c.in_ok-item.ensures.gives)
+
+pub items-returns-clause-gives : goal.items-returns-clause-gives
+items-returns-clause-gives t c =
+    let le : length c.args.items.now ≤ c.loop-item.item-index = search rules in
+    walk_gives c.args.self.now c.loop-item.self c.loop-item.all.items (items_of c.args.items.now)
+    (subst (λ xs. Walked c.args.self.now c.loop-item.self c.loop-item.all.items (items_of xs) (items_of c.args.items.now)) (drop_all c.args.items.now c.loop-item.item-index le) c.loop-item.invariant)
+
+pub statement-returns-in_err-otherwise-in-If-default-default-default-Some-clause-gives : goal.statement-returns-in_err-otherwise-in-If-default-default-default-Some-clause-gives
+statement-returns-in_err-otherwise-in-If-default-default-default-Some-clause-gives t c =
+    let taken = rw c.in-If-default-default-default-Some.is at c.in-If-default-default-default-Some.otherwise-is in
+    let held : c.in-If-default-default-default-Some.otherwise' ≡ Some c.in-If-default-default-default-Some.otherwise = sym (ap (λ (v : ValuesAt enum.parts 5). v.1.1.1.0) (values_d_at enum 5 _ (c.in-If-default-default-default-Some.span, (c.in-If-default-default-default-Some.condition, (c.in-If-default-default-default-Some.then, (c.in-If-default-default-default-Some.otherwise', tt)))))) ∙ taken in
+    let other = rw c.in-If-default-default-default-Some.otherwise-is at c.deref-in-If-default-default-default-Some-2.ensures in
+    let is : view_statement c.args.statement.now ≡ trees.IfElse (place_of_span c.in-If-default-default-default-Some.span) (view_expression c.in-If-default-default-default-Some.condition) (view_statement c.deref-in-If-default-default-default-Some.result.now) (view_statement c.deref-in-If-default-default-default-Some-2.result.now) =
+    ap view_statement c.in-If-default-default-default-Some.is ∙ ap (λ o. view_statement (stmt.If c.in-If-default-default-default-Some.span c.in-If-default-default-default-Some.condition c.in-If-default-default-default-Some.then o)) held
+    ∙ sym (ap (λ (s : trees.Statement). trees.IfElse (place_of_span c.in-If-default-default-default-Some.span) (view_expression c.in-If-default-default-default-Some.condition) s (view_statement c.deref-in-If-default-default-default-Some-2.result.now)) (ap view_statement c.deref-in-If-default-default-default-Some.ensures)
+    ∙ ap (λ (s : trees.Statement). trees.IfElse (place_of_span c.in-If-default-default-default-Some.span) (view_expression c.in-If-default-default-default-Some.condition) (view_statement c.in-If-default-default-default-Some.then.value) s) (ap view_statement other)) in
+    let e = c.in_err-otherwise-in-If-default-default-default-Some.field-0.0 in
+    let p = err_from_is_err_and (c.from_residual-in_err-otherwise-in-If-default-default-default-Some).result (c.from_residual-in_err-otherwise-in-If-default-default-default-Some).ensures.1 in
+    rw (p.1, p.2)
+    (subst (λ s. Stops e (check_statement (scope_of c.args.self.now) s)) (sym is)
+    (otherwise_stops e (scope_of c.args.self.now) (place_of_span c.in-If-default-default-default-Some.span) (view_expression c.in-If-default-default-default-Some.condition) (view_statement c.deref-in-If-default-default-default-Some.result.now) (view_statement c.deref-in-If-default-default-default-Some-2.result.now) _ _
+    c.in_ok-condition-in-If-default-default-default-Some.ensures c.in_ok-then-in-If-default-default-default-Some.ensures.gives
+    (subst (λ (k : Checker). Stops e (check_statement (scope_of k) (view_statement c.deref-in-If-default-default-default-Some-2.result.now))) c.in_ok-then-in-If-default-default-default-Some.ensures.behind c.in_err-otherwise-in-If-default-default-default-Some.ensures.gives)))
+
+pub statement-returns-in-Block-clause-gives : goal.statement-returns-in-Block-clause-gives
+statement-returns-in-Block-clause-gives t c =
+    subst (λ s. Gives typed_view.view_statement c.block.result (check_statement (scope_of c.args.self.now) s))
+    (sym (ap view_statement c.in-Block.is ∙ view_statement_block c.in-Block.block))
+    (subst (λ is. Gives typed_view.view_statement c.block.result (and_then (check_items (scope_of (in_block c.args.self.now)) (items_of is)) (λ js. Ok (nodes.Block c.args.self.now.next_region js)))) c.deref.ensures.value c.block.ensures.gives)
+
+pub statement-returns-in-Block-clause-behind : goal.statement-returns-in-Block-clause-behind
+statement-returns-in-Block-clause-behind t c =
+    subst (λ s. OnOk c.block.result (c.block.new.self ≡ behind_statement c.args.self.now s))
+    (sym (ap view_statement c.in-Block.is ∙ view_statement_block c.in-Block.block))
+    (subst (λ is. OnOk c.block.result (c.block.new.self ≡ behind_block c.args.self.now (items_of is))) c.deref.ensures.value c.block.ensures.behind)

@@ -1,0 +1,4 @@
+pub mod Bindings
+pub mod Code
+pub mod Entries
+pub mod Checkers
