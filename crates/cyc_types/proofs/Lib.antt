@@ -8,3 +8,6 @@ pub mod RegionLemmas
 pub mod ClosureLemmas
 pub mod TableLemmas
 pub mod SearchLemmas
+pub mod WeightLemmas
+pub mod CodeLemmas
+pub mod FlowCodeLemmas

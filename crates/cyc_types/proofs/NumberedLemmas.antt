@@ -22,7 +22,7 @@ IsMeant b Unknown = Unit {0}
 IsMeant b (scopes.Variable l t) = IsWithin b l
 IsMeant b (Routine f s) = IsSignature b f s
 
-abbrev AreBelow : ℕ → List LocalVariable → Type 0
+abbrev pub AreBelow : ℕ → List LocalVariable → Type 0
 AreBelow n [] = Unit {0}
 AreBelow n (v ∷ vs) = (v.number < n) × AreBelow n vs
 
@@ -192,7 +192,7 @@ mutual
   body_counted : (g : Scope) (c : Body) (js : typed.Items) → IsTypedBody g c js → count (item_types js) ≡ body_locals c
   body_counted g (Braces p is q) js h = items_counted g is js h
 
-  items_counted : (g : Scope) (is : Items) (js : typed.Items) → AreTypedItems g is js → count (item_types js) ≡ item_locals is
+  pub items_counted : (g : Scope) (is : Items) (js : typed.Items) → AreTypedItems g is js → count (item_types js) ≡ item_locals is
   items_counted g NoItems js eq = ap (λ z. count (item_types z)) eq
   items_counted g (MoreItems (Execute s) is) js (t, ks, h, hs, eq) =
       ap (λ z. count (item_types z)) eq ∙ (count-append (declared_types t) (item_types ks)
@@ -239,11 +239,11 @@ all_meant b texts tree l h x =
     by_cond b (nat_eq (number_of texts putchar_text) x) (Routine callees.Putchar (record { parameters = Int ∷ []; result = Some Int })) _ refl
     (by_cond b (nat_eq (number_of texts getchar_text) x) (Routine callees.Getchar (record { parameters = []; result = Some Int })) _ refl (declared_meant b 0 0 tree (omega arith) h x))
 
-parameters_below : (total n : ℕ) (ms : List Member) (vs : List LocalVariable) → n + count ms ≤ total → AreBelow total vs → AreBelow total (parameter_locals ms n vs)
+pub parameters_below : (total n : ℕ) (ms : List Member) (vs : List LocalVariable) → n + count ms ≤ total → AreBelow total vs → AreBelow total (parameter_locals ms n vs)
 parameters_below total n [] vs l h = h
 parameters_below total n (m ∷ ms) vs l h = parameters_below total (suc n) ms _ (omega arith) (omega arith, h)
 
-types_counted : (ms : List Member) → count (types_of ms) ≡ count ms
+pub types_counted : (ms : List Member) → count (types_of ms) ≡ count ms
 types_counted [] = refl
 types_counted (m ∷ ms) = ap suc (types_counted ms)
 

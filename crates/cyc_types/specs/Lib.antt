@@ -12,6 +12,8 @@ pub mod FlowRules
 pub mod FlowRefusals
 pub mod FlowChecking
 pub mod Numbered
+pub mod Weight
+pub mod Codes
 pub mod RuleExamples
 pub mod Outlives
 pub mod Closure

@@ -1,17 +1,19 @@
--- Worked examples of the typing rules and of the flow rules, by computation. Each text stands above its verdict; all on one line.
+-- Worked examples of the typing rules, of the flow rules and of weights, by computation. Each text stands above its verdict; all on one line.
 use Rattle.std.specs.Prelude.{◌≡◌, ℕ, ◌+◌, List, [], ◌∷◌, Some, None, Ok, Err, codes, refl}
 use Rattle.cyc_words.specs.declared.fault.Code.TheVariants as faults
 use Rattle.cyc_syntax.specs.declared.tree.BinaryOperator.TheVariants as operators
 use Rattle.cyc_syntax.specs.Symbols.{Place}
-use Rattle.cyc_syntax.specs.Trees.{Named, Int, WrittenType, Expression, Number, Null, Variable, Call, Bracketed, Binary, Assign, Expressions, NoExpressions, MoreExpressions, NoOperations, ThenOperation, Block, Empty, Evaluate, If, IfElse, While, Return, Break, Continue, Braces, Items, NoItems, MoreItems, Item, Execute, Local, Member, Negative, Void, Listed, Parameters, Declaration, Global, Function}
+use Rattle.cyc_syntax.specs.Trees.{Named, Int, WrittenType, Expression, Number, Null, Variable, Call, Bracketed, Binary, Assign, Expressions, NoExpressions, MoreExpressions, NoOperations, ThenOperation, Block, Empty, Evaluate, If, IfElse, While, Return, Break, Continue, Braces, Items, NoItems, MoreItems, Item, Execute, Local, Member, Positive, Negative, Void, Listed, Parameters, Declaration, Global, Function}
+use Rattle.cyc_syntax.specs.Weight.{tree_weight}
 use Rattle.cyc_types.specs.declared.typed.Kind.TheVariants as kinds
 use Rattle.cyc_types.specs.declared.typed.Callee.TheVariants as callees
 use Rattle.cyc_types.specs.declared.typed.Operator.TheVariants as binary
 use Rattle.cyc_types.specs.Types as types
 use Rattle.cyc_types.specs.TypedTrees as typed
 use Rattle.cyc_types.specs.Refusals.{fault_at, not_built}
-use Rattle.cyc_types.specs.Checking.{and_then, check_of}
+use Rattle.cyc_types.specs.Checking.{Checked, and_then, check_of}
 use Rattle.cyc_types.specs.FlowChecking.{Kept, flow_of}
+use Rattle.cyc_types.specs.Weight.{program_weight}
 
 -- ---- trees of texts of one line
 
@@ -235,3 +237,24 @@ empty_anew : verdict (void_v ∷ Function (Some (int 13)) (main 17) (parameters 
     (only (Execute (Continue (at 78))))))) (at 88))))) (only (return_0 90))) (at 100)) ∷ [])
     ≡ Err (fault_at faults.EmptyVariable (at 74))
 empty_anew = refl
+
+-- ---- weights of a tree and of its typed tree
+
+abbrev weights : List Declaration → ℕ × Checked ℕ
+weights tree = (tree_weight tree, and_then (check_of texts tree) (λ p. Ok (program_weight p)))
+
+-- int main(){ return (1); }
+brackets_gone : weights (main_of (only (Execute (Return (at 13) (Some (Bracketed (at 20) (Number (at 21) 1)))))) 25 ∷ []) ≡ (11, Ok 9)
+brackets_gone = refl
+
+-- int x(int a, int v){ return a; } int main(){ return x(1, 2); }
+commas_counted : weights (Function (Some (int 1)) (x 5) (parameters (record { of_type = int 7; name = a 11 } ∷ record { of_type = int 14; name = v 18 } ∷ [])) (Braces (at 20) (only (Execute (Return (at 22) (Some (Variable (a 29)))))) (at 32))
+    ∷ Function (Some (int 34)) (main 38) (parameters []) (Braces (at 44) (only (Execute (Return (at 46) (Some (Call (x 53) (MoreExpressions (Number (at 55) 1) (one (Number (at 58) 2)))))))) (at 62)) ∷ []) ≡ (28, Ok 28)
+commas_counted = refl
+
+-- int x = 0; int main(void){ if (x) ; else ; return 0; }
+what_may_be_left_out : weights (Global (int 1) (x 5) (Some (Positive (at 9) 0))
+    ∷ Function (Some (int 12)) (main 16) (record { list = Void; effect = None; constraints = [] }) (Braces (at 26) (
+    MoreItems (Execute (IfElse (at 28) (Variable (x 32)) (Empty (at 35)) (Empty (at 42))))
+    (only (return_0 44))) (at 54)) ∷ []) ≡ (22, Ok 17)
+what_may_be_left_out = refl

@@ -1,15 +1,18 @@
 //! Laws of the definitions in `specs/`. Each function does nothing: what it ensures is the law.
-ghost use Rattle.std.specs.Prelude.{◌≡◌, ◌↔◌, ℕ, List, Ok, Err};
+ghost use Rattle.std.specs.Prelude.{◌≡◌, ◌↔◌, ℕ, ◌+◌, ◌*◌, ◌≤◌, true, List, Some, Ok, Err};
 ghost use Rattle.cyc_words.specs.declared.fault.Fault.{Fault};
 ghost use Rattle.cyc_syntax.specs.Trees.{Declaration};
-ghost use Rattle.cyc_types.specs.TypedTrees.{Program};
-ghost use Rattle.cyc_types.specs.TypingRules.{IsTypedProgram};
+ghost use Rattle.cyc_syntax.specs.Weight.{tree_weight};
+ghost use Rattle.cyc_types.specs.TypedTrees.{Statement, Function, Program};
+ghost use Rattle.cyc_types.specs.TypingRules.{count, IsTypedProgram};
 ghost use Rattle.cyc_types.specs.Refusals.{IsRefusedProgram};
 ghost use Rattle.cyc_types.specs.Checking.{check_of};
 ghost use Rattle.cyc_types.specs.FlowRules.{IsAllowedProgram};
 ghost use Rattle.cyc_types.specs.FlowRefusals.{IsStoppedProgram};
 ghost use Rattle.cyc_types.specs.FlowChecking.{flow_of};
-ghost use Rattle.cyc_types.specs.Numbered.{IsNumberedProgram};
+ghost use Rattle.cyc_types.specs.Numbered.{numbered, IsNumberedProgram};
+ghost use Rattle.cyc_types.specs.Weight.{else_weight, statement_weight, function_weight, program_weight};
+ghost use Rattle.cyc_types.specs.Codes.{is_typing_code, is_flow_code};
 
 /// The typing rules leave no choice: a tree has at most one typed tree.
 pub fn one_typed_tree()
@@ -51,4 +54,35 @@ pub fn flow_checking_is_flow()
 /// The typed tree of a program keeps its numbers in range, its calls in step with its functions, and its breaks in loops.
 pub fn typed_trees_are_numbered()
     ensures { (texts : List (List ℕ)) (tree : List Declaration) (p : Program) → IsTypedProgram texts tree p → IsNumberedProgram p }
+{}
+
+/// A typed tree weighs no more than the tree that it is of.
+pub fn typed_trees_are_no_heavier()
+    ensures { (texts : List (List ℕ)) (tree : List Declaration) (p : Program) → IsTypedProgram texts tree p → program_weight p ≤ tree_weight tree }
+{}
+
+/// An `else` adds the weight of the statement behind it at least, but for one token that an empty statement has when it stands alone.
+pub fn an_else_weighs_its_statement()
+    ensures { (s : Statement) → statement_weight s ≤ 1 + else_weight s (statement_weight s) }
+{}
+
+/// A program weighs at least what each of its functions does, and three tokens for each global and six for each function.
+pub fn programs_outweigh_their_parts()
+    ensures function { (p : Program) (n : ℕ) (h : Function) → numbered p.functions n ≡ Some h → function_weight h ≤ program_weight p }
+    ensures declarations { (p : Program) → 3 * count p.globals + 6 * count p.functions ≤ program_weight p }
+{}
+
+/// A function weighs at least two tokens for each parameter, three for each local that it declares, and two for each region.
+pub fn functions_outweigh_their_locals()
+    ensures { (texts : List (List ℕ)) (tree : List Declaration) (p : Program) (n : ℕ) (h : Function) → IsTypedProgram texts tree p → numbered p.functions n ≡ Some h → 2 * count h.parameters + 3 * count h.locals + 2 * h.regions + 4 ≤ function_weight h }
+{}
+
+/// The typing rules refuse for an unknown name, one declared twice, a type, a left side that is no place, `main`, a `break` or `continue` outside a loop, or what is not built.
+pub fn typing_refuses_for_few_reasons()
+    ensures { (texts : List (List ℕ)) (tree : List Declaration) (f : Fault) → IsRefusedProgram texts tree f → is_typing_code f.code ≡ true }
+{}
+
+/// A typed tree breaks a flow rule for an empty variable or a missing result alone: no local is ever locked, and no loop empties one.
+pub fn flow_refuses_for_two_reasons()
+    ensures { (texts : List (List ℕ)) (tree : List Declaration) (p : Program) (f : Fault) → IsTypedProgram texts tree p → IsStoppedProgram p f → is_flow_code f.code ≡ true }
 {}
