@@ -9,3 +9,5 @@ pub mod Orders
 pub mod Walks
 pub mod Nested
 pub mod LocalTypes
+pub mod FunctionLoops
+pub mod HeadLemmas

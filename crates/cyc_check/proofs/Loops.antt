@@ -19,11 +19,11 @@ module _ {X Y B : Type 0} (view : X → Y) (add : Y → B → B) where
   abbrev pub with_front : List X → Checked B → Checked B
   with_front front checked = and_then checked (λ b. Ok (onto front b))
 
-  onto-append : (front : List X) (x : X) (b : B) → onto (front ++ x ∷ []) b ≡ onto front (add (view x) b)
+  pub onto-append : (front : List X) (x : X) (b : B) → onto (front ++ x ∷ []) b ≡ onto front (add (view x) b)
   onto-append [] x b = refl
   onto-append (y ∷ ys) x b = ap (add (view y)) (onto-append ys x b)
 
-  regroup : (front : List X) (x : X) (checked : Checked B) → with_front front (and_then checked (λ b. Ok (add (view x) b))) ≡ with_front (front ++ x ∷ []) checked
+  pub regroup : (front : List X) (x : X) (checked : Checked B) → with_front front (and_then checked (λ b. Ok (add (view x) b))) ≡ with_front (front ++ x ∷ []) checked
   regroup front x (Ok b) = ap Ok (sym (onto-append front x b))
   regroup front x (Err e) = refl
 

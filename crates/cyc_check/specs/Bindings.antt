@@ -1,5 +1,5 @@
 -- How the code finds the newest local of a name: in a table of what each name means now. A binding keeps what it hides.
-use Rattle.std.specs.Prelude.{◌≡◌, ℕ, ◌≤◌, Bool, false, nat_eq, ◌||◌, if◌then◌else◌, List, [], ◌∷◌, map, reverse, get_or, Option, Some, None}
+use Rattle.std.specs.Prelude.{◌≡◌, ℕ, ◌≤◌, nat_eq, if◌then◌else◌, List, [], ◌∷◌, map, reverse, get_or, Option, Some, None}
 use Rattle.cyc_types.specs.Types.{Int}
 use Rattle.cyc_types.specs.TypedTreeView.{view_lvalue}
 use Rattle.cyc_types.specs.declared.typed.Lvalue.{Lvalue as LvalueCode}
@@ -19,10 +19,8 @@ abbrev pub newest : List Local → ℕ → Option Local
 newest [] x = None
 newest (v ∷ vs) x = if nat_eq v.name x then Some v else newest vs x
 
--- a local of this name is in scope
-abbrev pub has_name : List Local → ℕ → Bool
-has_name [] x = false
-has_name (v ∷ vs) x = nat_eq x v.name || has_name vs x
+abbrev pub local_names : List Local → List ℕ
+local_names vs = map (λ (v : Local). v.name) vs
 
 -- what each local hides
 abbrev pub hidden_by : List Local → List (Option Local)

@@ -1,6 +1,7 @@
 -- What the code has to do with the checking function: what its functions give, and what its tables of names hold.
 use Rattle.std.specs.Prelude.{◌≡◌, ℕ, zero, suc, Bool, true, false, if◌then◌else◌, List, [], ◌∷◌, Option, Some, None, Result, Ok, Err}
 use Rattle.cyc_words.specs.declared.fault.Code.TheVariants as codes
+use Rattle.cyc_words.specs.declared.fault.Fault.{Fault}
 use Rattle.cyc_syntax.specs.declared.tree.Expr.{Expr}
 use Rattle.cyc_syntax.specs.declared.tree.BinaryOperator.{BinaryOperator}
 use Rattle.cyc_syntax.specs.Symbols.{Place}
@@ -29,6 +30,10 @@ Stops (stops.Refused f) checked = checked ≡ Err f
 abbrev pub Gives : {X Y : Type 0} → (X → Y) → Result X Stop → Checked Y → Type 0
 Gives view (Ok x) checked = checked ≡ Ok (view x)
 Gives view (Err e) checked = Stops e checked
+
+-- want of memory
+abbrev pub memory_fault : Fault
+memory_fault = record { code = codes.Memory; line = 0; column = 0 }
 
 -- ---- types
 

@@ -1,5 +1,5 @@
 -- The functions and globals that the code has declared, and what a scope's names mean by them.
-use Rattle.std.specs.Prelude.{ℕ, Bool, false, nat_eq, ◌||◌, if◌then◌else◌, List, [], ◌∷◌, Option, Some, None}
+use Rattle.std.specs.Prelude.{ℕ, nat_eq, if◌then◌else◌, List, [], ◌∷◌, map, Option, Some, None}
 use Rattle.cyc_types.specs.Types.{Int}
 use Rattle.cyc_types.specs.TypedTreeView.{view_lvalue}
 use Rattle.cyc_types.specs.Scopes as scopes
@@ -24,6 +24,5 @@ abbrev pub first : List Entry → ℕ → Option Meaning
 first [] x = None
 first (d ∷ ds) x = if nat_eq d.name x then Some d.meaning else first ds x
 
-abbrev pub declares : List Entry → ℕ → Bool
-declares [] x = false
-declares (d ∷ ds) x = nat_eq x d.name || declares ds x
+abbrev pub names_of : List Entry → List ℕ
+names_of ds = map (λ (d : Entry). d.name) ds

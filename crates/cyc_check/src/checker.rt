@@ -27,6 +27,22 @@ pub(crate) struct Checker<'a> {
 }
 
 impl<'a> Checker<'a> {
+    /// The checker of the functions of a program that declares these functions and globals.
+    pub(crate) fn new(alloc: Global, declared: &'a Declared) -> Checker<'a>
+        ensures { result.declared.now ≡ declared.now }
+    {
+        Checker {
+            alloc,
+            declared,
+            locals: Locals::new(alloc),
+            next_local: 0,
+            next_region: 1,
+            region: 0,
+            in_loop: false,
+            has_result: false,
+        }
+    }
+
     /// What a name means here.
     #[tactic(auto, using(crate::proofs::EntryLemmas::first_meaning))]
     pub(crate) fn meaning(&self, name: Ident) -> Option<Meaning>

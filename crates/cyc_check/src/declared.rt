@@ -49,7 +49,8 @@ impl Model for Declared {
 impl Declared {
     ghost use Rattle.std.specs.Prelude.{◌≡◌, [], ◌∷◌, ◌++◌, OnOk, IfErr};
     ghost use Rattle.cyc_check.specs.declared.stop.Stop.TheVariants.{Memory};
-    ghost use Rattle.cyc_check.specs.Entries.{first, declares};
+    ghost use Rattle.cyc_types.specs.TypingRules.{is_among};
+    ghost use Rattle.cyc_check.specs.Entries.{first, names_of};
 
     pub(crate) fn new(alloc: Global) -> Declared
         ensures { result ≡ [] }
@@ -73,7 +74,7 @@ impl Declared {
     /// Whether a function or a global has this name.
     #[tactic(auto, using(crate::proofs::EntryLemmas::declares_found, crate::proofs::EntryLemmas::declares_lost))]
     pub(crate) fn has(&self, name: usize) -> bool
-        ensures { result ≡ declares self.now name }
+        ensures { result ≡ is_among name (names_of self.now) }
     {
         match self.meaning(name) {
             Some(_) => true,

@@ -1,20 +1,21 @@
 //! The bodies of functions, and the tables that they start with.
 ghost use Rattle.std.specs.Prelude.{◌≡◌, ◌+◌, length, map, option_map, Ok, OnOk, IfErr};
-ghost use Rattle.cyc_syntax.specs.TreeView.{view_member, view_type, view_name, place_of_span, items_of};
-ghost use Rattle.cyc_types.specs.Checking.{and_then, check_items};
+ghost use Rattle.cyc_syntax.specs.TreeView.{view_member, view_type, view_name, view_parameters, view_declaration, place_of_span, items_of};
+ghost use Rattle.cyc_types.specs.Checking.{and_then, check_items, check_functions};
 ghost use Rattle.cyc_types.specs.Scopes.{item_locals, item_blocks};
 ghost use Rattle.cyc_types.specs.TypedTreeView as typed_view;
 ghost use Rattle.cyc_types.specs.TypeView.{view_ty};
-ghost use Rattle.cyc_types.specs.TypingRules.{parameter_locals, body_scope, result_of, function_of};
+ghost use Rattle.cyc_types.specs.TypingRules.{parameter_locals, body_scope, result_of, members_of, function_of};
 ghost use Rattle.cyc_check.specs.declared.stop.Stop.TheVariants.{Memory};
 ghost use Rattle.cyc_check.specs.Bindings.{view_local, Descends};
 ghost use Rattle.cyc_check.specs.Code.{Gives, ints, result_if};
 ghost use Rattle.cyc_check.specs.Entries.{view_entry};
 
 use crate::checker::Checker;
+use crate::declared::Declared;
 use crate::locals::{Local, Locals};
-use crate::stop::Stop;
-use cyc_syntax::{Ident, Item, Member, Span, WrittenType};
+use crate::stop::{Stop, not_built};
+use cyc_syntax::{Declaration, Ident, Item, Member, ParameterList, Parameters, Span, WrittenType};
 use cyc_types::{Ty, typed};
 use std::alloc::Global;
 
@@ -64,6 +65,45 @@ fn result_type(written: &Option<WrittenType>) -> Option<Ty>
         None => None,
         Some(_) => Some(Ty::Int),
     }
+}
+
+/// The parameters of a function, of which `void` has none.
+pub(crate) fn members(parameters: &Parameters) -> &[Member]
+    ensures { map view_member result.now ≡ members_of (view_parameters parameters.now).list }
+{
+    match &parameters.list {
+        ParameterList::Void => &[],
+        ParameterList::Listed { members } => members,
+    }
+}
+
+/// The functions of a program that declares these functions and globals.
+pub(crate) fn functions_of(
+    alloc: Global,
+    declared: &Declared,
+    declarations: &[Declaration],
+) -> Result<Vec<typed::Function>, Stop>
+    ensures { Gives (λ v. map typed_view.view_function v.items) result (check_functions (map view_entry declared.now) (map view_declaration declarations.now)) }
+{
+    let mut checker = Checker::new(alloc, declared);
+    let mut all = Vec::new(alloc);
+    for declaration in declarations {
+        match declaration {
+            Declaration::Global { .. } => {}
+            Declaration::Function {
+                result,
+                name,
+                parameters,
+                body,
+            } => {
+                let members = members(parameters);
+                let function = checker.function(result, *name, members, &body.items, body.end)?;
+                all.push(function)?;
+            }
+            _ => return Err(not_built()),
+        }
+    }
+    Ok(all)
 }
 
 impl<'a> Checker<'a> {

@@ -1,11 +1,18 @@
 //! The checker: the typed tree of an abstract syntax tree, exactly where the typing rules derive one.
 #![tactic(auto)]
 
+pub use tree::check;
+
 mod checker;
 mod declared;
 mod expressions;
 mod functions;
+mod heads;
 mod int_part;
 mod locals;
+mod program;
 mod statements;
 mod stop;
+#[cfg(test)]
+mod tests;
+mod tree;

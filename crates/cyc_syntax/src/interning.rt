@@ -1,5 +1,5 @@
 //! Names as numbers.
-ghost use Rattle.std.specs.Prelude.{◌≡◌, ◌<◌, List, [], length, slice_get, Some, IsTrue, IsOk, IfOk, OnOk, OnErr};
+ghost use Rattle.std.specs.Prelude.{◌≡◌, ◌<◌, List, [], length, slice_get, Some, is_some, IfSome, IfNone, IsTrue, IsOk, IfOk, OnOk, OnErr};
 ghost use Rattle.cyc_syntax.specs.Names.{is_among, with_text, number_of};
 
 use indexmap::IndexSet;
@@ -54,6 +54,25 @@ impl Names {
         Ok(Name { number })
     }
 
+    /// The number of names. It is the number that the next new text gets.
+    pub fn len(&self) -> usize
+        ensures { result ≡ length self.now }
+    {
+        self.texts.len()
+    }
+
+    /// The name of a text, if it has one. Nothing is interned.
+    pub fn find(&self, text: &[u8]) -> Option<Name>
+        ensures found { is_some result ≡ is_among text.now self.now }
+        ensures number { IfSome result (λ name. name.number ≡ number_of self.now text.now) }
+        ensures missing { IfNone result (number_of self.now text.now ≡ length self.now) }
+    {
+        match self.texts.get_index_of(text) {
+            Some(number) => Some(Name { number }),
+            None => None,
+        }
+    }
+
     /// The text of a name that these names gave.
     pub fn text(&self, name: Name) -> &[u8]
         requires { name.number < length self.now }
@@ -77,6 +96,18 @@ mod tests {
             assert_eq!(rt; name.number, number);
             assert_eq!(rt; names.text(name), text);
         }
+        Ok(())
+    }
+
+    #[test]
+    fn finds_known_texts_only(rt: HostRuntime) -> Result<(), Fail> {
+        let mut names = Names::new(rt.alloc())?;
+        assert_eq!(rt; names.find(b"a"), None);
+        names.intern(b"b")?;
+        names.intern(b"a")?;
+        assert_eq!(rt; names.find(b"a"), Some(Name { number: 1 }));
+        assert_eq!(rt; names.find(b"ab"), None);
+        assert_eq!(rt; names.len(), 2);
         Ok(())
     }
 }

@@ -1,0 +1,34 @@
+-- What the code knows behind the heads of declarations.
+use Rattle.std.specs.Prelude.{ℕ, suc, true, not, List, [], ◌∷◌, ◌++◌, length, Ok}
+use Rattle.cyc_words.specs.declared.fault.Code.TheVariants as codes
+use Rattle.cyc_syntax.specs.Names.{number_of}
+use Rattle.cyc_syntax.specs.Trees.{Named, Declaration, StructType, Exceptions, Global, Function}
+use Rattle.cyc_types.specs.declared.typed.Callee.TheVariants as callees
+use Rattle.cyc_types.specs.declared.typed.Lvalue.TheVariants as lvalue
+use Rattle.cyc_types.specs.IntPart.{is_left_out}
+use Rattle.cyc_types.specs.TypingRules.{is_among, members_of, putchar_text, getchar_text, main_text}
+use Rattle.cyc_types.specs.Refusals.{fault_at}
+use Rattle.cyc_types.specs.Checking.{Checked, unless}
+use Rattle.cyc_check.specs.declared.declared.Meaning.TheVariants as meaning
+use Rattle.cyc_check.specs.declared.heads.Heads.{Heads}
+
+-- before the first head: `int putchar(int)` and `int getchar()` are declared
+abbrev pub heads_before : List (List ℕ) → Heads
+heads_before texts = record {
+  declared = record { name = number_of texts putchar_text; meaning = meaning.Routine callees.Putchar 1 true } ∷ record { name = number_of texts getchar_text; meaning = meaning.Routine callees.Getchar 0 true } ∷ [];
+  main = number_of texts main_text;
+  globals = 0;
+  functions = 0;
+}
+
+-- nothing of this name is declared yet
+abbrev pub is_new : List ℕ → Named → Checked (Unit {0})
+is_new known x = unless (is_among x.name known) (fault_at codes.DeclaredTwice x.place) (Ok tt)
+
+-- behind the head of a declaration
+abbrev pub behind_head : Declaration → Heads → Heads
+behind_head (StructType s rs fs) h = h
+behind_head (Exceptions cs) h = h
+behind_head (Global w x v) h = record h { declared = h.declared ++ record { name = x.name; meaning = meaning.Variable (lvalue.Global h.globals) } ∷ []; globals = suc h.globals }
+behind_head (Function r x ps b) h =
+    record h { declared = h.declared ++ record { name = x.name; meaning = meaning.Routine (callees.Function h.functions) (length (members_of ps.list)) (not (is_left_out r)) } ∷ []; functions = suc h.functions }
