@@ -21,5 +21,7 @@ show cyclone compile hello.cyc -o "$room/hello.elf"
 show cyclone run "$room/hello.elf"
 show cyclone disasm "$room/hello.elf"
 show cyclone run "$room/hello.elf" --steps 1
+show cyclone check squares.cyc
 show cyclone check wrong.cyc
+show cyclone check unset.cyc
 show cyclone compile wrong.cyc -o "$room/wrong.elf"

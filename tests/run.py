@@ -79,11 +79,14 @@ class Case:
 
 
 def repeated(value):
-    """What a `let` means: `"TEXT"`, `"TEXT" * N` or plain text up to the end of the line."""
+    """What a `let` means: `"TEXT"`, `"TEXT" * N` with `#` for the number of each copy, or plain text up to the end of the line."""
     match = re.fullmatch(r'"((?:[^"\\]|\\.)*)"(?:\s*\*\s*(\d+))?', value)
     if not match:
         return value
-    return unescaped(match.group(1)).decode("latin-1") * int(match.group(2) or 1)
+    text = unescaped(match.group(1)).decode("latin-1")
+    if match.group(2) is None:
+        return text
+    return "".join(text.replace("#", str(copy)) for copy in range(1, int(match.group(2)) + 1))
 
 
 class Reader:

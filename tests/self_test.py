@@ -20,6 +20,7 @@ esac
 
 GOOD = r"""
 let TWICE = "ab" * 2
+let COUNTED = "x#," * 12
 let BYTES =
     48 49
 
@@ -43,6 +44,12 @@ in one\ntwo\n
 out
     one
     two
+ends 0 done
+
+== numbered copies
+> echo
+in $COUNTED
+out x1,x2,x3,x4,x5,x6,x7,x8,x9,x10,x11,x12,
 ends 0 done
 
 == files
@@ -133,7 +140,7 @@ def main():
             file.write(STAND_IN)
         os.chmod(program, 0o755)
         failed = False
-        for cases, wanted in ((GOOD, ("5 passed, 0 failed", 0)), (BAD, ("0 passed, 10 failed", 1))):
+        for cases, wanted in ((GOOD, ("6 passed, 0 failed", 0)), (BAD, ("0 passed, 10 failed", 1))):
             line, status, all_of_it = last_line_of_run(cases, folder)
             if (line, status) != wanted:
                 print(f"the runner said {line!r} with status {status} and should have said {wanted}:\n{all_of_it}")

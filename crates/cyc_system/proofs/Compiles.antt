@@ -1,25 +1,28 @@
 -- The image of a program: its code is of the right kind, it is well formed, it is loaded, and it does what the program
 -- means.
-use Rattle.std.proofs.Common.{◌≡◌, ℕ, zero, suc, ◌+◌, ◌*◌, ◌/◌, ◌%◌, ◌^◌, ◌≤◌, ◌<◌, List, [], ◌∷◌, ◌++◌, length, Bool, true, false, cond, Option, None, Some, Result, Ok, Err, refl, sym, ap, subst, ◌∙◌, arith, length-append, lit<}
+use Rattle.std.proofs.Common.{◌≡◌, ◌⊎◌, inl, inr, ℕ, zero, suc, ◌+◌, ◌*◌, ◌/◌, ◌%◌, ◌^◌, ◌≤◌, ◌<◌, List, [], ◌∷◌, ◌++◌, length, Bool, true, false, cond, Option, None, Some, Result, Ok, Err, refl, sym, ap, subst, ◌∙◌, arith, length-append, lit<}
 use Rattle.std.specs.Prelude.{◌||◌}
 use Rattle.std.proofs.lemmas.Bool.{lt-ltb}
 use Rattle.std.proofs.lemmas.List.Elements.{All-cons, All-nil}
 use Rattle.std.specs.List.{flat_map, AllByRecursion}
 use Rattle.cyc_words.specs.Word.{signed}
 use Rattle.cyc_words.specs.Ending as ending
+use Rattle.cyc_words.specs.declared.fault.Fault.{Fault}
 use Rattle.cyc_isa.specs.declared.instr.Instr.{Instr}
 use Rattle.cyc_elf.specs.Image.{SegmentContents, ImageContents, padded, IsSegment, IsWellFormed}
 use Rattle.cyc_elf.specs.Layout.{FitsFields, bytes_start, header_of}
 use Rattle.cyc_elf.specs.Reading.{reading}
+use Rattle.cyc_lex.specs.Refusals.{memory_fault}
 use Rattle.cyc_machine.specs.Bounds.{Bounds}
 use Rattle.cyc_machine.specs.Start.{lies_in_text, has_outside, start_world}
-use Rattle.cyc_system.specs.Form.{Program, IsSum}
+use Rattle.cyc_system.specs.Form.{Program, IsSum, IsForm}
 use Rattle.cyc_system.specs.Code.{bytes_of_code, add_code, sum_code, service_code, program_code, code_image}
 use Rattle.cyc_system.specs.Meaning.{meaning_of}
 use Rattle.cyc_system.specs.Preserves as preserves
 use Rattle.cyc_system.specs.Preserves.{Preserves, IsImageOf}
 use Rattle.cyc_system.specs.Reading.{program_at}
-use Rattle.cyc_system.specs.Refusal.{IsAccepted}
+use Rattle.cyc_system.specs.Front.{IsRefusedText}
+use Rattle.cyc_system.specs.Refusal.{Refuses}
 use Rattle.cyc_system.proofs.Programs.{reads_program}
 use Rattle.cyc_system.proofs.Meanings.{sum_value, program_finishes}
 use Rattle.cyc_system.proofs.Preserving.{Finals, preserves_of}
@@ -127,5 +130,10 @@ image_of_program p file printed returned is = record {
   preserves = program_preserves p printed returned;
 }
 
-pub not_accepted : (text : List ℕ) → program_at text ≡ None → (p : Program) → IsAccepted text p → ⊥
-not_accepted text none p accepted = let some = reads_program text p accepted.1 in cc
+pub not_of_form : (text : List ℕ) → program_at text ≡ None → (p : Program) → IsForm text p → ⊥
+not_of_form text none p form = let some = reads_program text p form in cc
+
+-- what the front half refuses is refused
+pub front_refuses : (text : List ℕ) (f : Fault) → (f ≡ memory_fault) ⊎ IsRefusedText text f → Refuses text f
+front_refuses text f (inl memory) = inl memory
+front_refuses text f (inr refused) = inr (inl refused)

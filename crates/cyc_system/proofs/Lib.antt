@@ -13,5 +13,6 @@ pub mod Engines
 pub mod Simulation
 pub mod Services
 pub mod Images
+pub mod Fronts
 pub mod Compiles
 pub mod Listings

@@ -3,6 +3,7 @@ pub mod Reading
 pub mod Parsed
 pub mod Preserves
 pub mod Meaning
+pub mod Front
 pub mod Refusal
 pub mod Code
 pub mod Faults

@@ -3,16 +3,17 @@
 
 mod compiler;
 mod engine;
+mod front;
 mod generate;
 pub mod laws;
 mod listing;
 mod read;
-mod refuse;
 mod report;
 #[cfg(test)]
 mod tests;
 
 pub use compiler::compile;
 pub use engine::run;
+pub use front::accept;
 pub use listing::disassemble;
 pub use report::{Report, RunFault, Stop};

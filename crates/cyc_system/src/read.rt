@@ -30,7 +30,7 @@ fn is_space(byte: u8) -> bool
 }
 
 /// Whether a text is spaces alone.
-pub fn are_spaces(text: &[u8]) -> bool
+fn are_spaces(text: &[u8]) -> bool
     ensures { result ≡ list_all is_space text.now }
 {
     text.iter().all(|byte| is_space(*byte))

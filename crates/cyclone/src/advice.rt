@@ -33,7 +33,7 @@ pub fn meaning(code: Code) -> &'static str {
         Code::MissingReturn => "the end of the function can be reached with no value returned",
         Code::TooManyFunctions => "the program has more than 4096 functions",
         Code::FrameTooLarge => "the frame of this function needs more than 256 words",
-        Code::NotBuiltYet => "such a program is neither checked to its end nor compiled yet",
+        Code::NotBuiltYet => "this much of the language is not built yet",
     }
 }
 
@@ -73,7 +73,7 @@ pub fn hint(code: Code) -> &'static str {
         Code::TooManyFunctions => "put the work of several functions into one",
         Code::FrameTooLarge => "move some of its variables or expressions to another function",
         Code::NotBuiltYet =>
-            "so far the one form int main(){ putchar(N+..); return N+..; } is compiled, each N a number",
+            "programs over ints are checked; int main(){ putchar(N+..); return N+..; } is compiled",
     }
 }
 

@@ -57,14 +57,16 @@ The last line on standard error says which.";
 const CHECK_HELP: &str = "Example:
   cyclone check hello.cyc
 
-A message says what is wrong first in the text, and where. So far the text's tokens and its
-grammar are checked; its types and its variables are not, so a text that has no such mistake
-ends with fault 60, \"not built yet\".";
+A message says what is wrong first in the text, and where. So far programs over ints are
+checked to their end; a text that uses more of the language ends with fault 60, \"not built
+yet\", once its tokens and its grammar are in order.";
 
 const COMPILE_HELP: &str = "Example:
   cyclone compile hello.cyc -o hello.elf
 
-A program that is refused writes no file: a message says what is wrong and where.";
+A program that is refused writes no file: a message says what is wrong and where. So far one
+form is compiled, int main(){ putchar(N+..); return N+..; } with a number for each N; another
+program that check accepts is refused with fault 60, \"not built yet\".";
 
 const RUN_HELP: &str = "Example:
   echo hello | cyclone run echo.elf --pages 64 --steps 5000000

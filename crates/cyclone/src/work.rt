@@ -1,15 +1,14 @@
 //! The works of the program, over bytes, a reader and a writer.
-ghost use Rattle.std.specs.Prelude.{◌≡◌, ◌⊎◌, IfOk, IfSome, take};
+ghost use Rattle.std.specs.Prelude.{◌≡◌, ◌⊎◌, IfOk, IfSome, MatchResult, take};
 ghost use Rattle.std.specs.Io.KnownBytes.{Keeps};
-ghost use Rattle.cyclone.specs.Work.{AnswersCheck, AnswersListing, AnswersRun, AnswersTree};
+ghost use Rattle.cyc_lex.specs.Refusals.{memory_fault};
+ghost use Rattle.cyc_system.specs.Front.{HasFault};
+ghost use Rattle.cyclone.specs.Work.{AnswersCheck, AnswersListing, AnswersRun};
 
 use crate::answer::Answer;
-use cyc_lex::lex;
 use cyc_machine::Limits;
-use cyc_parse::parse;
-use cyc_syntax::Tree;
-use cyc_system::{disassemble, run};
-use cyc_words::{ByteIn, ByteOut, Code, Fault, Reader, Writer};
+use cyc_system::{accept, disassemble, run};
+use cyc_words::{ByteIn, ByteOut, Fault, Reader, Writer};
 use std::alloc::Global;
 use std::io;
 use std::io::{Read, Write};
@@ -23,21 +22,15 @@ pub fn read_up_to<R: Read + Drop>(alloc: Global, reader: R, most: u64) -> io::Re
     Ok(bytes)
 }
 
-/// The tree of a text.
-fn tree_of(alloc: Global, text: &[u8]) -> Result<Tree, Fault>
-    ensures { AnswersTree text.now result }
-{
-    let tokens = lex(alloc, text)?;
-    parse(alloc, &tokens, text)
-}
-
-/// Checks a text: its tokens, and then its grammar. What comes behind them is not built yet, so a text
-/// with no such mistake is refused at 1:1 for that.
+/// Checks a text: its tokens, its grammar, its types and its flow.
 pub fn check(alloc: Global, text: &[u8]) -> Result<(), Fault>
-    ensures { AnswersCheck text.now result }
+    ensures answer { AnswersCheck text.now result }
+    // A text that has a fault is never done.
+    ensures refuses { (fault : Fault) → HasFault text.now fault
+        → MatchResult result (λ _. ⊥) (λ f. (f ≡ memory_fault) ⊎ (f ≡ fault)) }
 {
-    tree_of(alloc, text)?;
-    Err(Fault::new(Code::NotBuiltYet, 1, 1))
+    accept(alloc, text)?;
+    Ok(())
 }
 
 /// The answer, or a write fault where what was written could not all be passed on.

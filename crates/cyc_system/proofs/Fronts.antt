@@ -1,0 +1,156 @@
+-- The front half from its phases: what each says of what it is given makes what all say of the text.
+use Rattle.std.proofs.Common.{◌≡◌, ◌⊎◌, inl, inr, ℕ, List, map, Result, Ok, Err, sym, ap, subst, ◌∙◌}
+use Rattle.std.specs.Prelude.{IfErr, MatchResult}
+use Rattle.cyc_words.specs.declared.fault.Fault.{Fault}
+use Rattle.cyc_syntax.specs.declared.tokens.Token.{Token as TokenCode}
+use Rattle.cyc_syntax.specs.Tokens.{Token, token_of}
+use Rattle.cyc_syntax.specs.Symbols.{symbols_of}
+use Rattle.cyc_syntax.specs.Trees.{Declaration}
+use Rattle.cyc_syntax.specs.Grammar as grammar
+use Rattle.cyc_syntax.specs.declared.tree.Tree.{Tree}
+use Rattle.cyc_lex.specs.Refusals as lexer
+use Rattle.cyc_lex.specs.Refusals.{memory_fault}
+use Rattle.cyc_parse.specs.Parsing.{Refusal}
+use Rattle.cyc_parse.specs.Acceptance as parser
+use Rattle.cyc_parse.specs.Acceptance.{declarations_of}
+use Rattle.cyc_types.specs.TypedTrees.{Program}
+use Rattle.cyc_types.specs.declared.typed.TypedTree.{TypedTree}
+use Rattle.cyc_types.specs.TypedTreeView.{view_program}
+use Rattle.cyc_types.specs.TypingRules.{IsTypedProgram}
+use Rattle.cyc_types.specs.Refusals.{IsRefusedProgram}
+use Rattle.cyc_types.specs.FlowRules.{IsAllowedProgram}
+use Rattle.cyc_types.specs.FlowRefusals.{IsStoppedProgram}
+use Rattle.cyc_flow.specs.declared.check.Flowed.{Flowed}
+use Rattle.cyc_system.specs.Front.{names_in, HasTree, IsAcceptedText, IsStoppedText, BreaksLimit, IsRefusedText, HasFault}
+
+-- A phase let this pass: it is accepted, nothing else is, and there is no fault.
+pub record Passes {A : Type 0} (Accepted : A → Type 0) (Has : Fault → Type 0) (a : A) : Type 0 where
+  pub is : Accepted a
+  pub only : (b : A) → Accepted b → a ≡ b
+  pub no_fault : (f : Fault) → Has f → ⊥
+
+-- the lexer let these tokens pass; the parser this tree of them; the checker of types this program of it
+abbrev pub Lexed : List ℕ → List Token → Type 0
+Lexed text tokens = Passes (lexer.IsAccepted text) (lexer.IsRefused text) tokens
+
+abbrev pub Parsed : (OfGrammar : List ℕ → List Token → Fault → Type 0) → List ℕ → List Token → List Declaration → Type 0
+Parsed OfGrammar text tokens tree = Passes (HasTree tokens) (OfGrammar text tokens) tree
+
+abbrev pub Checked : List Token → List Declaration → Program → Type 0
+Checked tokens tree p = Passes (IsTypedProgram (names_in tokens) tree) (IsRefusedProgram (names_in tokens) tree) p
+
+-- the code's tokens, held elsewhere
+pub lexed : (text : List ℕ) (ts us : List TokenCode) → us ≡ ts → Lexed text (map (token_of text) ts) → Lexed text (map (token_of text) us)
+lexed text ts us same l = subst (λ x. Lexed text (map (token_of text) x)) (sym same) l
+
+-- the parser's tree
+pub parsed : (text : List ℕ) (tokens : List Token) (t : Tree) → parser.IsAccepted tokens t
+    → ((d : List Declaration) → grammar.HasTree (symbols_of tokens) d → grammar.IsWithinLimits d → declarations_of t ≡ d)
+    → ((refusal : Refusal) → parser.BreaksLimit tokens refusal → ⊥) → Parsed BreaksLimit text tokens (declarations_of t)
+parsed text tokens t accepted accepts limits = record {
+  is = (accepted.has, accepted.within);
+  only = λ d. λ (has, within). accepts d has within;
+  no_fault = λ g. λ (refusal, breaks, is). limits refusal breaks;
+}
+
+-- the texts of names are those of the tokens
+pub checked : (tokens : List Token) (tree : List Declaration) (p : Program) (texts : List (List ℕ)) → texts ≡ names_in tokens
+    → Passes (IsTypedProgram texts tree) (IsRefusedProgram texts tree) p → Checked tokens tree p
+checked tokens tree p texts same c = subst (λ ns. Passes (IsTypedProgram ns tree) (IsRefusedProgram ns tree) p) same c
+
+-- ---- what is said of the text is said of its tokens, and of their tree
+
+pub typed_here : (OfGrammar : List ℕ → List Token → Fault → Type 0) (text : List ℕ) (tokens : List Token) (tree : List Declaration) → Lexed text tokens → Parsed OfGrammar text tokens tree
+    → (p : Program) → IsAcceptedText text p → IsTypedProgram (names_in tokens) tree p
+typed_here OfGrammar text tokens tree l r p a =
+    let same : tokens ≡ a.tokens = l.only a.tokens a.has_tokens in
+    let one : tree ≡ a.tree = r.only a.tree (subst (λ ts. HasTree ts a.tree) (sym same) a.has_tree) in
+    subst (λ d. IsTypedProgram (names_in tokens) d p) (sym one) (subst (λ ts. IsTypedProgram (names_in ts) a.tree p) (sym same) a.typed)
+
+-- a fault of the tree
+abbrev pub IsFaulty : List Token → List Declaration → Fault → Type 0
+IsFaulty tokens tree f =
+    IsRefusedProgram (names_in tokens) tree f
+    ⊎ ((p : Program) × IsTypedProgram (names_in tokens) tree p × IsStoppedProgram p f)
+
+faulty_there : (tokens others : List Token) (tree other : List Declaration) (f : Fault) → tokens ≡ others → tree ≡ other → IsFaulty others other f → IsFaulty tokens tree f
+faulty_there tokens others tree other f same one h = subst (λ ts. IsFaulty ts tree f) (sym same) (subst (λ d. IsFaulty others d f) (sym one) h)
+
+fault_at : (OfGrammar : List ℕ → List Token → Fault → Type 0) (text : List ℕ) (tokens : List Token) (tree : List Declaration) → Lexed text tokens → Parsed OfGrammar text tokens tree
+    → (ts : List Token) (d : List Declaration) (f : Fault) → lexer.IsAccepted text ts → HasTree ts d → IsFaulty ts d f → IsFaulty tokens tree f
+fault_at OfGrammar text tokens tree l r ts d f has of h =
+    let same : tokens ≡ ts = l.only ts has in
+    faulty_there tokens ts tree d f same (r.only d (subst (λ x. HasTree x d) (sym same) of)) h
+
+pub faulty_here : (OfGrammar : List ℕ → List Token → Fault → Type 0) (text : List ℕ) (tokens : List Token) (tree : List Declaration) → Lexed text tokens → Parsed OfGrammar text tokens tree
+    → (f : Fault) → IsStoppedText OfGrammar text f → IsFaulty tokens tree f
+faulty_here OfGrammar text tokens tree l r f (inl h) = absurd (l.no_fault f h)
+faulty_here OfGrammar text tokens tree l r f (inr (inl (ts, has, h))) = absurd (r.no_fault f (subst (λ x. OfGrammar text x f) (sym (l.only ts has)) h))
+faulty_here OfGrammar text tokens tree l r f (inr (inr (inl (ts, d, has, of, h)))) = fault_at OfGrammar text tokens tree l r ts d f has of (inl h)
+faulty_here OfGrammar text tokens tree l r f (inr (inr (inr (ts, d, p, has, of, typed, h)))) = fault_at OfGrammar text tokens tree l r ts d f has of (inr (p, typed, h))
+
+-- ---- what a phase that refuses says of the text
+
+-- a phase refused: nothing is accepted unless memory ran out, and no other fault is there
+pub record Stops {A : Type 0} (Accepted : A → Type 0) (Has : Fault → Type 0) (f : Fault) : Type 0 where
+  pub none : (a : A) → Accepted a → f ≡ memory_fault
+  pub no_other : (g : Fault) → Has g → (f ≡ memory_fault) ⊎ (f ≡ g)
+
+pub parser_refuses : (text : List ℕ) (tokens : List Token) (f : Fault) → Lexed text tokens → Stops (HasTree tokens) (BreaksLimit text tokens) f
+    → (g : Fault) → HasFault text g → (f ≡ memory_fault) ⊎ (f ≡ g)
+parser_refuses text tokens f l s g (inl h) = absurd (l.no_fault g h)
+parser_refuses text tokens f l s g (inr (inl (ts, has, h))) = s.no_other g (subst (λ x. BreaksLimit text x g) (sym (l.only ts has)) h)
+parser_refuses text tokens f l s g (inr (inr (inl (ts, d, has, of, h)))) = inl (s.none d (subst (λ x. HasTree x d) (sym (l.only ts has)) of))
+parser_refuses text tokens f l s g (inr (inr (inr (ts, d, p, has, of, typed, h)))) = inl (s.none d (subst (λ x. HasTree x d) (sym (l.only ts has)) of))
+
+abbrev pub StopsChecked : List (List ℕ) → List Declaration → Fault → Type 0
+StopsChecked texts tree f = Stops (IsTypedProgram texts tree) (IsRefusedProgram texts tree) f
+
+faulty_stops : (tokens : List Token) (tree : List Declaration) (f : Fault) → StopsChecked (names_in tokens) tree f
+    → (g : Fault) → IsFaulty tokens tree g → (f ≡ memory_fault) ⊎ (f ≡ g)
+faulty_stops tokens tree f s g (inl h) = s.no_other g h
+faulty_stops tokens tree f s g (inr (p, typed, h)) = inl (s.none p typed)
+
+pub checker_accepts : (text : List ℕ) (tokens : List Token) (tree : List Declaration) (texts : List (List ℕ)) (f : Fault) → Lexed text tokens → Parsed BreaksLimit text tokens tree
+    → texts ≡ names_in tokens → StopsChecked texts tree f → (p : Program) → IsAcceptedText text p → f ≡ memory_fault
+checker_accepts text tokens tree texts f l r same s p a =
+    s.none p (subst (λ ns. IsTypedProgram ns tree p) (sym same) (typed_here BreaksLimit text tokens tree l r p a))
+
+pub checker_refuses : (text : List ℕ) (tokens : List Token) (tree : List Declaration) (texts : List (List ℕ)) (f : Fault) → Lexed text tokens → Parsed BreaksLimit text tokens tree
+    → texts ≡ names_in tokens → StopsChecked texts tree f → (g : Fault) → HasFault text g → (f ≡ memory_fault) ⊎ (f ≡ g)
+checker_refuses text tokens tree texts f l r same s g h =
+    faulty_stops tokens tree f (subst (λ ns. StopsChecked ns tree f) same s) g (faulty_here BreaksLimit text tokens tree l r g h)
+
+-- ---- what the flow check answers
+
+pub flow_refused : (text : List ℕ) (tokens : List Token) (tree : List Declaration) (p : Program) (result : Result Flowed Fault)
+    → Lexed text tokens → Parsed BreaksLimit text tokens tree → Checked tokens tree p
+    → IfErr result (λ f. (f ≡ memory_fault) ⊎ IsStoppedProgram p f) → IfErr result (λ f. (f ≡ memory_fault) ⊎ IsRefusedText text f)
+flow_refused text tokens tree p (Ok v) l r c h = tt
+flow_refused text tokens tree p (Err f) l r c (inl m) = inl m
+flow_refused text tokens tree p (Err f) l r c (inr h) = inr (inr (inr (inr (tokens, tree, p, l.is, r.is, c.is, h))))
+
+kept_answer : (t : TypedTree) (p : Program) (result : Result Flowed Fault) → view_program t ≡ p
+    → MatchResult result (λ v. v.tree ≡ t) (λ f. f ≡ memory_fault) → MatchResult result (λ v. view_program v.tree ≡ p) (λ f. f ≡ memory_fault)
+kept_answer t p (Ok v) same h = ap view_program h ∙ same
+kept_answer t p (Err f) same h = h
+
+pub flow_accepts : (text : List ℕ) (tokens : List Token) (tree : List Declaration) (t : TypedTree) (result : Result Flowed Fault)
+    → Lexed text tokens → Parsed BreaksLimit text tokens tree → Checked tokens tree (view_program t)
+    → (IsAllowedProgram (view_program t) → MatchResult result (λ v. v.tree ≡ t) (λ f. f ≡ memory_fault))
+    → (p : Program) → IsAcceptedText text p → MatchResult result (λ v. view_program v.tree ≡ p) (λ f. f ≡ memory_fault)
+flow_accepts text tokens tree t result l r c accepts p a =
+    let same : view_program t ≡ p = c.only p (typed_here BreaksLimit text tokens tree l r p a) in
+    kept_answer t p result same (accepts (subst IsAllowedProgram (sym same) a.allowed))
+
+flow_stops : (tokens : List Token) (tree : List Declaration) (p : Program) (result : Result Flowed Fault) → Checked tokens tree p
+    → ((g : Fault) → IsStoppedProgram p g → MatchResult result (λ _. ⊥) (λ f. (f ≡ memory_fault) ⊎ (f ≡ g)))
+    → (g : Fault) → IsFaulty tokens tree g → MatchResult result (λ _. ⊥) (λ f. (f ≡ memory_fault) ⊎ (f ≡ g))
+flow_stops tokens tree p result c stops g (inl h) = absurd (c.no_fault g h)
+flow_stops tokens tree p result c stops g (inr (q, typed, h)) = stops g (subst (λ x. IsStoppedProgram x g) (sym (c.only q typed)) h)
+
+pub flow_refuses : (text : List ℕ) (tokens : List Token) (tree : List Declaration) (p : Program) (result : Result Flowed Fault)
+    → Lexed text tokens → Parsed BreaksLimit text tokens tree → Checked tokens tree p
+    → ((g : Fault) → IsStoppedProgram p g → MatchResult result (λ _. ⊥) (λ f. (f ≡ memory_fault) ⊎ (f ≡ g)))
+    → (g : Fault) → HasFault text g → MatchResult result (λ _. ⊥) (λ f. (f ≡ memory_fault) ⊎ (f ≡ g))
+flow_refuses text tokens tree p result l r c stops g h = flow_stops tokens tree p result c stops g (faulty_here BreaksLimit text tokens tree l r g h)
