@@ -1,4 +1,5 @@
 pub mod Rules
+pub mod Signs
 pub mod Lists
 pub mod Stops
 pub mod Starts

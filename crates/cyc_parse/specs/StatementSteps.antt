@@ -5,7 +5,7 @@ use Rattle.cyc_syntax.specs.declared.tokens.Keyword.TheVariants as words
 use Rattle.cyc_syntax.specs.declared.tokens.Sign.TheVariants as signs
 use Rattle.cyc_syntax.specs.declared.tree.Clause.{Clause}
 use Rattle.cyc_syntax.specs.Symbols.{Place}
-use Rattle.cyc_syntax.specs.Trees.{Statement, Return, Item, Clauses, NoClauses, Default, Case}
+use Rattle.cyc_syntax.specs.Trees.{Statement, Return, Try, Item, Clauses, NoClauses, Default, Case}
 use Rattle.cyc_syntax.specs.TreeView.{view_name, items_of}
 use Rattle.cyc_parse.specs.Parsing.{Parser, ◌>>=◌, ◌>>◌, pure, choose, if_starts, sign, word, identifier}
 use Rattle.cyc_parse.specs.Statements.{Nested, begins_item, is_case, is_default, return_value, caught, let_by, item}
@@ -13,6 +13,10 @@ use Rattle.cyc_parse.specs.Statements.{Nested, begins_item, is_case, is_default,
 module _ (room : ℕ) (inner : Nested) where
   unfoldable pub return_statement : Place → Parser Statement
   return_statement p = return_value room inner >>= (λ v. sign (suc room) signs.Semicolon >> pure (Return p v))
+
+  -- the brace that closes behind the clauses of a `try`
+  unfoldable pub end_of_try : Place → Statement → Clauses → Parser Statement
+  end_of_try p s cs = sign room signs.RightBrace >> pure (Try p s cs)
 
   unfoldable pub let_item : Parser Item
   let_item = choose (let_by room inner)

@@ -105,7 +105,6 @@ impl<'a> Parser<'a> {
 
     // ---- a symbol at the level that is read, which is not too deep
 
-    #[tactic(auto, unfolding(crate::specs::Parsing::take))]
     pub(crate) fn sign(&mut self, wanted: Sign) -> Result<Span, Stop>
         ensures { (room : ℕ) → Gives place_of_span result (sign (suc room) wanted self.old) self.new }
     {
@@ -149,7 +148,6 @@ impl<'a> Parser<'a> {
 
     // ---- a symbol further inside: `room` counts the levels that are left there
 
-    #[tactic(auto, unfolding(crate::specs::Parsing::take))]
     pub(crate) fn sign_inside(&mut self, room: u32, wanted: Sign) -> Result<Span, Stop>
         ensures { Gives place_of_span result (sign room wanted self.old) self.new }
     {

@@ -4,7 +4,7 @@ ghost use Rattle.std.specs.Prelude.{◌≡◌, suc, map, option_map, [], IfOk};
 ghost use Rattle.cyc_syntax.specs.TreeView.{place_of_span, view_name, view_expression, view_initial, expressions_of, postfixes_of, operations_of, then_postfix};
 ghost use Rattle.cyc_parse.specs.Code.{Gives};
 ghost use Rattle.cyc_parse.specs.Parsing.{next, starts, separated, more_items, opens_regions};
-ghost use Rattle.cyc_parse.specs.Steps.{after_comma, one_postfix, one_operation, then_operation, prefixed, created, created_in, freed_key, bracketed, with_chain, operand, one_level};
+ghost use Rattle.cyc_parse.specs.Steps.{after_comma, one_postfix, one_operation, then_operation, prefixed, created, created_in, freed_key, closed, bracketed, indexed, with_chain, operand, one_level};
 ghost use Rattle.cyc_syntax.specs.Grammar.{level};
 ghost use Rattle.cyc_syntax.specs.Trees.{NoPostfixes, NoOperations, Call, Fields};
 ghost use Rattle.cyc_parse.specs.Expressions.{binary_operator, chained, binary_of, nested, begins_expression, begins_initial, operator_at, operations, climb, group, arguments, from_name, primary, postfixes, with_postfixes, unary, assignment, binary, expression, values, fields, initial_from_name, array, initial};
@@ -121,16 +121,27 @@ impl<'a> Parser<'a> {
 
     // ---- operands
 
+    // What is dropped where a parse stops is walked in each function that holds it: an expression at hand goes into a box at once,
+    // or to a function that holds it alone.
+
+    /// The bracket that closes behind an expression.
+    #[tactic(auto, unfolding(crate::specs::Steps::closed, crate::specs::Parsing::bind))]
+    fn closed(&mut self, room: u32, inner: Expr) -> Result<Expr, Stop>
+        ensures { Gives view_expression result (closed room (view_expression inner) self.old) self.new }
+    {
+        self.sign_inside(room, Sign::RightParen)?;
+        Ok(inner)
+    }
+
     /// An expression in round brackets.
     #[cycle(expression)]
-    #[tactic(auto, unfolding(crate::specs::Expressions::group, crate::specs::Parsing::bind))]
+    #[tactic(auto, unfolding(crate::specs::Expressions::group, crate::specs::Steps::closed, crate::specs::Parsing::bind))]
     pub(crate) fn group_here(&mut self, room: u32) -> Result<Expr, Stop>
         ensures { Gives view_expression result (group room (nested room) self.old) self.new }
     {
         self.sign(Sign::LeftParen)?;
         let inner = self.expression(room)?;
-        self.sign_inside(room, Sign::RightParen)?;
-        Ok(inner)
+        self.closed(room, inner)
     }
 
     #[cycle(expression)]
@@ -222,8 +233,8 @@ impl<'a> Parser<'a> {
     {
         let span = self.advance()?;
         let inner = self.expression(room)?;
+        let inner = boxed(self.alloc(), inner)?;
         self.sign_inside(room, Sign::RightParen)?;
-        let inner = Box::new(self.alloc(), inner)?;
         Ok(Expr::Bracketed { span, inner })
     }
 
@@ -260,13 +271,13 @@ impl<'a> Parser<'a> {
             Some(Terminal::Word(Keyword::NumberOfElements)) => {
                 let span = self.advance()?;
                 let pointer = self.group_here(room)?;
-                let pointer = Box::new(self.alloc(), pointer)?;
+                let pointer = boxed(self.alloc(), pointer)?;
                 Ok(Expr::NumberOfElements { span, pointer })
             }
             Some(Terminal::Word(Keyword::FreeUnique)) => {
                 let span = self.advance()?;
                 let pointer = self.group_here(room)?;
-                let pointer = Box::new(self.alloc(), pointer)?;
+                let pointer = boxed(self.alloc(), pointer)?;
                 Ok(Expr::FreeUnique { span, pointer })
             }
             Some(Terminal::Word(Keyword::FreeKey)) => self.freed_key(room),
@@ -275,17 +286,25 @@ impl<'a> Parser<'a> {
         }
     }
 
+    /// The bracket that closes behind an index.
+    #[tactic(auto, unfolding(crate::specs::Steps::indexed, crate::specs::Parsing::bind))]
+    fn indexed(&mut self, room: u32, index: Expr) -> Result<Option<Postfix>, Stop>
+        ensures { Gives (option_map then_postfix) result (indexed room (view_expression index) self.old) self.new }
+    {
+        self.sign_inside(room, Sign::RightBracket)?;
+        Ok(Some(Postfix::Index { index }))
+    }
+
     /// `[..]` or `->` and a field's name, if one comes next.
     #[cycle(expression)]
-    #[tactic(auto, unfolding(crate::specs::Steps::one_postfix, crate::specs::Parsing::if_sees, crate::specs::Parsing::bind))]
+    #[tactic(auto, unfolding(crate::specs::Steps::one_postfix, crate::specs::Steps::indexed, crate::specs::Parsing::if_sees, crate::specs::Parsing::bind))]
     fn postfix(&mut self, room: u32) -> Result<Option<Postfix>, Stop>
         ensures { Gives (option_map then_postfix) result (one_postfix room (nested room) self.old) self.new }
     {
         if self.sees(Sign::LeftBracket) {
             self.sign(Sign::LeftBracket)?;
             let index = self.expression(room)?;
-            self.sign_inside(room, Sign::RightBracket)?;
-            return Ok(Some(Postfix::Index { index }));
+            return self.indexed(room, index);
         }
         if self.sees(Sign::Arrow) {
             self.sign(Sign::Arrow)?;
@@ -339,7 +358,7 @@ impl<'a> Parser<'a> {
     {
         let span = self.advance()?;
         let operand = self.unary(room)?;
-        let operand = Box::new(self.alloc(), operand)?;
+        let operand = boxed(self.alloc(), operand)?;
         Ok(Expr::Prefixed {
             span,
             operator,
@@ -355,7 +374,7 @@ impl<'a> Parser<'a> {
     {
         let span = self.advance()?;
         let value = self.initial(room)?;
-        let value = Box::new(self.alloc(), value)?;
+        let value = boxed_initial(self.alloc(), value)?;
         Ok(Expr::New { span, value })
     }
 
@@ -367,9 +386,9 @@ impl<'a> Parser<'a> {
     {
         let span = self.advance()?;
         let region = self.group(room)?;
+        let region = boxed(self.alloc(), region)?;
         let value = self.initial(room)?;
-        let region = Box::new(self.alloc(), region)?;
-        let value = Box::new(self.alloc(), value)?;
+        let value = boxed_initial(self.alloc(), value)?;
         Ok(Expr::RegionNew {
             span,
             region,
@@ -497,10 +516,10 @@ impl<'a> Parser<'a> {
         if !self.sees(Sign::Assign) {
             return Ok(target);
         }
+        let target = boxed(self.alloc(), target)?;
         self.sign(Sign::Assign)?;
         let value = self.expression(room)?;
-        let target = Box::new(self.alloc(), target)?;
-        let value = Box::new(self.alloc(), value)?;
+        let value = boxed(self.alloc(), value)?;
         Ok(Expr::Assign { target, value })
     }
 
@@ -649,6 +668,18 @@ fn level(operator: BinaryOperator) -> u64
         BinaryOperator::AndThen => 9,
         BinaryOperator::OrElse => 10,
     }
+}
+
+fn boxed(alloc: Global, value: Expr) -> Result<Box<Expr>, AllocError>
+    ensures { IfOk result (λ b. b.value ≡ value) }
+{
+    Ok(Box::new(alloc, value)?)
+}
+
+fn boxed_initial(alloc: Global, value: Initial) -> Result<Box<Initial>, AllocError>
+    ensures { IfOk result (λ b. b.value ≡ value) }
+{
+    Ok(Box::new(alloc, value)?)
 }
 
 /// An operand with the postfixes behind it.

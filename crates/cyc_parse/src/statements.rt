@@ -1,19 +1,20 @@
 //! The parser of statements and of the items of blocks. A function with `room` reads at a level of nesting below which so many
 //! are left.
-ghost use Rattle.std.specs.Prelude.{◌≡◌, ℕ, suc, length, option_map};
+ghost use Rattle.std.specs.Prelude.{◌≡◌, ℕ, suc, length, option_map, IfOk};
 ghost use Rattle.cyc_syntax.specs.TreeView.{place_of_span, view_name, view_expression, view_initial, view_statement, view_item, view_block, items_of, clauses_of, default_of};
 ghost use Rattle.cyc_syntax.specs.Trees as trees;
 ghost use Rattle.cyc_parse.specs.Code.{Gives};
 ghost use Rattle.cyc_parse.specs.Parsing.{next, starts, inside, sign};
 ghost use Rattle.cyc_parse.specs.Types.{region_of};
 ghost use Rattle.cyc_parse.specs.Statements.{begins_statement, begins_item, is_case, is_default, begins_clause, is_else, is_unary, ends_in_new, ends_in_name, end_of_swap, nested_statements, body, expression_from, swap, behind, statement_from_name, else_part, return_value, thrown, caught, clauses_in, clauses, if_statement, while_statement, throw_statement, try_statement, statement, local_value, local, opened_key, region, alias, new_key, dynamic_region, item, items};
-ghost use Rattle.cyc_parse.specs.StatementSteps.{one_item, one_clause, then_clause, default_clause, return_statement, let_item};
+ghost use Rattle.cyc_parse.specs.StatementSteps.{one_item, one_clause, then_clause, default_clause, end_of_try, return_statement, let_item};
 
 use crate::cursor::{Parser, refusal};
 use crate::expressions::LEVELS;
 use crate::stop::{Reason, Stop};
 use crate::symbol::Terminal;
 use cyc_syntax::{Block, Clause, Expr, Ident, Initial, Item, Keyword, Sign, Span, Stmt};
+use std::alloc::{AllocError, Global};
 
 /// What stands between the brackets of a `catch`: its clauses, and the items of its default clause, where there is one.
 #[derive(Drop)]
@@ -208,12 +209,10 @@ impl<'a> Parser<'a> {
         room: u32,
         span: Span,
         condition: Expr,
-        then: Stmt,
+        then: Box<Stmt>,
     ) -> Result<Stmt, Stop>
-        ensures { Gives view_statement result (else_part room (nested_statements room) (place_of_span span) (view_expression condition) (view_statement then) self.old) self.new }
+        ensures { Gives view_statement result (else_part room (nested_statements room) (place_of_span span) (view_expression condition) (view_statement then.value) self.old) self.new }
     {
-        let alloc = self.alloc();
-        let then = Box::new(alloc, then)?;
         if !self.begins_else() {
             return Ok(Stmt::If {
                 span,
@@ -224,7 +223,7 @@ impl<'a> Parser<'a> {
         }
         self.word(Keyword::Else)?;
         let otherwise = self.statement(room)?;
-        let otherwise = Some(Box::new(alloc, otherwise)?);
+        let otherwise = Some(boxed(self.alloc(), otherwise)?);
         Ok(Stmt::If {
             span,
             condition,
@@ -241,6 +240,7 @@ impl<'a> Parser<'a> {
     {
         let condition = self.group_here(room)?;
         let then = self.statement(room)?;
+        let then = boxed(self.alloc(), then)?;
         self.else_part(room, span, condition, then)
     }
 
@@ -252,7 +252,7 @@ impl<'a> Parser<'a> {
     {
         let condition = self.group_here(room)?;
         let body = self.statement(room)?;
-        let body = Box::new(self.alloc(), body)?;
+        let body = boxed(self.alloc(), body)?;
         Ok(Stmt::While {
             span,
             condition,
@@ -388,19 +388,33 @@ impl<'a> Parser<'a> {
         self.handlers(room)
     }
 
+    /// The brace that closes behind the clauses of a `try`.
+    #[tactic(auto, unfolding(crate::specs::StatementSteps::end_of_try, crate::specs::Parsing::bind))]
+    fn end_of_try(
+        &mut self,
+        room: u32,
+        span: Span,
+        body: Box<Stmt>,
+        handlers: Handlers,
+    ) -> Result<Stmt, Stop>
+        ensures { Gives view_statement result (end_of_try room (nested_statements room) (place_of_span span) (view_statement body.value) (clauses_of handlers.clauses.items (default_of handlers.default)) self.old) self.new }
+    {
+        self.sign_inside(room, Sign::RightBrace)?;
+        Ok(guarded(span, body, handlers))
+    }
+
     /// Behind `try`.
     #[cycle(statement)]
-    #[tactic(auto, unfolding(crate::specs::Statements::try_statement, crate::specs::Parsing::bind))]
+    #[tactic(auto, unfolding(crate::specs::Statements::try_statement, crate::specs::StatementSteps::end_of_try, crate::specs::Parsing::bind))]
     fn try_statement(&mut self, room: u32, span: Span) -> Result<Stmt, Stop>
         ensures { Gives view_statement result (try_statement room (nested_statements room) (place_of_span span) self.old) self.new }
     {
         let body = self.statement(room)?;
+        let body = boxed(self.alloc(), body)?;
         self.word(Keyword::Catch)?;
         self.sign(Sign::LeftBrace)?;
         let handlers = self.clauses(room)?;
-        self.sign_inside(room, Sign::RightBrace)?;
-        let body = Box::new(self.alloc(), body)?;
-        Ok(guarded(span, body, handlers))
+        self.end_of_try(room, span, body, handlers)
     }
 
     #[cycle(statement)]
@@ -671,6 +685,12 @@ fn ends_in_name(initial: &Initial) -> bool
         Initial::Plain { value } => matches!(value, Expr::Variable { .. }) || ends_in_new(value),
         _ => false,
     }
+}
+
+fn boxed(alloc: Global, statement: Stmt) -> Result<Box<Stmt>, AllocError>
+    ensures { IfOk result (λ b. b.value ≡ statement) }
+{
+    Ok(Box::new(alloc, statement)?)
 }
 
 fn block(block: Block) -> Stmt

@@ -5,7 +5,7 @@ ghost use Rattle.cyc_parse.specs.declared.stop.Stop.TheVariants.{Memory};
 use std::alloc::{AllocError, AllocFailed};
 
 /// Why symbols are refused. The place is the first symbol that is left, or the end of the text.
-#[derive(Clone, Copy, Debug, PartialEq, Eq)]
+#[derive(Clone, Copy)]
 pub(crate) enum Reason {
     /// No program goes on with this symbol, or none ends here.
     Unexpected,
@@ -15,7 +15,7 @@ pub(crate) enum Reason {
     TooLong,
 }
 
-#[derive(Clone, Copy, Debug, PartialEq, Eq)]
+#[derive(Clone, Copy)]
 pub(crate) enum Stop {
     /// An allocation was refused.
     Memory,

@@ -3,7 +3,7 @@
 use cyc_syntax::{Keyword, Name, Sign, Span};
 
 /// A token without its place. A region name and an identifier of one text have one name.
-#[derive(Clone, Copy, Debug, PartialEq, Eq)]
+#[derive(Clone, Copy)]
 pub(crate) enum Terminal {
     Identifier(Name),
     RegionName(Name),
@@ -13,7 +13,7 @@ pub(crate) enum Terminal {
     Mark(Sign),
 }
 
-#[derive(Clone, Copy, Debug, PartialEq, Eq)]
+#[derive(Clone, Copy)]
 pub(crate) struct Symbol {
     pub(crate) terminal: Terminal,
     pub(crate) span: Span,
