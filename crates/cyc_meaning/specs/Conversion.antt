@@ -1,0 +1,26 @@
+-- Conversion: the value that a value becomes in a cell of a kind, or the exception that it raises. The rules are the Cyclone
+-- User's Manual's (1.0); that a conversion is a check and never a promise is this project's own choice.
+use Rattle.std.specs.Prelude.{ℕ, ◌+◌, nat_lt, if◌then◌else◌}
+use Rattle.cyc_types.specs.declared.typed.Kind.{Kind}
+use Rattle.cyc_types.specs.declared.typed.Kind.TheVariants as kinds
+use Rattle.cyc_meaning.specs.Values.{Value, Int, Null, Thin, Fat, Handle, Key}
+use Rattle.cyc_meaning.specs.Operators.{Result, Gives, Raises, Misfits, null_exception, array_bounds}
+
+-- The cell that a fat pointer stands at. An index below 0 is a word of 2 ^ 31 and more, and no object has so many cells.
+abbrev pub thinned : (object start count index : ℕ) → Result
+thinned object start count index = if nat_lt index count then Gives (Thin object (start + index)) else Raises array_bounds
+
+abbrev pub conversion : (to : Kind) → Value → Result
+conversion kinds.Int (Int word) = Gives (Int word)
+conversion kinds.Nullable Null = Gives Null
+conversion kinds.Nullable (Thin object offset) = Gives (Thin object offset)
+conversion kinds.Nullable (Fat object start count index) = thinned object start count index
+conversion kinds.NonNull Null = Raises null_exception
+conversion kinds.NonNull (Thin object offset) = Gives (Thin object offset)
+conversion kinds.NonNull (Fat object start count index) = thinned object start count index
+conversion kinds.Fat Null = Gives Null
+conversion kinds.Fat (Thin object offset) = Gives (Fat object offset 1 0)
+conversion kinds.Fat (Fat object start count index) = Gives (Fat object start count index)
+conversion kinds.Handle (Handle region) = Gives (Handle region)
+conversion kinds.Key (Key region) = Gives (Key region)
+conversion to value = Misfits

@@ -1,0 +1,72 @@
+-- The words in which the laws of the step are said: what is seen of it, by its focus and the control stack alone, what it
+-- changes, and what stays.
+use Rattle.std.specs.Prelude.{◌≡◌, ℕ, suc, ◌%◌, false, List, [], ◌∷◌, ◌++◌, drop, map, Option, Some, slice_get}
+use Rattle.cyc_types.specs.declared.typed.Kind.{Kind}
+use Rattle.cyc_types.specs.declared.typed.Callee.TheVariants as callees
+use Rattle.cyc_meaning.specs.Values.{Value, Int, Cell}
+use Rattle.cyc_meaning.specs.State.{Region, Object, World, Found, region_at, Located, cell_at, opened, closed, variable, made, written, State, Running, Ended, Dead, Wrong, Entry, Caller, Main, Focus, Calling, Proceeding, Returning, Throwing, calls_in}
+
+-- the bytes that are printed: the one of `putchar`, called with an int
+abbrev pub printed_by : Focus → List ℕ
+printed_by (Calling callees.Putchar (Int word ∷ [])) = word % 256 ∷ []
+printed_by focus = []
+
+-- how many bytes are read, where there are any: the one of `getchar`
+abbrev pub read_by : Focus → ℕ
+read_by (Calling callees.Getchar []) = 1
+read_by focus = 0
+
+-- How many calls are under way after a step: one more where a function is called, one less where the end of a call is left, and
+-- as many as before elsewhere.
+abbrev pub calls_after : Focus → List Entry → ℕ
+calls_after (Calling (callees.Function number) arguments) stack = suc (calls_in stack)
+calls_after Proceeding (Caller outer ∷ stack) = calls_in stack
+calls_after (Returning value) (Caller outer ∷ stack) = calls_in stack
+calls_after (Throwing tag value) (Caller outer ∷ stack) = calls_in stack
+calls_after (Throwing tag value) (Main ∷ stack) = calls_in stack
+calls_after focus stack = calls_in stack
+
+-- ---- what changes
+
+-- What one step makes of the world, where these bytes are printed and so many are read: nothing, or one of these.
+pub data Changes (w : World) : (printed : List ℕ) → (count : ℕ) → World → Type 0 where
+  Keeps : Changes w [] 0 w
+  Opens : Changes w [] 0 (opened w)
+  Closes : (number : ℕ) (r : Region) → region_at w number ≡ Found r → Changes w [] 0 (closed w number r)
+  Makes : (number : ℕ) (r : Region) (kind : Kind) (content : Option Value) → region_at w number ≡ Found r → Changes w [] 0 (made w (variable number kind content))
+  Writes : (object offset : ℕ) (at : Located) (value : Value) → cell_at w object offset ≡ Found at → Changes w [] 0 (written w object offset at value)
+  Prints : (word : ℕ) → Changes w (word % 256 ∷ []) 0 (record w { output = w.output ++ word % 256 ∷ [] })
+  Reads : Changes w [] 1 (record w { input = drop 1 w.input })
+
+-- after a step that does not end the run
+abbrev pub ChangesIn : World → (printed : List ℕ) → (count : ℕ) → State → Type 0
+ChangesIn old printed count (Running focus stack e new) = Changes old printed count new
+ChangesIn old printed count (Ended ending output input) = Unit {0}
+ChangesIn old printed count (Dead output input) = Unit {0}
+ChangesIn old printed count (Wrong output input) = Unit {0}
+
+-- ---- what stays
+
+-- a region stays of its sort, and once closed it is closed for good
+pub record RegionStays (old new : Region) : Type 0 where
+  pub sort : new.sort ≡ old.sort
+  pub closed : old.is_open ≡ false → new.is_open ≡ false
+
+-- an object keeps its owner and the kinds of its cells
+pub record ObjectStays (old new : Object) : Type 0 where
+  pub owner : new.owner ≡ old.owner
+  pub kinds : map (λ (c : Cell). c.kind) new.cells ≡ map (λ (c : Cell). c.kind) old.cells
+
+-- No number is used again: what has one, has it for good.
+pub record WorldStays (old new : World) : Type 0 where
+  pub regions : (number : ℕ) (r : Region) → slice_get old.regions number ≡ Some r
+      → (s : Region) × (slice_get new.regions number ≡ Some s) × RegionStays r s
+  pub objects : (number : ℕ) (x : Object) → slice_get old.objects number ≡ Some x
+      → (y : Object) × (slice_get new.objects number ≡ Some y) × ObjectStays x y
+
+-- in a run that is not over
+abbrev pub StaysIn : World → State → Type 0
+StaysIn old (Running focus stack e new) = WorldStays old new
+StaysIn old (Ended ending output input) = Unit {0}
+StaysIn old (Dead output input) = Unit {0}
+StaysIn old (Wrong output input) = Unit {0}

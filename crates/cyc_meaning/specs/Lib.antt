@@ -1,0 +1,9 @@
+pub mod Conversion
+pub mod Demand
+pub mod Effects
+pub mod Nesting
+pub mod Operators
+pub mod Run
+pub mod State
+pub mod Step
+pub mod Values

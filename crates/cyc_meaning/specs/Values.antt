@@ -1,0 +1,57 @@
+-- Values and the cells that hold them. There are no addresses: a pointer names an object by its number. The kinds of values
+-- and that a fat pointer takes three words are the Cyclone User's Manual's (1.0); the form is this project's own choice.
+use Rattle.std.specs.Prelude.{ℕ, ◌+◌, max, List, [], ◌∷◌, Option}
+use Rattle.cyc_types.specs.declared.typed.Kind.{Kind}
+use Rattle.cyc_types.specs.declared.typed.Kind.TheVariants as kinds
+use Rattle.cyc_syntax.specs.declared.tree.PointerKind.{PointerKind}
+use Rattle.cyc_syntax.specs.declared.tree.PointerKind.TheVariants as marks
+use Rattle.cyc_types.specs.Types.{Ty}
+use Rattle.cyc_types.specs.Types as types
+
+pub data Value : Type 0 where
+  -- a word of 32 bits, which means a signed number in two's complement
+  Int : (word : ℕ) → Value
+  -- the null pointer, of any mark
+  Null : Value
+  -- a cell of an object
+  Thin : (object offset : ℕ) → Value
+  -- A part of an object: its first cell, its number of cells, and the index in it, a word as an int is.
+  Fat : (object start count index : ℕ) → Value
+  -- the region of this number, and the key of a dynamic region
+  Handle : (region : ℕ) → Value
+  Key : (region : ℕ) → Value
+
+abbrev pub kind_of_mark : PointerKind → Kind
+kind_of_mark marks.Nullable = kinds.Nullable
+kind_of_mark marks.NonNull = kinds.NonNull
+kind_of_mark marks.Fat = kinds.Fat
+
+-- The kind of the cells of a type. No cell has a struct for its type: a struct is a block of cells.
+abbrev pub kind_of : Ty → Kind
+kind_of types.Int = kinds.Int
+kind_of (types.Pointer mark target region) = kind_of_mark mark
+kind_of (types.Handle region) = kinds.Handle
+kind_of (types.Key region) = kinds.Key
+kind_of (types.Struct number regions) = kinds.Int
+
+-- a cell has its kind for good, and holds a value or nothing yet
+pub record Cell : Type 0 where
+  pub kind : Kind
+  pub content : Option Value
+
+-- the words of a cell: a fat pointer has three, any other value one
+abbrev pub words_of_kind : Kind → ℕ
+words_of_kind kinds.Int = 1
+words_of_kind kinds.Nullable = 1
+words_of_kind kinds.NonNull = 1
+words_of_kind kinds.Fat = 3
+words_of_kind kinds.Handle = 1
+words_of_kind kinds.Key = 1
+
+abbrev pub words_of_cells : List Cell → ℕ
+words_of_cells [] = 0
+words_of_cells (c ∷ cells) = words_of_kind c.kind + words_of_cells cells
+
+-- the words of a block of cells: at least one
+abbrev pub block_size : List Cell → ℕ
+block_size cells = max 1 (words_of_cells cells)
