@@ -1,20 +1,17 @@
 -- The image of a program: its code is of the right kind, it is well formed, it is loaded, and it does what the program
 -- means.
-use Rattle.std.proofs.Common.{◌≡◌, ◌⊎◌, inl, inr, ℕ, zero, suc, ◌+◌, ◌*◌, ◌/◌, ◌%◌, ◌^◌, ◌≤◌, ◌<◌, List, [], ◌∷◌, ◌++◌, length, Bool, true, false, cond, Option, None, Some, Result, Ok, Err, refl, sym, ap, subst, ◌∙◌, arith, length-append, lit<}
-use Rattle.std.specs.Prelude.{◌||◌}
+use Rattle.std.proofs.Common.{◌≡◌, ◌⊎◌, inl, inr, ℕ, ◌+◌, ◌*◌, ◌/◌, ◌%◌, ◌^◌, ◌≤◌, ◌<◌, List, [], ◌∷◌, ◌++◌, length, false, cond, None, Ok, refl, sym, ap, subst, ◌∙◌, arith, length-append, lit<}
 use Rattle.std.proofs.lemmas.Bool.{lt-ltb}
 use Rattle.std.proofs.lemmas.List.Elements.{All-cons, All-nil}
 use Rattle.std.specs.List.{flat_map, AllByRecursion}
 use Rattle.cyc_words.specs.Word.{signed}
-use Rattle.cyc_words.specs.Ending as ending
 use Rattle.cyc_words.specs.declared.fault.Fault.{Fault}
 use Rattle.cyc_isa.specs.declared.instr.Instr.{Instr}
-use Rattle.cyc_elf.specs.Image.{SegmentContents, ImageContents, padded, IsSegment, IsWellFormed}
+use Rattle.cyc_elf.specs.Image.{padded, IsSegment, IsWellFormed}
 use Rattle.cyc_elf.specs.Layout.{FitsFields, bytes_start, header_of}
 use Rattle.cyc_elf.specs.Reading.{reading}
 use Rattle.cyc_lex.specs.Refusals.{memory_fault}
-use Rattle.cyc_machine.specs.Bounds.{Bounds}
-use Rattle.cyc_machine.specs.Start.{lies_in_text, has_outside, start_world}
+use Rattle.cyc_machine.specs.Start.{has_outside, start_world}
 use Rattle.cyc_system.specs.Form.{Program, IsSum, IsForm}
 use Rattle.cyc_system.specs.Code.{bytes_of_code, add_code, sum_code, service_code, program_code, code_image}
 use Rattle.cyc_system.specs.Meaning.{meaning_of}

@@ -1,17 +1,16 @@
 -- The loop of the engine: what it has done so far is a run of the machine on every input that goes on from what was
 -- read.
-use Rattle.std.proofs.Common.{◌≡◌, ℕ, zero, suc, ◌+◌, ◌≤◌, ◌<◌, List, [], ◌∷◌, ◌++◌, drop, Bool, true, false, Option, None, Some, Result, Ok, Err, refl, sym, ap, subst, ◌∙◌, arith, append_assoc, append-nil, inr}
+use Rattle.std.proofs.Common.{◌≡◌, ℕ, zero, suc, ◌+◌, ◌<◌, List, [], ◌∷◌, ◌++◌, drop, Bool, true, false, Option, None, Some, Result, Ok, Err, refl, sym, ap, subst, ◌∙◌, arith, append_assoc, append-nil, inr}
 use Rattle.std.specs.Prelude.{unwrap_or, is_none, slice_get, MatchBool}
 use Rattle.std.specs.Io.KnownBytes.{Keeps, Appends, Consumes, IsAtEnd}
 use Rattle.cyc_words.proofs.DeviceLemmas.{Keeps-refl, Appends-nil, Appends-append, Consumes-nil, Consumes-append}
 use Rattle.cyc_machine.specs.declared.event.End.{End}
 use Rattle.cyc_machine.specs.declared.event.Event.{Event}
 use Rattle.cyc_machine.specs.declared.event.Event.TheVariants.{Ran, WantsByte, Puts, Ended}
-use Rattle.cyc_machine.specs.declared.phase.Phase.{Phase}
-use Rattle.cyc_machine.specs.declared.phase.Phase.TheVariants.{Running, Waiting, Over}
+use Rattle.cyc_machine.specs.declared.phase.Phase.TheVariants.{Running, Waiting}
 use Rattle.cyc_machine.specs.State.{State}
 use Rattle.cyc_machine.specs.Step.{Step, given, given_in}
-use Rattle.cyc_machine.specs.Run.{World, told, Goes, Run, end_in, end_of}
+use Rattle.cyc_machine.specs.Run.{World, told, Goes, Run, end_in}
 use Rattle.cyc_elf.specs.declared.fault.ElfFault.{ElfFault}
 use Rattle.cyc_elf.specs.Image.{ImageContents}
 use Rattle.cyc_machine.specs.declared.fault.LoadFault.TheVariants as load
@@ -22,7 +21,7 @@ use Rattle.cyc_system.specs.declared.report.Stop.TheVariants as stops
 use Rattle.cyc_system.specs.declared.report.RunFault.{RunFault}
 use Rattle.cyc_system.specs.declared.report.RunFault.TheVariants.{Elf, Load, Read, Write, Memory}
 use Rattle.cyc_system.specs.Engine.{Devices, Rests, Tells, Leaves, Counted, Executes, Runs, Refuses, Starts, Answers}
-use Rattle.cyc_system.specs.Turn.{Asked, WentOn, Turned}
+use Rattle.cyc_system.specs.Turn.{Asked, Turned}
 use Rattle.cyc_system.proofs.Phases.{Step-phase, phase_after}
 
 -- one more instruction at the end of a run

@@ -1,21 +1,20 @@
 -- The image of code, loaded: its instructions stand in text, and the machine is before the first of them.
-use Rattle.std.proofs.Common.{◌≡◌, ℕ, zero, suc, ◌+◌, ◌-◌, ◌*◌, ◌/◌, ◌^◌, ◌≤◌, ◌<◌, List, [], ◌∷◌, ◌++◌, length, Bool, true, false, cond, ◌&&◌, nat_le, nat_lt, max, Option, None, Some, refl, sym, ap, subst, ◌∙◌, arith, append_assoc, length-append, get_or}
-use Rattle.std.specs.Prelude.{slice_index, slice_index_or, slice_set, map, replicate}
-use Rattle.std.specs.List.{flat_map, range_with_len}
+use Rattle.std.proofs.Common.{◌≡◌, ℕ, ◌+◌, ◌-◌, ◌*◌, ◌^◌, ◌<◌, List, [], ◌∷◌, ◌++◌, length, true, cond, ◌&&◌, nat_le, nat_lt, max, Option, None, Some, refl, sym, ap, ◌∙◌, arith, append_assoc, length-append}
+use Rattle.std.specs.Prelude.{slice_index, slice_index_or, slice_set, replicate}
 use Rattle.std.specs.Option.{option_or}
 use Rattle.std.proofs.lemmas.Bool.{le-leb, lt-ltb}
 use Rattle.std.proofs.lemmas.List.{get_or-append_right, length-set}
 use Rattle.std.proofs.lemmas.List.FromFn.{get_or-map-range_with_len, length-map-range_with_len}
-use Rattle.cyc_words.specs.Word.{add_of, IsWord}
+use Rattle.cyc_words.specs.Word.{IsWord}
 use Rattle.cyc_words.specs.Bytes.{bytes_of_word, word_of_bytes}
 use Rattle.cyc_words.proofs.BytesLemmas.{word_of_bytes-bytes_of_word}
 use Rattle.cyc_isa.specs.declared.instr.Instr.{Instr}
 use Rattle.cyc_isa.specs.Encoding.{word_of, IsEncodable}
 use Rattle.cyc_isa.proofs.Listed.{word_of-fits}
-use Rattle.cyc_elf.specs.Image.{SegmentContents, ImageContents, padded}
+use Rattle.cyc_elf.specs.Image.{SegmentContents, padded}
 use Rattle.cyc_machine.specs.Bounds.{Bounds}
 use Rattle.cyc_machine.specs.State.{text_base, text_end, word_number, stack_end}
-use Rattle.cyc_machine.specs.Start.{lies_in_text, segment_end, segment_word, word_in, image_word, image_words, text_length, start_state}
+use Rattle.cyc_machine.specs.Start.{lies_in_text, word_in, image_word, image_words, text_length, start_state}
 use Rattle.cyc_system.specs.Code.{bytes_of_code, code_image}
 use Rattle.cyc_system.proofs.Straight.{HasCode, IsBefore}
 

@@ -1,5 +1,5 @@
 -- Runs of a program: they keep within the limits, they end, and what is seen before is part of what is seen then.
-use Rattle.std.proofs.Common.{◌≡◌, ℕ, zero, suc, ◌+◌, ◌-◌, ◌≤◌, ◌<◌, ◌%◌, List, [], ◌∷◌, ◌++◌, length, Bool, true, cond, ◌&&◌, nat_le, Option, None, Some, refl, sym, ap, subst, ◌∙◌, arith, inl, inr, ◌⊎◌}
+use Rattle.std.proofs.Common.{◌≡◌, ℕ, zero, suc, ◌+◌, ◌-◌, ◌≤◌, ◌<◌, ◌%◌, List, [], ◌∷◌, length, true, cond, Some, refl, sym, ap, subst, ◌∙◌, arith, inl, inr}
 use Rattle.std.specs.Prelude.{fold}
 use Rattle.std.proofs.lemmas.Bool.{le-leb, cases_lt}
 use Rattle.cyc_words.specs.Word.{add_of, signed}
@@ -8,7 +8,7 @@ use Rattle.cyc_words.specs.Prefix.{IsPrefix}
 use Rattle.cyc_words.proofs.PrefixLemmas.{IsPrefix-refl, IsPrefix-append, IsPrefix-trans}
 use Rattle.cyc_machine.specs.Bounds.{Bounds, AreAllowed}
 use Rattle.cyc_system.specs.Form.{Program, IsSum}
-use Rattle.cyc_system.specs.Meaning.{Entry, Printing, Returning, State, Running, Ended, start, continued, step, output_of, ending_of, run, depth, is_within, limited_step, limited_run}
+use Rattle.cyc_system.specs.Meaning.{Entry, Printing, Returning, State, Running, Ended, start, step, output_of, ending_of, run, is_within, limited_step, limited_run}
 
 -- Allowed limits are never passed.
 

@@ -1,12 +1,12 @@
 -- What the reading functions answer is what the token rule says, for one number.
-use Rattle.std.proofs.Common.{◌≡◌, ℕ, suc, ◌+◌, ◌≤◌, List, [], ◌∷◌, ◌++◌, length, Bool, true, false, not, cond, refl, sym, ap, subst, ◌∙◌, take, drop, ◌&&◌, Option, None, Some, IsTrue, nat_eq, nat_le, take-append-drop, eq-eqb, inl, inr, arith}
+use Rattle.std.proofs.Common.{◌≡◌, ℕ, ◌≤◌, List, [], ◌∷◌, ◌++◌, true, false, not, cond, refl, sym, ap, subst, ◌∙◌, ◌&&◌, None, Some, IsTrue, nat_eq, nat_le, take-append-drop, eq-eqb, inl, inr, arith}
 use Rattle.std.specs.List.{list_all, take_while, prefix_len}
 use Rattle.std.specs.Char.{is_ascii_digit}
-use Rattle.std.proofs.lemmas.Bool.{eqb-true, eqb-false, leb-true, le-leb}
+use Rattle.std.proofs.lemmas.Bool.{eqb-true, leb-true, le-leb}
 use Rattle.std.proofs.lemmas.Bool.Decides.{nat_tests}
 use Rattle.std.proofs.lemmas.List.{append-nil}
 use Rattle.std.proofs.lemmas.List.Sums.{take_while-cons}
-use Rattle.cyc_system.specs.Form.{is_space, is_name_byte, ends_before, AreSpaces, Token, Word, Sign, Number, value_of, IsDecimal, Begins}
+use Rattle.cyc_system.specs.Form.{is_space, is_name_byte, ends_before, Number, value_of, IsDecimal, Begins}
 use Rattle.cyc_system.specs.Reading.{after_spaces, is_decimal, number_of, digits_at, number_at}
 use Rattle.cyc_system.proofs.Lists.{and_parts, chosen, list_all-take_while, drop_while, drop_while-append, drop_while-cons_no, take_while-append}
 use Rattle.cyc_system.proofs.Tokens.{begins_of, IsSolid, after_gap}

@@ -1,20 +1,17 @@
 -- What a step of a running machine leaves it doing.
-use Rattle.std.proofs.Common.{◌≡◌, ℕ, Bool, true, false, cond, Option, None, Some, refl, sym, ap, subst, ◌∙◌, inl, inr, ◌⊎◌}
+use Rattle.std.proofs.Common.{◌≡◌, ℕ, true, false, cond, Option, None, Some, refl, sym, ap, subst, ◌∙◌}
 use Rattle.cyc_isa.specs.declared.instr.Instr.{Instr}
 use Rattle.cyc_isa.specs.declared.instr.Instr.TheVariants.{Immediate, LoadUpper, Memory, Branch, BranchZero, Jump, Shift, ShiftVariable, JumpRegister, JumpRegisterLink, Exception, MoveFrom, MultiplyDivide, Arithmetic}
-use Rattle.cyc_isa.specs.declared.instr.MemoryOp.{MemoryOp}
 use Rattle.cyc_isa.specs.declared.instr.MemoryOp.TheVariants.{LoadWord, StoreWord}
 use Rattle.cyc_isa.specs.declared.instr.ExceptionOp.TheVariants.{Syscall, Break}
 use Rattle.cyc_machine.specs.declared.event.Cause.{Cause}
 use Rattle.cyc_machine.specs.declared.event.Cause.TheVariants as causes
-use Rattle.cyc_machine.specs.declared.event.End.{End}
-use Rattle.cyc_machine.specs.declared.event.End.TheVariants.{Trap}
 use Rattle.cyc_machine.specs.declared.event.Event.{Event}
 use Rattle.cyc_machine.specs.declared.event.Event.TheVariants.{Ran, WantsByte, Puts, Ended}
 use Rattle.cyc_machine.specs.declared.phase.Phase.{Phase}
 use Rattle.cyc_machine.specs.declared.phase.Phase.TheVariants.{Running, Waiting, Over}
 use Rattle.cyc_machine.specs.State.{State, text_at}
-use Rattle.cyc_machine.specs.Step.{Service, GetByte, PutByte, EndReturned, EndUncaught, EndFull, Serves, Action, Does, Calls, refuses, calls, asked, performs, refuses_or_performs, cause_of, executes, decodes, instruction_of, reads_text, is_aligned, action_of, Acts, StepIn, Step}
+use Rattle.cyc_machine.specs.Step.{Service, GetByte, PutByte, EndReturned, EndUncaught, EndFull, Serves, Action, Does, Calls, refuses, calls, asked, performs, refuses_or_performs, cause_of, decodes, instruction_of, reads_text, is_aligned, action_of, Acts, StepIn, Step}
 
 -- what the machine does after it told an event
 abbrev pub phase_after : Event → Phase

@@ -1,5 +1,5 @@
 -- An image whose every run comes to the program's end does what the program means.
-use Rattle.std.proofs.Common.{◌≡◌, ℕ, zero, suc, ◌+◌, ◌-◌, ◌*◌, ◌≤◌, ◌<◌, List, [], ◌∷◌, Option, None, Some, refl, sym, ap, subst, ◌∙◌, arith, inl, inr}
+use Rattle.std.proofs.Common.{◌≡◌, ℕ, ◌+◌, ◌-◌, ◌*◌, ◌≤◌, List, None, Some, refl, sym, ap, subst, ◌∙◌, arith, inl, inr}
 use Rattle.std.specs.Prelude.{ℤ, IfSome, IsSomeAnd}
 use Rattle.std.proofs.lemmas.Bool.{cases_lt}
 use Rattle.cyc_words.specs.Ending as ending
@@ -10,13 +10,13 @@ use Rattle.cyc_words.proofs.PrefixLemmas.{IsPrefix-refl}
 use Rattle.cyc_elf.specs.Image.{ImageContents}
 use Rattle.cyc_machine.specs.declared.event.End.TheVariants.{Returned}
 use Rattle.cyc_machine.specs.declared.phase.Phase.TheVariants.{Over}
-use Rattle.cyc_machine.specs.Bounds.{Bounds, AreAllowed}
+use Rattle.cyc_machine.specs.Bounds.{Bounds}
 use Rattle.cyc_machine.specs.Run as machine
 use Rattle.cyc_machine.specs.Run.{World, Run, end_of, end_in}
 use Rattle.cyc_machine.specs.Start.{start_world}
-use Rattle.cyc_system.specs.Preserves.{Seen, Meaning, text_words, EndShows, IsEndOf, Preserves}
+use Rattle.cyc_system.specs.Preserves.{Seen, text_words, EndShows, IsEndOf, Preserves}
 use Rattle.cyc_system.specs.Form.{Program}
-use Rattle.cyc_system.specs.Meaning.{State, Running, Ended, start, run, limited_run, seen, ending_of, output_of, meaning_of}
+use Rattle.cyc_system.specs.Meaning.{State, Running, Ended, start, run, seen, ending_of, output_of, meaning_of}
 use Rattle.cyc_system.proofs.Runs.{Reaches, Run-over}
 use Rattle.cyc_system.proofs.Meanings.{Finishes, Finishes-output, Finishes-end, limited_run-run}
 

@@ -1,7 +1,7 @@
 -- What the reading functions answer is what the definition of the form says, for sums and for whole texts.
-use Rattle.std.proofs.Common.{◌≡◌, ℕ, zero, suc, ◌+◌, ◌≤◌, List, [], ◌∷◌, ◌++◌, length, Bool, true, false, cond, refl, sym, ap, subst, ◌∙◌, Option, None, Some, IsTrue, nat_eq, inl, inr, ◌⊎◌, arith, append_assoc}
+use Rattle.std.proofs.Common.{◌≡◌, ℕ, zero, suc, ◌≤◌, List, [], ◌∷◌, ◌++◌, length, true, cond, refl, sym, ap, subst, ◌∙◌, Option, None, Some, inl, inr, ◌⊎◌, arith, append_assoc}
 use Rattle.std.specs.List.{list_all, AllByRecursion}
-use Rattle.cyc_system.specs.Form.{is_space, Token, Word, Sign, Number, Begins, Reads, Program, IsSum, IsForm, sum_tokens, head_tokens, middle_tokens, tail_tokens, tokens_of}
+use Rattle.cyc_system.specs.Form.{is_space, Token, Sign, Number, Begins, Reads, Program, IsSum, IsForm, sum_tokens, head_tokens, middle_tokens, tail_tokens, tokens_of}
 use Rattle.cyc_system.specs.Reading.{after_sign, after_all, number_at, with_front, sum_at, program_at, ◌>>=◌}
 use Rattle.cyc_system.proofs.Lists.{chosen}
 use Rattle.cyc_system.proofs.Tokens.{ReadsTo, bind_some, after_all_reads, reads_after_all, reads_split, reads_join, other_sign, after_reads, reads_after, AreFixed}

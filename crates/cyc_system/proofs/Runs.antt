@@ -1,16 +1,15 @@
 -- Runs of the machine through code whose steps are determined: every run from one world comes to another.
-use Rattle.std.proofs.Common.{◌≡◌, ℕ, zero, suc, ◌+◌, ◌-◌, ◌≤◌, ◌<◌, List, [], ◌∷◌, ◌++◌, Option, None, Some, refl, sym, ap, subst, ◌∙◌, arith, inl, inr, add_assoc}
+use Rattle.std.proofs.Common.{◌≡◌, ℕ, zero, suc, ◌+◌, ◌-◌, ◌<◌, [], ◌∷◌, None, sym, ap, subst, ◌∙◌, arith, inl, inr}
 use Rattle.std.proofs.lemmas.Bool.{cases_lt}
 use Rattle.cyc_words.specs.Prefix.{IsPrefix}
 use Rattle.cyc_words.proofs.PrefixLemmas.{IsPrefix-refl, IsPrefix-append, IsPrefix-trans}
 use Rattle.cyc_machine.specs.declared.event.Event.{Event}
 use Rattle.cyc_machine.specs.declared.event.Event.TheVariants.{Ran, WantsByte, Puts, Ended}
 use Rattle.cyc_machine.specs.declared.event.End.{End}
-use Rattle.cyc_machine.specs.declared.phase.Phase.{Phase}
-use Rattle.cyc_machine.specs.declared.phase.Phase.TheVariants.{Running, Waiting, Over}
+use Rattle.cyc_machine.specs.declared.phase.Phase.TheVariants.{Running, Over}
 use Rattle.cyc_machine.specs.State.{State}
-use Rattle.cyc_machine.specs.Step.{Step, StepIn, Acts, Action, Does, action_of}
-use Rattle.cyc_machine.specs.Run.{World, told, Goes, Run, end_in, end_of}
+use Rattle.cyc_machine.specs.Step.{Step, StepIn, Acts, Does, action_of}
+use Rattle.cyc_machine.specs.Run.{World, told, Run, end_in, end_of}
 
 -- Every run from one world comes to another after so many instructions. Before that it has printed no more than the
 -- other has, and has not ended.

@@ -1,10 +1,9 @@
 -- The services that the code of a program calls, and the code whole.
-use Rattle.std.proofs.Common.{◌≡◌, ℕ, zero, suc, ◌+◌, ◌*◌, ◌%◌, ◌≤◌, ◌<◌, List, [], ◌∷◌, ◌++◌, length, Bool, true, false, cond, Option, None, Some, refl, sym, ap, subst, ◌∙◌, arith, append_assoc, length-append}
+use Rattle.std.proofs.Common.{◌≡◌, ℕ, ◌+◌, ◌%◌, List, [], ◌∷◌, ◌++◌, length, cond, Option, None, Some, refl, ap, subst, ◌∙◌, arith, length-append}
 use Rattle.std.specs.Prelude.{is_none, slice_index_or, bit_or}
 use Rattle.std.specs.Int.Bits.{or_zero_l}
 use Rattle.cyc_words.specs.Word.{signed}
 use Rattle.cyc_isa.specs.declared.operand.TrapCode.{TrapCode}
-use Rattle.cyc_isa.specs.declared.instr.Instr.{Instr}
 use Rattle.cyc_isa.specs.declared.instr.Instr.TheVariants.{Immediate, Exception}
 use Rattle.cyc_isa.specs.declared.instr.ImmediateOp.TheVariants as immediates
 use Rattle.cyc_isa.specs.declared.instr.ExceptionOp.TheVariants.{Syscall}
@@ -15,14 +14,14 @@ use Rattle.cyc_machine.specs.declared.event.End.TheVariants.{Returned}
 use Rattle.cyc_machine.specs.declared.event.Event.{Event}
 use Rattle.cyc_machine.specs.declared.event.Event.TheVariants.{Puts, Ended}
 use Rattle.cyc_machine.specs.declared.phase.Phase.TheVariants.{Running}
-use Rattle.cyc_machine.specs.State.{Core, State, register, advanced, over}
-use Rattle.cyc_machine.specs.Step.{Service, PutByte, EndReturned, service_of, asked, Action, Calls, Acts, StepIn, Step, calls, refuses_or_performs, executes, action_of}
+use Rattle.cyc_machine.specs.State.{State, register, advanced, over}
+use Rattle.cyc_machine.specs.Step.{Service, PutByte, EndReturned, service_of, asked, Calls, Acts, StepIn, Step, calls, refuses_or_performs, executes, action_of}
 use Rattle.cyc_machine.specs.Run.{World}
 use Rattle.cyc_system.specs.Form.{Program, IsSum}
 use Rattle.cyc_system.specs.Code.{sum_code, service_code, service_register, zero_register, program_code}
 use Rattle.cyc_system.proofs.Meanings.{sum_value}
 use Rattle.cyc_system.proofs.Preserving.{Finals}
-use Rattle.cyc_system.proofs.Runs.{Reaches, Reaches-one, Reaches-trans, IsDetermined}
+use Rattle.cyc_system.proofs.Runs.{Reaches, Reaches-one, Reaches-trans}
 use Rattle.cyc_system.proofs.Straight.{HasCode, IsBefore, fetches, plain_after, plain_step, advanced_before, register_same, register_other}
 use Rattle.cyc_system.proofs.Simulation.{Comes, HasCode-append, place_is, sums}
 

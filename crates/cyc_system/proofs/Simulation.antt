@@ -1,21 +1,18 @@
 -- The code of a program of the form, run: its sums come into register 4, and its services print and end.
-use Rattle.std.proofs.Common.{◌≡◌, ◌≢◌, ℕ, zero, suc, ◌+◌, ◌*◌, ◌/◌, ◌%◌, ◌^◌, ◌≤◌, ◌<◌, List, [], ◌∷◌, ◌++◌, length, Bool, true, cond, Option, None, Some, refl, sym, ap, subst, ◌∙◌, arith, append_assoc}
-use Rattle.std.specs.Prelude.{fold, slice_index_or, bit_or}
+use Rattle.std.proofs.Common.{◌≡◌, ◌≢◌, ℕ, suc, ◌+◌, ◌*◌, ◌/◌, ◌%◌, ◌^◌, ◌≤◌, ◌<◌, List, [], ◌∷◌, ◌++◌, length, Option, refl, ap, subst, ◌∙◌, arith}
+use Rattle.std.specs.Prelude.{fold, bit_or}
 use Rattle.std.specs.List.{flat_map, AllByRecursion}
-use Rattle.std.specs.Int.Bits.{or_zero_l}
-use Rattle.std.proofs.lemmas.Nat.{or_disjoint}
-use Rattle.cyc_words.specs.Word.{add_of, signed, shl_of}
+use Rattle.cyc_words.specs.Word.{add_of, shl_of}
 use Rattle.cyc_words.proofs.WordLemmas.{bit_or-halves}
 use Rattle.cyc_isa.specs.declared.operand.Register.{Register}
 use Rattle.cyc_isa.specs.declared.instr.Instr.{Instr}
-use Rattle.cyc_isa.specs.declared.instr.Instr.TheVariants.{Immediate, LoadUpper, Arithmetic, Exception}
+use Rattle.cyc_isa.specs.declared.instr.Instr.TheVariants.{Immediate, LoadUpper, Arithmetic}
 use Rattle.cyc_isa.specs.declared.instr.ImmediateOp.TheVariants as immediates
 use Rattle.cyc_isa.specs.declared.instr.ArithmeticOp.TheVariants as arithmetics
-use Rattle.cyc_isa.specs.declared.instr.ExceptionOp.TheVariants.{Syscall}
-use Rattle.cyc_isa.specs.Encoding.{word_of, IsEncodable}
-use Rattle.cyc_machine.specs.State.{Core, State, register}
+use Rattle.cyc_isa.specs.Encoding.{word_of}
+use Rattle.cyc_machine.specs.State.{State, register}
 use Rattle.cyc_machine.specs.Run.{World}
-use Rattle.cyc_system.specs.Code.{load_code, add_code, sum_code, service_code, sum_register, addend_register}
+use Rattle.cyc_system.specs.Code.{load_code, add_code, sum_code, sum_register, addend_register}
 use Rattle.cyc_system.proofs.Meanings.{sum_value}
 use Rattle.cyc_system.proofs.Runs.{Reaches, Reaches-refl, Reaches-trans}
 use Rattle.cyc_system.proofs.Straight.{HasCode, IsBefore, plain_after, plain_step, advanced_before, register_same, register_other}

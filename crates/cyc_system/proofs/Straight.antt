@@ -1,5 +1,5 @@
 -- Straight-line code: the machine comes from each of its instructions to the next.
-use Rattle.std.proofs.Common.{◌≡◌, ℕ, zero, suc, ◌+◌, ◌-◌, ◌*◌, ◌/◌, ◌%◌, ◌^◌, ◌≤◌, ◌<◌, List, [], ◌∷◌, ◌++◌, length, Bool, true, false, cond, nat_le, nat_eq, Option, None, Some, refl, sym, ap, subst, ◌∙◌, ◌≢◌, inl, inr, arith, eq-eqb}
+use Rattle.std.proofs.Common.{◌≡◌, ℕ, ◌+◌, ◌*◌, ◌%◌, ◌^◌, ◌≤◌, ◌<◌, List, [], ◌∷◌, length, true, false, cond, nat_eq, Option, None, Some, refl, sym, ap, ◌∙◌, ◌≢◌, inl, inr, arith, eq-eqb}
 use Rattle.std.specs.Prelude.{slice_index, slice_index_or, slice_set}
 use Rattle.std.proofs.lemmas.Bool.{le-leb, eqb-true, cases_lt}
 use Rattle.std.proofs.lemmas.List.{length-set, get_or-set_same, get_or-set_other, get_or_past}
@@ -7,16 +7,15 @@ use Rattle.cyc_words.specs.Word.{add_of}
 use Rattle.cyc_isa.specs.declared.instr.Instr.{Instr}
 use Rattle.cyc_isa.specs.declared.instr.Instr.TheVariants.{Immediate, LoadUpper, Memory, Branch, BranchZero, Jump, Shift, ShiftVariable, JumpRegister, JumpRegisterLink, Exception, MoveFrom, MultiplyDivide, Arithmetic}
 use Rattle.cyc_isa.specs.Encoding.{word_of, IsEncodable}
-use Rattle.cyc_isa.specs.Decoding.{decode_of}
 use Rattle.cyc_isa.proofs.RoundTrip.{decode_of-word_of}
 use Rattle.cyc_machine.specs.declared.event.Event.TheVariants.{Ran}
 use Rattle.cyc_machine.specs.declared.phase.Phase.TheVariants.{Running}
 use Rattle.cyc_machine.specs.State.{Core, State, register, with_register, advanced, text_base, text_at, word_number}
 use Rattle.cyc_machine.specs.declared.event.Cause.TheVariants as causes
 use Rattle.cyc_isa.specs.Effect.{immediate_result, load_upper_result, arithmetic_result}
-use Rattle.cyc_machine.specs.Step.{Action, Does, refuses, is_aligned, instruction_of, executes, decodes, reads_text, core_after, action_of}
-use Rattle.cyc_machine.specs.Run.{World, told}
-use Rattle.cyc_system.proofs.Runs.{Reaches, Reaches-one, determined_of, IsDetermined}
+use Rattle.cyc_machine.specs.Step.{Does, refuses, is_aligned, instruction_of, executes, decodes, reads_text, action_of}
+use Rattle.cyc_machine.specs.Run.{World}
+use Rattle.cyc_system.proofs.Runs.{Reaches, Reaches-one, determined_of}
 
 -- the instructions stand in text, one behind the other, from a place on
 abbrev pub HasCode : List (Option ℕ) → ℕ → List Instr → Type 0

@@ -1,7 +1,6 @@
 -- What the reading functions answer is what the token rule says, for one token and for fixed tokens in a row.
-use Rattle.std.proofs.Common.{◌≡◌, ℕ, suc, ◌+◌, ◌≤◌, List, [], ◌∷◌, ◌++◌, length, Bool, true, false, not, cond, refl, sym, ap, subst, ◌∙◌, take, drop, ◌&&◌, Option, None, Some, IsTrue, nat_eq, take-append-drop, append_assoc, eq-eqb, inl, inr}
-use Rattle.std.specs.List.{list_all, take_while, prefix_len, starts_with}
-use Rattle.std.specs.Char.{is_ascii_digit}
+use Rattle.std.proofs.Common.{◌≡◌, ℕ, List, [], ◌∷◌, ◌++◌, length, true, false, cond, refl, sym, ap, subst, ◌∙◌, drop, ◌&&◌, Option, None, Some, IsTrue, nat_eq, take-append-drop, append_assoc, eq-eqb, inl, inr}
+use Rattle.std.specs.List.{take_while, prefix_len, starts_with}
 use Rattle.std.proofs.lemmas.Bool.{eqb-true}
 use Rattle.std.proofs.Math.Seq.{drop-append_seam}
 use Rattle.cyc_system.specs.Form.{is_space, ends_before, AreSpaces, Token, Word, Sign, Number, IsSpelled, IsLongest, Begins, Reads}

@@ -1,10 +1,9 @@
 -- What it means to run an image between a reader and a writer. This project's own choice.
-use Rattle.std.specs.Prelude.{◌≡◌, ℕ, zero, suc, ◌≤◌, ◌<◌, List, Bool, Option, None, Some, Result, Ok, Err, MatchBool, ◌⊎◌}
+use Rattle.std.specs.Prelude.{◌≡◌, ℕ, zero, suc, ◌≤◌, ◌<◌, List, Option, None, Some, Result, Ok, Err, MatchBool, ◌⊎◌}
 use Rattle.std.specs.Io.KnownBytes.{Keeps, Appends}
 use Rattle.cyc_elf.specs.declared.fault.ElfFault.{ElfFault}
 use Rattle.cyc_elf.specs.Image.{ImageContents}
 use Rattle.cyc_machine.specs.declared.fault.LoadFault.TheVariants as load
-use Rattle.cyc_machine.specs.declared.event.End.{End}
 use Rattle.cyc_machine.specs.declared.event.Event.TheVariants.{WantsByte, Puts}
 use Rattle.cyc_machine.specs.Bounds.{Bounds}
 use Rattle.cyc_machine.specs.State.{State}

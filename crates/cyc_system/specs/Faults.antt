@@ -1,5 +1,5 @@
 -- Want of memory is one fault, wherever it comes from.
-use Rattle.std.specs.Prelude.{Bool, true, false, Result, Ok, Err}
+use Rattle.std.specs.Prelude.{Bool, true, false, Result, Err}
 use Rattle.cyc_elf.specs.declared.fault.ElfFault.{ElfFault}
 use Rattle.cyc_elf.specs.declared.fault.ElfFault.TheVariants as elf
 use Rattle.cyc_machine.specs.declared.fault.LoadFault.{LoadFault}

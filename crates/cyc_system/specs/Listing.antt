@@ -11,7 +11,7 @@ use Rattle.cyc_elf.specs.Image.{SegmentContents, ImageContents, padded}
 use Rattle.cyc_machine.specs.State.{text_base, text_end}
 use Rattle.cyc_machine.specs.Start.{word_in}
 use Rattle.cyc_system.specs.declared.report.RunFault.{RunFault}
-use Rattle.cyc_system.specs.declared.report.RunFault.TheVariants.{Elf, Load, Read, Write, Memory}
+use Rattle.cyc_system.specs.declared.report.RunFault.TheVariants.{Elf, Write, Memory}
 
 -- the text of a word at an address: its instruction's, or `.word` where it is none's
 abbrev pub text_or_word : Option Instr → ℕ → List ℕ

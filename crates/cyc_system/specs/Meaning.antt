@@ -3,7 +3,7 @@
 -- That numbers are of 32 bits and wrap, that a sum is added from the left, and that `putchar` prints the low 8 bits
 -- are the language's rules (C, which Cyclone takes over, on a 32-bit machine; that sums wrap is this project's own
 -- choice). So is what counts as a step, and what a program may take of the limits.
-use Rattle.std.specs.Prelude.{ℕ, zero, suc, ◌%◌, Bool, ◌&&◌, nat_le, List, [], ◌∷◌, ◌++◌, length, Option, Some, None, if◌then◌else◌}
+use Rattle.std.specs.Prelude.{ℕ, zero, suc, ◌%◌, Bool, ◌&&◌, nat_le, List, [], ◌∷◌, ◌++◌, Option, Some, None, if◌then◌else◌}
 use Rattle.cyc_words.specs.Word.{add_of, signed}
 use Rattle.cyc_words.specs.Ending.{Ending, Returned, Full}
 use Rattle.cyc_machine.specs.Bounds.{Bounds}

@@ -2,7 +2,7 @@
 --
 -- A run of the machine is any run that its definition allows, whatever its services chose. This project's own
 -- choice: the form of the promise, and its bound of so many instructions for each step of the program.
-use Rattle.std.specs.Prelude.{◌≡◌, ℕ, ◌+◌, ◌*◌, ◌/◌, ◌^◌, ◌<◌, false, List, All, Option, IfSome, IsSomeAnd, Result, Ok, sum_by, if◌then◌else◌}
+use Rattle.std.specs.Prelude.{◌≡◌, ℕ, ◌+◌, ◌*◌, ◌/◌, ◌<◌, false, List, All, Option, IfSome, IsSomeAnd, Ok, sum_by, if◌then◌else◌}
 use Rattle.cyc_words.specs.Ending.{Ending, Alike}
 use Rattle.cyc_words.specs.Prefix.{IsPrefix}
 use Rattle.cyc_elf.specs.Image.{ImageContents, padded}

@@ -1,7 +1,7 @@
 -- How the code reads a text, token by token: each of its functions answers what stands after a token, or nothing
 -- where another one comes. That this reads exactly the texts of the form is proved apart from the code.
-use Rattle.std.specs.Prelude.{ℕ, zero, suc, ◌+◌, ◌≤◌, List, [], ◌∷◌, ◌++◌, length, take, drop, Bool, true, false, ◌&&◌, ◌==◌, not, nat_eq, nat_le, Option, None, Some, if◌then◌else◌}
-use Rattle.std.specs.Option.{option_and_then, option_map}
+use Rattle.std.specs.Prelude.{ℕ, zero, suc, List, [], ◌∷◌, ◌++◌, length, take, drop, Bool, true, false, ◌&&◌, ◌==◌, not, nat_eq, nat_le, Option, None, Some, if◌then◌else◌}
+use Rattle.std.specs.Option.{option_and_then}
 use Rattle.std.specs.List.{starts_with, prefix_len, list_all}
 use Rattle.std.specs.Char.{is_ascii_digit}
 use Rattle.cyc_system.specs.Form.{is_space, ends_before, value_of, Token, Word, Sign, Number, head_tokens, middle_tokens, tail_tokens, Program}

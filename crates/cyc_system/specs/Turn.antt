@@ -10,7 +10,7 @@ use Rattle.cyc_machine.specs.State.{State}
 use Rattle.cyc_machine.specs.Step.{Step, given}
 use Rattle.cyc_system.specs.Engine.{Devices, Rests}
 use Rattle.cyc_system.specs.declared.report.RunFault.{RunFault}
-use Rattle.cyc_system.specs.declared.report.RunFault.TheVariants.{Read, Write, Memory, Elf, Load}
+use Rattle.cyc_system.specs.declared.report.RunFault.TheVariants.{Read, Write}
 
 -- what the reader gives: nothing at all once its end was seen
 abbrev pub Asked : Bool → Option ℕ → Option (List ℕ) → Option (List ℕ) → Type 0

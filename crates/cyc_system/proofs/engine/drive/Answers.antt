@@ -1,4 +1,4 @@
-use Rattle.std.proofs.Common.{◌≡◌, ◌∙◌, arith}
+use Rattle.std.proofs.Common.{◌∙◌, arith}
 use Rattle.std.proofs.lemmas.Result.{err_from_is_err_and}
 use Rattle.cyc_system.proofs.Engines.{Progress-turn, spends, stops_at, fails_at}
 use Rattle.cyc_system.proofs.engine.drive.Goals as goal

@@ -33,6 +33,6 @@ returns-clause-not_both c = λ text p f a h.
       no_fault = λ f h. c.refused_has_no_tree.ensures (symbols_of a.tokens) h.refusal a.tree h.refused a.has_tree.0 a.has_tree.1;
     } in
     elim (faulty_here parser.IsRefused text a.tokens a.tree l r f h) [
-      inl w ↦ c.typed_or_refused.ensures (names_in a.tokens) a.tree p f a.typed w
+      | inl w ↦ c.typed_or_refused.ensures (names_in a.tokens) a.tree p f a.typed w
       | inr (q, typed, s) ↦ c.allowed_or_stopped.ensures p f a.allowed (subst (λ x. IsStoppedProgram x f) (sym (c.one_typed_tree.ensures (names_in a.tokens) a.tree p q a.typed typed)) s)
     ]

@@ -1,4 +1,4 @@
-use Rattle.std.proofs.Common.{subst, sym, ◌∙◌, ◌≡◌, ◌<◌, length, take, get_or, arith}
+use Rattle.std.proofs.Common.{subst, sym, ◌∙◌, ◌<◌, length, take, arith}
 use Rattle.std.specs.Prelude.{map}
 use Rattle.std.specs.List.{flat_map}
 use Rattle.std.specs.Io.KnownBytes.{Appends}

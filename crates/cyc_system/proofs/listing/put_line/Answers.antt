@@ -1,4 +1,4 @@
-use Rattle.std.proofs.Common.{List, ℕ, ◌++◌, [], ◌∷◌, refl, subst, sym, append_assoc}
+use Rattle.std.proofs.Common.{◌++◌, [], ◌∷◌, refl, subst, sym, append_assoc}
 use Rattle.cyc_isa.proofs.TextLemmas.{TakesText-parts, TakesText-stopped}
 use Rattle.cyc_words.specs.Device.{TakesText}
 use Rattle.cyc_words.proofs.DeviceLemmas.{TakesText_exit, Appends-append}
