@@ -1,0 +1,156 @@
+-- What a step did that did not go wrong: it found what it looked for.
+use Rattle.std.proofs.Common.{◌≡◌, ◌≢◌, ℕ, zero, suc, Bool, true, false, List, [], ◌∷◌, ◌++◌, length, set, Option, None, Some, slice_get, refl, sym, ap, subst, ◌∙◌, length-set}
+use Rattle.std.specs.Prelude.{if◌then◌else◌}
+use Rattle.std.proofs.lemmas.Option.{none-some, same_Some}
+use Rattle.cyc_plain.specs.Simulation.{Failed}
+use Rattle.cyc_types.specs.declared.typed.Kind.{Kind}
+use Rattle.cyc_meaning.specs.Values.{Value, Cell}
+use Rattle.cyc_meaning.specs.State.{Sort, Heap, Globals, Stack, Lexical, Dynamic, Region, Object, World, Access, Found, Closed, Missing, found_region, region_at, is_live, Located, located, cell_in, cell_at, stack_region, closed, written, has_pages, counted, Environment, with_local, made, variable, Entry, Focus, Given, State, Running, status_of}
+use Rattle.cyc_meaning.specs.Step.{read, loaded, loaded_from, stored, declared, closing}
+use Rattle.cyc_lower.specs.Lowered.{status_in}
+use Rattle.cyc_lower.proofs.Relation.{content_of_cell, content_of, contents, IsQuietSort, AreQuiet}
+use Rattle.cyc_lower.proofs.Data.{get_set_same, get_set_other}
+
+abbrev pub IsWell : State → Type 0
+IsWell s = status_in (status_of s) ≡ Failed → ⊥
+
+-- ---- a value is read
+
+pub record IsLoaded (object : Option ℕ) (stack : List Entry) (e : Environment) (w : World) : Type 0 where
+  pub number : ℕ
+  pub value : Value
+  pub there : object ≡ Some number
+  pub has : contents w.objects number ≡ Some value
+  pub gives : loaded_from object stack e w ≡ Running (Given value) stack e w
+
+read_cell : (content : Option Value) (stack : List Entry) (e : Environment) (w : World) → IsWell (read content stack e w) → (v : Value) × (content ≡ Some v) × (read content stack e w ≡ Running (Given v) stack e w)
+read_cell None stack e w well = absurd (well refl)
+read_cell (Some v) stack e w well = (v, refl, refl)
+
+read_object : (x : Object) (cell : Option Cell) (live : Bool) (stack : List Entry) (e : Environment) (w : World)
+    → IsWell (loaded (if live then located x cell else Closed) stack e w)
+    → (v : Value) × (content_of_cell cell ≡ Some v) × (loaded (if live then located x cell else Closed) stack e w ≡ Running (Given v) stack e w)
+read_object x cell false stack e w well = absurd (well refl)
+read_object x None true stack e w well = absurd (well refl)
+read_object x (Some c) true stack e w well = read_cell c.content stack e w well
+
+read_from : (x : Option Object) (stack : List Entry) (e : Environment) (w : World)
+    → IsWell (loaded (cell_in w x 0) stack e w)
+    → (v : Value) × (content_of x ≡ Some v) × (loaded (cell_in w x 0) stack e w ≡ Running (Given v) stack e w)
+read_from None stack e w well = absurd (well refl)
+read_from (Some x) stack e w well = read_object x (slice_get x.cells 0) (is_live w x.owner) stack e w well
+
+pub is_loaded : (object : Option ℕ) (stack : List Entry) (e : Environment) (w : World) → IsWell (loaded_from object stack e w) → IsLoaded object stack e w
+is_loaded None stack e w well = absurd (well refl)
+is_loaded (Some number) stack e w well =
+    let (v, has, gives) = read_from (slice_get w.objects number) stack e w well in
+    record { number = number; value = v; there = refl; has = has; gives = gives }
+
+-- ---- a value is stored
+
+pub record IsStored (number : ℕ) (v : Value) (stack : List Entry) (e : Environment) (w : World) : Type 0 where
+  pub at : Located
+  pub object_there : slice_get w.objects number ≡ Some at.object
+  pub cell_there : slice_get at.object.cells 0 ≡ Some at.cell
+  pub gives : stored (cell_at w number 0) number 0 v stack e w ≡ Running (Given v) stack e (written w number 0 at v)
+
+store_object : (x : Object) (cell : Option Cell) (live : Bool) (number : ℕ) (v : Value) (stack : List Entry) (e : Environment) (w : World)
+    → IsWell (stored (if live then located x cell else Closed) number 0 v stack e w)
+    → (c : Cell) × (cell ≡ Some c) × (stored (if live then located x cell else Closed) number 0 v stack e w ≡ Running (Given v) stack e (written w number 0 (record { object = x; cell = c }) v))
+store_object x cell false number v stack e w well = absurd (well refl)
+store_object x None true number v stack e w well = absurd (well refl)
+store_object x (Some c) true number v stack e w well = (c, refl, refl)
+
+store_into : (x : Option Object) (number : ℕ) (v : Value) (stack : List Entry) (e : Environment) (w : World)
+    → IsWell (stored (cell_in w x 0) number 0 v stack e w)
+    → (at : Located) × (x ≡ Some at.object) × (slice_get at.object.cells 0 ≡ Some at.cell) × (stored (cell_in w x 0) number 0 v stack e w ≡ Running (Given v) stack e (written w number 0 at v))
+store_into None number v stack e w well = absurd (well refl)
+store_into (Some x) number v stack e w well =
+    let (c, there, gives) = store_object x (slice_get x.cells 0) (is_live w x.owner) number v stack e w well in
+    (record { object = x; cell = c }, refl, there, gives)
+
+pub is_stored : (number : ℕ) (v : Value) (stack : List Entry) (e : Environment) (w : World) → IsWell (stored (cell_at w number 0) number 0 v stack e w) → IsStored number v stack e w
+is_stored number v stack e w well =
+    let (at, object_there, cell_there, gives) = store_into (slice_get w.objects number) number v stack e w well in
+    record { at = at; object_there = object_there; cell_there = cell_there; gives = gives }
+
+-- what the objects then hold
+module _ (w : World) (number : ℕ) (at : Located) (v : Value) (object_there : slice_get w.objects number ≡ Some at.object) (cell_there : slice_get at.object.cells 0 ≡ Some at.cell) where
+  pub written_here : contents (written w number 0 at v).objects number ≡ Some v
+  written_here =
+      ap content_of (get_set_same w.objects number at.object (record at.object { cells = set at.object.cells 0 (record at.cell { content = Some v }) }) object_there)
+      ∙ ap content_of_cell (get_set_same at.object.cells 0 at.cell (record at.cell { content = Some v }) cell_there)
+
+  pub written_elsewhere : (o : ℕ) → o ≢ number → contents (written w number 0 at v).objects o ≡ contents w.objects o
+  written_elsewhere o other = ap content_of (get_set_other w.objects number o (record at.object { cells = set at.object.cells 0 (record at.cell { content = Some v }) }) other)
+
+  pub written_length : length (written w number 0 at v).objects ≡ length w.objects
+  written_length = length-set w.objects number (record at.object { cells = set at.object.cells 0 (record at.cell { content = Some v }) })
+
+-- ---- a local is declared
+
+pub is_declared : (a : Access Region) (focus : Focus) (number : ℕ) (kind : Kind) (content : Option Value) (stack : List Entry) (e : Environment) (w : World)
+    → IsWell (declared a focus number kind content stack e w)
+    → declared a focus number kind content stack e w ≡ Running focus stack (with_local e number (length w.objects)) (made w (variable e.home kind content))
+is_declared (Found r) focus number kind content stack e w well = refl
+is_declared Closed focus number kind content stack e w well = absurd (well refl)
+is_declared Missing focus number kind content stack e w well = absurd (well refl)
+
+-- ---- a region is closed
+
+found : (r : Option Region) (x : Region) → found_region r ≡ Found x → r ≡ Some x
+found None x e = absurd (let f : Missing ≡ Found x = e in cc)
+found (Some r) x e = open_one r.is_open e
+  where
+    open_one : (b : Bool) → (let a : Access Region = if b then Found r else Closed in a) ≡ Found x → Some r ≡ Some x
+    open_one true f = let g : Found r ≡ Found x = f in cc
+    open_one false f = absurd (let g : Closed ≡ Found x = f in cc)
+
+pub record IsClosed (focus : Focus) (number home : ℕ) (stack : List Entry) (e : Environment) (w : World) : Type 0 where
+  pub region : Region
+  pub there : slice_get w.regions number ≡ Some region
+  pub gives : closing (region_at w number) focus number home stack e w ≡ Running focus stack (record e { home = home }) (closed w number region)
+
+closes : (a : Access Region) (focus : Focus) (number home : ℕ) (stack : List Entry) (e : Environment) (w : World) → IsWell (closing a focus number home stack e w)
+    → (r : Region) × (a ≡ Found r) × (closing a focus number home stack e w ≡ Running focus stack (record e { home = home }) (closed w number r))
+closes (Found r) focus number home stack e w well = (r, refl, refl)
+closes Closed focus number home stack e w well = absurd (well refl)
+closes Missing focus number home stack e w well = absurd (well refl)
+
+pub is_closed : (focus : Focus) (number home : ℕ) (stack : List Entry) (e : Environment) (w : World) → IsWell (closing (region_at w number) focus number home stack e w) → IsClosed focus number home stack e w
+is_closed focus number home stack e w well =
+    let (r, is, gives) = closes (region_at w number) focus number home stack e w well in
+    record { region = r; there = found (slice_get w.regions number) r is; gives = gives }
+
+-- ---- regions of variables count no pages
+
+pub quiet_opened : (regions : List Region) → AreQuiet regions → AreQuiet (regions ++ stack_region ∷ [])
+quiet_opened [] quiet = (tt, tt)
+quiet_opened (r ∷ regions) (first, rest) = (first, quiet_opened regions rest)
+
+pub quiet_closed : (regions : List Region) (n : ℕ) (r : Region) → AreQuiet regions → slice_get regions n ≡ Some r → AreQuiet (set regions n (record r { is_open = false }))
+quiet_closed [] n r quiet at = absurd (none-some r at)
+quiet_closed (s ∷ regions) zero r (first, rest) at = (subst (λ (x : Region). IsQuietSort x.sort) (same_Some s r at) first, rest)
+quiet_closed (s ∷ regions) (suc n) r (first, rest) at = (first, quiet_closed regions n r rest at)
+
+pages_alike : (sort : Sort) (b c : Bool) → IsQuietSort sort → has_pages sort b ≡ has_pages sort c
+pages_alike Heap b c quiet = refl
+pages_alike Globals b c quiet = refl
+pages_alike Stack b c quiet = refl
+pages_alike Lexical b c quiet = absurd quiet
+pages_alike Dynamic b c quiet = absurd quiet
+
+abbrev counted_with : Bool → List ℕ → List (List ℕ) → List (List ℕ)
+counted_with b blocks regions = if b then blocks ∷ regions else regions
+
+pub counted_opened : (regions : List Region) → counted (regions ++ stack_region ∷ []) ≡ counted regions
+counted_opened [] = refl
+counted_opened (r ∷ regions) = ap (counted_with (has_pages r.sort r.is_open) r.blocks) (counted_opened regions)
+
+pub counted_closed : (regions : List Region) (n : ℕ) (r : Region) → AreQuiet regions → slice_get regions n ≡ Some r → counted (set regions n (record r { is_open = false })) ≡ counted regions
+counted_closed [] n r quiet at = absurd (none-some r at)
+counted_closed (s ∷ regions) zero r (first, rest) at =
+    let same : s ≡ r = same_Some s r at in
+    ap (λ (x : Region). counted_with (has_pages x.sort false) x.blocks (counted regions)) (sym same)
+    ∙ ap (λ b. counted_with b s.blocks (counted regions)) (pages_alike s.sort false s.is_open first)
+counted_closed (s ∷ regions) (suc n) r (first, rest) at = ap (counted_with (has_pages s.sort s.is_open) s.blocks) (counted_closed regions n r rest at)

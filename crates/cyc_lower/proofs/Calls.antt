@@ -1,0 +1,242 @@
+-- The steps of calls.
+use Rattle.std.proofs.Common.{◌≡◌, ℕ, suc, ◌+◌, ◌-◌, ◌≤◌, ◌<◌, ◌^◌, ◌%◌, Bool, true, false, List, [], ◌∷◌, ◌++◌, length, reverse, drop, Option, None, Some, slice_get, unwrap_or, bit_and, refl, sym, ap, subst, ◌∙◌, arith, inl, inr}
+use Rattle.std.specs.Prelude.{◌==◌, nat_le, if◌then◌else◌}
+use Rattle.std.proofs.lemmas.Bool.{cases_lt, false_from_ne_true, leb-true, and_right}
+use Rattle.std.proofs.lemmas.List.{length-reverse}
+use Rattle.std.proofs.lemmas.Grind.{and_numeral}
+use Rattle.cyc_words.specs.Ending.{Full}
+use Rattle.cyc_words.proofs.PrefixLemmas.{IsPrefix-append}
+use Rattle.cyc_types.specs.declared.typed.Callee.{Callee}
+use Rattle.cyc_types.specs.declared.typed.Callee.TheVariants as callees
+use Rattle.cyc_types.specs.Types.{Ty}
+use Rattle.cyc_types.specs.TypedTrees.{Items, Function, Program}
+use Rattle.cyc_types.specs.TypingRules.{count}
+use Rattle.cyc_plain.specs.declared.instruction.Instruction.TheVariants as instructions
+use Rattle.cyc_plain.specs.Simulation.{IsOnTheWay}
+use Rattle.cyc_plain.specs.State as plain
+use Rattle.cyc_plain.specs.State.{Words, put, copied, Frame, Store, Configuration}
+use Rattle.cyc_plain.specs.Step.{Choice, with_slots, at, advanced, performed, executed}
+use Rattle.cyc_plain.specs.Step as plain_step
+use Rattle.cyc_plain.proofs.RunLaws.{limited-full}
+use Rattle.cyc_plain.proofs.SlotLaws.{put-same, put-other}
+use Rattle.cyc_plain.proofs.Matching.{way_after}
+use Rattle.cyc_meaning.specs.Values.{Value, Int, kind_of}
+use Rattle.cyc_meaning.specs.State.{World, Environment, no_locals, with_local, variable, made, opened, region_at, Entry, Rest, Caller, calls_in, demand, status_of, Focus, Given, Proceeding, Calling, Entering, Binding, State, Running, Ended}
+use Rattle.cyc_meaning.specs.Step.{wrong, inside, region_end, called, step}
+use Rattle.cyc_lower.specs.Lowered.{status_in}
+use Rattle.cyc_meaning.specs.Run.{is_within, limited_step}
+use Rattle.cyc_lower.specs.Lowering.{lower_program}
+use Rattle.cyc_lower.proofs.Stands.{At, ItemsAt}
+use Rattle.cyc_lower.proofs.Relation.{Is, HoldsFrom, held, callers, Shared, DataAt, SharedAt, ValueStack, StatementStack, Related, Matches, code_of, bounds_in, bounds_at, base_of, top}
+use Rattle.cyc_lower.proofs.Data.{height-least, Holds-put, Holds-rest, in_order, arguments_copied, data_put, data_declared, data_called}
+use Rattle.cyc_lower.proofs.Accesses.{IsWell, is_declared}
+use Rattle.cyc_lower.proofs.Matched.{IsMatched, above, below, matching, silently, one, three, shared_within, shared_way, steps_to, place_in, known, value_depth}
+use Rattle.cyc_lower.proofs.Evaluations.{IsStep, given_value}
+use Rattle.cyc_lower.proofs.StatementSteps.{shared_opened}
+
+module _ (source : Program) (pages calls : ℕ) (some_page : 1 ≤ pages) where
+  -- ---- services
+
+  -- what is read is the same byte
+  reads : (k : List Entry) (e : Environment) (w : World) (c : Configuration) → IsStep source pages calls some_page (Calling callees.Getchar []) k e w c
+  reads k e w c well (shared, facts, (q, (here, end), holds, stack)) =
+      let next : World = record w { input = drop 1 w.input } in
+      let read : Configuration = record c { input = drop 1 c.input } in
+      let word = unwrap_or (slice_get c.input 0) (2 ^ 32 - 1) in
+      let byte = unwrap_or (slice_get w.input 0) (2 ^ 32 - 1) in
+      let shared_read : SharedAt source calls next read = record {
+        same_output = shared.same_output;
+        same_input = ap (drop 1) shared.same_input;
+        one_page = shared.one_page;
+        quiet = shared.quiet;
+        heap_alone = shared.heap_alone;
+        no_class = shared.no_class;
+        fits = shared.fits;
+      } in
+      one source pages calls some_page refl shared here
+      (λ choice. given_value source pages calls some_page (Int byte) word k e next read q (ap (λ (l : List ℕ). unwrap_or (slice_get l 0) (2 ^ 32 - 1)) shared.same_input) shared_read facts holds end stack)
+
+  low_byte : (a : ℕ) → bit_and a 255 ≡ a % 256
+  low_byte a = and_numeral a 254 refl
+
+  prints : (a : ℕ) (k : List Entry) (e : Environment) (w : World) (c : Configuration) → IsStep source pages calls some_page (Calling callees.Putchar (Int a ∷ [])) k e w c
+  prints a k e w c well (shared, facts, (q, (write, mask, low, end), (is, holds), stack)) =
+      let g = c.active.function in
+      let base = base_of source g in
+      let d = top source g k in
+      let x = c.active.slots d in
+      let s = Running (Calling callees.Putchar (Int a ∷ [])) k e w in
+      let next : World = record w { output = w.output ++ a % 256 ∷ [] } in
+      let after = Running (Given (Int (a % 256))) k e next in
+      let first : Configuration = advanced (record c { output = c.output ++ x % 256 ∷ [] }) in
+      let slots = put c.active.slots (suc d) 255 in
+      let second : Configuration = advanced (with_slots first slots) in
+      let last : Configuration = advanced (with_slots second (put slots d (bit_and (slots d) (slots (suc d))))) in
+      let printed : c.output ++ x % 256 ∷ [] ≡ w.output ++ a % 256 ∷ [] =
+      ap (λ (l : List ℕ). l ++ x % 256 ∷ []) shared.same_output ∙ ap (λ y. w.output ++ y % 256 ∷ []) is in
+      let shared_next : SharedAt source calls next first = record {
+        same_output = printed;
+        same_input = shared.same_input;
+        one_page = shared.one_page;
+        quiet = shared.quiet;
+        heap_alone = shared.heap_alone;
+        no_class = shared.no_class;
+        fits = shared.fits;
+      } in
+      let value : bit_and (slots d) (slots (suc d)) ≡ a % 256 =
+      ap (λ y. bit_and y (slots (suc d))) (put-other c.active.slots (suc d) d 255 (λ same. absurd (omega (arith, same))))
+      ∙ ap (bit_and x) (put-same c.active.slots (suc d) 255) ∙ low_byte x ∙ ap (λ y. y % 256) is in
+      let facts_second = data_put source g w.objects e.locals (callers k) c.active.slots c.globals c.frames (suc d) 255 (omega (arith, height-least base (held k))) facts in
+      let holds_second = Holds-put c.active.slots base (held k) (suc d) 255 (omega arith) holds in
+      let done : Related source calls (Given (Int (a % 256))) k e next last =
+      given_value source pages calls some_page (Int (a % 256)) (bit_and (slots d) (slots (suc d))) k e next second q value shared_next facts_second holds_second end stack in
+      let way : (c' : Configuration) → c'.output ≡ w.output ++ a % 256 ∷ [] → IsOnTheWay (above source pages calls some_page) (below source pages calls some_page) s (plain.Running c') = λ c' same.
+      way_after (above source pages calls some_page) (below source pages calls some_page) (matching source pages calls some_page) s after (plain.Running c')
+      (steps_to source pages calls some_page s after (plain.Running last) refl done) (IsPrefix-append w.output (a % 256 ∷ [])) refl same in
+      three source pages calls some_page first second refl shared
+      (shared_within source pages calls some_page next first shared_next) (way first printed)
+      (shared_within source pages calls some_page next second shared_next) (way second printed)
+      write (λ choice. refl) mask (λ choice. refl) low
+      (λ same. absurd (omega (arith, same))) (λ same. absurd (omega (arith, same))) (λ same. absurd (omega (arith, same)))
+      (λ choice. done)
+
+  -- ---- the parameters of a call
+
+  pub entering : (h : Function) (arguments : List Value) (k : List Entry) (e : Environment) (w : World) (c : Configuration) → IsStep source pages calls some_page (Entering h arguments) k e w c
+  entering h arguments k e w c well (shared, facts, (m, items, stack, holds, few)) =
+      silently source pages calls some_page (Running (Entering h arguments) k e w) (Running (Binding 0 h.parameters arguments h.body) (region_end e w ∷ k) (inside e w) (opened w)) (plain.Running c) refl
+      (shared_opened source pages calls some_page w c shared, facts, (m, items, stack, holds, omega (arith, few)))
+      (omega arith)
+
+  pub binding : (n : ℕ) (types : List Ty) (arguments : List Value) (body : Items) (k : List Entry) (e : Environment) (w : World) (c : Configuration) → IsStep source pages calls some_page (Binding n types arguments body) k e w c
+  binding n [] [] body k e w c well (shared, facts, (m, items, stack, holds, few)) =
+      silently source pages calls some_page (Running (Binding n [] [] body) k e w) (Running Proceeding (Rest body ∷ k) e w) (plain.Running c) refl
+      (shared, facts, inl (0, (m, items, stack)))
+      (omega arith)
+  binding n [] (v ∷ arguments) body k e w c well related = absurd (well refl)
+  binding n (t ∷ types) [] body k e w c well related = absurd (well refl)
+  binding n (t ∷ types) (v ∷ arguments) body k e w c well (shared, facts, (m, items, stack, (is, holds), few)) =
+      let g = c.active.function in
+      let x = variable e.home (kind_of t) (Some v) in
+      silently source pages calls some_page (Running (Binding n (t ∷ types) (v ∷ arguments) body) k e w)
+      (Running (Binding (suc n) types arguments body) k (with_local e n (length w.objects)) (made w x)) (plain.Running c)
+      (is_declared (region_at w e.home) (Binding (suc n) types arguments body) n (kind_of t) (Some v) k e w well) (
+        shared,
+        data_declared source g w.objects e (callers k) c.active.slots c.active.slots c.globals c.frames n x (omega (arith, few)) (λ i less other. refl)
+            (λ u has. subst (λ y. Is y (c.active.slots n)) (let same : v ≡ u = ap (λ o. unwrap_or o v) has in same) is) facts,
+        (m, items, stack, holds, omega (arith, few)),
+      )
+      (omega arith)
+
+  -- ---- functions
+
+  -- the code of each function stands where it does
+  abbrev pub FunctionsStand : Type 0
+  FunctionsStand = (n : ℕ) (h : Function) → slice_get source.functions n ≡ Some h
+      → (m : ℕ) × ItemsAt (code_of source n) (bounds_at source n) h.body 0 (base_of source n) 0 m
+      × At (code_of source n) m (instructions.Return (base_of source n))
+
+  parameters_fit : (n : ℕ) (h : Function) → slice_get source.functions n ≡ Some h → count h.parameters ≤ base_of source n
+  parameters_fit n h there =
+      let locals : base_of source n ≡ count h.parameters + count h.locals = ap (λ o. (bounds_in source o).locals) there in
+      omega (arith, locals)
+
+  -- a function has been called, with its arguments in the first slots
+  pub entered : FunctionsStand → (n : ℕ) (h : Function) (arguments : List Value) (k : List Entry) (w : World) (slots globals : Words) (handlers : List ℕ) (frames : List Frame) (store : Store) (output input : List ℕ)
+      → slice_get source.functions n ≡ Some h
+      → Shared calls w.regions w.classes w.output w.input output input store.pages (length frames)
+      → DataAt source n w.objects (λ (number : ℕ). None) (callers k) slots globals frames
+      → HoldsFrom slots 0 arguments → ((m : ℕ) → At (code_of source n) m (instructions.Return (base_of source n)) → StatementStack source n 0 m frames k)
+      → Related source calls (Entering h arguments) k no_locals w
+      (record { active = record { function = n; next = 0; slots = slots; handlers = handlers }; frames = frames; globals = globals; store = store; output = output; input = input })
+  entered stand n h arguments k w slots globals handlers frames store output input there shared facts holds stack =
+      let (m, items, end) = stand n h there in
+      (shared, facts, (m, items, stack m end, holds, parameters_fit n h there))
+
+  -- no more calls fit: both runs are full
+  full : (k : List Entry) (e : Environment) (w : World) (c : Configuration) (focus : Focus) (next : State) (n first many into : ℕ)
+      → step source (Running focus k e w) ≡ next → is_within pages calls next ≡ false
+      → SharedAt source calls w c → At (code_of source c.active.function) c.active.next (instructions.Call n first many into)
+      → calls < suc (suc (length c.frames))
+      → IsMatched source pages calls some_page (Running focus k e w) (plain.Running c)
+  full k e w c focus next n first many into does over shared here past =
+      let i = instructions.Call n first many into in
+      let lowered = lower_program source in
+      let over_below : (choice : Choice) → plain_step.is_within pages calls (performed lowered choice c i) ≡ false = λ choice.
+      and_right (nat_le c.store.pages pages) _ (false_from_ne_true (nat_le (suc (suc (length c.frames))) calls) (λ h. absurd (omega (arith, leb-true (suc (suc (length c.frames))) calls h, past)))) in
+      let source_full : limited_step source pages calls (Running focus k e w) ≡ Ended Full w.output w.input =
+      ap (λ (b : Bool). if b then step source (Running focus k e w) else Ended Full w.output w.input) (ap (is_within pages calls) does ∙ over) in
+      record {
+        places = place_in source pages calls some_page c ∷ [];
+        distinct = (tt, tt);
+        inside = (known source pages calls some_page c i here, tt);
+        comes = (
+          refl,
+          shared_way source pages calls some_page focus k e w c shared,
+          λ u stepped.
+              let (choice, allowed, is) = stepped in
+              let performs : plain_step.step lowered choice (plain.Running c) ≡ performed lowered choice c i = ap (executed lowered choice c) here in
+              let u_is : u ≡ plain.Ended Full c.output c.input =
+              is ∙ limited-full pages calls (plain.Running c) (plain_step.step lowered choice (plain.Running c)) (ap (plain_step.is_within pages calls) performs ∙ over_below choice) in
+              record {
+                next = Ended Full w.output w.input;
+                step = sym source_full;
+                matches = subst (Matches source calls (Ended Full w.output w.input)) (sym u_is) (refl, shared.same_output);
+                lighter = λ none. absurd (omega (arith, none));
+              },
+        );
+      }
+
+  calls_function : FunctionsStand → (n : ℕ) (before : List Value) (found : Option Function) (k : List Entry) (e : Environment) (w : World) (c : Configuration)
+      → slice_get source.functions n ≡ found → IsWell (called found (reverse before) (Caller e ∷ k) w)
+      → Related source calls (Calling (callees.Function n) before) k e w c
+      → IsMatched source pages calls some_page (Running (Calling (callees.Function n) before) k e w) (plain.Running c)
+  calls_function stand n before None k e w c there well related = absurd (well refl)
+  calls_function stand n before (Some h) k e w c there well related = taken (length (reverse before) == length h.parameters) refl
+    where
+      taken : (b : Bool) → (length (reverse before) == length h.parameters) ≡ b → IsMatched source pages calls some_page (Running (Calling (callees.Function n) before) k e w) (plain.Running c)
+      taken false fits = absurd (well (ap (λ (b : Bool). status_in (status_of (if b then Running (Entering h (reverse before)) (Caller e ∷ k) no_locals w else wrong w))) fits))
+      taken true fits =
+          let (shared, facts, (q, (here, end), holds, stack)) = related in
+          let g = c.active.function in
+          let base = base_of source g in
+          let d = top source g k in
+          let next = Running (Entering h (reverse before)) (Caller e ∷ k) no_locals w in
+          let does : step source (Running (Calling (callees.Function n) before) k e w) ≡ next =
+          ap (λ (f : Option Function). called f (reverse before) (Caller e ∷ k) w) there
+          ∙ ap (λ (b : Bool). if b then Running (Entering h (reverse before)) (Caller e ∷ k) no_locals w else wrong w) fits in
+          let waiting = value_depth source g e.locals q c.frames k stack in
+          elim (cases_lt calls (suc (suc (length c.frames)))) [
+            | inl past ↦
+                full k e w c (Calling (callees.Function n) before) next n d (length before) d does
+                (and_right (nat_le (demand next) pages) _ (false_from_ne_true (nat_le (suc (calls_in k)) calls) (λ z. absurd (omega (arith, leb-true (suc (calls_in k)) calls z, past, waiting)))))
+                shared here past
+            | inr fine ↦
+                let frame : Frame = record { caller = (advanced c).active; result = d } in
+                one source pages calls some_page does shared here
+                (λ choice.
+                let slots = copied c.active.slots d (length before) choice.contents 0 in
+                entered stand n h (reverse before) (Caller e ∷ k) w slots c.globals [] (frame ∷ c.frames) c.store c.output c.input there
+                (record {
+                  same_output = shared.same_output;
+                  same_input = shared.same_input;
+                  one_page = shared.one_page;
+                  quiet = shared.quiet;
+                  heap_alone = shared.heap_alone;
+                  no_class = shared.no_class;
+                  fits = fine;
+                })
+                (data_called source g n w.objects e (callers k) c.active.slots slots c.globals frame c.frames refl refl facts)
+                (arguments_copied c.active.slots choice.contents d 0 (length before) (reverse before) (omega (arith, length-reverse before))
+                (subst (λ (i : ℕ). HoldsFrom c.active.slots i (reverse before)) (let z : d ≡ d + 0 = omega arith in z) (in_order c.active.slots base before (held k) holds)))
+                (λ m at_end. (at_end, (refl, Holds-rest c.active.slots base before (held k) holds, subst (λ (i : ℕ). ValueStack source g e.locals i c.frames k) (sym end) stack))))
+          ]
+
+  pub calling : FunctionsStand → (f : Callee) (before : List Value) (k : List Entry) (e : Environment) (w : World) (c : Configuration) → IsStep source pages calls some_page (Calling f before) k e w c
+  calling stand callees.Putchar [] k e w c well related = absurd (well refl)
+  calling stand callees.Putchar (Int a ∷ []) k e w c well related = prints a k e w c well related
+  calling stand callees.Putchar (Int a ∷ v ∷ before) k e w c well related = absurd (well refl)
+  calling stand callees.Putchar (v ∷ before) k e w c well related = absurd (well refl)
+  calling stand callees.Getchar [] k e w c well related = reads k e w c well related
+  calling stand callees.Getchar (v ∷ before) k e w c well related = absurd (well refl)
+  calling stand (callees.Function n) before k e w c well related = calls_function stand n before (slice_get source.functions n) k e w c refl well related

@@ -1,0 +1,285 @@
+-- Worked examples: small programs lowered and run on the plain machine, each proved by computation.
+use Rattle.std.proofs.Common.{◌≡◌, ℕ, ◌+◌, List, [], ◌∷◌, pos, negsuc, true, refl, Some, None}
+use Rattle.cyc_words.specs.Word.{slt_of, div_of}
+use Rattle.cyc_words.specs.Ending.{Returned, Uncaught, Full}
+use Rattle.cyc_syntax.specs.Symbols.{Place}
+use Rattle.cyc_types.specs.declared.typed.Kind.TheVariants as kinds
+use Rattle.cyc_types.specs.declared.typed.Callee.{Callee}
+use Rattle.cyc_types.specs.declared.typed.Callee.TheVariants.{Putchar, Getchar, Function as Calls}
+use Rattle.cyc_types.specs.declared.typed.UnaryOperator.TheVariants as unary
+use Rattle.cyc_types.specs.declared.typed.Operator.TheVariants.{Equal, NotEqual, Greater, Add, Subtract, Multiply, Divide, Remainder}
+use Rattle.cyc_types.specs.declared.typed.LogicalOperator.TheVariants.{AndThen, OrElse}
+use Rattle.cyc_types.specs.Types.{Ty, Int, Pointer}
+use Rattle.cyc_types.specs.TypedTrees.{Local, Global, Expression, Number, Copy, Call, Unary, Binary, Assign, Converted, Convert, Arguments, NoArguments, MoreArguments, Operations, NoOperations, ThenCompute, ThenTest, Statement, Block, Empty, Evaluate, If, While, Return, Break, Continue, Items, NoItems, MoreItems, Execute, Declare, Word, Null, Function, Program}
+use Rattle.cyc_types.specs.declared.region.Region.TheVariants.{Heap}
+use Rattle.cyc_syntax.specs.declared.tree.PointerKind.TheVariants.{Nullable, NonNull}
+use Rattle.cyc_plain.specs.declared.instruction.Instruction.{Instruction}
+use Rattle.cyc_plain.specs.declared.instruction.Instruction.TheVariants.{Move, Jump, JumpIfZero, JumpIfNonzero}
+use Rattle.cyc_plain.specs.declared.instruction.Instruction.TheVariants as instructions
+use Rattle.cyc_plain.specs.declared.instruction.BinaryOperator.TheVariants as plain_binary
+use Rattle.cyc_plain.specs.Simulation.{Status, Ended}
+use Rattle.cyc_plain.specs.Simulation as simulation
+use Rattle.cyc_plain.specs.State.{State, output_of, status_of}
+use Rattle.cyc_plain.specs.Step.{run, start}
+use Rattle.cyc_plain.specs.Checking.{is_well_formed}
+use Rattle.cyc_plain.proofs.RunLaws.{zeros}
+use Rattle.cyc_meaning.specs.State.{status_of as status_of_source}
+use Rattle.cyc_meaning.specs.Run.{limited_run}
+use Rattle.cyc_lower.specs.FrameCount.{frame_count, expression_need}
+use Rattle.cyc_lower.specs.Lowering.{function_code, lower_program}
+use Rattle.cyc_lower.specs.Lowered.{status_in}
+
+-- ---- trees
+
+abbrev nowhere : Place
+nowhere = record { line = 1; column = 1 }
+
+abbrev int : Expression → Converted
+int a = Convert kinds.Int kinds.Int a
+
+abbrev local : ℕ → Expression
+local n = Copy (Local nowhere n) Int
+
+abbrev global : ℕ → Expression
+global n = Copy (Global n) Int
+
+abbrev sets : ℕ → Expression → Expression
+sets n a = Assign (Local nowhere n) (int a) (Some Int)
+
+abbrev two : Expression → Operations → Expression
+two a os = Binary a os Int
+
+abbrev passed : List Expression → Arguments
+passed [] = NoArguments
+passed (a ∷ rest) = MoreArguments (int a) (passed rest)
+
+abbrev call : Callee → List Expression → Expression
+call f arguments = Call f (passed arguments) (Some Int)
+
+-- statements one after the other
+abbrev all : List Statement → Items
+all [] = NoItems
+all (s ∷ ss) = MoreItems (Execute s) (all ss)
+
+abbrev returns : Expression → Statement
+returns a = Return (Some (int a))
+
+-- a function of so many ints, with so many more
+abbrev function : List Ty → List Ty → Items → Function
+function parameters locals body = record {
+  name = 0;
+  place = nowhere;
+  parameters = parameters;
+  result = Some Int;
+  locals = locals;
+  region = 0;
+  regions = 1;
+  body = body;
+  end = nowhere;
+}
+
+abbrev ints : List Ty
+ints = Int ∷ Int ∷ []
+
+-- main has two locals, and there is one global, which holds 7
+abbrev program : Items → List Function → Program
+program body others = record {
+  globals = record { name = 0; of_type = Int; value = Word 7 } ∷ [];
+  functions = function [] ints body ∷ others;
+  main = 0;
+}
+
+abbrev after : ℕ → Program → List ℕ → State
+after steps p input = run (lower_program p) 3 9 zeros steps (start (lower_program p) input)
+
+abbrev ends : ℕ → Program → List ℕ → Status
+ends steps p input = status_of (after steps p input)
+
+abbrev gives : ℕ → Expression → Status
+gives steps a = ends steps (program (all (returns a ∷ [])) []) []
+
+-- ---- expressions
+
+number : gives 2 (Number 5) ≡ Ended (Returned (pos 5))
+number = refl
+
+sum : gives 4 (two (Number 5) (ThenCompute Add (Number 6) NoOperations)) ≡ Ended (Returned (pos 11))
+sum = refl
+
+groups_to_the_left : gives 6 (two (Number 9) (ThenCompute Subtract (Number 4) (ThenCompute Subtract (Number 2) NoOperations))) ≡ Ended (Returned (pos 3))
+groups_to_the_left = refl
+
+quotient : gives 5 (two (Number 9) (ThenCompute Divide (Number 2) NoOperations)) ≡ Ended (Returned (pos 4))
+unfolding div_of
+quotient = refl
+
+division_by_zero : gives 4 (two (Number 9) (ThenCompute Remainder (Number 0) NoOperations)) ≡ Ended (Uncaught 4 (pos 0))
+division_by_zero = refl
+
+negated : gives 3 (Unary unary.Negate (Number 1)) ≡ Ended (Returned (negsuc 0))
+negated = refl
+
+both_hold : gives 6 (two (Number 3) (ThenTest AndThen (Number 5) NoOperations)) ≡ Ended (Returned (pos 1))
+both_hold = refl
+
+first_decides : gives 5 (two (Number 0) (ThenTest AndThen (two (Number 9) (ThenCompute Divide (Number 0) NoOperations)) NoOperations)) ≡ Ended (Returned (pos 0))
+first_decides = refl
+
+one_holds : gives 5 (two (Number 3) (ThenTest OrElse (two (Number 9) (ThenCompute Divide (Number 0) NoOperations)) NoOperations)) ≡ Ended (Returned (pos 1))
+one_holds = refl
+
+none_holds : gives 6 (two (Number 0) (ThenTest OrElse (Number 0) NoOperations)) ≡ Ended (Returned (pos 0))
+none_holds = refl
+
+local_is_set : gives 7 (two (sets 1 (Number 4)) (ThenCompute Multiply (local 1) NoOperations)) ≡ Ended (Returned (pos 16))
+local_is_set = refl
+
+global_holds : gives 2 (global 0) ≡ Ended (Returned (pos 7))
+global_holds = refl
+
+global_is_set : gives 7 (two (Assign (Global 0) (int (Number 2)) (Some Int)) (ThenCompute Add (global 0) NoOperations)) ≡ Ended (Returned (pos 4))
+global_is_set = refl
+
+printed : output_of (after 5 (program (all (Evaluate (call Putchar (Number 321 ∷ [])) ∷ returns (Number 0) ∷ [])) []) []) ≡ 65 ∷ []
+printed = refl
+
+printed_byte : gives 6 (call Putchar (Number 321 ∷ [])) ≡ Ended (Returned (pos 65))
+printed_byte = refl
+
+-- ---- statements
+
+-- counts local 0 up to 4 and adds each to local 1, but leaves out 2
+abbrev counting : Items
+counting =
+    MoreItems (Declare 0 Int (Some (int (Number 0))))
+    (MoreItems (Declare 1 Int (Some (int (Number 0))))
+    (all (
+    While nowhere (Number 1) (Block 1 (all (
+    Evaluate (sets 0 (two (local 0) (ThenCompute Add (Number 1) NoOperations)))
+    ∷ If (two (local 0) (ThenCompute Greater (Number 4) NoOperations)) Break Empty
+    ∷ If (two (local 0) (ThenCompute Equal (Number 2) NoOperations)) Continue Empty
+    ∷ Evaluate (sets 1 (two (local 1) (ThenCompute Add (local 0) NoOperations)))
+    ∷ [])))
+    ∷ returns (local 1)
+    ∷ [])))
+
+counts : ends 120 (program counting []) [] ≡ Ended (Returned (pos 8))
+unfolding slt_of
+counts = refl
+
+loops_for_ever : ends 100 (program (all (While nowhere (Number 1) Empty ∷ [])) []) [] ≡ simulation.Running
+loops_for_ever = refl
+
+other_branch : ends 9 (program (all (If (Number 0) (returns (Number 1)) (returns (Number 2)) ∷ [])) []) [] ≡ Ended (Returned (pos 2))
+other_branch = refl
+
+-- ---- functions
+
+-- n factorial, by calling itself
+abbrev factorial : Function
+factorial = function (Int ∷ []) [] (all (
+    If (local 0)
+    (returns (two (local 0) (ThenCompute Multiply (call (Calls 1) (two (local 0) (ThenCompute Subtract (Number 1) NoOperations) ∷ [])) NoOperations)))
+    (returns (Number 1))
+    ∷ []))
+
+factorials : ends 60 (program (all (returns (call (Calls 1) (Number 5 ∷ [])) ∷ [])) (factorial ∷ [])) [] ≡ Ended (Returned (pos 120))
+factorials = refl
+
+calls_are_limited : ends 100 (program (all (returns (call (Calls 1) (Number 50 ∷ [])) ∷ [])) (factorial ∷ [])) [] ≡ Ended Full
+calls_are_limited = refl
+
+arguments_in_order : ends 12 (program (all (returns (call (Calls 1) (Number 50 ∷ Number 8 ∷ [])) ∷ [])) (function ints [] (all (returns (two (local 0) (ThenCompute Subtract (local 1) NoOperations)) ∷ [])) ∷ [])) [] ≡ Ended (Returned (pos 42))
+arguments_in_order = refl
+
+is_sound : is_well_formed (lower_program (program counting (factorial ∷ []))) ≡ true
+is_sound = refl
+
+-- ---- beside the source
+
+-- how the source ends, with the same limits and input
+abbrev source_ends : ℕ → Program → List ℕ → Status
+source_ends steps p input = status_in (status_of_source (limited_run p 3 9 input steps))
+
+source_counts : source_ends 300 (program counting []) [] ≡ Ended (Returned (pos 8))
+unfolding slt_of
+source_counts = refl
+
+source_factorials : source_ends 200 (program (all (returns (call (Calls 1) (Number 5 ∷ [])) ∷ [])) (factorial ∷ [])) [] ≡ Ended (Returned (pos 120))
+source_factorials = refl
+
+source_is_limited : source_ends 300 (program (all (returns (call (Calls 1) (Number 50 ∷ [])) ∷ [])) (factorial ∷ [])) [] ≡ Ended Full
+source_is_limited = refl
+
+-- reads until the end of the input, prints each byte one higher, and returns how many there were
+abbrev copying : Items
+copying =
+    MoreItems (Declare 0 Int None)
+    (MoreItems (Declare 1 Int (Some (int (Number 0))))
+    (all (
+    While nowhere (two (two (sets 0 (call Getchar [])) (ThenCompute Add (Number 1) NoOperations)) (ThenTest AndThen (two (local 0) (ThenCompute NotEqual (Number 10) NoOperations)) NoOperations)) (Block 1 (all (
+    Evaluate (call Putchar (two (local 0) (ThenCompute Add (Number 1) NoOperations) ∷ []))
+    ∷ Evaluate (sets 1 (two (local 1) (ThenCompute Add (Number 1) NoOperations)))
+    ∷ [])))
+    ∷ returns (local 1)
+    ∷ [])))
+
+copies : output_of (after 100 (program copying []) (72 ∷ 73 ∷ [])) ≡ 73 ∷ 74 ∷ []
+copies = refl
+
+copied_many : ends 100 (program copying []) (72 ∷ 73 ∷ []) ≡ Ended (Returned (pos 2))
+copied_many = refl
+
+source_copies : source_ends 300 (program copying []) (72 ∷ 73 ∷ []) ≡ Ended (Returned (pos 2))
+source_copies = refl
+
+stops_at_line_feed : ends 100 (program copying []) (72 ∷ 10 ∷ 73 ∷ []) ≡ Ended (Returned (pos 1))
+stops_at_line_feed = refl
+
+-- a null pointer that is converted to one that is never null
+abbrev converting : Program
+converting = record {
+  globals = record { name = 0; of_type = Pointer Nullable Int Heap; value = Null } ∷ [];
+  functions = function [] ints (MoreItems (Declare 0 (Pointer NonNull Int Heap) (Some (Convert kinds.Nullable kinds.NonNull (Copy (Global 0) (Pointer Nullable Int Heap))))) NoItems) ∷ [];
+  main = 0;
+}
+
+null_is_caught : ends 9 converting [] ≡ Ended (Uncaught 1 (pos 0))
+null_is_caught = refl
+
+source_catches_null : source_ends 20 converting [] ≡ Ended (Uncaught 1 (pos 0))
+source_catches_null = refl
+
+-- ---- code
+
+abbrev code_of_body : Items → List Instruction
+code_of_body body = function_code (function [] ints body)
+
+-- a loop, with its two jumps in front
+loop_code : code_of_body (all (While nowhere (local 0) Break ∷ returns (local 1) ∷ [])) ≡
+    Jump 2 ∷ Jump 6 ∷ Move 2 0 ∷ JumpIfZero 2 1 ∷ Jump 1 ∷ Jump 2
+    ∷ Move 2 1 ∷ instructions.Return 2
+    ∷ instructions.Return 2 ∷ []
+loop_code = refl
+
+-- a branch, and a division with its test
+branch_code : code_of_body (all (If (local 0) (Evaluate (two (local 0) (ThenCompute Divide (local 1) NoOperations))) Empty ∷ [])) ≡
+    Move 2 0 ∷ JumpIfZero 2 8
+    ∷ Move 2 0 ∷ Move 3 1 ∷ JumpIfNonzero 3 6 ∷ instructions.Uncaught 4 3 ∷ instructions.Binary plain_binary.Divide 2 2 3
+    ∷ Jump 8
+    ∷ instructions.Return 2 ∷ []
+branch_code = refl
+
+-- ---- frame counts
+
+assignment_need : expression_need (sets 0 (Number 1)) ≡ 5
+assignment_need = refl
+
+sum_need : expression_need (two (Number 9) (ThenCompute Subtract (Number 4) (ThenCompute Subtract (Number 2) NoOperations))) ≡ 3
+sum_need = refl
+
+nested_need : expression_need (two (Number 9) (ThenCompute Subtract (two (Number 4) (ThenCompute Subtract (Number 2) NoOperations)) NoOperations)) ≡ 4
+nested_need = refl
+
+frame_of_main : frame_count (function [] ints counting) ≡ 24 + 2 + 6
+frame_of_main = refl

@@ -1,0 +1,91 @@
+-- Functions and globals that are lowered one after the other.
+use Rattle.std.proofs.Common.{◌≡◌, ℕ, zero, suc, ◌+◌, ◌<◌, ◌≤◌, List, [], ◌∷◌, ◌++◌, length, get_or, map, Option, Some, None, option_map, refl, sym, ap, ◌∙◌, arith}
+use Rattle.cyc_words.specs.declared.fault.Code.{Code}
+use Rattle.cyc_words.specs.declared.fault.Code.TheVariants.{TooManyFunctions}
+use Rattle.cyc_words.specs.declared.fault.Fault.{Fault}
+use Rattle.cyc_types.specs.declared.typed.TypedTree.{TypedTree}
+use Rattle.cyc_types.specs.declared.typed.Function.{Function as FunctionCode}
+use Rattle.cyc_types.specs.TypeView.{view_ty}
+use Rattle.cyc_types.specs.TypedTrees.{Function, Program}
+use Rattle.cyc_types.specs.TypedTreeView.{view_function, view_program, items_of}
+use Rattle.cyc_types.specs.TypingRules.{count}
+use Rattle.cyc_types.specs.Numbered.{numbered}
+use Rattle.cyc_plain.specs.declared.instruction.Instruction.{Instruction}
+use Rattle.cyc_plain.specs.declared.instruction.Instruction.TheVariants as instructions
+use Rattle.cyc_plain.specs.Program.{Routine}
+use Rattle.cyc_lower.specs.FrameCount.{items_need, frame_count}
+use Rattle.cyc_lower.specs.Lowering.{results_of, items_code, lower_function}
+use Rattle.cyc_lower.specs.Lowered.{most_functions, HasTooMany}
+use Rattle.cyc_lower.specs.Emission.{most_words, most_locals}
+use Rattle.cyc_lower.proofs.NeedBounds.{words_of_types}
+
+pub counted : {A B : Type 0} (f : A → B) (xs : List A) → count (map f xs) ≡ length xs
+counted f [] = refl
+counted f (x ∷ xs) = ap suc (counted f xs)
+
+-- the element with a number, in a list that is mapped
+pub numbered_at : {A B : Type 0} (f : A → B) (xs : List A) (n : ℕ) (x : A) → n < length xs → x ≡ get_or xs n x → numbered (map f xs) n ≡ Some (f x)
+numbered_at f [] n x inside at = absurd (omega arith)
+numbered_at f (y ∷ ys) zero x inside at = ap (λ z. Some (f z)) (sym at)
+numbered_at f (y ∷ ys) (suc n) x inside at = numbered_at f ys n x (omega arith) at
+
+pub numbered_past : {A B : Type 0} (f : A → B) (xs : List A) (n : ℕ) → length xs ≤ n → numbered (map f xs) n ≡ None
+numbered_past f [] n past = refl
+numbered_past f (y ∷ ys) zero past = absurd (omega arith)
+numbered_past f (y ∷ ys) (suc n) past = numbered_past f ys n (omega arith)
+
+-- a frame has a word for each local at least
+pub few_locals : (f : FunctionCode) → frame_count (view_function f) ≤ most_words → length f.parameters.items + length f.locals.items ≤ most_locals
+few_locals f small =
+    omega (arith, small, counted view_ty f.parameters.items, counted view_ty f.locals.items, (words_of_types (map view_ty f.parameters.items)).0, (words_of_types (map view_ty f.locals.items)).0)
+
+-- the code of a function with so many locals
+abbrev Returning : FunctionCode → ℕ → List Instruction
+Returning f d = items_code (items_of f.body.items) 0 0 d ++ instructions.Return d ∷ []
+
+abbrev WithLocals : FunctionCode → (p d need : ℕ) → Routine
+WithLocals f p d need = record {
+  name = f.span;
+  parameters = p;
+  results = results_of (option_map view_ty f.result);
+  slots = d + need + 1;
+  frame_count = frame_count (view_function f);
+  code = Returning f d;
+}
+
+module _ (f : FunctionCode) (p l d results need slots frame : ℕ) (code : List Instruction) where
+  pub made_function : p ≡ length f.parameters.items → l ≡ length f.locals.items → d ≡ p + l → results ≡ results_of (option_map view_ty f.result) → need ≡ items_need (items_of f.body.items) → slots ≡ d + need + 1
+      → frame ≡ frame_count (view_function f) → code ≡ items_code (items_of f.body.items) 0 0 d ++ instructions.Return d ∷ []
+      → record { name = f.span; parameters = p; results = results; slots = slots; frame_count = frame; code = code } ≡ lower_function (view_function f)
+  made_function ps ls ds rs ns ss fs cs =
+      let pc : p ≡ count (map view_ty f.parameters.items) = ps ∙ sym (counted view_ty f.parameters.items) in
+      let dc : d ≡ count (map view_ty f.parameters.items) + count (map view_ty f.locals.items) = omega (arith, ds, pc, ls, counted view_ty f.locals.items) in
+      ap (λ (x : List Instruction). record { name = f.span; parameters = p; results = results; slots = slots; frame_count = frame; code = x }) cs
+      ∙ ap (λ (x : ℕ). record { name = f.span; parameters = p; results = x; slots = slots; frame_count = frame; code = Returning f d }) rs
+      ∙ ap (λ (x : ℕ). record { name = f.span; parameters = p; results = results_of (option_map view_ty f.result); slots = slots; frame_count = x; code = Returning f d }) fs
+      ∙ ap (λ (x : ℕ). record { name = f.span; parameters = p; results = results_of (option_map view_ty f.result); slots = x; frame_count = frame_count (view_function f); code = Returning f d }) ss
+      ∙ ap (λ (x : ℕ). WithLocals f x d need) pc
+      ∙ ap (λ (x : ℕ). WithLocals f (count (map view_ty f.parameters.items)) x need) dc
+      ∙ ap (λ (x : ℕ). WithLocals f (count (map view_ty f.parameters.items)) (count (map view_ty f.parameters.items) + count (map view_ty f.locals.items)) x) ns
+
+-- ---- more functions than there may be
+
+fault_is : (f : Fault) (c : Code) (l k : ℕ) → f.code ≡ c → f.line ≡ l → f.column ≡ k → f ≡ record { code = c; line = l; column = k }
+fault_is f c l k a b d =
+    ap (λ (x : Code). record { code = x; line = f.line; column = f.column }) a
+    ∙ ap (λ (x : ℕ). record { code = c; line = x; column = f.column }) b
+    ∙ ap (λ (x : ℕ). record { code = c; line = l; column = x }) d
+
+pub too_many : (t : TypedTree) (x : FunctionCode) (f : Fault) → most_functions < length t.functions.items → x ≡ get_or t.functions.items most_functions x
+    → f.code ≡ TooManyFunctions → f.line ≡ x.span.line → f.column ≡ x.span.column → HasTooMany (view_program t) f
+too_many t x f more at a b d = (view_function x, numbered_at view_function t.functions.items most_functions x more at, fault_is f TooManyFunctions x.span.line x.span.column a b d)
+
+pub one_too_many : (p : Program) (f g : Fault) → HasTooMany p f → HasTooMany p g → f ≡ g
+one_too_many p f g (h, e, a) (k, d, b) =
+    let same : h ≡ k = let s : Some h ≡ Some k = sym e ∙ d in cc in
+    a ∙ ap (λ (x : Function). record { code = TooManyFunctions; line = x.place.line; column = x.place.column }) same ∙ sym b
+
+pub not_too_many : (t : TypedTree) (f : Fault) → length t.functions.items ≤ most_functions → HasTooMany (view_program t) f → ⊥
+not_too_many t f few (h, e, a) =
+    let none : None ≡ Some h = sym (numbered_past view_function t.functions.items most_functions few) ∙ e in
+    absurd (cc)

@@ -1,0 +1,204 @@
+-- The constants of an abstract syntax tree are words, where those of the symbols that spell it are.
+use Rattle.std.proofs.Common.{ℕ, suc, List, [], ◌∷◌, ◌++◌, Option, Some, None, subst}
+use Rattle.cyc_words.specs.Word.{IsWord}
+use Rattle.cyc_syntax.specs.declared.tokens.Keyword.TheVariants as words
+use Rattle.cyc_syntax.specs.Symbols.{Terminal, Symbol}
+use Rattle.cyc_syntax.specs.Symbols as terminals
+use Rattle.cyc_syntax.specs.Trees.{Expression, Number, Character, Call, Bracketed, Prefixed, Binary, Assign, Expressions, NoExpressions, MoreExpressions, Operations, NoOperations, ThenOperation, Statement, Block, Evaluate, If, IfElse, While, Return, Body, Braces, Items, NoItems, MoreItems, Item, Execute, Local, Region, Alias, DynamicRegion, GlobalValue, Positive, Negative, Byte, NullPointer, Declaration, StructType, Exceptions, Global, Function}
+use Rattle.cyc_syntax.specs.Yields.{Leaf, Yield, item_number}
+use Rattle.cyc_syntax.specs.Yields as yields
+use Rattle.cyc_syntax.specs.Grammar.{IsSpelled, HasTree}
+
+-- ---- the constants of a tree: only the forms of the int language have any
+
+abbrev mutual
+  pub IsOfWordsWritten : Expression → Type 0
+  IsOfWordsWritten (Number p n) = IsWord n
+  IsOfWordsWritten (Character p c) = IsWord c
+  IsOfWordsWritten (Call f es) = AreOfWordsWritten es
+  IsOfWordsWritten (Bracketed p e) = IsOfWordsWritten e
+  IsOfWordsWritten (Prefixed p o e) = IsOfWordsWritten e
+  IsOfWordsWritten (Binary e os) = IsOfWordsWritten e × AreOfWordsChain os
+  IsOfWordsWritten (Assign a b) = IsOfWordsWritten b
+  IsOfWordsWritten e = Unit {0}
+
+  pub AreOfWordsWritten : Expressions → Type 0
+  AreOfWordsWritten NoExpressions = Unit {0}
+  AreOfWordsWritten (MoreExpressions e es) = IsOfWordsWritten e × AreOfWordsWritten es
+
+  pub AreOfWordsChain : Operations → Type 0
+  AreOfWordsChain NoOperations = Unit {0}
+  AreOfWordsChain (ThenOperation o p e os) = IsOfWordsWritten e × AreOfWordsChain os
+
+abbrev pub IsOfWordsValue : Option Expression → Type 0
+IsOfWordsValue None = Unit {0}
+IsOfWordsValue (Some e) = IsOfWordsWritten e
+
+abbrev mutual
+  pub IsOfWordsWrittenStatement : Statement → Type 0
+  IsOfWordsWrittenStatement (Block b) = IsOfWordsBody b
+  IsOfWordsWrittenStatement (Evaluate e) = IsOfWordsWritten e
+  IsOfWordsWrittenStatement (If p c s) = IsOfWordsWritten c × IsOfWordsWrittenStatement s
+  IsOfWordsWrittenStatement (IfElse p c s t) = IsOfWordsWritten c × IsOfWordsWrittenStatement s × IsOfWordsWrittenStatement t
+  IsOfWordsWrittenStatement (While p c s) = IsOfWordsWritten c × IsOfWordsWrittenStatement s
+  IsOfWordsWrittenStatement (Return p v) = IsOfWordsValue v
+  IsOfWordsWrittenStatement s = Unit {0}
+
+  pub IsOfWordsBody : Body → Type 0
+  IsOfWordsBody (Braces p is q) = AreOfWordsWrittenItems is
+
+  pub AreOfWordsWrittenItems : Items → Type 0
+  AreOfWordsWrittenItems NoItems = Unit {0}
+  AreOfWordsWrittenItems (MoreItems i is) = IsOfWordsItem i × AreOfWordsWrittenItems is
+
+  pub IsOfWordsItem : Item → Type 0
+  IsOfWordsItem (Execute s) = IsOfWordsWrittenStatement s
+  IsOfWordsItem (Local t x v) = IsOfWordsValue v
+  IsOfWordsItem (Region r h k) = Unit {0}
+  IsOfWordsItem (Alias r t x y) = Unit {0}
+  IsOfWordsItem (DynamicRegion r k) = Unit {0}
+
+abbrev pub IsOfWordsGlobalValue : Option GlobalValue → Type 0
+IsOfWordsGlobalValue None = Unit {0}
+IsOfWordsGlobalValue (Some (Positive p n)) = IsWord n
+IsOfWordsGlobalValue (Some (Negative p n)) = IsWord n
+IsOfWordsGlobalValue (Some (Byte p c)) = IsWord c
+IsOfWordsGlobalValue (Some (NullPointer p)) = Unit {0}
+
+abbrev pub IsOfWordsDeclaration : Declaration → Type 0
+IsOfWordsDeclaration (StructType s rs fs) = Unit {0}
+IsOfWordsDeclaration (Exceptions cs) = Unit {0}
+IsOfWordsDeclaration (Global t x v) = IsOfWordsGlobalValue v
+IsOfWordsDeclaration (Function t f ps b) = IsOfWordsBody b
+
+abbrev pub IsOfWordsTree : List Declaration → Type 0
+IsOfWordsTree [] = Unit {0}
+IsOfWordsTree (d ∷ ds) = IsOfWordsDeclaration d × IsOfWordsTree ds
+
+-- ---- the constants of leaves and symbols
+
+abbrev pub IsOfWordsTerminal : Terminal → Type 0
+IsOfWordsTerminal (terminals.Identifier x) = Unit {0}
+IsOfWordsTerminal (terminals.RegionName r) = Unit {0}
+IsOfWordsTerminal (terminals.Number n) = IsWord n
+IsOfWordsTerminal (terminals.Character c) = IsWord c
+IsOfWordsTerminal (terminals.Word k) = Unit {0}
+IsOfWordsTerminal (terminals.Mark s) = Unit {0}
+
+abbrev pub AreOfWordsSymbols : List Symbol → Type 0
+AreOfWordsSymbols [] = Unit {0}
+AreOfWordsSymbols (s ∷ ss) = IsOfWordsTerminal s.terminal × AreOfWordsSymbols ss
+
+abbrev AreOfWordsLeaves : Yield → Type 0
+AreOfWordsLeaves [] = Unit {0}
+AreOfWordsLeaves (l ∷ ls) = IsOfWordsTerminal l.terminal × AreOfWordsLeaves ls
+
+spelled_constants : (leaves : Yield) (symbols : List Symbol) → IsSpelled leaves symbols → AreOfWordsSymbols symbols → AreOfWordsLeaves leaves
+spelled_constants [] [] h k = tt
+spelled_constants [] (s ∷ ss) h k = absurd h
+spelled_constants (l ∷ ls) [] h k = absurd h
+spelled_constants (l ∷ ls) (s ∷ ss) (h, hs) (k, ks) = (subst IsOfWordsTerminal h.terminal k, spelled_constants ls ss hs ks)
+
+front_part : (a b : Yield) → AreOfWordsLeaves (a ++ b) → AreOfWordsLeaves a
+front_part [] b h = tt
+front_part (l ∷ ls) b (h, hs) = (h, front_part ls b hs)
+
+rest_part : (a b : Yield) → AreOfWordsLeaves (a ++ b) → AreOfWordsLeaves b
+rest_part [] b h = h
+rest_part (l ∷ ls) b (h, hs) = rest_part ls b hs
+
+unnumbered : (i : ℕ) (a : Yield) → AreOfWordsLeaves (item_number i a) → AreOfWordsLeaves a
+unnumbered i [] h = tt
+unnumbered i (l ∷ ls) h = h
+
+-- ---- from the leaves to the tree
+
+mutual
+  expression_constants : (d : ℕ) (e : Expression) → AreOfWordsLeaves (yields.expression d e) → IsOfWordsWritten e
+  expression_constants d (Number p n) (h, hs) = h
+  expression_constants d (Character p c) (h, hs) = h
+  expression_constants d (Call f es) h = arguments_constants (suc d) es (front_part (yields.arguments (suc d) es) _ h.1.1)
+  expression_constants d (Bracketed p e) (l, h) = expression_constants (suc d) e (front_part (yields.expression (suc d) e) _ h)
+  expression_constants d (Prefixed p o e) (l, h) = expression_constants (suc d) e h
+  expression_constants d (Binary e os) h = (expression_constants d e (front_part (yields.expression d e) _ h), chain_constants d 1 os (rest_part (yields.expression d e) _ h))
+  expression_constants d (Assign a b) h = expression_constants (suc d) b ((rest_part (yields.expression d a) _ h).1)
+  expression_constants d e h = tt
+
+  arguments_constants : (d : ℕ) (es : Expressions) → AreOfWordsLeaves (yields.arguments d es) → AreOfWordsWritten es
+  arguments_constants d NoExpressions h = tt
+  arguments_constants d (MoreExpressions e es) h = (
+    expression_constants d e (unnumbered 1 (yields.expression d e) (front_part (item_number 1 (yields.expression d e)) _ h)),
+    more_constants d 2 es (rest_part (item_number 1 (yields.expression d e)) _ h),
+  )
+
+  more_constants : (d i : ℕ) (es : Expressions) → AreOfWordsLeaves (yields.more_arguments d i es) → AreOfWordsWritten es
+  more_constants d i NoExpressions h = tt
+  more_constants d i (MoreExpressions e es) (c, h) = (
+    expression_constants d e (unnumbered i (yields.expression d e) (front_part (item_number i (yields.expression d e)) _ h)),
+    more_constants d (suc i) es (rest_part (item_number i (yields.expression d e)) _ h),
+  )
+
+  chain_constants : (d i : ℕ) (os : Operations) → AreOfWordsLeaves (yields.operations d i os) → AreOfWordsChain os
+  chain_constants d i NoOperations h = tt
+  chain_constants d i (ThenOperation o p e os) (l, h) =
+      (expression_constants d e (front_part (yields.expression d e) _ h), chain_constants d (suc i) os (rest_part (yields.expression d e) _ h))
+
+returned_constants : (d : ℕ) (v : Option Expression) (after : Yield) → AreOfWordsLeaves (yields.optional (yields.expression d) v ++ after) → IsOfWordsValue v
+returned_constants d None after h = tt
+returned_constants d (Some e) after h = expression_constants d e (front_part (yields.expression d e) after h)
+
+given_constants : (d : ℕ) (v : Option Expression) (after : Yield) → AreOfWordsLeaves (yields.optional (yields.given d) v ++ after) → IsOfWordsValue v
+given_constants d None after h = tt
+given_constants d (Some e) after (l, h) = expression_constants (suc d) e (front_part (yields.expression (suc d) e) after h)
+
+mutual
+  statement_constants : (d : ℕ) (s : Statement) → AreOfWordsLeaves (yields.statement d s) → IsOfWordsWrittenStatement s
+  statement_constants d (Block b) h = body_constants d b h
+  statement_constants d (Evaluate e) h = expression_constants d e (front_part (yields.expression d e) _ h)
+  statement_constants d (If p c s) h =
+      (expression_constants (suc d) c (front_part (yields.expression (suc d) c) _ h.1.1), statement_constants (suc d) s (rest_part (yields.expression (suc d) c) _ h.1.1).1)
+  statement_constants d (IfElse p c s t) h =
+      let k : AreOfWordsLeaves (yields.statement (suc d) s ++ (yields.word d words.Else ++ yields.statement (suc d) t)) = (rest_part (yields.expression (suc d) c) _ h.1.1).1 in (
+        expression_constants (suc d) c (front_part (yields.expression (suc d) c) _ h.1.1),
+        statement_constants (suc d) s (front_part (yields.statement (suc d) s) _ k),
+        statement_constants (suc d) t (rest_part (yields.statement (suc d) s) _ k).1,
+      )
+  statement_constants d (While p c s) h =
+      (expression_constants (suc d) c (front_part (yields.expression (suc d) c) _ h.1.1), statement_constants (suc d) s (rest_part (yields.expression (suc d) c) _ h.1.1).1)
+  statement_constants d (Return p v) (r, h) = returned_constants d v _ h
+  statement_constants d s h = tt
+
+  body_constants : (d : ℕ) (b : Body) → AreOfWordsLeaves (yields.body d b) → IsOfWordsBody b
+  body_constants d (Braces p is q) (l, h) = items_constants (suc d) is (front_part (yields.items (suc d) is) _ h)
+
+  items_constants : (d : ℕ) (is : Items) → AreOfWordsLeaves (yields.items d is) → AreOfWordsWrittenItems is
+  items_constants d NoItems h = tt
+  items_constants d (MoreItems i is) h = (item_constants d i (front_part (yields.item d i) _ h), items_constants d is (rest_part (yields.item d i) _ h))
+
+  item_constants : (d : ℕ) (i : Item) → AreOfWordsLeaves (yields.item d i) → IsOfWordsItem i
+  item_constants d (Execute s) h = statement_constants d s h
+  item_constants d (Local t x v) h = given_constants d v _ ((rest_part (yields.written_type d t) _ h).1)
+  item_constants d (Region r n k) h = tt
+  item_constants d (Alias r t x y) h = tt
+  item_constants d (DynamicRegion r k) h = tt
+
+value_constants : (d : ℕ) (v : Option GlobalValue) (after : Yield) → AreOfWordsLeaves (yields.optional (yields.global_value d) v ++ after) → IsOfWordsGlobalValue v
+value_constants d None after h = tt
+value_constants d (Some (Positive p n)) after h = h.1.0
+value_constants d (Some (Negative p n)) after h = h.1.1.0
+value_constants d (Some (Byte p c)) after h = h.1.0
+value_constants d (Some (NullPointer p)) after h = tt
+
+declaration_constants : (d : ℕ) (x : Declaration) → AreOfWordsLeaves (yields.declaration d x) → IsOfWordsDeclaration x
+declaration_constants d (StructType s rs fs) h = tt
+declaration_constants d (Exceptions cs) h = tt
+declaration_constants d (Global t x v) h = value_constants d v _ ((rest_part (yields.written_type d t) _ h).1)
+declaration_constants d (Function t f ps b) h =
+    body_constants d b ((rest_part (yields.parameters (suc d) ps) _ ((rest_part (yields.result_type d t) _ h).1.1)).1)
+
+program_constants : (tree : List Declaration) → AreOfWordsLeaves (yields.program tree) → IsOfWordsTree tree
+program_constants [] h = tt
+program_constants (d ∷ ds) h = (declaration_constants 0 d (front_part (yields.declaration 0 d) _ h), program_constants ds (rest_part (yields.declaration 0 d) _ h))
+
+pub tree_constants : (symbols : List Symbol) (tree : List Declaration) → HasTree symbols tree → AreOfWordsSymbols symbols → IsOfWordsTree tree
+tree_constants symbols tree h k = program_constants tree (spelled_constants (yields.program tree) symbols h.spelled k)

@@ -1,0 +1,76 @@
+-- The weight of a source state, which falls with each step that the plain program makes no step for.
+use Rattle.std.proofs.Common.{ℕ, suc, ◌+◌, List, [], ◌∷◌, Option, None, Some}
+use Rattle.cyc_types.specs.TypedTrees.{Expression, Number, Copy, Call, Unary, Binary, Assign, Converted, Convert, Arguments, NoArguments, MoreArguments, Operations, NoOperations, ThenCompute, ThenTest, Statement, Block, Empty, Evaluate, If, While, Break, Continue, Items, NoItems, MoreItems, Execute, Declare}
+use Rattle.cyc_types.specs.TypedTrees as typed
+use Rattle.cyc_types.specs.TypingRules.{count}
+use Rattle.cyc_meaning.specs.State.{Awaiting, Chain, Pass, Entry, Needs, Rest, Focus, Evaluating, Executing, Entering, Binding, State, Running}
+
+-- An expression that begins with an instruction weighs nothing. One that begins with another weighs more than that and what
+-- waits for it.
+abbrev mutual
+  pub expression_weight : Expression → ℕ
+  expression_weight (Number n) = 0
+  expression_weight (Copy l t) = 0
+  expression_weight (Call f cs t) = suc (arguments_weight cs)
+  expression_weight (Unary o a) = suc (suc (expression_weight a))
+  expression_weight (Binary a os t) = suc (suc (expression_weight a + operations_weight os))
+  expression_weight (Assign l c t) = suc (suc (converted_weight c))
+
+  -- with what converts it
+  pub converted_weight : Converted → ℕ
+  converted_weight (Convert from to a) = suc (expression_weight a)
+
+  pub arguments_weight : Arguments → ℕ
+  arguments_weight NoArguments = 0
+  arguments_weight (MoreArguments c cs) = suc (converted_weight c + arguments_weight cs)
+
+  pub operations_weight : Operations → ℕ
+  operations_weight NoOperations = 0
+  operations_weight (ThenCompute o a os) = suc (suc (expression_weight a + operations_weight os))
+  operations_weight (ThenTest o a os) = 0
+
+abbrev pub initial_weight : Option Converted → ℕ
+initial_weight None = 0
+initial_weight (Some c) = suc (converted_weight c)
+
+abbrev mutual
+  pub statement_weight : Statement → ℕ
+  statement_weight (Block r js) = suc (suc (suc (items_weight js)))
+  statement_weight Empty = 1
+  statement_weight (Evaluate a) = suc (suc (expression_weight a))
+  statement_weight (If a s t) = suc (suc (expression_weight a))
+  statement_weight (While p a s) = 0
+  statement_weight (typed.Return v) = suc (initial_weight v)
+  statement_weight Break = 1
+  statement_weight Continue = 1
+
+  pub items_weight : Items → ℕ
+  items_weight NoItems = 0
+  items_weight (MoreItems (Execute s) js) = suc (statement_weight s + items_weight js)
+  items_weight (MoreItems (Declare n t v) js) = suc (initial_weight v + items_weight js)
+
+-- each entry weighs something, so that a stack is lighter without it
+abbrev pub awaiting_weight : Awaiting → ℕ
+awaiting_weight (Chain os) = operations_weight os
+awaiting_weight (Pass f before cs) = arguments_weight cs
+awaiting_weight a = 0
+
+abbrev pub entry_weight : Entry → ℕ
+entry_weight (Needs a) = suc (awaiting_weight a)
+entry_weight (Rest js) = suc (items_weight js)
+entry_weight entry = 1
+
+abbrev pub stack_weight : List Entry → ℕ
+stack_weight [] = 0
+stack_weight (entry ∷ k) = entry_weight entry + stack_weight k
+
+abbrev pub focus_weight : Focus → ℕ
+focus_weight (Evaluating a) = expression_weight a
+focus_weight (Executing s) = statement_weight s
+focus_weight (Entering h arguments) = suc (suc (suc (suc (count h.parameters + items_weight h.body))))
+focus_weight (Binding number types arguments body) = suc (suc (count types + items_weight body))
+focus_weight focus = 0
+
+abbrev pub weight : State → ℕ
+weight (Running focus k e w) = focus_weight focus + stack_weight k
+weight s = 0

@@ -1,0 +1,137 @@
+-- Each run of the plain program is one of the source.
+use Rattle.std.proofs.Common.{◌≡◌, ℕ, zero, suc, ◌≤◌, Bool, true, false, List, [], ◌∷◌, length, map, Option, None, Some, slice_get, slice_index, refl, sym, ap, subst, ◌∙◌, arith}
+use Rattle.std.specs.Prelude.{◌==◌, if◌then◌else◌}
+use Rattle.std.proofs.lemmas.Bool.{le-leb, and_from}
+use Rattle.std.proofs.lemmas.Option.{same_Some, none-some}
+use Rattle.cyc_words.specs.Ending.{Full}
+use Rattle.cyc_types.specs.TypedTrees.{Constant, Word, GlobalVariable, Function, Program}
+use Rattle.cyc_types.specs.TypedTrees as typed
+use Rattle.cyc_types.specs.TypingRules.{count}
+use Rattle.cyc_types.specs.Numbered.{IsNumberedProgram}
+use Rattle.cyc_plain.specs.Simulation as simulation
+use Rattle.cyc_plain.specs.Simulation.{Failed, NeverFails, Follows, Steps}
+use Rattle.cyc_plain.specs.State as plain
+use Rattle.cyc_plain.specs.State.{Configuration, start_store}
+use Rattle.cyc_plain.specs.Step as plain_step
+use Rattle.cyc_plain.proofs.RunLaws.{lawful}
+use Rattle.cyc_plain.proofs.Simulation.{simulates}
+use Rattle.cyc_meaning.specs.Values.{Value, Int, Null}
+use Rattle.cyc_meaning.specs.State.{World, Environment, no_locals, constant_value, global_object, first_world, Entry, Main, Focus, Evaluating, Given, Executing, Proceeding, Calling, Entering, Binding, Breaking, Continuing, Returning, Throwing, State, Running, Ended, Dead, Wrong, output_of, input_of, status_of}
+use Rattle.cyc_meaning.specs.Step.{wrong, called, step}
+use Rattle.cyc_meaning.specs.Run.{start, is_within, limited_step}
+use Rattle.cyc_lower.specs.Lowering.{initial_word, lower_global, lower_program}
+use Rattle.cyc_lower.specs.Lowered.{status_in, FollowsSource}
+use Rattle.cyc_lower.proofs.Relation.{Is, contents, Related, Matches}
+use Rattle.cyc_lower.proofs.Data.{no_locals_hold}
+use Rattle.cyc_lower.proofs.Accesses.{IsWell}
+use Rattle.cyc_lower.proofs.Matched.{IsMatched, above, below, matching}
+use Rattle.cyc_lower.proofs.Evaluations.{evaluating}
+use Rattle.cyc_lower.proofs.Values.{given}
+use Rattle.cyc_lower.proofs.StatementSteps.{executing, proceeding, breaking, continuing, returning, throwing}
+use Rattle.cyc_lower.proofs.Calls.{FunctionsStand, calling, entering, binding, entered}
+use Rattle.cyc_lower.proofs.Bridge.{functions_stand}
+
+-- ---- the globals at the start
+
+globals_start : (gs : List GlobalVariable) (number : ℕ) (v : Value) → contents (map global_object gs) number ≡ Some v → Is v (slice_index (map lower_global gs) number)
+globals_start [] number v has = absurd (none-some v has)
+globals_start (g ∷ gs) zero v has = first g.value has
+  where
+    first : (constant : Constant) → Some (constant_value constant) ≡ Some v → Is v (initial_word constant)
+    first (Word n) e = subst (λ u. Is u n) (same_Some (Int n) v e) refl
+    first typed.Null e = subst (λ u. Is u 0) (same_Some Null v e) refl
+globals_start (g ∷ gs) (suc number) v has = globals_start gs number v has
+
+globals_many : (gs : List GlobalVariable) → count gs ≤ length (map global_object gs)
+globals_many [] = omega arith
+globals_many (g ∷ gs) = omega (arith, globals_many gs)
+
+module _ (source : Program) (pages calls : ℕ) (some_page : 1 ≤ pages) (stand : FunctionsStand source pages calls some_page) where
+  -- ---- all steps
+
+  stepping : (focus : Focus) (k : List Entry) (e : Environment) (w : World) (c : Configuration) → IsWell (step source (Running focus k e w)) → Related source calls focus k e w c
+      → IsMatched source pages calls some_page (Running focus k e w) (plain.Running c)
+  stepping (Evaluating a) k e w c well related = evaluating source pages calls some_page a k e w c well related
+  stepping (Given v) k e w c well related = given source pages calls some_page v k e w c well related
+  stepping (Executing s) k e w c well related = executing source pages calls some_page s k e w c well related
+  stepping Proceeding k e w c well related = proceeding source pages calls some_page k e w c well related
+  stepping (Calling f before) k e w c well related = calling source pages calls some_page stand f before k e w c well related
+  stepping (Entering h arguments) k e w c well related = entering source pages calls some_page h arguments k e w c well related
+  stepping (Binding n types arguments body) k e w c well related = binding source pages calls some_page n types arguments body k e w c well related
+  stepping Breaking k e w c well related = breaking source pages calls some_page k e w c well related
+  stepping Continuing k e w c well related = continuing source pages calls some_page k e w c well related
+  stepping (Returning v) k e w c well related = returning source pages calls some_page v k e w c well related
+  stepping (Throwing tag value) k e w c well related = throwing source pages calls some_page tag value k e w c well related
+
+  -- what fails is within all limits
+  failed_within : (s : State) → status_in (status_of s) ≡ Failed → is_within pages calls s ≡ true
+  failed_within (Running focus k e w) failed = absurd (let f : simulation.Running ≡ Failed = failed in cc)
+  failed_within (Ended ending output input) failed = absurd (let f : simulation.Ended ending ≡ Failed = failed in cc)
+  failed_within (Dead output input) failed = and_from _ _ (le-leb 0 pages (omega arith)) (le-leb 0 calls (omega arith))
+  failed_within (Wrong output input) failed = and_from _ _ (le-leb 0 pages (omega arith)) (le-leb 0 calls (omega arith))
+
+  goes_well : (s : State) → ((next : State) → next ≡ limited_step source pages calls s → status_in (status_of next) ≡ Failed → ⊥) → IsWell (step source s)
+  goes_well s never failed =
+      never (step source s) (sym (ap (λ (b : Bool). if b then step source s else Ended Full (output_of s) (input_of s)) (failed_within (step source s) failed))) failed
+
+  steps : Steps (above source pages calls some_page) (below source pages calls some_page) (matching source pages calls some_page)
+  steps (Running focus k e w) (plain.Running c) related running never = stepping focus k e w c (goes_well (Running focus k e w) never) related
+  steps (Running focus k e w) (plain.Ended ending output input) related running never = absurd related
+  steps (Running focus k e w) (plain.Stuck output input) related running never = absurd related
+  steps (Ended ending output input) t related running never = absurd (let f : simulation.Ended ending ≡ simulation.Running = running in cc)
+  steps (Dead output input) t related running never = absurd related
+  steps (Wrong output input) t related running never = absurd related
+
+  -- ---- the start
+
+  start_related : (h : Function) (input : List ℕ) → slice_get source.functions source.main ≡ Some h → 1 ≤ calls
+      → Matches source calls (Running (Entering h []) (Main ∷ []) no_locals (first_world source input)) (plain_step.start (lower_program source) input)
+  start_related h input there some_call =
+      let w = first_world source input in
+      let words : ℕ → ℕ = λ global. slice_index (map lower_global source.globals) global in
+      let slots : ℕ → ℕ = λ slot. 0 in
+      entered source pages calls some_page stand source.main h [] (Main ∷ []) w slots words [] [] start_store [] input there
+      (record {
+        same_output = refl;
+        same_input = refl;
+        one_page = refl;
+        quiet = (tt, (tt, tt));
+        heap_alone = refl;
+        no_class = refl;
+        fits = omega (arith, some_call);
+      }) (
+        length w.objects,
+        omega arith,
+        no_locals_hold _ w.objects (length w.objects) (length w.objects) slots,
+        globals_many source.globals,
+        λ number v few has. globals_start source.globals number v has,
+      )
+      tt (λ m end. (end, tt))
+
+  from_start : (h : Option Function) (input : List ℕ) → slice_get source.functions source.main ≡ h → 1 ≤ calls
+      → (status_in (status_of (called h [] (Main ∷ []) (first_world source input))) ≡ Failed → ⊥)
+      → (f : Function) × (start source input ≡ Running (Entering f []) (Main ∷ []) no_locals (first_world source input)) × (slice_get source.functions source.main ≡ Some f)
+  from_start None input is some_call well = absurd (well refl)
+  from_start (Some h) input is some_call well = fits (0 == length h.parameters) refl
+    where
+      fits : (b : Bool) → (0 == length h.parameters) ≡ b → (f : Function) × (start source input ≡ Running (Entering f []) (Main ∷ []) no_locals (first_world source input)) × (slice_get source.functions source.main ≡ Some f)
+      fits false e = absurd (well (ap (λ (b : Bool). status_in (status_of (if b then Running (Entering h []) (Main ∷ []) no_locals (first_world source input) else wrong (first_world source input)))) e))
+      fits true e = (
+        h,
+        ap (λ o. called o [] (Main ∷ []) (first_world source input)) is
+            ∙ ap (λ (b : Bool). if b then Running (Entering h []) (Main ∷ []) no_locals (first_world source input) else wrong (first_world source input)) e,
+        is,
+      )
+
+  follows_source : (input : List ℕ) → 1 ≤ calls → FollowsSource source (lower_program source) pages calls input
+  follows_source input some_call never =
+      let (h, starts, there) = from_start (slice_get source.functions source.main) input refl some_call (never 0 (start source input) refl) in
+      simulates (above source pages calls some_page) (below source pages calls some_page) (matching source pages calls some_page) steps (lawful (lower_program source) pages calls) [] (start source input) never
+      (plain_step.start (lower_program source) input)
+      (ap (λ s. status_in (status_of s)) starts)
+      (subst (λ s. Matches source calls s (plain_step.start (lower_program source) input)) (sym starts) (start_related h input there some_call))
+
+-- A program whose numbers are in range does what its source does.
+pub follows : (source : Program) → IsNumberedProgram source → (pages calls : ℕ) (input : List ℕ) → 1 ≤ pages → 1 ≤ calls → FollowsSource source (lower_program source) pages calls input
+follows source numbered pages calls input some_page some_call =
+    follows_source source pages calls some_page (functions_stand source pages calls some_page numbered) input some_call

@@ -1,0 +1,10 @@
+use Rattle.std.specs.Prelude.{◌+◌, ◌≤◌, length}
+use Rattle.cyc_lower.specs.Emission.{most_locals}
+use Rattle.cyc_lower.proofs.Emitting.{Remains}
+use Rattle.cyc_lower.proofs.Branching.{all_items}
+use Rattle.cyc_lower.proofs.emitter.Emitter.+statement.Given as goal
+
+abbrev pub invariant-items-loop-item : goal.invariant-items-loop-item
+invariant-items-loop-item l =
+    Remains (all_items l.head) l.fn.self.code.items l.items l.fn.slot l.item-index l.self.code.items l.slot
+    × (l.slot ≤ most_locals + length l.self.code.items) × (l.head ≤ length l.self.code.items)

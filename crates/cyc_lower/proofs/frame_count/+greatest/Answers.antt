@@ -1,0 +1,15 @@
+use Rattle.std.proofs.Common.{◌≡◌, ◌+◌, ◌≤◌, sym, ◌∙◌, arith}
+use borrow.Author.Rules.{rules, get_or_read}
+use Rattle.cyc_types.specs.declared.ty.Ty.TheFolds as types
+use Rattle.cyc_types.specs.declared.typed.Item.TheFolds as statements
+use Rattle.cyc_lower.proofs.NeedsFound.{block_needs}
+use Rattle.cyc_lower.proofs.frame_count.+greatest.Goals as goal
+
+pub statement_need-items_need-requires : goal.statement_need-items_need-requires
+statement_need-items_need-requires t c =
+    let e = block_needs c.args.statement.now c.in-Block.region c.in-Block.items c.in-Block.is c.deref.result.now c.deref.ensures.value in
+    (search (rules, types.the_lemmas, statements.the_lemmas, get_or_read), omega (arith, e, c.requires))
+
+pub statement_need-returns-in-Block : goal.statement_need-returns-in-Block
+statement_need-returns-in-Block t c =
+    c.items_need.ensures ∙ sym (block_needs c.args.statement.now c.in-Block.region c.in-Block.items c.in-Block.is c.deref.result.now c.deref.ensures.value)

@@ -1,0 +1,5 @@
+use Rattle.cyc_lower.proofs.NeedsFound.{ItemsLeft}
+use Rattle.cyc_lower.proofs.frame_count.+greatest.Given as goal
+
+abbrev pub invariant-items_need-loop-item : goal.invariant-items_need-loop-item
+invariant-items_need-loop-item l = ItemsLeft l.items l.item-index l.need

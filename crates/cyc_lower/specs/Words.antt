@@ -1,0 +1,61 @@
+-- All numbers of a typed tree are words: its constants, and what its globals hold at the start. So it is in every tree of a text.
+use Rattle.std.specs.Prelude.{List, [], ◌∷◌, Option, None, Some}
+use Rattle.cyc_words.specs.Word.{IsWord}
+use Rattle.cyc_types.specs.TypedTrees.{Expression, Number, Copy, Call, Unary, Binary, Assign, Converted, Convert, Arguments, NoArguments, MoreArguments, Operations, NoOperations, ThenCompute, ThenTest, Statement, Block, Empty, Evaluate, If, While, Return, Break, Continue, Items, NoItems, MoreItems, Execute, Declare, Constant, Word, Null, GlobalVariable, Function, Program}
+
+abbrev mutual
+  pub IsOfWords : Expression → Type 0
+  IsOfWords (Number n) = IsWord n
+  IsOfWords (Copy l t) = Unit {0}
+  IsOfWords (Call f cs t) = AreOfWordsArguments cs
+  IsOfWords (Unary o a) = IsOfWords a
+  IsOfWords (Binary a os t) = IsOfWords a × AreOfWordsOperations os
+  IsOfWords (Assign l c t) = IsOfWordsConverted c
+
+  pub IsOfWordsConverted : Converted → Type 0
+  IsOfWordsConverted (Convert from to a) = IsOfWords a
+
+  pub AreOfWordsArguments : Arguments → Type 0
+  AreOfWordsArguments NoArguments = Unit {0}
+  AreOfWordsArguments (MoreArguments c cs) = IsOfWordsConverted c × AreOfWordsArguments cs
+
+  pub AreOfWordsOperations : Operations → Type 0
+  AreOfWordsOperations NoOperations = Unit {0}
+  AreOfWordsOperations (ThenCompute o a os) = IsOfWords a × AreOfWordsOperations os
+  AreOfWordsOperations (ThenTest o a os) = IsOfWords a × AreOfWordsOperations os
+
+abbrev pub IsOfWordsInitial : Option Converted → Type 0
+IsOfWordsInitial None = Unit {0}
+IsOfWordsInitial (Some c) = IsOfWordsConverted c
+
+abbrev mutual
+  pub IsOfWordsStatement : Statement → Type 0
+  IsOfWordsStatement (Block r js) = AreOfWordsItems js
+  IsOfWordsStatement Empty = Unit {0}
+  IsOfWordsStatement (Evaluate a) = IsOfWords a
+  IsOfWordsStatement (If a s t) = IsOfWords a × IsOfWordsStatement s × IsOfWordsStatement t
+  IsOfWordsStatement (While p a s) = IsOfWords a × IsOfWordsStatement s
+  IsOfWordsStatement (Return v) = IsOfWordsInitial v
+  IsOfWordsStatement Break = Unit {0}
+  IsOfWordsStatement Continue = Unit {0}
+
+  pub AreOfWordsItems : Items → Type 0
+  AreOfWordsItems NoItems = Unit {0}
+  AreOfWordsItems (MoreItems (Execute s) js) = IsOfWordsStatement s × AreOfWordsItems js
+  AreOfWordsItems (MoreItems (Declare n t v) js) = IsOfWordsInitial v × AreOfWordsItems js
+
+abbrev pub IsOfWordsConstant : Constant → Type 0
+IsOfWordsConstant (Word n) = IsWord n
+IsOfWordsConstant Null = Unit {0}
+
+abbrev pub AreOfWordsGlobals : List GlobalVariable → Type 0
+AreOfWordsGlobals [] = Unit {0}
+AreOfWordsGlobals (g ∷ gs) = IsOfWordsConstant g.value × AreOfWordsGlobals gs
+
+abbrev pub AreOfWordsFunctions : List Function → Type 0
+AreOfWordsFunctions [] = Unit {0}
+AreOfWordsFunctions (h ∷ hs) = AreOfWordsItems h.body × AreOfWordsFunctions hs
+
+pub record IsOfWordsProgram (p : Program) : Type 0 where
+  pub functions : AreOfWordsFunctions p.functions
+  pub globals : AreOfWordsGlobals p.globals

@@ -1,0 +1,113 @@
+//! Code that is being made.
+ghost use Rattle.std.specs.Prelude.{◌≡◌, ◌<◌, [], ◌∷◌, ◌++◌, length, set, IfOk};
+ghost use Rattle.cyc_types.specs.TypedTreeView.{view_lvalue};
+ghost use Rattle.cyc_lower.specs.Lowering.{load_code, store_code};
+ghost use Rattle.cyc_lower.specs.Emission.{Emits};
+
+use cyc_plain::Instruction;
+use cyc_types::typed::Lvalue;
+use std::alloc::{AllocError, Global};
+
+/// The code of a function, as far as it is made.
+#[derive(Drop)]
+pub(crate) struct Emitter {
+    pub(crate) code: Vec<Instruction>,
+}
+
+impl Emitter {
+    pub(crate) fn new(alloc: Global) -> Emitter
+        ensures { result.code.items ≡ [] }
+    {
+        Emitter {
+            code: Vec::new(alloc),
+        }
+    }
+
+    /// The place of the next instruction.
+    pub(crate) fn place(&self) -> usize
+        ensures { result ≡ length self.now.code.items }
+    {
+        self.code.len()
+    }
+
+    /// One instruction more.
+    pub(crate) fn emit(&mut self, instruction: Instruction) -> Result<(), AllocError>
+        ensures { Emits result self.old self.new (instruction ∷ []) }
+    {
+        self.code.push(instruction)?;
+        Ok(())
+    }
+
+    /// Puts another instruction in the place of one.
+    pub(crate) fn patch(&mut self, place: usize, instruction: Instruction)
+        requires { place < length self.old.code.items }
+        ensures { self.new.code.items ≡ set self.old.code.items place instruction }
+    {
+        self.code[place] = instruction;
+    }
+
+    /// Keeps the place of the next instruction, for a jump whose target is not yet known.
+    pub(crate) fn reserve(&mut self) -> Result<usize, AllocError>
+        ensures { IfOk result (λ place. (place ≡ length self.old.code.items) × (self.new.code.items ≡ self.old.code.items ++ Instruction.Jump 0 ∷ [])) }
+    {
+        let place = self.place();
+        self.emit(Instruction::Jump { target: 0 })?;
+        Ok(place)
+    }
+
+    /// At a place that was kept comes a jump to the next instruction.
+    pub(crate) fn jump_here(&mut self, place: usize)
+        requires { place < length self.old.code.items }
+        ensures { self.new.code.items ≡ set self.old.code.items place (Instruction.Jump (length self.old.code.items)) }
+    {
+        let target = self.place();
+        self.patch(place, Instruction::Jump { target });
+    }
+
+    /// The same where the value in a slot is 0.
+    pub(crate) fn jump_here_if_zero(&mut self, place: usize, slot: usize)
+        requires { place < length self.old.code.items }
+        ensures { self.new.code.items ≡ set self.old.code.items place (Instruction.JumpIfZero slot (length self.old.code.items)) }
+    {
+        let target = self.place();
+        self.patch(
+            place,
+            Instruction::JumpIfZero {
+                condition: slot,
+                target,
+            },
+        );
+    }
+
+    /// The value of a place comes into a slot.
+    pub(crate) fn load(&mut self, source: Lvalue, slot: usize) -> Result<(), AllocError>
+        ensures { Emits result self.old self.new (load_code (view_lvalue source) slot) }
+    {
+        self.emit(match source {
+            Lvalue::Local { number, .. } => Instruction::Move {
+                destination: slot,
+                source: number,
+            },
+            Lvalue::Global { number } => Instruction::LoadGlobal {
+                destination: slot,
+                global: number,
+            },
+        })
+    }
+
+    /// A place gets what is in a slot.
+    pub(crate) fn store(&mut self, target: Lvalue, slot: usize) -> Result<(), AllocError>
+        ensures { Emits result self.old self.new (store_code (view_lvalue target) slot) }
+    {
+        self.emit(match target {
+            Lvalue::Local { number, .. } => Instruction::Move {
+                destination: number,
+                source: slot,
+            },
+            Lvalue::Global { number } => Instruction::StoreGlobal {
+                global: number,
+                source: slot,
+            },
+        })
+    }
+}

@@ -1,0 +1,92 @@
+//! The plain functions and globals of a typed tree.
+ghost use Rattle.std.specs.Prelude.{◌≡◌, ◌≤◌, map, option_map, IfOk};
+ghost use Rattle.cyc_types.specs.TypeView.{view_ty};
+ghost use Rattle.cyc_types.specs.TypedTreeView.{view_constant, view_global, view_function, view_program};
+ghost use Rattle.cyc_plain.specs.Program.{routine_of, program_of};
+ghost use Rattle.cyc_lower.specs.FrameCount.{frame_count};
+ghost use Rattle.cyc_lower.specs.Lowering.{results_of, initial_word, lower_function, lower_global, lower_program};
+ghost use Rattle.cyc_lower.specs.Emission.{most_words, AreSmall};
+
+use crate::emitter::Emitter;
+use crate::frame_count::{frame_count, items_need};
+use cyc_plain::{Function, Instruction, Plain};
+use cyc_types::typed::{self, Constant};
+use cyc_types::{Ty, TypedTree};
+use std::alloc::{AllocError, Global};
+
+/// The words that a function returns.
+fn results_of(of_type: &Option<Ty>) -> usize
+    ensures { result ≡ results_of (option_map view_ty of_type.now) }
+{
+    match of_type {
+        Some(_) => 1,
+        None => 0,
+    }
+}
+
+/// The word that a global holds at the start.
+fn initial_word(value: Constant) -> u32
+    ensures { result ≡ initial_word (view_constant value) }
+{
+    match value {
+        Constant::Word { value } => value,
+        Constant::Null => 0,
+    }
+}
+
+/// A function. Its slots are its locals, and behind them the temporaries.
+fn lower_function(alloc: Global, function: &typed::Function) -> Result<Function, AllocError>
+    requires { frame_count (view_function function.now) ≤ most_words }
+    ensures { IfOk result (λ f. routine_of f ≡ lower_function (view_function function.now)) }
+{
+    let locals = function.parameters.len() + function.locals.len();
+    let mut emitter = Emitter::new(alloc);
+    emitter.items(&function.body, 0, locals)?;
+    emitter.emit(Instruction::Return { value: locals })?;
+    Ok(Function {
+        name: function.span,
+        parameters: function.parameters.len(),
+        results: results_of(&function.result),
+        slots: locals + items_need(&function.body) + 1,
+        frame_count: frame_count(function),
+        code: emitter.code,
+    })
+}
+
+fn lower_functions(
+    alloc: Global,
+    functions: &[typed::Function],
+) -> Result<Vec<Function>, AllocError>
+    requires { AreSmall (map view_function functions.now) }
+    ensures { IfOk result (λ fs. map routine_of fs.items ≡ map lower_function (map view_function functions.now)) }
+{
+    let mut lowered = Vec::new(alloc);
+    for function in functions {
+        lowered.push(lower_function(alloc, function)?)?;
+    }
+    Ok(lowered)
+}
+
+fn lower_globals(alloc: Global, globals: &[typed::Global]) -> Result<Vec<u32>, AllocError>
+    ensures { IfOk result (λ words. words.items ≡ map lower_global (map view_global globals.now)) }
+{
+    let mut words = Vec::new(alloc);
+    for global in globals {
+        words.push(initial_word(global.value))?;
+    }
+    Ok(words)
+}
+
+/// The program, in which each function and each global keeps its number.
+pub(crate) fn lowered(alloc: Global, tree: &TypedTree) -> Result<Plain, AllocError>
+    requires { AreSmall (map view_function tree.now.functions.items) }
+    ensures { IfOk result (λ plain. program_of plain ≡ lower_program (view_program tree.now)) }
+{
+    let functions = lower_functions(alloc, &tree.functions)?;
+    let globals = lower_globals(alloc, &tree.globals)?;
+    Ok(Plain {
+        functions,
+        globals,
+        main: tree.main,
+    })
+}

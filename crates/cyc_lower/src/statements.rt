@@ -1,0 +1,146 @@
+//! The code of statements. Each method adds its code behind what there is.
+ghost use Rattle.std.specs.Prelude.{◌≡◌, ◌+◌, ◌≤◌, [], ◌∷◌, length, option_map};
+ghost use Rattle.cyc_types.specs.TypedTreeView.{view_converted, view_expression, view_statement, items_of};
+ghost use Rattle.cyc_lower.specs.Lowering.{break_target, continue_target, return_code, declaration_code, statement_code, items_code};
+ghost use Rattle.cyc_lower.specs.Emission.{Emits, most_locals, item_code, loop_code};
+
+use crate::emitter::Emitter;
+use cyc_plain::Instruction;
+use cyc_types::typed::{Converted, Expr, Item, Stmt};
+use std::alloc::AllocError;
+
+impl Emitter {
+    /// A return, which leaves its value in the slot.
+    fn returned(&mut self, value: &Option<Converted>, slot: usize) -> Result<(), AllocError>
+        requires { slot ≤ most_locals + length self.old.code.items }
+        ensures { Emits result self.old self.new (return_code (option_map view_converted value.now) (length self.old.code.items) slot) }
+    {
+        if let Some(value) = value {
+            self.converted(value, slot)?;
+        }
+        self.emit(Instruction::Return { value: slot })
+    }
+
+    /// The declaration of a local, which gets its initial value if it has one.
+    fn declaration(
+        &mut self,
+        number: usize,
+        value: &Option<Converted>,
+        slot: usize,
+    ) -> Result<(), AllocError>
+        requires { slot ≤ most_locals + length self.old.code.items }
+        ensures { Emits result self.old self.new (declaration_code number (option_map view_converted value.now) (length self.old.code.items) slot) }
+    {
+        let Some(value) = value else {
+            return Ok(());
+        };
+        self.converted(value, slot)?;
+        self.emit(Instruction::Move {
+            destination: number,
+            source: slot,
+        })
+    }
+
+    /// A jump to the end of the loop that begins at this place, by the second of its two jumps.
+    fn broken(&mut self, head: usize) -> Result<(), AllocError>
+        requires { head ≤ length self.old.code.items }
+        ensures { Emits result self.old self.new (Instruction.Jump (break_target head) ∷ []) }
+    {
+        self.emit(Instruction::Jump { target: head + 1 })
+    }
+
+    /// A jump to the condition of the loop that begins at this place.
+    fn continued(&mut self, head: usize) -> Result<(), AllocError>
+        requires { head ≤ length self.old.code.items }
+        ensures { Emits result self.old self.new (Instruction.Jump (continue_target head) ∷ []) }
+    {
+        self.emit(Instruction::Jump { target: head + 2 })
+    }
+
+    /// A loop begins with two jumps, one over the other to its condition, and one to its end. So the targets of a `break` and of
+    /// a `continue` are known before the body's code is made.
+    #[cycle(statement)]
+    fn looped(&mut self, body: &Stmt, condition: &Expr, slot: usize) -> Result<(), AllocError>
+        requires { slot ≤ most_locals + length self.old.code.items }
+        ensures { Emits result self.old self.new (loop_code (view_expression condition.now) (view_statement body.now) (length self.old.code.items) slot) }
+    {
+        let head = self.place();
+        self.continued(head)?;
+        let leaving = self.reserve()?;
+        self.expression(condition, slot)?;
+        self.emit(Instruction::JumpIfZero {
+            condition: slot,
+            target: leaving,
+        })?;
+        self.statement(body, head, slot)?;
+        self.continued(head)?;
+        self.jump_here(leaving);
+        Ok(())
+    }
+
+    /// A statement in the loop that begins at this place, if one is around it.
+    #[cycle(statement)]
+    fn statement(&mut self, statement: &Stmt, head: usize, slot: usize) -> Result<(), AllocError>
+        requires slots { slot ≤ most_locals + length self.old.code.items }
+        requires begun { head ≤ length self.old.code.items }
+        ensures { Emits result self.old self.new (statement_code (view_statement statement.now) (length self.old.code.items) head slot) }
+    {
+        match statement {
+            Stmt::Block { items, .. } => self.items(items, head, slot),
+            Stmt::Empty => Ok(()),
+            Stmt::Evaluate { value } => self.expression(value, slot),
+            Stmt::If {
+                condition,
+                then,
+                otherwise,
+            } => {
+                self.expression(condition, slot)?;
+                let over_then = self.reserve()?;
+                self.statement(then, head, slot)?;
+                let over_otherwise = self.reserve()?;
+                self.jump_here_if_zero(over_then, slot);
+                self.statement(otherwise, head, slot)?;
+                self.jump_here(over_otherwise);
+                Ok(())
+            }
+            Stmt::While {
+                condition,
+                body,
+                ..
+            } => self.looped(body, condition, slot),
+            Stmt::Return { value } => self.returned(value, slot),
+            Stmt::Break => self.broken(head),
+            Stmt::Continue => self.continued(head),
+        }
+    }
+
+    #[cycle(statement)]
+    fn item(&mut self, item: &Item, head: usize, slot: usize) -> Result<(), AllocError>
+        requires slots { slot ≤ most_locals + length self.old.code.items }
+        requires begun { head ≤ length self.old.code.items }
+        ensures { Emits result self.old self.new (item_code item.now (length self.old.code.items) head slot) }
+    {
+        match item {
+            Item::Execute { statement } => self.statement(statement, head, slot),
+            Item::Local { number, value, .. } => self.declaration(*number, value, slot),
+        }
+    }
+
+    /// The items of a block.
+    #[cycle(statement)]
+    pub(crate) fn items(
+        &mut self,
+        items: &[Item],
+        head: usize,
+        slot: usize,
+    ) -> Result<(), AllocError>
+        requires slots { slot ≤ most_locals + length self.old.code.items }
+        requires begun { head ≤ length self.old.code.items }
+        ensures { Emits result self.old self.new (items_code (items_of items.now) (length self.old.code.items) head slot) }
+    {
+        for item in items {
+            self.item(item, head, slot)?;
+        }
+        Ok(())
+    }
+}
