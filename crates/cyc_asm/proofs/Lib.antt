@@ -1,0 +1,10 @@
+pub mod Examples
+pub mod Fetching
+pub mod Layouts
+pub mod Loading
+pub mod Ordinary
+pub mod Running
+pub mod Standing
+pub mod Steps
+pub mod Stretches
+pub mod Tables

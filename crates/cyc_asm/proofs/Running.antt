@@ -1,0 +1,60 @@
+-- The machine that runs the words follows the labelled machine.
+use Rattle.std.proofs.Common.{◌≡◌, ℕ, ◌*◌, List, [], replicate, refl, sym, ap, subst, arith, false}
+use Rattle.std.specs.Prelude.{slice_set}
+use Rattle.std.proofs.lemmas.List.{length-replicate}
+use Rattle.cyc_words.specs.Ending.{Ending}
+use Rattle.cyc_words.specs.Word.{add_of}
+use Rattle.cyc_machine.specs.declared.event.End.{End}
+use Rattle.cyc_machine.specs.declared.event.Event.TheVariants as events
+use Rattle.cyc_machine.specs.declared.phase.Phase.{Phase}
+use Rattle.cyc_machine.specs.declared.phase.Phase.TheVariants as phases
+use Rattle.cyc_machine.specs.State.{words_per_call, stack_end}
+use Rattle.cyc_machine.specs.Step.{StepIn}
+use Rattle.cyc_machine.specs.Run.{World, Goes}
+use Rattle.cyc_machine.proofs.RunLaws.{Goes-over, Goes-output}
+use Rattle.cyc_plain.specs.Simulation.{Ended, IsLawful}
+use Rattle.cyc_plain.proofs.Simulation.{simulates, running_ended}
+use Rattle.cyc_select.specs.Labelled.{Labelled}
+use Rattle.cyc_select.specs.Machine as labelled
+use Rattle.cyc_select.specs.Machine.{Configuration}
+use Rattle.cyc_asm.specs.Text.{IsTextOf}
+use Rattle.cyc_asm.specs.Machine.{world_machine, status_in, Runs, start}
+use Rattle.cyc_asm.proofs.Fetching.{world_at}
+use Rattle.cyc_asm.proofs.Steps.{above, matching, matched}
+
+over_of : (p : Phase) (ending : Ending) → status_in p ≡ Ended ending → (end : End) × (p ≡ phases.Over end)
+over_of phases.Running ending ended = absurd (running_ended ending ended)
+over_of phases.Waiting ending ended = absurd (running_ended ending ended)
+over_of (phases.Over end) ending ended = (end, refl)
+
+rests : (w : World) (end : End) → w.machine.phase ≡ phases.Over end → Goes w w
+rests w end over = (events.Ended end, w.machine, subst (λ (p : Phase). StepIn p w.machine (events.Ended end) w.machine) (sym over) (refl, refl), refl)
+
+-- what was printed stays printed, and a run that is over stays as it is
+pub lawful : IsLawful world_machine
+lawful = record {
+  grows = Goes-output;
+  stays = λ old new ending ended goes. let (end, over) = over_of old.machine.phase ending ended in Goes-over old new end over goes;
+  rests = λ w ending ended. let (end, over) = over_of w.machine.phase ending ended in rests w end over;
+}
+
+-- the configuration in which the labelled machine starts
+abbrev started : Labelled → (calls : ℕ) → (input : List ℕ) → Configuration
+started code calls input = record {
+  registers = slice_set (slice_set (replicate 32 0) 4 calls) 29 stack_end;
+  high = 0;
+  low = 0;
+  globals = labelled.globals_of code.globals;
+  stack = replicate (words_per_call * calls) 0;
+  output = [];
+  input = input;
+  line = 0;
+}
+
+pub runs : (code : Labelled) (addresses : ℕ → ℕ) (words : List ℕ) → IsTextOf code addresses words → Runs code addresses words
+runs code addresses words text calls input few never =
+    simulates (above code addresses words text) world_machine (matching code addresses words text) (matched code addresses words text) lawful []
+    (labelled.start code calls input) never (start code words calls input) refl (
+      (let nothing : ℕ = 0 in let long = length-replicate (words_per_call * calls) nothing in omega (arith, long, few)),
+      ap (λ (a : ℕ). world_at words (started code calls input) a (add_of a 4) false) (sym text.first),
+    )

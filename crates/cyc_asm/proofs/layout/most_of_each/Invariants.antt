@@ -1,0 +1,9 @@
+use Rattle.std.proofs.Common.{◌≡◌, map}
+use Rattle.std.specs.List.{range_with_len}
+use Rattle.cyc_asm.specs.Layout.{most_before}
+use Rattle.cyc_asm.proofs.layout.most_of_each.Given as goal
+
+-- the lines so far have theirs, and so has the next
+abbrev pub invariant-loop-line : goal.invariant-loop-line
+invariant-loop-line l =
+    (l.most.items ≡ map (most_before l.lines) (range_with_len 0 l.line-index)) × (l.before ≡ most_before l.lines l.line-index)

@@ -1,0 +1,57 @@
+-- Where the lines of labelled code lie in the text: each behind the one before, with as many words as it needs. This
+-- project's own choice.
+use Rattle.std.specs.Prelude.{ℕ, zero, suc, ◌+◌, ◌*◌, ◌≤◌, Bool, ◌&&◌, nat_le, if◌then◌else◌, List, length, map, take, Option, Some, None, slice_get}
+use Rattle.std.specs.List.{range_with_len}
+use Rattle.cyc_machine.specs.State.{text_base, text_end}
+use Rattle.cyc_select.specs.Labelled.{Labelled, all_words}
+use Rattle.cyc_select.specs.declared.code.Line.{Line}
+use Rattle.cyc_select.specs.declared.code.Line.TheVariants as lines
+
+-- the code fits the text range, each line with the words that it takes at most
+abbrev pub Fits : List Line → Type 0
+Fits code = text_base + 4 * all_words code ≤ text_end
+
+-- how many words the lines before this one take at most
+abbrev pub most_before : List Line → ℕ → ℕ
+most_before code line = all_words (take line code)
+
+-- A branch is near where its offset of 16 bits reaches the label's line even if each line between takes as many words as
+-- it may. So which branches are near does not depend on which others are.
+abbrev pub most_reach : ℕ
+most_reach = 32767
+
+abbrev pub is_near : List Line → (from to : ℕ) → Bool
+is_near code from to =
+    nat_le (most_before code to) (most_before code from + most_reach)
+    && nat_le (most_before code from) (most_before code to + most_reach)
+
+-- How many words a line takes. A branch and a jump have a delay slot; a branch that is not near goes round a jump.
+abbrev pub width_of : List Line → (number : ℕ) → Line → ℕ
+width_of code number (lines.Ordinary instruction) = 1
+width_of code number (lines.Branch op left right label) = if is_near code number label then 2 else 4
+width_of code number (lines.Jump label) = 2
+width_of code number (lines.Call label) = 2
+width_of code number lines.Return = 2
+
+abbrev pub width_in : List Line → (number : ℕ) → Option Line → ℕ
+width_in code number (Some line) = width_of code number line
+width_in code number None = 0
+
+abbrev pub width_at : List Line → ℕ → ℕ
+width_at code number = width_in code number (slice_get code number)
+
+-- the words before a line
+abbrev pub position : List Line → ℕ → ℕ
+position code zero = 0
+position code (suc number) = position code number + width_at code number
+
+-- the same of each line, in order
+abbrev pub most_of_each : List Line → List ℕ
+most_of_each code = map (most_before code) (range_with_len 0 (length code))
+
+abbrev pub position_of_each : List Line → List ℕ
+position_of_each code = map (position code) (range_with_len 0 (length code))
+
+-- the address of a line
+abbrev pub addresses_of : Labelled → ℕ → ℕ
+addresses_of code number = text_base + 4 * position code.lines number

@@ -1,0 +1,5 @@
+pub mod Image
+pub mod Layout
+pub mod Machine
+pub mod Text
+pub mod Words

@@ -1,0 +1,60 @@
+-- What the words of a text do: the machine that runs them follows the labelled machine.
+use Rattle.std.specs.Prelude.{ℕ, ◌*◌, ◌≤◌, List, [], replicate, Option, Some, None}
+use Rattle.cyc_words.specs.Ending.{Ending}
+use Rattle.cyc_machine.specs.Start.{start_core}
+use Rattle.cyc_machine.specs.State.{text_base, words_per_call}
+use Rattle.cyc_machine.specs.Run.{World, Goes, ending_of}
+use Rattle.cyc_machine.specs.declared.phase.Phase.{Phase}
+use Rattle.cyc_machine.specs.declared.phase.Phase.TheVariants as phases
+use Rattle.cyc_plain.specs.Simulation.{Machine, Status, Running, Ended, Failed, NeverFails, Follows}
+use Rattle.cyc_select.specs.Labelled.{Labelled}
+use Rattle.cyc_select.specs.Machine as labelled
+use Rattle.cyc_asm.specs.Text.{text_of, own}
+
+-- a trap is no program's end
+abbrev pub status_at : Option Ending → Status
+status_at (Some ending) = Ended ending
+status_at None = Failed
+
+-- a machine that waits for a byte is given one at once
+abbrev pub status_in : Phase → Status
+status_in phases.Running = Running
+status_in phases.Waiting = Running
+status_in (phases.Over end) = status_at (ending_of end)
+
+-- The machine in its world, which is at the address of the next instruction.
+abbrev pub world_machine : Machine
+world_machine = record {
+  State = World;
+  Place = ℕ;
+  Step = Goes;
+  place = λ w. w.machine.core.counter;
+  output = λ w. w.output;
+  status = λ w. status_in w.machine.phase;
+}
+
+-- the world in which the machine starts with these words of text, and these words in the data range
+abbrev pub start_in : (words globals stack : List ℕ) → (calls : ℕ) → (input : List ℕ) → World
+start_in words globals stack calls input =
+    record {
+      machine = record {
+        core = start_core text_base calls;
+        memory = record { text = text_of words; globals = globals; stack = stack };
+        phase = phases.Running;
+      };
+      output = [];
+      input = input;
+    }
+
+abbrev pub start : Labelled → (words : List ℕ) → (calls : ℕ) → (input : List ℕ) → World
+start code words calls input =
+    start_in words (labelled.globals_of code.globals) (replicate (words_per_call * calls) 0) calls input
+
+-- Whatever the input, the machine that runs the words does what the labelled machine does, where that never fails, and
+-- meets for each of its lines only that line's own words, each at most once.
+abbrev pub Runs : Labelled → (addresses : ℕ → ℕ) → (words : List ℕ) → Type 0
+Runs code addresses words =
+    (calls : ℕ) (input : List ℕ) → calls ≤ 4096
+    → NeverFails (labelled.machine code addresses) (labelled.start code calls input)
+    → Follows (labelled.machine code addresses) world_machine [] (own addresses)
+    (labelled.start code calls input) (start code words calls input)

@@ -1,0 +1,101 @@
+-- When the words of a text mean labelled code whose lines lie at given addresses: each line's instruction stands once, at
+-- the line's address, each label is its line's address, and each delay slot is empty. Branches, jumps and delay slots are
+-- those of the MIPS32 architecture, volume II; how a branch goes far is this project's own choice.
+use Rattle.std.specs.Prelude.{◌≡◌, ℕ, zero, suc, ◌+◌, ◌-◌, ◌*◌, ◌/◌, ◌≤◌, Bool, true, false, List, [], ◌∷◌, length, map, Option, Some, slice_get}
+use Rattle.std.specs.List.{range_with_len, flat_map}
+use Rattle.cyc_isa.specs.Encoding.{word_of, IsEncodable}
+use Rattle.cyc_isa.specs.Decoding.{register_of, shift_amount_of}
+use Rattle.cyc_isa.specs.Effect.{branch_target, jump_target}
+use Rattle.cyc_isa.specs.declared.operand.Register.{Register}
+use Rattle.cyc_isa.specs.declared.operand.JumpIndex.{JumpIndex}
+use Rattle.cyc_isa.specs.declared.instr.Instr.{Instr}
+use Rattle.cyc_isa.specs.declared.instr.Instr.TheVariants.{Branch, Jump, JumpRegister, Shift}
+use Rattle.cyc_isa.specs.declared.instr.BranchOp.{BranchOp}
+use Rattle.cyc_isa.specs.declared.instr.BranchOp.TheVariants.{Equal, NotEqual}
+use Rattle.cyc_isa.specs.declared.instr.JumpOp.{JumpOp}
+use Rattle.cyc_isa.specs.declared.instr.JumpOp.TheVariants.{Plain, AndLink}
+use Rattle.cyc_isa.specs.declared.instr.ShiftOp.TheVariants.{Left}
+use Rattle.cyc_machine.specs.State.{text_base, text_end, text_at}
+use Rattle.cyc_select.specs.Labelled.{Labelled, AreAddresses, all_words}
+use Rattle.cyc_select.specs.declared.code.Line.{Line}
+use Rattle.cyc_select.specs.declared.code.Line.TheVariants as lines
+use Rattle.cyc_asm.specs.Layout.{is_near}
+
+-- the text that these words are
+abbrev pub text_of : List ℕ → List (Option ℕ)
+text_of words = map (λ (word : ℕ). Some word) words
+
+-- an instruction stands at an address of the text
+pub record IsAt (words : List ℕ) (address : ℕ) (i : Instr) : Type 0 where
+  pub encodable : IsEncodable i
+  pub word : text_at (text_of words) address ≡ Some (word_of i)
+
+-- the instruction that does nothing, whose word is 0: a delay slot is filled with it
+abbrev pub nothing : Instr
+nothing = Shift Left (register_of 0) (register_of 0) (shift_amount_of 0)
+
+-- register 31, where a call leaves its return address
+abbrev pub return_register : Register
+return_register = register_of 31
+
+-- the branch that is taken where the other is not
+abbrev pub inverse_of : BranchOp → BranchOp
+inverse_of Equal = NotEqual
+inverse_of NotEqual = Equal
+
+-- a branch from one address to another, with its delay slot
+pub record IsBranchAt (words : List ℕ) (op : BranchOp) (left right : Register) (from to : ℕ) : Type 0 where
+  pub offset : ℕ
+  pub branch : IsAt words from (Branch op left right offset)
+  pub target : branch_target from offset ≡ to
+  pub slot : IsAt words (from + 4) nothing
+
+-- a jump from one address to another, with its delay slot
+pub record IsJumpAt (words : List ℕ) (op : JumpOp) (from to : ℕ) : Type 0 where
+  pub index : JumpIndex
+  pub jump : IsAt words from (Jump op index)
+  pub target : jump_target from index.index ≡ to
+  pub slot : IsAt words (from + 4) nothing
+
+-- A line stands in the text, from its address up to the next line's. A branch that is not near is its inverse, which goes
+-- round a jump.
+abbrev pub StandsBranch : Bool → List ℕ → (ℕ → ℕ) → (number : ℕ) → BranchOp → (left right : Register) → (label : ℕ) → Type 0
+StandsBranch true words addresses number op left right label =
+    IsBranchAt words op left right (addresses number) (addresses label)
+    × (addresses (suc number) ≡ addresses number + 8)
+StandsBranch false words addresses number op left right label =
+    IsBranchAt words (inverse_of op) left right (addresses number) (addresses (suc number))
+    × IsJumpAt words Plain (addresses number + 8) (addresses label)
+    × (addresses (suc number) ≡ addresses number + 16)
+
+abbrev pub Stands : Labelled → List ℕ → (ℕ → ℕ) → (number : ℕ) → Line → Type 0
+Stands code words addresses number (lines.Ordinary instruction) =
+    IsAt words (addresses number) instruction × (addresses (suc number) ≡ addresses number + 4)
+Stands code words addresses number (lines.Branch op left right label) =
+    StandsBranch (is_near code.lines number label) words addresses number op left right label
+Stands code words addresses number (lines.Jump label) =
+    IsJumpAt words Plain (addresses number) (addresses label) × (addresses (suc number) ≡ addresses number + 8)
+Stands code words addresses number (lines.Call label) =
+    IsJumpAt words AndLink (addresses number) (addresses label) × (addresses (suc number) ≡ addresses number + 8)
+Stands code words addresses number lines.Return =
+    IsAt words (addresses number) (JumpRegister return_register) × IsAt words (addresses number + 4) nothing
+    × (addresses (suc number) ≡ addresses number + 8)
+
+-- so many addresses of words, from this one on
+abbrev pub stretch : (from count : ℕ) → List ℕ
+stretch from zero = []
+stretch from (suc count) = from ∷ stretch (from + 4) count
+
+-- the addresses of a line's own words: those up to the next line
+abbrev pub own : (ℕ → ℕ) → ℕ → List ℕ
+own addresses number = stretch (addresses number) ((addresses (suc number) - addresses number) / 4)
+
+-- The words mean the code. The lines stand in order, and nothing else stands in the text: the lines' own words are all
+-- its words, each once.
+pub record IsTextOf (code : Labelled) (addresses : ℕ → ℕ) (words : List ℕ) : Type 0 where
+  pub places : AreAddresses code addresses
+  pub first : addresses 0 ≡ text_base
+  pub stands : (number : ℕ) (line : Line) → slice_get code.lines number ≡ Some line → Stands code words addresses number line
+  pub all : flat_map (own addresses) (range_with_len 0 (length code.lines)) ≡ stretch text_base (length words)
+  pub few : length words ≤ all_words code.lines
+  pub inside : text_base + 4 * length words ≤ text_end

@@ -1,0 +1,46 @@
+//! From labelled code to words.
+
+ghost use Rattle.std.specs.Prelude.{◌≡◌, length, All, IfOk, IfErr};
+ghost use Rattle.cyc_frame.specs.Layout.{memory_fault};
+ghost use Rattle.cyc_select.specs.Labelled.{labelled_of, IsFormed, IsFormedLine};
+ghost use Rattle.cyc_asm.specs.Layout.{Fits, addresses_of};
+ghost use Rattle.cyc_asm.specs.Text.{IsTextOf};
+ghost use Rattle.cyc_asm.specs.Words.{assembled, words_before};
+ghost use Rattle.cyc_asm.specs.Machine.{Runs};
+
+use crate::{emission, layout};
+use cyc_select::{Code, Line};
+use cyc_words::Fault;
+use std::alloc::{AllocError, Global};
+
+fn words_of(alloc: Global, lines: &[Line]) -> Result<Vec<u32>, AllocError>
+    requires formed { All (IsFormedLine (length lines.now)) lines.now }
+    requires fits { Fits lines.now }
+    ensures { IfOk result (λ words. words.items ≡ words_before lines.now (length lines.now)) }
+{
+    let most = layout::most_of_each(alloc, lines)?;
+    let positions = layout::position_of_each(alloc, lines, &most)?;
+    emission::words_of_all(alloc, lines, &most, &positions)
+}
+
+/// The words of labelled code, as they stand from the beginning of the machine's text range on.
+///
+/// The code fits the range where a branch counts four words, a jump, a call or a return two, and another instruction one.
+/// Only want of memory is refused.
+pub fn assemble(alloc: Global, code: &Code) -> Result<Vec<u32>, Fault>
+    requires formed { IsFormed (labelled_of code.now) }
+    requires fits { Fits (labelled_of code.now).lines }
+
+    // The words mean the code: each line's instruction stands once, each label is its line's address, each delay slot is
+    // empty, and there is nothing else.
+    ensures means { IfOk result (λ words. IsTextOf (labelled_of code.now) (addresses_of (labelled_of code.now)) words.items) }
+    // And the machine that runs them does what the labelled machine does.
+    ensures runs { IfOk result (λ words. Runs (labelled_of code.now) (addresses_of (labelled_of code.now)) words.items) }
+    ensures assembled { IfOk result (λ words. words.items ≡ assembled (labelled_of code.now)) }
+    ensures refused { IfErr result (λ e. e ≡ memory_fault) }
+{
+    match words_of(alloc, &code.lines) {
+        Ok(words) => Ok(words),
+        Err(_) => Err(Fault::memory()),
+    }
+}

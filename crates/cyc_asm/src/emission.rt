@@ -1,0 +1,148 @@
+//! The words of each line.
+
+ghost use Rattle.std.specs.Prelude.{◌≡◌, ◌∷◌, [], ◌++◌, ◌+◌, ◌<◌, ◌≤◌, length, slice_get, All, OnOk, IfOk};
+ghost use Rattle.cyc_isa.specs.Encoding.{word_of};
+ghost use Rattle.cyc_select.specs.Labelled.{IsFormedLine};
+ghost use Rattle.cyc_asm.specs.Layout.{Fits, most_reach, most_of_each, position_of_each};
+ghost use Rattle.cyc_asm.specs.Text.{inverse_of};
+ghost use Rattle.cyc_asm.specs.Words.{offset_of, jump_words, words_before, words_in};
+
+use crate::layout::is_near;
+use cyc_isa::{BranchOp, Instr, JumpIndex, JumpOp, Register, encode};
+use cyc_select::Line;
+use std::alloc::{AllocError, Global};
+
+/// The word of an empty delay slot, which does nothing.
+const EMPTY_SLOT: u32 = 0;
+
+/// The offset round a jump and two delay slots.
+const ROUND: u16 = 3;
+
+/// A text begins at the word of this number.
+const FIRST_INDEX: u32 = 0x0010_0000;
+
+/// Register 31, where a call leaves its return address.
+const RETURN_ADDRESS: u8 = 31;
+
+/// The branch that is taken where this one is not.
+fn inverse(op: BranchOp) -> BranchOp
+    ensures { result ≡ inverse_of op }
+{
+    match op {
+        BranchOp::Equal => BranchOp::NotEqual,
+        BranchOp::NotEqual => BranchOp::Equal,
+    }
+}
+
+/// The offset of a near branch with `from` words before it to a line with `to`, in two's complement.
+fn offset(from: u32, to: u32) -> u16
+    requires { (from ≤ to + most_reach) × (to ≤ from + most_reach) }
+    ensures { result ≡ offset_of from to }
+{
+    if from < to {
+        (to - (from + 1)) as u16
+    } else {
+        (65_535 - (from - to)) as u16
+    }
+}
+
+/// An instruction with an empty delay slot.
+fn push_with_slot(words: &mut Vec<u32>, instruction: Instr) -> Result<(), AllocError>
+    ensures { OnOk result (words.new.items ≡ words.old.items ++ word_of instruction ∷ 0 ∷ []) }
+{
+    words.push(encode(instruction))?;
+    words.push(EMPTY_SLOT)?;
+    Ok(())
+}
+
+/// A jump to the line with `to` words before it.
+fn push_jump(words: &mut Vec<u32>, op: JumpOp, to: u32) -> Result<(), AllocError>
+    requires { to ≤ 7340032 }
+    ensures { OnOk result (words.new.items ≡ words.old.items ++ jump_words op to) }
+{
+    let index = JumpIndex {
+        index: FIRST_INDEX + to,
+    };
+    push_with_slot(words, Instr::Jump { op, index })
+}
+
+/// The words of the line of this number.
+fn push_line(
+    words: &mut Vec<u32>,
+    lines: &[Line],
+    most: &[u32],
+    positions: &[u32],
+    number: usize,
+) -> Result<(), AllocError>
+    requires within { number < length lines.now }
+    requires formed { All (IsFormedLine (length lines.now)) lines.now }
+    requires fits { Fits lines.now }
+    requires most { most.now ≡ most_of_each lines.now }
+    requires positions { positions.now ≡ position_of_each lines.now }
+    ensures { OnOk result (words.new.items ≡ words.old.items ++ words_in lines.now number (slice_get lines.now number)) }
+{
+    match lines[number] {
+        Line::Ordinary { instruction } => {
+            words.push(encode(instruction))?;
+            Ok(())
+        }
+        Line::Branch {
+            op,
+            left,
+            right,
+            label,
+        } => {
+            if is_near(most[number], most[label]) {
+                let offset = offset(positions[number], positions[label]);
+                return push_with_slot(
+                    words,
+                    Instr::Branch {
+                        op,
+                        left,
+                        right,
+                        offset,
+                    },
+                );
+            }
+            let op = inverse(op);
+            push_with_slot(
+                words,
+                Instr::Branch {
+                    op,
+                    left,
+                    right,
+                    offset: ROUND,
+                },
+            )?;
+            push_jump(words, JumpOp::Plain, positions[label])
+        }
+        Line::Jump { label } => push_jump(words, JumpOp::Plain, positions[label]),
+        Line::Call { label } => push_jump(words, JumpOp::AndLink, positions[label]),
+        Line::Return => {
+            let source = Register {
+                number: RETURN_ADDRESS,
+            };
+            push_with_slot(words, Instr::JumpRegister { source })
+        }
+    }
+}
+
+/// The words of all lines.
+pub(crate) fn words_of_all(
+    alloc: Global,
+    lines: &[Line],
+    most: &[u32],
+    positions: &[u32],
+) -> Result<Vec<u32>, AllocError>
+    requires formed { All (IsFormedLine (length lines.now)) lines.now }
+    requires fits { Fits lines.now }
+    requires most { most.now ≡ most_of_each lines.now }
+    requires positions { positions.now ≡ position_of_each lines.now }
+    ensures { IfOk result (λ words. words.items ≡ words_before lines.now (length lines.now)) }
+{
+    let mut words = Vec::new(alloc);
+    for number in 0..lines.len() {
+        push_line(&mut words, lines, most, positions, number)?;
+    }
+    Ok(words)
+}

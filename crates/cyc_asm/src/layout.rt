@@ -1,0 +1,83 @@
+//! Where lines lie: how many words stand before each.
+
+ghost use Rattle.std.specs.Prelude.{◌≡◌, ◌+◌, ◌<◌, ◌≤◌, ◌&&◌, nat_le, length, All, IfOk};
+ghost use Rattle.cyc_select.specs.Labelled.{IsFormedLine, words_of};
+ghost use Rattle.cyc_asm.specs.Layout.{Fits, most_reach, most_of_each, position_of_each, width_at};
+
+use cyc_select::Line;
+use std::alloc::{AllocError, Global};
+
+/// A branch is near where it is at most so many words from its label.
+const MOST_REACH: u32 = 32_767;
+
+/// How many words a line takes at most.
+fn most_words(line: &Line) -> u32
+    ensures { result ≡ words_of line.now }
+{
+    match line {
+        Line::Ordinary { .. } => 1,
+        Line::Branch { .. } => 4,
+        Line::Jump { .. } | Line::Call { .. } | Line::Return => 2,
+    }
+}
+
+/// How many words the lines before each take at most.
+pub(crate) fn most_of_each(alloc: Global, lines: &[Line]) -> Result<Vec<u32>, AllocError>
+    requires { Fits lines.now }
+    ensures { IfOk result (λ most. most.items ≡ most_of_each lines.now) }
+{
+    let mut most = Vec::new(alloc);
+    let mut before: u32 = 0;
+    for line in lines {
+        most.push(before)?;
+        before += most_words(line);
+    }
+    Ok(most)
+}
+
+/// Whether a branch that has at most `from` words before it is near a label that has at most `to`.
+pub(crate) fn is_near(from: u32, to: u32) -> bool
+    requires { (from ≤ 7340032) × (to ≤ 7340032) }
+    ensures { result ≡ (nat_le to (from + most_reach) && nat_le from (to + most_reach)) }
+{
+    to <= from + MOST_REACH && from <= to + MOST_REACH
+}
+
+/// How many words the line of this number takes.
+fn width_at(lines: &[Line], most: &[u32], number: usize) -> u32
+    requires within { number < length lines.now }
+    requires formed { All (IsFormedLine (length lines.now)) lines.now }
+    requires fits { Fits lines.now }
+    requires most { most.now ≡ most_of_each lines.now }
+    ensures { result ≡ width_at lines.now number }
+{
+    match lines[number] {
+        Line::Ordinary { .. } => 1,
+        Line::Branch { label, .. } => if is_near(most[number], most[label]) {
+            2
+        } else {
+            4
+        },
+        Line::Jump { .. } | Line::Call { .. } | Line::Return => 2,
+    }
+}
+
+/// How many words stand before each line.
+pub(crate) fn position_of_each(
+    alloc: Global,
+    lines: &[Line],
+    most: &[u32],
+) -> Result<Vec<u32>, AllocError>
+    requires formed { All (IsFormedLine (length lines.now)) lines.now }
+    requires fits { Fits lines.now }
+    requires most { most.now ≡ most_of_each lines.now }
+    ensures { IfOk result (λ positions. positions.items ≡ position_of_each lines.now) }
+{
+    let mut positions = Vec::new(alloc);
+    let mut before: u32 = 0;
+    for number in 0..lines.len() {
+        positions.push(before)?;
+        before += width_at(lines, most, number);
+    }
+    Ok(positions)
+}

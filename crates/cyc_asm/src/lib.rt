@@ -1,0 +1,14 @@
+//! The assembler: labelled code as words of text.
+//!
+//! A branch or a jump is followed by an empty delay slot, and a branch whose label may be out of reach goes round a jump.
+//! Nothing else is added.
+#![tactic(auto)]
+
+mod assembler;
+mod emission;
+pub mod laws;
+mod layout;
+#[cfg(test)]
+mod tests;
+
+pub use assembler::assemble;

@@ -1,0 +1,9 @@
+use Rattle.std.proofs.Common.{◌≡◌, map, drop}
+use Rattle.cyc_plain.specs.Program.{routine_of}
+use Rattle.cyc_frame.specs.Layout.{first_too_large}
+use Rattle.cyc_frame.proofs.layouts.first_too_large.Given as goal
+
+-- no function so far has a frame that is too large
+abbrev pub invariant-loop-function : goal.invariant-loop-function
+invariant-loop-function l =
+    first_too_large (map routine_of (drop l.function-index l.functions)) ≡ first_too_large (map routine_of l.functions)

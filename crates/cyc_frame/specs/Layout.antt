@@ -1,0 +1,65 @@
+-- Where a function's words lie in its frame. The System V ABI has a frame grow downward from the caller's; how its words
+-- are used, and how many there may be, is this project's own choice.
+use Rattle.std.specs.Prelude.{◌≡◌, ◌≢◌, ℕ, ◌+◌, ◌<◌, ◌≤◌, Bool, nat_lt, if◌then◌else◌, List, [], ◌∷◌, length, map, Option, Some, None, slice_index_or}
+use Rattle.cyc_words.specs.declared.fault.Code.TheVariants as faults
+use Rattle.cyc_words.specs.declared.fault.Fault.{Fault}
+use Rattle.cyc_syntax.specs.declared.tokens.Span.{Span}
+use Rattle.cyc_plain.specs.Program.{Routine, Program, routine_at, layout_words}
+use Rattle.cyc_frame.specs.declared.frame.Frame.{Frame}
+
+-- a frame has at most so many words, since the machine's stack has so many for each call
+abbrev pub most_words : ℕ
+most_words = 256
+
+-- the word of a frame that holds a slot
+abbrev pub slot_word : Frame → ℕ → ℕ
+slot_word frame slot = frame.first_slot + slot
+
+-- A function's frame: its slots have words of their own, beside the one for the return address, and all lie within the
+-- frame, which is no larger than the function says and may be.
+pub record IsFrame (r : Routine) (frame : Frame) : Type 0 where
+  pub apart : (a b : ℕ) → a < r.slots → b < r.slots → slot_word frame a ≡ slot_word frame b → a ≡ b
+  pub inside : (slot : ℕ) → slot < r.slots → slot_word frame slot < frame.words
+  pub beside : (slot : ℕ) → slot < r.slots → slot_word frame slot ≢ frame.return_address
+  pub return_inside : frame.return_address < frame.words
+  pub within : frame.words ≤ r.frame_count
+  pub small : r.frame_count ≤ most_words
+
+-- The frame of a function: the words that are kept for the layout, of which the first is for the return address, and
+-- then the slots in order.
+abbrev pub frame_of : Routine → Frame
+frame_of r = record { words = layout_words + r.slots; return_address = 0; first_slot = layout_words }
+
+abbrev pub frames_of : Program → List Frame
+frames_of program = map frame_of program.functions
+
+-- the frame of the function of this index; where there is none, an empty one
+abbrev pub frame_at : List Frame → ℕ → Frame
+frame_at frames function =
+    slice_index_or frames function (record { words = 0; return_address = 0; first_slot = 0 })
+
+-- where the name stands of the first function whose frame is too large
+abbrev pub is_too_large : Routine → Bool
+is_too_large r = nat_lt most_words r.frame_count
+
+abbrev pub first_too_large : List Routine → Option Span
+first_too_large [] = None
+first_too_large (r ∷ routines) = if is_too_large r then Some r.name else first_too_large routines
+
+-- each function's frame may be as large as the function says
+abbrev pub AreSmall : Program → Type 0
+AreSmall program = (k : ℕ) → k < length program.functions → (routine_at program k).frame_count ≤ most_words
+
+-- the refusal of the first function that says more
+pub record IsTooLarge (program : Program) (fault : Fault) : Type 0 where
+  pub function : ℕ
+  pub is_function : function < length program.functions
+  pub large : most_words < (routine_at program function).frame_count
+  pub first : (k : ℕ) → k < function → (routine_at program k).frame_count ≤ most_words
+  pub code : fault.code ≡ faults.FrameTooLarge
+  pub line : fault.line ≡ (routine_at program function).name.line
+  pub column : fault.column ≡ (routine_at program function).name.column
+
+-- want of memory
+abbrev pub memory_fault : Fault
+memory_fault = record { code = faults.Memory; line = 0; column = 0 }

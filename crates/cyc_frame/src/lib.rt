@@ -1,0 +1,10 @@
+//! Frames: which word of a function's frame each of its slots has.
+#![tactic(auto)]
+
+mod frame;
+mod layouts;
+#[cfg(test)]
+mod tests;
+
+pub use frame::{Frame, Frames};
+pub use layouts::layout;

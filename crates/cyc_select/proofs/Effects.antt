@@ -1,0 +1,218 @@
+-- An ordinary instruction that is safe is performed, and does what it does.
+use Rattle.std.proofs.Common.{◌≡◌, ◌≢◌, ℕ, ◌+◌, ◌-◌, ◌*◌, ◌%◌, ◌^◌, ◌<◌, ◌≤◌, Bool, true, false, not, ◌&&◌, ◌||◌, List, [], ◌∷◌, length, drop, Option, None, Some, refl, sym, ap, subst, ◌∙◌, arith, inl, inr, ◌++◌}
+use Rattle.std.specs.Prelude.{◌⊎◌, ◌==◌, if◌then◌else◌, slice_get, unwrap_or, is_none}
+use Rattle.std.proofs.lemmas.Bool.{cases_eq, eq-eqb, ne_eqb, or_from, and_left, and_right, not_from_true}
+use Rattle.cyc_words.specs.Ending as ending
+use Rattle.cyc_words.specs.Word.{signed}
+use Rattle.cyc_isa.specs.declared.instr.Instr.{Instr}
+use Rattle.cyc_isa.specs.declared.instr.Instr.TheVariants.{Immediate, LoadUpper, Memory, Branch, BranchZero, Jump, Shift, ShiftVariable, JumpRegister, JumpRegisterLink, Exception, MoveFrom, MultiplyDivide, Arithmetic}
+use Rattle.cyc_isa.specs.declared.instr.MemoryOp.TheVariants.{LoadWord, StoreWord}
+use Rattle.cyc_isa.specs.declared.instr.MoveFromOp.TheVariants.{High, Low}
+use Rattle.cyc_isa.specs.declared.instr.MultiplyDivideOp.TheVariants.{Multiply, Divide}
+use Rattle.cyc_isa.specs.declared.instr.ExceptionOp.TheVariants.{Syscall, Break}
+use Rattle.cyc_isa.specs.declared.operand.Register.{Register}
+use Rattle.cyc_isa.specs.declared.operand.TrapCode.{TrapCode}
+use Rattle.cyc_isa.specs.Effect.{immediate_result, load_upper_result, arithmetic_result, shift_result, high_result, low_result, memory_address}
+use Rattle.cyc_machine.specs.declared.event.Cause.TheVariants as causes
+use Rattle.cyc_machine.specs.declared.event.End.TheVariants as ends
+use Rattle.cyc_machine.specs.declared.event.Event.{Event}
+use Rattle.cyc_machine.specs.declared.event.Event.TheVariants.{Ran, WantsByte, Puts, Ended}
+use Rattle.cyc_machine.specs.declared.phase.Phase.{Phase}
+use Rattle.cyc_machine.specs.declared.phase.Phase.TheVariants as phases
+use Rattle.cyc_machine.specs.State as machines
+use Rattle.cyc_machine.specs.State.{Core, Place, InText, InGlobals, InStack, Nowhere, register, with_register, place_of, loaded, stored, over, data_base, stack_base, word_number}
+use Rattle.cyc_machine.specs.Step.{Action, Does, Calls, Acts, Service, GetByte, PutByte, EndReturned, EndUncaught, EndFull, Serves, service_of, asked, calls, executes, after, given, cause_of, first_of, is_nowhere, is_text, is_aligned, is_unpredictable, refuses_or_performs, performs}
+use Rattle.cyc_machine.specs.Run.{World, told}
+use Rattle.cyc_machine.proofs.StepLaws.{executes-performs}
+use Rattle.cyc_plain.specs.State.{Words, put}
+use Rattle.cyc_select.specs.Machine.{Configuration, State, Running, core_of, memory_of, machine_of, world_of, from_world, settled, Performs, word_in}
+use Rattle.cyc_select.specs.Machine as labelled
+use Rattle.cyc_select.proofs.Cells.{IsCell, cell, place_of-data, place_of-stack}
+use Rattle.cyc_select.proofs.Views.{View, does_r, does_w, IsSafe, moved, view_put, view_product, view_store}
+
+-- what is performed without an event leaves this
+performs_to : (c : Configuration) (i : Instr) (left : machines.State) (next : State) → executes (machine_of c) i ≡ Does Ran left → left.phase ≡ phases.Running
+    → Performs c i next → next ≡ Running (from_world (record { machine = left; output = c.output; input = c.input }) (c.line + 1))
+performs_to c i left next does running (event, s, acts, is) =
+    let acted : Acts (Does Ran left) (machine_of c) event s = subst (λ (a : Action). Acts a (machine_of c) event s) does acts in
+    is
+    ∙ (ap (λ (e : Event). settled (told (world_of c) e s) (c.line + 1) (told (world_of c) e s).machine.phase) acted.0
+    ∙ (ap (λ (t : machines.State). settled (told (world_of c) Ran t) (c.line + 1) t.phase) acted.1
+    ∙ ap (settled (told (world_of c) Ran left) (c.line + 1)) running))
+
+-- ---- division and memory, which may trap
+
+no_cause : (a b c d : Bool) → a ≡ false → b ≡ false → c ≡ false → d ≡ false
+    → first_of ((a, causes.Unpredictable) ∷ (b, causes.Misaligned) ∷ (c, causes.NoSuchAddress) ∷ (d, causes.WriteToText) ∷ (false, causes.Break) ∷ (false, causes.BadService) ∷ []) ≡ None
+no_cause false false false false ea eb ec ed = refl
+no_cause true b c d ea eb ec ed = absurd (let e : true ≡ false = ea in cc)
+no_cause false true c d ea eb ec ed = absurd (let e : true ≡ false = eb in cc)
+no_cause false false true d ea eb ec ed = absurd (let e : true ≡ false = ec in cc)
+no_cause false false false true ea eb ec ed = absurd (let e : true ≡ false = ed in cc)
+
+divides : (a b : ℕ) → b ≢ 0 → (a ≡ 2 ^ 31 → b ≡ 2 ^ 32 - 1 → ⊥) → (b == 0 || (a == 2 ^ 31 && b == 2 ^ 32 - 1)) ≡ false
+divides a b nonzero least = or_from (b == 0) (a == 2 ^ 31 && b == 2 ^ 32 - 1) (ne_eqb b 0 nonzero) (elim (cases_eq a (2 ^ 31)) [
+  | inl same ↦ and_right (a == 2 ^ 31) (b == 2 ^ 32 - 1) (ne_eqb b (2 ^ 32 - 1) (least same))
+  | inr other ↦ and_left (a == 2 ^ 31) (b == 2 ^ 32 - 1) (ne_eqb a (2 ^ 31) other)
+])
+
+-- a cell has a place that can be written
+module _ (globals stack : ℕ) (c : Configuration) (r w : Words) (view : View globals stack c r w) where
+  stands : (a : ℕ) → IsCell globals stack a → (is_nowhere (place_of (memory_of c) a) ≡ false) × (is_text (place_of (memory_of c) a) ≡ false)
+  stands a (inl (aligned, from, below)) =
+      let there = place_of-data c.globals c.stack a (aligned, from, omega (arith, below, view.data_words)) in
+      (ap is_nowhere there, ap is_text there)
+  stands a (inr (aligned, from, below)) =
+      let there = place_of-stack c.globals c.stack a (omega (arith, view.data_words, view.few_globals)) (omega (arith, view.stack_words, view.few_stack)) (aligned, omega (arith, from, view.stack_words), below) in
+      (ap is_nowhere there, ap is_text there)
+
+  aligned : (a : ℕ) → IsCell globals stack a → not (is_aligned a) ≡ false
+  aligned a (inl (fine, from, below)) = not_from_true (is_aligned a) (eq-eqb (a % 4) 0 fine)
+  aligned a (inr (fine, from, below)) = not_from_true (is_aligned a) (eq-eqb (a % 4) 0 fine)
+
+  at_cell : (base : Register) (offset : ℕ) → IsCell globals stack (memory_address (r base.number) offset) → IsCell globals stack (memory_address (word_in c base.number) offset)
+  at_cell base offset at = subst (λ (n : ℕ). IsCell globals stack (memory_address n offset)) (sym (view.reg base.number base.in_range)) at
+
+  same_address : (base : Register) (offset : ℕ) → memory_address (word_in c base.number) offset ≡ memory_address (r base.number) offset
+  same_address base offset = ap (λ (n : ℕ). memory_address n offset) (view.reg base.number base.in_range)
+
+  both : (a b : Register) (f : ℕ → ℕ → ℕ) → f (word_in c a.number) (word_in c b.number) ≡ f (r a.number) (r b.number)
+  both a b f = ap (λ (n : ℕ). f n (word_in c b.number)) (view.reg a.number a.in_range) ∙ ap (f (r a.number)) (view.reg b.number b.in_range)
+
+  -- it goes on to the next line
+  pub performed : (i : Instr) (next : State) → IsSafe globals stack i r → Performs c i next → next ≡ Running (moved c i)
+  performed (Immediate op target source half) next safe goes = performs_to c (Immediate op target source half) (after (machine_of c) (Immediate op target source half)) next refl refl goes
+  performed (LoadUpper target half) next safe goes = performs_to c (LoadUpper target half) (after (machine_of c) (LoadUpper target half)) next refl refl goes
+  performed (Memory LoadWord target base offset) next (writable, at) goes =
+      let a : ℕ = memory_address (word_in c base.number) offset in
+      let there = stands a (at_cell base offset at) in
+      let fine = executes-performs (machine_of c) (Memory LoadWord target base offset)
+      (no_cause false _ _ false refl (aligned a (at_cell base offset at)) there.0 refl) in
+      performs_to c (Memory LoadWord target base offset) (after (machine_of c) (Memory LoadWord target base offset)) next fine refl goes
+  performed (Memory StoreWord source base offset) next at goes =
+      let a : ℕ = memory_address (word_in c base.number) offset in
+      let there = stands a (at_cell base offset at) in
+      let fine = executes-performs (machine_of c) (Memory StoreWord source base offset)
+      (no_cause false _ _ _ refl (aligned a (at_cell base offset at)) there.0 there.1) in
+      performs_to c (Memory StoreWord source base offset) (after (machine_of c) (Memory StoreWord source base offset)) next fine refl goes
+  performed (ShiftVariable op destination source by) next safe goes = performs_to c (ShiftVariable op destination source by) (after (machine_of c) (ShiftVariable op destination source by)) next refl refl goes
+  performed (MoveFrom High destination) next safe goes = performs_to c (MoveFrom High destination) (after (machine_of c) (MoveFrom High destination)) next refl refl goes
+  performed (MoveFrom Low destination) next safe goes = performs_to c (MoveFrom Low destination) (after (machine_of c) (MoveFrom Low destination)) next refl refl goes
+  performed (MultiplyDivide Multiply left right) next safe goes = performs_to c (MultiplyDivide Multiply left right) (after (machine_of c) (MultiplyDivide Multiply left right)) next refl refl goes
+  performed (MultiplyDivide Divide left right) next (nonzero, least) goes =
+      let a = view.reg left.number left.in_range in
+      let b = view.reg right.number right.in_range in
+      let fine = executes-performs (machine_of c) (MultiplyDivide Divide left right)
+      (no_cause _ false false false (divides (word_in c left.number) (word_in c right.number) (λ e. nonzero (sym b ∙ e)) (λ e f. least (sym a ∙ e) (sym b ∙ f))) refl refl refl) in
+      performs_to c (MultiplyDivide Divide left right) (after (machine_of c) (MultiplyDivide Divide left right)) next fine refl goes
+  performed (Arithmetic op destination left right) next safe goes = performs_to c (Arithmetic op destination left right) (after (machine_of c) (Arithmetic op destination left right)) next refl refl goes
+  performed (Branch op left right offset) next safe goes = absurd safe
+  performed (BranchZero op source offset) next safe goes = absurd safe
+  performed (Jump op index) next safe goes = absurd safe
+  performed (Shift op destination source amount) next safe goes = absurd safe
+  performed (JumpRegister source) next safe goes = absurd safe
+  performed (JumpRegisterLink destination source) next safe goes = absurd safe
+  performed (Exception op code) next safe goes = absurd safe
+
+  -- and what it leaves is seen so
+  pub moved_view : (i : Instr) → IsSafe globals stack i r → View globals stack (moved c i) (does_r i r w) (does_w i r w)
+  moved_view (Immediate op target source half) safe =
+      view_put globals stack c r w view target.number (immediate_result op (word_in c source.number) half) (immediate_result op (r source.number) half) (c.line + 1) target.in_range safe
+      (ap (λ (n : ℕ). immediate_result op n half) (view.reg source.number source.in_range))
+  moved_view (LoadUpper target half) safe =
+      view_put globals stack c r w view target.number (load_upper_result half) (load_upper_result half) (c.line + 1) target.in_range safe refl
+  moved_view (Memory LoadWord target base offset) (writable, at) =
+      view_put globals stack c r w view target.number (cell (memory_of c) (memory_address (word_in c base.number) offset)) (w (memory_address (r base.number) offset)) (c.line + 1) target.in_range writable
+      (ap (cell (memory_of c)) (same_address base offset) ∙ view.mem (memory_address (r base.number) offset) at)
+  moved_view (Memory StoreWord source base offset) at =
+      view_store globals stack c r w view (memory_address (r base.number) offset) (memory_address (word_in c base.number) offset) (word_in c source.number) (r source.number) (c.line + 1) at (same_address base offset) (view.reg source.number source.in_range)
+  moved_view (ShiftVariable op destination source by) safe =
+      view_put globals stack c r w view destination.number (shift_result op (word_in c source.number) (word_in c by.number)) (shift_result op (r source.number) (r by.number)) (c.line + 1) destination.in_range safe
+      (both source by (shift_result op))
+  moved_view (MoveFrom High destination) safe = view_put globals stack c r w view destination.number c.high (r 32) (c.line + 1) destination.in_range safe view.high
+  moved_view (MoveFrom Low destination) safe = view_put globals stack c r w view destination.number c.low (r 33) (c.line + 1) destination.in_range safe view.low
+  moved_view (MultiplyDivide Multiply left right) safe =
+      view_product globals stack c r w view _ _ _ _ (c.line + 1) (both left right (high_result Multiply)) (both left right (low_result Multiply))
+  moved_view (MultiplyDivide Divide left right) safe =
+      view_product globals stack c r w view _ _ _ _ (c.line + 1) (both left right (high_result Divide)) (both left right (low_result Divide))
+  moved_view (Arithmetic op destination left right) safe =
+      view_put globals stack c r w view destination.number (arithmetic_result op (word_in c left.number) (word_in c right.number)) (arithmetic_result op (r left.number) (r right.number)) (c.line + 1) destination.in_range safe
+      (both left right (arithmetic_result op))
+  moved_view (Branch op left right offset) safe = absurd safe
+  moved_view (BranchZero op source offset) safe = absurd safe
+  moved_view (Jump op index) safe = absurd safe
+  moved_view (Shift op destination source amount) safe = absurd safe
+  moved_view (JumpRegister source) safe = absurd safe
+  moved_view (JumpRegisterLink destination source) safe = absurd safe
+  moved_view (Exception op code) safe = absurd safe
+
+-- ---- services
+
+-- a service that is asked for is called
+called : (c : Configuration) (code : TrapCode) (service : Service) → asked (core_of c) ≡ Some service → executes (machine_of c) (Exception Syscall code) ≡ Calls service
+called c code service asks =
+    let fine : cause_of (machine_of c) (Exception Syscall code) ≡ None = ap (λ (o : Option Service). if is_none o then Some causes.BadService else None) asks in
+    executes-performs (machine_of c) (Exception Syscall code) fine ∙ ap (λ (o : Option Service). calls o (machine_of c)) asks
+
+-- what it tells and leaves
+abbrev Served : Configuration → Service → State → Type 0
+Served c service next =
+    (event : Event) × (s : machines.State) × Serves service (machine_of c) event s
+    × (next ≡ settled (told (world_of c) event s) (c.line + 1) (told (world_of c) event s).machine.phase)
+
+serves : (c : Configuration) (code : TrapCode) (service : Service) (number : ℕ) (next : State) → word_in c 2 ≡ number → service_of number ≡ Some service → Performs c (Exception Syscall code) next → Served c service next
+serves c code service number next is_number asks (event, s, acts, is) =
+    (event, s, subst (λ (a : Action). Acts a (machine_of c) event s) (called c code service (ap service_of is_number ∙ asks)) acts, is)
+
+-- from an event and a state to the state that is seen
+seen : (c : Configuration) (next : State) (event told_event : Event) (s left : machines.State) → event ≡ told_event → s ≡ left
+    → next ≡ settled (told (world_of c) event s) (c.line + 1) (told (world_of c) event s).machine.phase
+    → next ≡ settled (told (world_of c) told_event left) (c.line + 1) (told (world_of c) told_event left).machine.phase
+seen c next event told_event s left same_event same is =
+    is
+    ∙ (ap (λ (e : Event). settled (told (world_of c) e s) (c.line + 1) (told (world_of c) e s).machine.phase) same_event
+    ∙ ap (λ (t : machines.State). settled (told (world_of c) told_event t) (c.line + 1) (told (world_of c) told_event t).machine.phase) same)
+
+-- the byte that a program is given, or -1
+abbrev pub byte_of : List ℕ → ℕ
+byte_of input = unwrap_or (slice_get input 0) (2 ^ 32 - 1)
+
+abbrev pub given_byte : Configuration → Configuration
+given_byte c = record c {
+  registers = (with_register (core_of c) 2 (byte_of c.input)).registers;
+  input = drop 1 c.input;
+  line = c.line + 1;
+}
+
+pub gets_byte : (c : Configuration) (code : TrapCode) (next : State) → word_in c 2 ≡ 1 → Performs c (Exception Syscall code) next → next ≡ Running (given_byte c)
+gets_byte c code next number goes =
+    let (event, s, (same_event, same), is) = serves c code GetByte 1 next number refl goes in
+    seen c next event WantsByte s (record (machine_of c) { phase = phases.Waiting }) same_event same is
+
+abbrev pub printed_byte : Configuration → Configuration
+printed_byte c = record c { output = c.output ++ word_in c 4 % 256 ∷ []; line = c.line + 1 }
+
+pub puts_byte : (c : Configuration) (code : TrapCode) (next : State) → word_in c 2 ≡ 2 → Performs c (Exception Syscall code) next → next ≡ Running (printed_byte c)
+puts_byte c code next number goes =
+    let (event, s, (same_event, same), is) = serves c code PutByte 2 next number refl goes in
+    seen c next event (Puts (word_in c 4 % 256)) s (record (machine_of c) { core = machines.advanced (core_of c) }) same_event same is
+
+pub ends_returned : (c : Configuration) (code : TrapCode) (next : State) → word_in c 2 ≡ 3 → Performs c (Exception Syscall code) next
+    → next ≡ labelled.Ended (ending.Returned (signed (word_in c 4))) c.output c.input
+ends_returned c code next number goes =
+    let (event, s, (same_event, same), is) = serves c code EndReturned 3 next number refl goes in
+    let end = ends.Returned (signed (word_in c 4)) in
+    seen c next event (Ended end) s (over (machine_of c) end) same_event same is
+
+pub ends_uncaught : (c : Configuration) (code : TrapCode) (next : State) → word_in c 2 ≡ 4 → Performs c (Exception Syscall code) next
+    → next ≡ labelled.Ended (ending.Uncaught (word_in c 4) (signed (word_in c 5))) c.output c.input
+ends_uncaught c code next number goes =
+    let (event, s, (same_event, same), is) = serves c code EndUncaught 4 next number refl goes in
+    let end = ends.Uncaught (word_in c 4) (signed (word_in c 5)) in
+    seen c next event (Ended end) s (over (machine_of c) end) same_event same is
+
+pub ends_full : (c : Configuration) (code : TrapCode) (next : State) → word_in c 2 ≡ 11 → Performs c (Exception Syscall code) next
+    → next ≡ labelled.Ended ending.Full c.output c.input
+ends_full c code next number goes =
+    let (event, s, (same_event, same), is) = serves c code EndFull 11 next number refl goes in
+    seen c next event (Ended ends.Full) s (over (machine_of c) ends.Full) same_event same is

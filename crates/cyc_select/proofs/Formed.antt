@@ -1,0 +1,326 @@
+-- Each line of the code is formed, and each part has few words.
+use Rattle.std.proofs.Common.{◌≡◌, ◌≢◌, ℕ, zero, suc, ◌+◌, ◌-◌, ◌*◌, ◌/◌, ◌%◌, ◌^◌, ◌<◌, ◌≤◌, Bool, true, false, List, [], ◌∷◌, ◌++◌, length, map, take, Some, None, slice_get, refl, sym, ap, subst, ◌∙◌, arith, inl, inr, length-append}
+use Rattle.std.specs.Prelude.{All, sum_by, ◌==◌, if◌then◌else◌, slice_index_or}
+use Rattle.std.specs.List.{AllByRecursion}
+use Rattle.std.proofs.lemmas.Bool.{cases_lt, cases_Bool, eqb-true}
+use Rattle.std.proofs.lemmas.List.{get_or_past}
+use Rattle.std.proofs.lemmas.List.Sums.{sum_by-cons, sum_by-append}
+use Rattle.cyc_words.specs.Word.{IsWord}
+use Rattle.cyc_isa.specs.declared.instr.Instr.{Instr}
+use Rattle.cyc_machine.specs.State.{data_base}
+use Rattle.cyc_plain.specs.declared.instruction.Instruction.{Instruction}
+use Rattle.cyc_plain.specs.declared.instruction.Instruction.TheVariants as plain
+use Rattle.cyc_plain.specs.declared.instruction.UnaryOperator.{UnaryOperator}
+use Rattle.cyc_plain.specs.declared.instruction.UnaryOperator.TheVariants as unary
+use Rattle.cyc_plain.specs.declared.instruction.BinaryOperator.{BinaryOperator}
+use Rattle.cyc_plain.specs.declared.instruction.BinaryOperator.TheVariants as binary
+use Rattle.cyc_plain.specs.Program.{Routine, Program, no_routine, routine_at, instruction_size, size}
+use Rattle.cyc_plain.specs.Step.{instruction_at}
+use Rattle.cyc_plain.specs.WellFormed.{IsInRange, IsWellFormed, HasWords, HasWord}
+use Rattle.cyc_plain.proofs.Placed.{holds_at, routine_in, below_of_get, has_code}
+use Rattle.cyc_plain.proofs.Steps.{function_known}
+use Rattle.cyc_frame.specs.Layout.{frame_at, slot_word}
+use Rattle.cyc_frame.specs.declared.frame.Frame.{Frame}
+use Rattle.cyc_select.specs.declared.code.Line.{Line}
+use Rattle.cyc_select.specs.declared.code.Line.TheVariants as lines
+use Rattle.cyc_select.specs.Labelled.{Labelled, IsFormed, IsFormedLine, words_of, all_words}
+use Rattle.cyc_select.specs.Selected.{words_for_each}
+use Rattle.cyc_select.specs.Selection.{slot_offset, ordinary, copies, load_all, store_all, pop_frame, result_registers, ending_code, ending_count, operator_code, operator_count, call_code, return_code, body, behind, body_count, behind_count, count_of, function_count, functions_count, start_count, function_line, instruction_line, code_lines, function_lines, start_lines, select_of}
+use Rattle.cyc_select.proofs.Calls.{length-copies}
+use Rattle.cyc_select.proofs.Lines.{line_first}
+use Rattle.cyc_select.proofs.Returns.{loaded, length_loaded, length_stores, length_registers}
+use Rattle.cyc_select.proofs.Standing.{AreFrames}
+use Rattle.cyc_select.proofs.Structure.{length_body, length_behind, stand, starts}
+use Rattle.cyc_select.proofs.Walks.{Stands}
+
+-- ---- lists
+
+all_front : {X : Type 0} (P : X → Type 0) (xs ys : List X) → AllByRecursion P xs → AllByRecursion P ys → AllByRecursion P (xs ++ ys)
+all_front P [] ys first second = second
+all_front P (x ∷ xs) ys (one, rest) second = (one, all_front P xs ys rest second)
+
+all_from : {X : Type 0} (P : X → Type 0) (xs : List X) → AllByRecursion P xs → All P xs
+all_from P [] all k d below = absurd (omega arith)
+all_from P (x ∷ xs) (one, rest) zero d below = one
+all_from P (x ∷ xs) (one, rest) (suc k) d below = all_from P xs rest k d (omega arith)
+
+pub get_below : {X : Type 0} (xs : List X) (k : ℕ) → k < length xs → (x : X) × (slice_get xs k ≡ Some x)
+get_below [] k below = absurd (omega arith)
+get_below (y ∷ ys) zero below = (y, refl)
+get_below (y ∷ ys) (suc k) below = get_below ys k (omega arith)
+
+-- what stands lies within the code
+within_code : (code : Labelled) (n : ℕ) (ls : List Line) → 0 < length ls → Stands code n ls → n + length ls ≤ length code.lines
+within_code code n [] some stands = absurd (omega (arith, some))
+within_code code n (l ∷ []) some (first, rest) = omega (arith, below_of_get code.lines n l first)
+within_code code n (l ∷ m ∷ ls) some (first, rest) = omega (arith, within_code code (n + 1) (m ∷ ls) (omega arith) rest)
+
+-- ---- over all parts of the code
+
+module _ (program : Program) (frames : List Frame) (P : Line → Type 0) where
+  code_all : (function here : ℕ) (code : List Instruction)
+      → ((index n : ℕ) (i : Instruction) → slice_get code index ≡ Some i → n ≡ here + sum_by (count_of program function) (take index code) → AllByRecursion P (body program frames function n i ++ behind program frames function i))
+      → AllByRecursion P (code_lines program frames function here code)
+  code_all function here [] each = tt
+  code_all function here (i ∷ code) each =
+      all_front P (body program frames function here i ++ behind program frames function i) (code_lines program frames function (here + count_of program function i) code)
+      (each 0 here i refl (omega arith))
+      (code_all function (here + count_of program function i) code
+      (λ index n j at is. each (suc index) n j at (omega (arith, is, sum_by-cons (count_of program function) i (take index code)))))
+
+  functions_all : (first here : ℕ) (routines : List Routine)
+      → ((k n : ℕ) → k < length routines → n ≡ here + functions_count program first (take k routines) → AllByRecursion P (code_lines program frames (first + k) n (slice_index_or routines k no_routine).code))
+      → AllByRecursion P (function_lines program frames first here routines)
+  functions_all first here [] each = tt
+  functions_all first here (r ∷ routines) each =
+      let same : first + 0 ≡ first = omega arith in
+      all_front P (code_lines program frames first here r.code) (function_lines program frames (suc first) (here + function_count program first r) routines)
+      (subst (λ (f : ℕ). AllByRecursion P (code_lines program frames f here r.code)) same (each 0 here (omega arith) (omega arith)))
+      (functions_all (suc first) (here + function_count program first r) routines
+      (λ k n below is.
+      let next : first + suc k ≡ suc first + k = omega arith in
+      subst (λ (f : ℕ). AllByRecursion P (code_lines program frames f n (slice_index_or routines k no_routine).code)) next (each (suc k) n (omega (arith, below)) (omega (arith, is)))))
+
+pub few_results : (program : Program) → IsWellFormed program → (function : ℕ) → (routine_at program function).results ≤ 3
+few_results program well function = elim (cases_lt function (length program.functions)) [
+  | inl below ↦ (routine_in program function well below).results
+  | inr past ↦ subst (λ (r : Routine). r.results ≤ 3) (sym (get_or_past program.functions function no_routine past)) (let e : 0 ≤ 3 = omega arith in e)
+]
+
+pub count_some : (program : Program) (function : ℕ) (i : Instruction) → 0 < body_count program function i
+count_some program function (plain.Constant destination word) = omega arith
+count_some program function (plain.Move destination source) = omega arith
+count_some program function (plain.Unary operator destination operand) = omega arith
+count_some program function (plain.Binary binary.Add destination left right) = omega arith
+count_some program function (plain.Binary binary.Subtract destination left right) = omega arith
+count_some program function (plain.Binary binary.Multiply destination left right) = omega arith
+count_some program function (plain.Binary binary.Divide destination left right) = omega arith
+count_some program function (plain.Binary binary.Remainder destination left right) = omega arith
+count_some program function (plain.Binary binary.And destination left right) = omega arith
+count_some program function (plain.Binary binary.Or destination left right) = omega arith
+count_some program function (plain.Binary binary.Xor destination left right) = omega arith
+count_some program function (plain.Binary binary.ShiftLeft destination left right) = omega arith
+count_some program function (plain.Binary binary.ShiftRight destination left right) = omega arith
+count_some program function (plain.Binary binary.Equal destination left right) = omega arith
+count_some program function (plain.Binary binary.NotEqual destination left right) = omega arith
+count_some program function (plain.Binary binary.Less destination left right) = omega arith
+count_some program function (plain.Binary binary.LessOrEqual destination left right) = omega arith
+count_some program function (plain.Binary binary.Greater destination left right) = omega arith
+count_some program function (plain.Binary binary.GreaterOrEqual destination left right) = omega arith
+count_some program function (plain.Jump target) = omega arith
+count_some program function (plain.JumpIfZero condition target) = omega arith
+count_some program function (plain.JumpIfNonzero condition target) = omega arith
+count_some program function (plain.Call callee arguments count result) = omega arith
+count_some program function (plain.Return value) = omega arith
+count_some program function (plain.ReadByte destination) = omega arith
+count_some program function (plain.WriteByte source) = omega arith
+count_some program function (plain.LoadGlobal destination global) = omega arith
+count_some program function (plain.StoreGlobal global source) = omega arith
+count_some program function (plain.Uncaught tag value) = omega arith
+
+module _ (program : Program) (well : IsWellFormed program) (words : HasWords program) (frames : List Frame) (fit : AreFrames program frames) where
+  total : ℕ
+  total = length (select_of program frames).lines
+
+  abbrev Formed : List Line → Type 0
+  Formed ls = AllByRecursion (IsFormedLine (length (select_of program frames).lines)) ls
+
+  -- the lines of an instruction are in the code
+  line_known : (function index : ℕ) (i : Instruction) → instruction_at program (record { function = function; index = index }) ≡ Some i
+      → instruction_line program function index + body_count program function i ≤ length (select_of program frames).lines
+  line_known function index i at =
+      let n : ℕ = instruction_line program function index in
+      let long = length_body program frames (few_results program well) function (instruction_line program function index) i in
+      let both = length-append (body program frames function (instruction_line program function index) i) (behind program frames function i) in
+      omega (
+        arith,
+        long,
+        both,
+        within_code (select_of program frames) (instruction_line program function index) (body program frames function (instruction_line program function index) i ++ behind program frames function i) (omega (arith, long, both, count_some program function i)) (stand program frames (few_results program well) function index i at),
+      )
+
+  target_known : (function target : ℕ) → target < length (routine_at program function).code → instruction_line program function target < length (select_of program frames).lines
+  target_known function target below =
+      let (i, at) = get_below (routine_at program function).code target below in
+      omega (arith, line_known function target i at, count_some program function i)
+
+  function_known_line : (function : ℕ) → function < length program.functions → function_line program function < length (select_of program frames).lines
+  function_known_line function below =
+      subst (λ (n : ℕ). n < length (select_of program frames).lines) (line_first program function)
+      (target_known function 0 (has_code program (routine_at program function) (routine_in program function well below)))
+
+  module _ (function : ℕ) (known : function < length program.functions) where
+    abbrev frame : Frame
+    frame = frame_at frames function
+
+    abbrev slots : ℕ
+    slots = (routine_at program function).slots
+
+    slot_fits : (slot : ℕ) → slot < slots → slot_offset frame slot < 2 ^ 16
+    slot_fits slot below = let f = fit function known in omega (arith, f.inside slot below, f.within, f.small)
+
+    frame_fits : 4 * frame.words < 2 ^ 16
+    frame_fits = let f = fit function known in omega (arith, f.within, f.small)
+
+    push_fits : 2 ^ 16 - 4 * frame.words < 2 ^ 16
+    push_fits = let f = fit function known in omega (arith, f.return_inside)
+
+    return_fits : 4 * frame.return_address < 2 ^ 16
+    return_fits = let f = fit function known in omega (arith, f.return_inside, f.within, f.small)
+
+    loads_formed : (slot : ℕ) (targets : List ℕ) → slot + length targets ≤ slots → Formed (ordinary (load_all frame slot targets))
+    loads_formed slot [] fits = tt
+    loads_formed slot (target ∷ targets) fits = ((refl, slot_fits slot (omega (arith, fits))), loads_formed (suc slot) targets (omega (arith, fits)))
+
+    stores_formed : (slot : ℕ) (sources : List ℕ) → slot + length sources ≤ slots → Formed (ordinary (store_all frame slot sources))
+    stores_formed slot [] fits = tt
+    stores_formed slot (source ∷ sources) fits = ((refl, slot_fits slot (omega (arith, fits))), stores_formed (suc slot) sources (omega (arith, fits)))
+
+    copies_formed : (callee : Frame) (callee_slots : ℕ) → callee.words ≤ 256 → ((slot : ℕ) → slot < callee_slots → slot_word callee slot < callee.words)
+        → (source slot count : ℕ) → source + count ≤ slots → slot + count ≤ callee_slots → Formed (ordinary (copies frame callee source slot count))
+    copies_formed callee callee_slots small inside source slot zero source_fits slot_fits = tt
+    copies_formed callee callee_slots small inside source slot (suc count) source_fits slot_fits =
+        let f = fit function known in (
+          (refl, omega (arith, f.inside source (omega (arith, source_fits)), f.within, f.small, small)),
+          (
+            (refl, omega (arith, inside slot (omega (arith, slot_fits)), small)),
+            copies_formed callee callee_slots small inside (suc source) (suc slot) count (omega (arith, source_fits)) (omega (arith, slot_fits)),
+          ),
+        )
+
+    formed_append : (xs ys : List Instr) → Formed (ordinary xs) → Formed (ordinary ys) → Formed (ordinary (xs ++ ys))
+    formed_append [] ys first second = second
+    formed_append (x ∷ xs) ys (one, rest) second = (one, formed_append xs ys rest second)
+
+    unary_formed : (operator : UnaryOperator) (destination operand : ℕ) → destination < slots → operand < slots → (n : ℕ) → Formed (body program frames function n (plain.Unary operator destination operand))
+    unary_formed unary.Negate d a below a_below n = ((refl, slot_fits a a_below), ((refl, tt), ((refl, slot_fits d below), tt)))
+    unary_formed unary.Complement d a below a_below n = ((refl, slot_fits a a_below), ((refl, tt), ((refl, slot_fits d below), tt)))
+    unary_formed unary.Not d a below a_below n = ((refl, slot_fits a a_below), ((refl, (omega arith)), ((refl, slot_fits d below), tt)))
+
+    operator_formed : (operator : BinaryOperator) (d l r n : ℕ) → d < slots → l < slots → r < slots → n + operator_count operator ≤ length (select_of program frames).lines → Formed (operator_code frame n operator d l r)
+    operator_formed binary.Add d l r n a b e long = ((refl, slot_fits l b), ((refl, slot_fits r e), ((refl, tt), ((refl, slot_fits d a), tt))))
+    operator_formed binary.Subtract d l r n a b e long = ((refl, slot_fits l b), ((refl, slot_fits r e), ((refl, tt), ((refl, slot_fits d a), tt))))
+    operator_formed binary.Multiply d l r n a b e long = ((refl, slot_fits l b), ((refl, slot_fits r e), ((refl, tt), ((refl, tt), ((refl, slot_fits d a), tt)))))
+    operator_formed binary.And d l r n a b e long = ((refl, slot_fits l b), ((refl, slot_fits r e), ((refl, tt), ((refl, slot_fits d a), tt))))
+    operator_formed binary.Or d l r n a b e long = ((refl, slot_fits l b), ((refl, slot_fits r e), ((refl, tt), ((refl, slot_fits d a), tt))))
+    operator_formed binary.Xor d l r n a b e long = ((refl, slot_fits l b), ((refl, slot_fits r e), ((refl, tt), ((refl, slot_fits d a), tt))))
+    operator_formed binary.ShiftLeft d l r n a b e long = ((refl, slot_fits l b), ((refl, slot_fits r e), ((refl, tt), ((refl, slot_fits d a), tt))))
+    operator_formed binary.ShiftRight d l r n a b e long = ((refl, slot_fits l b), ((refl, slot_fits r e), ((refl, tt), ((refl, slot_fits d a), tt))))
+    operator_formed binary.Equal d l r n a b e long = ((refl, slot_fits l b), ((refl, slot_fits r e), ((refl, tt), ((refl, (omega arith)), ((refl, slot_fits d a), tt)))))
+    operator_formed binary.NotEqual d l r n a b e long = ((refl, slot_fits l b), ((refl, slot_fits r e), ((refl, tt), ((refl, tt), ((refl, slot_fits d a), tt)))))
+    operator_formed binary.Less d l r n a b e long = ((refl, slot_fits l b), ((refl, slot_fits r e), ((refl, tt), ((refl, slot_fits d a), tt))))
+    operator_formed binary.LessOrEqual d l r n a b e long = ((refl, slot_fits l b), ((refl, slot_fits r e), ((refl, tt), ((refl, (omega arith)), ((refl, slot_fits d a), tt)))))
+    operator_formed binary.Greater d l r n a b e long = ((refl, slot_fits l b), ((refl, slot_fits r e), ((refl, tt), ((refl, slot_fits d a), tt))))
+    operator_formed binary.GreaterOrEqual d l r n a b e long = ((refl, slot_fits l b), ((refl, slot_fits r e), ((refl, tt), ((refl, (omega arith)), ((refl, slot_fits d a), tt)))))
+    operator_formed binary.Divide d l r n a b e long = ((refl, slot_fits l b), ((refl, slot_fits r e), ((refl, (omega arith)), ((omega (arith, long)), ((refl, tt), ((refl, (omega arith)), ((refl, tt), ((refl, tt), ((refl, slot_fits d a), tt)))))))))
+    operator_formed binary.Remainder d l r n a b e long = ((refl, slot_fits l b), ((refl, slot_fits r e), ((refl, (omega arith)), ((omega (arith, long)), ((refl, tt), ((refl, (omega arith)), ((refl, tt), ((refl, tt), ((refl, slot_fits d a), tt)))))))))
+
+    ending_formed : (b : Bool) (n value : ℕ) → (function == program.main) ≡ b → value + (routine_at program function).results ≤ slots → n + (ending_count program function + (routine_at program function).results + 2) ≤ length (select_of program frames).lines → Formed (ending_code b frame n value)
+    ending_formed false n value is fits long = tt
+    ending_formed true n value is fits long =
+        let one : (routine_at program function).results ≡ 1 = ap (λ (f : ℕ). (routine_at program f).results) (eqb-true function program.main is) ∙ well.main_results in
+        let four : ending_count program function ≡ 4 = ap (λ (b : Bool). if b then 4 else 0) is in
+        ((omega (arith, long, four)), ((refl, slot_fits value (omega (arith, fits, one))), ((refl, (omega arith)), ((refl, tt), tt))))
+
+    high_fits : (word : ℕ) → IsWord word → word / 2 ^ 16 < 2 ^ 16
+    high_fits word is_word = omega (arith, is_word)
+
+    low_fits : (word : ℕ) → word % 2 ^ 16 < 2 ^ 16
+    low_fits word = omega arith
+
+    global_word : (global : ℕ) → global < length program.globals → IsWord (data_base + 4 * global)
+    global_word global below = omega (arith, below, well.globals)
+
+    body_formed : (i : Instruction) (n : ℕ) → IsInRange program (routine_at program function) i → HasWord i → n + body_count program function i ≤ length (select_of program frames).lines → Formed (body program frames function n i)
+    body_formed (plain.Constant destination word) n below fits long = ((refl, high_fits word fits), ((refl, low_fits word), ((refl, slot_fits destination below), tt)))
+    body_formed (plain.Move destination source) n (a, b) fits long = ((refl, slot_fits source b), ((refl, slot_fits destination a), tt))
+    body_formed (plain.Unary operator destination operand) n (a, b) fits long = unary_formed operator destination operand a b n
+    body_formed (plain.Binary operator destination left right) n (a, b, e) fits long = operator_formed operator destination left right n a b e long
+    body_formed (plain.Jump target) n below fits long = (target_known function target below, tt)
+    body_formed (plain.JumpIfZero condition target) n (a, b) fits long = ((refl, slot_fits condition a), (target_known function target b, tt))
+    body_formed (plain.JumpIfNonzero condition target) n (a, b) fits long = ((refl, slot_fits condition a), (target_known function target b, tt))
+    body_formed (plain.Call callee arguments count result) n in_range fits long =
+        let its = fit callee in_range.function_in_range in (
+          (omega (arith, long)),
+          (
+            (refl, (omega arith)),
+            (
+              (refl, tt),
+              (
+                (refl, return_fits),
+                (
+                  (refl, (omega arith)),
+                  (
+                    (refl, (omega (arith, its.return_inside))),
+                    all_front (IsFormedLine (length (select_of program frames).lines)) (ordinary (copies frame (frame_at frames callee) arguments 0 count)) (lines.Call (function_line program callee) ∷ [])
+                        (copies_formed (frame_at frames callee) (routine_at program callee).slots (omega (arith, its.within, its.small)) its.inside arguments 0 count in_range.arguments_in_range
+                        (let takes = in_range.takes in let parameters = (routine_in program callee well in_range.function_in_range).parameters in omega (arith, takes, parameters)))
+                        (function_known_line callee in_range.function_in_range, tt),
+                  ),
+                ),
+              ),
+            ),
+          ),
+        )
+    body_formed (plain.Return value) n in_range fits long =
+        let few = few_results program well function in
+        let registers = length_registers (routine_at program function).results few in
+        all_front (IsFormedLine (length (select_of program frames).lines)) (ending_code (function == program.main) frame n value ++ ordinary (loaded frame value (routine_at program function).results)) (lines.Return ∷ [])
+        (all_front (IsFormedLine (length (select_of program frames).lines)) (ending_code (function == program.main) frame n value) (ordinary (loaded frame value (routine_at program function).results))
+        (ending_formed (function == program.main) n value refl in_range long)
+        (formed_append (load_all frame value (result_registers (routine_at program function).results)) (pop_frame frame ∷ []) (loads_formed value (result_registers (routine_at program function).results) (omega (arith, registers, in_range))) ((refl, frame_fits), tt)))
+        (tt, tt)
+    body_formed (plain.ReadByte destination) n below fits long = ((refl, (omega arith)), ((refl, tt), ((refl, slot_fits destination below), tt)))
+    body_formed (plain.WriteByte source) n below fits long = ((refl, slot_fits source below), ((refl, (omega arith)), ((refl, tt), tt)))
+    body_formed (plain.LoadGlobal destination global) n (a, b) fits long =
+        ((refl, high_fits (data_base + 4 * global) (global_word global b)), ((refl, low_fits (data_base + 4 * global)), ((refl, (omega arith)), ((refl, slot_fits destination a), tt))))
+    body_formed (plain.StoreGlobal global source) n (a, b) fits long =
+        ((refl, slot_fits source b), ((refl, high_fits (data_base + 4 * global) (global_word global a)), ((refl, low_fits (data_base + 4 * global)), ((refl, (omega arith)), tt))))
+    body_formed (plain.Uncaught tag value) n below fits long =
+        ((refl, high_fits tag fits), ((refl, low_fits tag), ((refl, slot_fits value below), ((refl, (omega arith)), ((refl, tt), tt)))))
+
+    behind_formed : (i : Instruction) → IsInRange program (routine_at program function) i → Formed (behind program frames function i)
+    behind_formed (plain.Call callee arguments count result) in_range =
+        let registers = length_registers (routine_at program callee).results (few_results program well callee) in
+        ((refl, return_fits), ((refl, (omega arith)), stores_formed result (result_registers (routine_at program callee).results) (omega (arith, registers, in_range.result_in_range))))
+    behind_formed (plain.Constant destination word) in_range = tt
+    behind_formed (plain.Move destination source) in_range = tt
+    behind_formed (plain.Unary operator destination operand) in_range = tt
+    behind_formed (plain.Binary operator destination left right) in_range = tt
+    behind_formed (plain.Jump target) in_range = tt
+    behind_formed (plain.JumpIfZero condition target) in_range = tt
+    behind_formed (plain.JumpIfNonzero condition target) in_range = tt
+    behind_formed (plain.Return value) in_range = tt
+    behind_formed (plain.ReadByte destination) in_range = tt
+    behind_formed (plain.WriteByte source) in_range = tt
+    behind_formed (plain.LoadGlobal destination global) in_range = tt
+    behind_formed (plain.StoreGlobal global source) in_range = tt
+    behind_formed (plain.Uncaught tag value) in_range = tt
+
+  function_formed : (function n : ℕ) → function < length program.functions → n ≡ function_line program function → Formed (code_lines program frames function n (routine_at program function).code)
+  function_formed function n known is =
+      code_all program frames (IsFormedLine (length (select_of program frames).lines)) function n (routine_at program function).code
+      (λ index m i at m_is.
+      let routine = routine_in program function well known in
+      let in_range = holds_at (IsInRange program (routine_at program function)) (routine_at program function).code index i routine.instructions at in
+      let has_word = holds_at HasWord (routine_at program function).code index i (words.functions function no_routine known) at in
+      let here : m ≡ instruction_line program function index = omega (arith, m_is, is) in
+      all_front (IsFormedLine (length (select_of program frames).lines)) (body program frames function m i) (behind program frames function i)
+      (body_formed function known i m in_range has_word (omega (arith, here, line_known function index i at)))
+      (behind_formed function known i in_range))
+
+  main_frame : 4 * (frame_at frames program.main).words ≤ 1024
+  main_frame = let f = fit program.main well.main in omega (arith, f.within, f.small)
+
+  main_some : 0 < (frame_at frames program.main).words
+  main_some = let f = fit program.main well.main in omega (arith, f.return_inside)
+
+  pub formed : IsFormed (select_of program frames)
+  formed =
+      all_from (IsFormedLine (length (select_of program frames).lines)) (start_lines program frames ++ function_lines program frames 0 start_count program.functions)
+      (all_front (IsFormedLine (length (select_of program frames).lines)) (start_lines program frames) (function_lines program frames 0 start_count program.functions)
+      ((refl, (omega arith)), ((refl, (omega (arith, main_some))), (function_known_line program.main well.main, tt)))
+      (functions_all program frames (IsFormedLine (length (select_of program frames).lines)) 0 start_count program.functions
+      (λ k n below is.
+      let same : k ≡ 0 + k = omega arith in
+      subst (λ (f : ℕ). Formed (code_lines program frames f n (routine_at program k).code)) same (function_formed k n below is))))

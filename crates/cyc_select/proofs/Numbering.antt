@@ -1,0 +1,203 @@
+-- Numbers of lines: sums over what stands before.
+use Rattle.std.proofs.Common.{◌≡◌, ℕ, zero, suc, ◌+◌, ◌*◌, ◌<◌, ◌≤◌, Bool, true, false, List, [], ◌∷◌, ◌++◌, length, get_or, drop, take, map, refl, sym, ap, subst, ◌∙◌, append_assoc, append-nil, arith}
+use Rattle.std.specs.Prelude.{sum_by, slice_index_or, if◌then◌else◌, All}
+use Rattle.std.proofs.lemmas.List.{drop_more, drop_all}
+use Rattle.std.proofs.lemmas.List.Sums.{sum_by-cons, sum_by-drop_more, sum_by-take-drop, sum_by-take-le}
+use Rattle.cyc_plain.specs.declared.instruction.Instruction.{Instruction}
+use Rattle.cyc_plain.specs.declared.instruction.Instruction.TheVariants as plain
+use Rattle.cyc_plain.specs.declared.instruction.BinaryOperator.{BinaryOperator}
+use Rattle.cyc_plain.specs.declared.instruction.BinaryOperator.TheVariants as binary
+use Rattle.cyc_plain.specs.Program.{Program, Routine, no_routine, routine_of, routine_at, instruction_size, size, layout_words, greatest_value}
+use Rattle.cyc_plain.specs.declared.program.Function.{Function}
+use Rattle.cyc_plain.specs.WellFormed.{IsRoutine, IsWellFormed, IsInRange}
+use Rattle.cyc_frame.specs.Layout.{AreSmall, frame_of, frames_of, frame_at, most_words}
+use Rattle.cyc_frame.specs.declared.frame.Frame.{Frame}
+use Rattle.cyc_select.specs.Selection.{operator_count, ending_count, body_count, behind_count, count_of, function_count, functions_count, start_count, function_line, instruction_line, code_lines, function_lines}
+use Rattle.cyc_select.specs.Emission.{AreFew, lines_for_each, most_size, most_lines, instruction_lines, function_starts, AreReady, AreTables}
+
+-- ---- an instruction has few lines for each unit of its size
+
+operator_small : (o : BinaryOperator) → operator_count o ≤ 9
+operator_small binary.Multiply = omega arith
+operator_small binary.Divide = omega arith
+operator_small binary.Remainder = omega arith
+operator_small binary.Equal = omega arith
+operator_small binary.NotEqual = omega arith
+operator_small binary.LessOrEqual = omega arith
+operator_small binary.GreaterOrEqual = omega arith
+operator_small binary.Add = omega arith
+operator_small binary.Subtract = omega arith
+operator_small binary.And = omega arith
+operator_small binary.Or = omega arith
+operator_small binary.Xor = omega arith
+operator_small binary.ShiftLeft = omega arith
+operator_small binary.ShiftRight = omega arith
+operator_small binary.Less = omega arith
+operator_small binary.Greater = omega arith
+
+if_small : (b : Bool) → (if b then 4 else 0) ≤ 4
+if_small true = omega arith
+if_small false = omega arith
+
+ending_small : (program : Program) (function : ℕ) → ending_count program function ≤ 4
+ending_small program function = if_small _
+
+pub count_small : (program : Program) (function : ℕ) → AreFew program → (i : Instruction) → count_of program function i ≤ lines_for_each * instruction_size i
+count_small program function few (plain.Constant d w) = omega arith
+count_small program function few (plain.Move d s) = omega arith
+count_small program function few (plain.Unary o d s) = omega arith
+count_small program function few (plain.Binary o d a b) = omega (arith, operator_small o)
+count_small program function few (plain.Jump t) = omega arith
+count_small program function few (plain.JumpIfZero s t) = omega arith
+count_small program function few (plain.JumpIfNonzero s t) = omega arith
+count_small program function few (plain.Call f a n r) = omega (arith, few f)
+count_small program function few (plain.Return v) = omega (arith, few function, ending_small program function)
+count_small program function few (plain.ReadByte d) = omega arith
+count_small program function few (plain.WriteByte s) = omega arith
+count_small program function few (plain.LoadGlobal d g) = omega arith
+count_small program function few (plain.StoreGlobal g s) = omega arith
+count_small program function few (plain.Uncaught t v) = omega arith
+
+code_small : (program : Program) (function : ℕ) → AreFew program → (code : List Instruction) → sum_by (count_of program function) code ≤ lines_for_each * sum_by instruction_size code
+code_small program function few [] = omega arith
+code_small program function few (i ∷ code) =
+    omega (arith, sum_by-cons (count_of program function) i code, sum_by-cons instruction_size i code, count_small program function few i, code_small program function few code)
+
+functions_small : (program : Program) (first : ℕ) → AreFew program → (routines : List Routine) → functions_count program first routines ≤ lines_for_each * sum_by size routines
+functions_small program first few [] = omega arith
+functions_small program first few (r ∷ routines) =
+    omega (arith, sum_by-cons size r routines, code_small program first few r.code, functions_small program (suc first) few routines)
+
+-- a function begins where it still fits
+pub start_fits : (program : Program) → AreFew program → (k : ℕ) → k < length program.functions
+    → function_line program k + lines_for_each * size (routine_at program k) ≤ start_count + lines_for_each * sum_by size program.functions
+start_fits program few k below =
+    omega (arith, functions_small program 0 few (take k program.functions), sum_by-drop_more size program.functions k no_routine below, sum_by-take-drop size program.functions k)
+
+-- and so do its instructions
+pub line_fits : (program : Program) → AreFew program → (k : ℕ) → k < length program.functions → (index : ℕ)
+    → instruction_line program k index ≤ start_count + lines_for_each * sum_by size program.functions
+line_fits program few k below index =
+    omega (arith, start_fits program few k below, code_small program k few (routine_at program k).code, sum_by-take-le (count_of program k) (routine_at program k).code index)
+
+-- one of the terms of a sum
+pub one_of_sum : {X : Type 0} (f : X → ℕ) (xs : List X) (k : ℕ) (x : X) → k < length xs → x ≡ get_or xs k x → f x ≤ sum_by f xs
+one_of_sum f xs k x below at = omega (arith, sum_by-drop_more f xs k x below, sum_by-take-drop f xs k, ap f at)
+
+-- ---- what a well-formed program says of all its functions
+
+-- where there is none, nothing is returned
+routines_few : (routines : List Routine) → ((k : ℕ) → k < length routines → (slice_index_or routines k no_routine).results ≤ greatest_value)
+    → (k : ℕ) → (slice_index_or routines k no_routine).results ≤ greatest_value
+routines_few [] few zero = omega arith
+routines_few [] few (suc k) = omega arith
+routines_few (r ∷ routines) few zero = few 0 (omega arith)
+routines_few (r ∷ routines) few (suc k) = routines_few routines (λ j below. few (suc j) (omega arith)) k
+
+routine_stands : (program : Program) → IsWellFormed program → (k : ℕ) → k < length program.functions → IsRoutine program (routine_at program k)
+routine_stands program well k below = well.functions k no_routine below
+
+pub are_few : (program : Program) → IsWellFormed program → AreFew program
+are_few program well = routines_few program.functions (λ k below. (routine_stands program well k below).results)
+
+pub code_in_range : (program : Program) → IsWellFormed program → (k : ℕ) → k < length program.functions → All (IsInRange program (routine_at program k)) (routine_at program k).code
+code_in_range program well k below = (routine_stands program well k below).instructions
+
+-- ---- frames as they are laid out
+
+frame_at-frames : (routines : List Routine) (k : ℕ) → k < length routines → frame_at (map frame_of routines) k ≡ frame_of (slice_index_or routines k no_routine)
+frame_at-frames [] k below = absurd (omega arith)
+frame_at-frames (r ∷ routines) zero below = refl
+frame_at-frames (r ∷ routines) (suc k) below = frame_at-frames routines k (omega arith)
+
+pub frame_is : (program : Program) (frames : List Frame) → frames ≡ frames_of program → (k : ℕ) → k < length program.functions → frame_at frames k ≡ frame_of (routine_at program k)
+frame_is program frames are k below = ap (λ (fs : List Frame). frame_at fs k) are ∙ frame_at-frames program.functions k below
+
+pub words_small : (program : Program) → IsWellFormed program → AreSmall program → (k : ℕ) → k < length program.functions → layout_words + (routine_at program k).slots ≤ most_words
+words_small program well small k below = omega (arith, (routine_stands program well k below).frame, small k below)
+
+-- ---- tables
+
+pub lines_length : (program : Program) (function here : ℕ) (code : List Instruction) → length (instruction_lines program function here code) ≡ length code
+lines_length program function here [] = refl
+lines_length program function here (i ∷ code) = ap suc (lines_length program function (here + count_of program function i) code)
+
+pub lines_at : (program : Program) (function here : ℕ) (code : List Instruction) (k d : ℕ) → k < length code
+    → slice_index_or (instruction_lines program function here code) k d ≡ here + sum_by (count_of program function) (take k code)
+lines_at program function here [] k d below = absurd (omega arith)
+lines_at program function here (i ∷ code) zero d below = omega arith
+lines_at program function here (i ∷ code) (suc k) d below =
+    omega (arith, lines_at program function (here + count_of program function i) code k d (omega arith), sum_by-cons (count_of program function) i (take k code))
+
+pub starts_length : (program : Program) (function here : ℕ) (routines : List Routine) → length (function_starts program function here routines) ≡ length routines
+starts_length program function here [] = refl
+starts_length program function here (r ∷ routines) = ap suc (starts_length program (suc function) (here + function_count program function r) routines)
+
+pub starts_at : (program : Program) (function here : ℕ) (routines : List Routine) (k d : ℕ) → k < length routines
+    → slice_index_or (function_starts program function here routines) k d ≡ here + functions_count program function (take k routines)
+starts_at program function here [] k d below = absurd (omega arith)
+starts_at program function here (r ∷ routines) zero d below = omega arith
+starts_at program function here (r ∷ routines) (suc k) d below =
+    omega (arith, starts_at program (suc function) (here + function_count program function r) routines k d (omega arith))
+
+module _ {program : Program} {frames : List Frame} {starts : List ℕ} (ready : AreReady program frames starts) where
+  pub ready_frame : (k : ℕ) → k < length program.functions → frame_at frames k ≡ frame_of (routine_at program k)
+  ready_frame k below = frame_is program frames ready.frames_are k below
+
+  pub ready_words : (k : ℕ) → k < length program.functions → layout_words + (routine_at program k).slots ≤ most_words
+  ready_words k below = words_small program ready.well_formed ready.small k below
+
+  pub ready_starts : length starts ≡ length program.functions
+  ready_starts = ap length ready.starts_are ∙ starts_length program 0 start_count program.functions
+
+  pub ready_start : (k : ℕ) → k < length program.functions → slice_index_or starts k 0 ≡ function_line program k
+  ready_start k below = ap (λ (s : List ℕ). slice_index_or s k 0) ready.starts_are ∙ starts_at program 0 start_count program.functions k 0 below
+
+  pub ready_size : (k : ℕ) → k < length program.functions → size (routine_at program k) ≤ most_size
+  ready_size k below =
+      omega (arith, ready.few, sum_by-drop_more size program.functions k no_routine below, sum_by-take-drop size program.functions k)
+
+  pub ready_fits : (k : ℕ) → k < length program.functions → function_line program k + lines_for_each * size (routine_at program k) ≤ most_lines
+  ready_fits k below = omega (arith, ready.few, start_fits program (are_few program ready.well_formed) k below)
+
+module _ {program : Program} {frames : List Frame} {starts lines : List ℕ} {function : ℕ} (known : AreTables program frames starts lines function) where
+  pub known_lines : length lines ≡ length (routine_at program function).code
+  known_lines = ap length known.lines_are ∙ lines_length program function (function_line program function) (routine_at program function).code
+
+  pub known_line : (k : ℕ) → k < length (routine_at program function).code → slice_index_or lines k 0 ≡ instruction_line program function k
+  known_line k below = ap (λ (s : List ℕ). slice_index_or s k 0) known.lines_are ∙ lines_at program function (function_line program function) (routine_at program function).code k 0 below
+
+  pub known_fits : (k : ℕ) → instruction_line program function k ≤ most_lines
+  known_fits k =
+      omega (arith, line_fits program (are_few program known.ready.well_formed) function known.function_in_range k, known.ready.few)
+
+-- ---- one function behind the other
+
+count_next : (program : Program) (first : ℕ) (routines : List Routine) (k n : ℕ) → n ≡ first + k → k < length routines
+    → functions_count program first (take (suc k) routines) ≡ functions_count program first (take k routines) + function_count program n (slice_index_or routines k no_routine)
+count_next program first [] k n here below = absurd (omega arith)
+count_next program first (r ∷ routines) zero n here below =
+    let same : n ≡ first = omega arith in
+    omega (arith, ap (λ (m : ℕ). function_count program m r) same)
+count_next program first (r ∷ routines) (suc k) n here below =
+    omega (arith, count_next program (suc first) routines k n (omega arith) (omega arith))
+
+pub start_next : (program : Program) (k : ℕ) → k < length program.functions → function_line program k + function_count program k (routine_at program k) ≡ function_line program (suc k)
+start_next program k below = omega (arith, count_next program 0 program.functions k k (omega arith) below)
+
+pub functions_next : (program : Program) (frames : List Frame) (k : ℕ) → k < length program.functions
+    → function_lines program frames k (function_line program k) (drop k program.functions)
+    ≡ code_lines program frames k (function_line program k) (routine_at program k).code ++ function_lines program frames (k + 1) (function_line program (k + 1)) (drop (k + 1) program.functions)
+functions_next program frames k below =
+    let one : suc k ≡ k + 1 = omega arith in
+    let own = code_lines program frames k (function_line program k) (routine_at program k).code in
+    let rest = drop (k + 1) program.functions in
+    ap (λ (rs : List Routine). function_lines program frames k (function_line program k) rs) (drop_more program.functions k no_routine below)
+    ∙ ap (λ (n : ℕ). own ++ function_lines program frames (suc k) n rest) (start_next program k below)
+    ∙ ap (λ (n : ℕ). own ++ function_lines program frames n (function_line program n) rest) one
+
+-- a function of the code, as data
+pub routine_is : (functions : List Function) (k : ℕ) (f : Function) → k < length functions → f ≡ slice_index_or functions k f → routine_of f ≡ slice_index_or (map routine_of functions) k no_routine
+routine_is [] k f below at = absurd (omega arith)
+routine_is (g ∷ functions) zero f below at = ap routine_of at
+routine_is (g ∷ functions) (suc k) f below at = routine_is functions k f (omega arith) at

@@ -1,0 +1,142 @@
+-- What the machine's operations make of words, against what the plain program's operators are.
+use Rattle.std.proofs.Common.{◌≡◌, ◌≢◌, ℕ, zero, suc, ◌+◌, ◌-◌, ◌*◌, ◌/◌, ◌%◌, ◌^◌, ◌<◌, ◌≤◌, ℤ, pos, negsuc, neg_ℤ, ◌+ℤ◌, ◌-ℤ◌, ◌*ℤ◌, ◌≤ℤ◌, ◌<ℤ◌, Bool, true, false, not, refl, sym, ap, subst, ◌∙◌, arith, lit<, inl, inr}
+use Rattle.std.proofs.lemmas.Int.{ints}
+use Rattle.std.proofs.lemmas.Nat.{mul-le}
+use Rattle.std.proofs.Math.IntN.{pos-*ℤ-pos, pos-*ℤ-negsuc, negsuc-*ℤ-pos, negsuc-*ℤ-negsuc}
+use Rattle.std.specs.Prelude.{◌⊎◌, ◌==◌, if◌then◌else◌, nat_lt, int_lt, int_le, int_div, int_rem, bit_or, FitsSigned}
+use Rattle.std.specs.Int.{w32, w64, bit_not, cast_unsigned}
+use Rattle.std.proofs.lemmas.Bool.{cases_eq, cases_Bool, eq-eqb, ne_eqb, lt-ltb, le-ltb}
+use Rattle.cyc_words.specs.Word.{IsWord, IsHalf, signed, unsigned, sign_extended, add_of, sub_of, mul_of, shl_of, slt_of, sltu_of, div_of, rem_of}
+use Rattle.cyc_words.proofs.WordLemmas.{unsigned-signed, FitsSigned-signed, sign_extended_low, sign_extended_high, bit_or-halves, mul_of-signed, sub_of-signed, slt_of_cases, sltu_of-one, sltu_of-zero, IsWord-sub_of}
+use Rattle.cyc_isa.specs.Effect.{load_upper_result, memory_address, product_of, low_result}
+use Rattle.cyc_isa.specs.declared.instr.MultiplyDivideOp.TheVariants.{Multiply}
+use Rattle.cyc_plain.specs.Operators.{truth}
+
+-- ---- constants and addresses
+
+pub two_halves : (word : ℕ) → IsWord word → bit_or (load_upper_result (word / 2 ^ 16)) (word % 2 ^ 16) ≡ word
+two_halves word is_word =
+    let upper : load_upper_result (word / 2 ^ 16) ≡ shl_of (word / 2 ^ 16) 16 = omega arith in
+    ap (λ (x : ℕ). bit_or x (word % 2 ^ 16)) upper ∙ bit_or-halves word is_word
+
+pub address_at : (base offset : ℕ) → offset < 2 ^ 15 → base + offset < 2 ^ 32 → memory_address base offset ≡ base + offset
+address_at base offset small fits = ap (add_of base) (sign_extended_low offset small) ∙ (let e : add_of base offset ≡ base + offset = omega arith in e)
+
+pub add_small : (a number : ℕ) → number < 2 ^ 15 → a + number < 2 ^ 32 → add_of a (sign_extended number) ≡ a + number
+add_small a number small fits = ap (add_of a) (sign_extended_low number small) ∙ (let e : add_of a number ≡ a + number = omega arith in e)
+
+pub take_small : (a number : ℕ) → IsWord a → 0 < number → number ≤ 2 ^ 15 → number ≤ a → add_of a (sign_extended (2 ^ 16 - number)) ≡ a - number
+take_small a number is_word some small fits =
+    ap (add_of a) (sign_extended_high (2 ^ 16 - number) (omega arith) (omega arith))
+    ∙ (let e : add_of a (2 ^ 16 - number + (2 ^ 32 - 2 ^ 16)) ≡ a - number = omega arith in e)
+
+-- ---- tests
+
+pub one_extended : sign_extended 1 ≡ 1
+one_extended = sign_extended_low 1 (omega arith)
+
+pub zero_test : (a : ℕ) → sltu_of a (sign_extended 1) ≡ truth (a == 0)
+zero_test a = ap (sltu_of a) one_extended ∙ elim (cases_eq a 0) [
+  | inl is_zero ↦ sltu_of-one a 1 (omega arith) ∙ sym (ap truth (eq-eqb a 0 is_zero))
+  | inr other ↦ sltu_of-zero a 1 (omega (arith, positive other)) ∙ sym (ap truth (ne_eqb a 0 other))
+]
+  where
+    positive : a ≢ 0 → 1 ≤ a
+    positive other = omega (arith, other)
+
+sub_zero : (a b : ℕ) → IsWord a → IsWord b → a ≡ b → sub_of a b ≡ 0
+sub_zero a b is_a is_b same = omega arith
+
+sub_other : (a b : ℕ) → IsWord a → IsWord b → a ≢ b → sub_of a b ≢ 0
+sub_other a b is_a is_b other is_zero = other (omega arith)
+
+pub equal_test : (a b : ℕ) → IsWord a → IsWord b → sltu_of (sub_of a b) (sign_extended 1) ≡ truth (a == b)
+equal_test a b is_a is_b = zero_test (sub_of a b) ∙ elim (cases_eq a b) [
+  | inl same ↦ ap truth (eq-eqb (sub_of a b) 0 (sub_zero a b is_a is_b same) ∙ sym (eq-eqb a b same))
+  | inr other ↦ ap truth (ne_eqb (sub_of a b) 0 (sub_other a b is_a is_b other) ∙ sym (ne_eqb a b other))
+]
+
+pub unequal_test : (a b : ℕ) → IsWord a → IsWord b → sltu_of 0 (sub_of a b) ≡ truth (not (a == b))
+unequal_test a b is_a is_b = elim (cases_eq a b) [
+  | inl same ↦ sltu_of-zero 0 (sub_of a b) (omega (arith, sub_zero a b is_a is_b same)) ∙ sym (ap (λ (t : Bool). truth (not t)) (eq-eqb a b same))
+  | inr other ↦ sltu_of-one 0 (sub_of a b) (positive (sub_of a b) (sub_other a b is_a is_b other)) ∙ sym (ap (λ (t : Bool). truth (not t)) (ne_eqb a b other))
+]
+  where
+    positive : (n : ℕ) → n ≢ 0 → 0 < n
+    positive n other = omega (arith, other)
+
+at_most_from : (x y : ℤ) → x ≤ℤ y → int_le x y ≡ true
+at_most_from x y below = grind (arith, ints)
+
+at_most_not : (x y : ℤ) → y <ℤ x → int_le x y ≡ false
+at_most_not x y above = grind (arith, ints)
+
+pub at_most_test : (a b : ℕ) → sltu_of (slt_of b a) (sign_extended 1) ≡ truth (int_le (signed a) (signed b))
+at_most_test a b = zero_test (slt_of b a) ∙ elim (slt_of_cases b a) [
+  | inl (one, less) ↦ ap (λ (n : ℕ). truth (n == 0)) one ∙ sym (ap truth (at_most_not (signed a) (signed b) less))
+  | inr (none, fine) ↦ ap (λ (n : ℕ). truth (n == 0)) none ∙ sym (ap truth (at_most_from (signed a) (signed b) fine))
+]
+
+-- ---- products
+
+-- a number that is not far below 0
+abbrev IsNear : ℤ → Type 0
+IsNear (pos n) = Unit {0}
+IsNear (negsuc n) = n < 2 ^ 63
+
+near_negated : (k : ℕ) → k ≤ 2 ^ 62 → IsNear (neg_ℤ (pos k))
+near_negated zero few = tt
+near_negated (suc k) few = omega arith
+
+near_product : (x y : ℤ) → FitsSigned w32 x → FitsSigned w32 y → IsNear (x *ℤ y)
+near_product (pos m) (pos n) f g = subst IsNear (sym (pos-*ℤ-pos m n)) tt
+near_product (pos m) (negsuc n) f g =
+    subst IsNear (sym (pos-*ℤ-negsuc m n))
+    (near_negated (m * suc n) (omega (arith, mul-le m (suc n) (2 ^ 31) (2 ^ 31) (omega (arith, f.sfits)) (omega (arith, g.sfits)))))
+near_product (negsuc m) (pos n) f g =
+    subst IsNear (sym (negsuc-*ℤ-pos m n))
+    (near_negated (suc m * n) (omega (arith, mul-le (suc m) n (2 ^ 31) (2 ^ 31) (omega (arith, f.sfits)) (omega (arith, g.sfits)))))
+near_product (negsuc m) (negsuc n) f g = subst IsNear (sym (negsuc-*ℤ-negsuc m n)) tt
+
+lower : (z : ℤ) → IsNear z → cast_unsigned w64 z % 2 ^ 32 ≡ unsigned z
+lower (pos n) near = omega arith
+lower (negsuc n) near = omega (arith, near)
+
+pub low_product : (a b : ℕ) → IsWord a → IsWord b → low_result Multiply a b ≡ mul_of a b
+low_product a b is_a is_b =
+    lower (signed a *ℤ signed b) (near_product (signed a) (signed b) (FitsSigned-signed a is_a) (FitsSigned-signed b is_b))
+    ∙ sym (mul_of-signed a b is_a is_b)
+
+-- ---- quotients by -1
+
+by_one : (z : ℤ) → int_div z (pos 1) ≡ z
+by_one (pos n) = ap pos (let e : n / 1 ≡ n = omega arith in e)
+by_one (negsuc n) = ap (λ (x : ℕ). neg_ℤ (pos x)) (let e : suc n / 1 ≡ suc n = omega arith in e)
+
+by_minus_one : (z : ℤ) → int_div z (negsuc 0) ≡ neg_ℤ z
+by_minus_one (pos n) = ap (λ (x : ℕ). neg_ℤ (pos x)) (let e : n / 1 ≡ n = omega arith in e)
+by_minus_one (negsuc n) = ap pos (let e : suc n / 1 ≡ suc n = omega arith in e)
+
+rest_by_one : (z : ℤ) → int_rem z (pos 1) ≡ pos 0
+rest_by_one (pos n) = ap pos (let e : n % 1 ≡ 0 = omega arith in e)
+rest_by_one (negsuc n) = ap (λ (x : ℕ). neg_ℤ (pos x)) (let e : suc n % 1 ≡ 0 = omega arith in e)
+
+rest_by_minus_one : (z : ℤ) → int_rem z (negsuc 0) ≡ pos 0
+rest_by_minus_one (pos n) = ap pos (let e : n % 1 ≡ 0 = omega arith in e)
+rest_by_minus_one (negsuc n) = ap (λ (x : ℕ). neg_ℤ (pos x)) (let e : suc n % 1 ≡ 0 = omega arith in e)
+
+from_zero : (z : ℤ) → pos 0 -ℤ z ≡ neg_ℤ z
+from_zero z = grind (arith, ints)
+
+-- the negated dividend by 1 has the same quotient and the same remainder
+pub negated_quotient : (a : ℕ) → IsWord a → div_of (sub_of 0 a) 1 ≡ div_of a (2 ^ 32 - 1)
+unfolding div_of
+negated_quotient a is_a =
+    ap unsigned (by_one (signed (sub_of 0 a)))
+    ∙ (unsigned-signed (sub_of 0 a) (IsWord-sub_of 0 a)
+    ∙ (sub_of-signed 0 a (omega arith) is_a
+    ∙ (ap unsigned (from_zero (signed a)) ∙ sym (ap unsigned (by_minus_one (signed a))))))
+
+pub negated_remainder : (a : ℕ) → IsWord a → rem_of (sub_of 0 a) 1 ≡ rem_of a (2 ^ 32 - 1)
+unfolding rem_of
+negated_remainder a is_a = ap unsigned (rest_by_one (signed (sub_of 0 a))) ∙ sym (ap unsigned (rest_by_minus_one (signed a)))

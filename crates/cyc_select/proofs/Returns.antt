@@ -1,0 +1,503 @@
+-- Returns, and what stands behind a call.
+use Rattle.std.proofs.Common.{◌≡◌, ◌≢◌, ℕ, zero, suc, ◌+◌, ◌-◌, ◌*◌, ◌/◌, ◌%◌, ◌^◌, ◌<◌, ◌≤◌, Bool, true, false, not, ◌&&◌, List, [], ◌∷◌, ◌++◌, length, map, Some, None, slice_get, refl, sym, ap, subst, ◌∙◌, arith, inl, inr, length-append}
+use Rattle.std.specs.Prelude.{◌⊎◌, ◌==◌, if◌then◌else◌, nat_le}
+use Rattle.std.specs.List.{AllByRecursion}
+use Rattle.std.proofs.lemmas.Bool.{cases_eq, cases_lt, cases_Bool, eq-eqb, ne_eqb, eqb-true, and_right, lt-leb}
+use Rattle.cyc_words.specs.Ending.{Ending, Returned}
+use Rattle.cyc_words.specs.Word.{IsWord, signed, add_of, sign_extended}
+use Rattle.cyc_isa.specs.Effect.{memory_address}
+use Rattle.cyc_isa.specs.declared.instr.Instr.{Instr}
+use Rattle.cyc_isa.specs.declared.instr.BranchOp.TheVariants as branch
+use Rattle.cyc_isa.specs.Decoding.{register_of}
+use Rattle.cyc_machine.specs.State.{data_base, stack_end, text_base, text_end, globals_length, words_per_call}
+use Rattle.cyc_plain.specs.declared.instruction.Instruction.{Instruction}
+use Rattle.cyc_plain.specs.declared.instruction.Instruction.TheVariants as plain
+use Rattle.cyc_plain.specs.Program.{Program, CodePlace, no_routine, routine_at}
+use Rattle.cyc_plain.specs.State as states
+use Rattle.cyc_plain.specs.State.{Words, AreWords, put, copied, Configuration}
+use Rattle.cyc_plain.specs.Step.{Choice, IsAllowed, instruction_at, performed, returns, Step}
+use Rattle.cyc_plain.specs.WellFormed.{IsWellFormed, HasSlots}
+use Rattle.cyc_plain.proofs.RunLaws.{zeros, zeros_allowed, over_within}
+use Rattle.cyc_plain.proofs.SlotLaws.{put-same, put-other, copied-inside, copied-above, copied-below}
+use Rattle.cyc_frame.specs.Layout.{frame_at, slot_word}
+use Rattle.cyc_frame.specs.declared.frame.Frame.{Frame}
+use Rattle.cyc_select.specs.declared.code.Line.{Line}
+use Rattle.cyc_select.specs.declared.code.Line.TheVariants as lines
+use Rattle.cyc_select.specs.Labelled.{Labelled, IsFormed, AreAddresses}
+use Rattle.cyc_select.specs.Machine as labelled
+use Rattle.cyc_select.specs.Machine.{State, Running, Ended}
+use Rattle.cyc_select.specs.Selection.{slot_offset, load, small, add_immediate, load_slot, load_all, store_all, pop_frame, result_registers, ordinary, syscall, ending_code, ending_count, return_code, behind, instruction_line}
+use Rattle.cyc_select.proofs.Calls.{length_ordinary}
+use Rattle.cyc_select.proofs.Cells.{IsCell}
+use Rattle.cyc_select.proofs.Lines.{line_next}
+use Rattle.cyc_select.proofs.Operations.{add_small}
+use Rattle.cyc_select.proofs.Walks.{Stands, stands_front, stands_back, after_r, after_w, AreSafe, Walk, Now, now_at, now_is, walk_end, walk_few, walk_from, walk_block, walk_branch, walk_return, walk_returned}
+use Rattle.cyc_select.proofs.Standing.{AreFrames, Holds, Chain, Standing, behind_line, lies, slot_address, slot_cell, slot_word_is, return_cell, return_address, standing_registers, standing_at, standing_slot}
+use Rattle.cyc_select.proofs.Matches.{At, Ready, Back, Matches, Reached, reached, within, result_register}
+
+-- ---- what a function returns, from slots into registers
+
+-- the last instructions of a return load what is returned and take the frame away
+abbrev pub loaded : Frame → (value count : ℕ) → List Instr
+loaded frame value count = load_all frame value (result_registers count) ++ pop_frame frame ∷ []
+
+pub length_loaded : (frame : Frame) (value count : ℕ) → count ≤ 3 → length (loaded frame value count) ≡ count + 1
+length_loaded frame value zero few = refl
+length_loaded frame value (suc zero) few = refl
+length_loaded frame value (suc (suc zero)) few = refl
+length_loaded frame value (suc (suc (suc zero))) few = refl
+length_loaded frame value (suc (suc (suc (suc count)))) few = absurd (omega (arith, few))
+
+record AreLoaded (globals stack : ℕ) (frame : Frame) (value count : ℕ) (r w slots : Words) : Type 0 where
+  pub safe : AreSafe globals stack (loaded frame value count) r w
+  pub zero_same : after_r (loaded frame value count) r w 0 ≡ r 0
+  pub base_moved : after_r (loaded frame value count) r w 29 ≡ add_of (r 29) (sign_extended (4 * frame.words))
+  pub left_same : after_r (loaded frame value count) r w 30 ≡ r 30
+  pub back_same : after_r (loaded frame value count) r w 31 ≡ r 31
+  pub unchanged : after_w (loaded frame value count) r w ≡ w
+  pub returned : (k : ℕ) → k < count → after_r (loaded frame value count) r w (result_register k) ≡ slots (value + k)
+
+module _ (globals stack : ℕ) (frame : Frame) (r w slots : Words) (value number : ℕ)
+    (cell : (slot : ℕ) → slot < number → IsCell globals stack (memory_address (r 29) (slot_offset frame slot)))
+    (word_is : (slot : ℕ) → slot < number → w (memory_address (r 29) (slot_offset frame slot)) ≡ slots slot) where
+  abbrev word : ℕ → ℕ
+  word slot = w (memory_address (r 29) (slot_offset frame slot))
+
+  first_is : value < number → word value ≡ slots (value + 0)
+  first_is below = word_is value below ∙ ap slots (let e : value ≡ value + 0 = omega arith in e)
+
+  second_is : suc value < number → word (suc value) ≡ slots (value + 1)
+  second_is below = word_is (suc value) below ∙ ap slots (let e : suc value ≡ value + 1 = omega arith in e)
+
+  third_is : suc (suc value) < number → word (suc (suc value)) ≡ slots (value + 2)
+  third_is below = word_is (suc (suc value)) below ∙ ap slots (let e : suc (suc value) ≡ value + 2 = omega arith in e)
+
+  one_is : (k : ℕ) (q : Words) → k < 1 → q 2 ≡ slots (value + 0) → q (result_register k) ≡ slots (value + k)
+  one_is zero q below a = a
+  one_is (suc k) q below a = absurd (omega arith)
+
+  two_are : (k : ℕ) (q : Words) → k < 2 → q 2 ≡ slots (value + 0) → q 3 ≡ slots (value + 1) → q (result_register k) ≡ slots (value + k)
+  two_are zero q below a b = a
+  two_are (suc zero) q below a b = b
+  two_are (suc (suc k)) q below a b = absurd (omega arith)
+
+  three_are : (k : ℕ) (q : Words) → k < 3 → q 2 ≡ slots (value + 0) → q 3 ≡ slots (value + 1) → q 5 ≡ slots (value + 2) → q (result_register k) ≡ slots (value + k)
+  three_are zero q below a b d = a
+  three_are (suc zero) q below a b d = b
+  three_are (suc (suc zero)) q below a b d = d
+  three_are (suc (suc (suc k))) q below a b d = absurd (omega arith)
+
+  are_loaded : (count : ℕ) → count ≤ 3 → value + count ≤ number → AreLoaded globals stack frame value count r w slots
+  are_loaded zero few fits = record {
+    safe = (refl, tt);
+    zero_same = refl;
+    base_moved = refl;
+    left_same = refl;
+    back_same = refl;
+    unchanged = refl;
+    returned = λ k below. absurd (omega (arith, below));
+  }
+  are_loaded (suc zero) few fits = record {
+    safe = ((refl, cell value (omega (arith, fits))), (refl, tt));
+    zero_same = refl;
+    base_moved = refl;
+    left_same = refl;
+    back_same = refl;
+    unchanged = refl;
+    returned = λ k below. one_is k (after_r (loaded frame value 1) r w) below (first_is (omega (arith, fits)));
+  }
+  are_loaded (suc (suc zero)) few fits = record {
+    safe = ((refl, cell value (omega (arith, fits))), ((refl, cell (suc value) (omega (arith, fits))), (refl, tt)));
+    zero_same = refl;
+    base_moved = refl;
+    left_same = refl;
+    back_same = refl;
+    unchanged = refl;
+    returned = λ k below. two_are k (after_r (loaded frame value 2) r w) below (first_is (omega (arith, fits))) (second_is (omega (arith, fits)));
+  }
+  are_loaded (suc (suc (suc zero))) few fits = record {
+    safe = ((refl, cell value (omega (arith, fits))), ((refl, cell (suc value) (omega (arith, fits))), ((refl, cell (suc (suc value)) (omega (arith, fits))), (refl, tt))));
+    zero_same = refl;
+    base_moved = refl;
+    left_same = refl;
+    back_same = refl;
+    unchanged = refl;
+    returned = λ k below. three_are k (after_r (loaded frame value 3) r w) below (first_is (omega (arith, fits))) (second_is (omega (arith, fits))) (third_is (omega (arith, fits)));
+  }
+  are_loaded (suc (suc (suc (suc count)))) few fits = absurd (omega (arith, few))
+
+module _ (program : Program) (well : IsWellFormed program) (frames : List Frame) (fit : AreFrames program frames) (code : Labelled) (formed : IsFormed code) (addresses : ℕ → ℕ) (pages calls : ℕ) (few : calls ≤ 4096)
+    (lie : AreAddresses code addresses) (c : Configuration) (run : labelled.Configuration) (r w : Words) (base : ℕ)
+    (now : At program well frames fit code formed addresses pages calls few (instruction_line program c.active.function c.active.next) c.output c.input r w run)
+    (s : Standing program frames addresses pages calls c r w base (r 31) (suc (length c.frames)) c.active.slots)
+    (value : ℕ) (at_i : instruction_at program (states.place_of (states.Running c)) ≡ Some (plain.Return value))
+    (in_range : HasSlots (routine_at program c.active.function) value (routine_at program c.active.function).results)
+    (inside : (function index callee arguments count result : ℕ) → instruction_at program (record { function = function; index = index }) ≡ Some (plain.Call callee arguments count result)
+    → behind_line program function index callee arguments count result < length code.lines)
+    (stands : Stands code (instruction_line program c.active.function c.active.next) (return_code program frames c.active.function (instruction_line program c.active.function c.active.next) value)) where
+  abbrev here : ℕ
+  here = instruction_line program c.active.function c.active.next
+
+  abbrev frame : Frame
+  frame = frame_at frames c.active.function
+
+  abbrev results : ℕ
+  results = (routine_at program c.active.function).results
+
+  abbrev ending : ℕ
+  ending = ending_count program c.active.function
+
+  abbrev Goes : (least lo hi : ℕ) → State → Type 0
+  Goes least lo hi t = Walk code formed addresses globals_length (words_per_call * calls) least lo hi c.output (Reached program well frames fit code formed addresses pages calls few c) t
+
+  abbrev AtLine : ℕ → (q m : Words) → labelled.Configuration → Type 0
+  AtLine line q m d = At program well frames fit code formed addresses pages calls few line c.output c.input q m d
+
+  cell : (slot : ℕ) → slot < (routine_at program c.active.function).slots → IsCell globals_length (words_per_call * calls) (memory_address (r 29) (slot_offset frame slot))
+  cell slot below = slot_cell program well frames fit addresses pages calls few c r w base (r 31) (suc (length c.frames)) c.active.slots s slot below
+
+  word_is : (slot : ℕ) → slot < (routine_at program c.active.function).slots → w (memory_address (r 29) (slot_offset frame slot)) ≡ c.active.slots slot
+  word_is slot below = slot_word_is program well frames fit addresses pages calls few c r w base (r 31) (suc (length c.frames)) c.active.slots s slot below
+
+  -- ---- the end of the run
+
+  abbrev ends : List Instr
+  ends = load_slot frame 4 value ∷ small 2 3 ∷ []
+
+  ends_goes : (hi : ℕ) (d : labelled.Configuration) → here + 4 ≤ hi → c.frames ≡ [] → value < (routine_at program c.active.function).slots
+      → Stands code (here + 1) (ordinary (load_slot frame 4 value ∷ small 2 3 ∷ syscall ∷ [])) → AtLine (here + 1) r w d → Goes 0 (suc here) hi (Running d)
+  ends_goes hi d far alone below stands_here later =
+      let is_returned : performed program zeros c (plain.Return value) ≡ states.Ended (Returned (signed (c.active.slots value))) c.output c.input = ap (returns c value results) alone in
+      walk_few code formed addresses globals_length (words_per_call * calls) 0 (2 + 1) (suc here) hi c.output _ (Running d) (omega arith)
+      (walk_block code formed addresses globals_length (words_per_call * calls) ends 1 (here + 1) (suc here) hi c.output c.input _ r w d later
+      (stands_front code (here + 1) (ordinary ends) (ordinary (syscall ∷ [])) stands_here) ((refl, cell value below), (refl, tt)) (omega arith)
+      (λ e after.
+      walk_returned code formed addresses globals_length (words_per_call * calls) (here + 1 + 2) (here + 1 + 2) hi c.output c.input _ (after_r ends r w) w e after
+      (stands_back code (here + 1) (ordinary ends) (ordinary (syscall ∷ [])) stands_here).0 (omega arith) (omega (arith, far))
+      (ap (λ (x : ℕ). add_of x (sign_extended 3)) s.zero_is ∙ add_small 0 3 (omega arith) (omega arith))
+      (reached program well frames fit code formed addresses pages calls few c zeros (plain.Return value) (states.Ended (Returned (signed (c.active.slots value))) c.output c.input) _ zeros_allowed at_i is_returned
+      (over_within pages calls (Returned (signed (c.active.slots value))) c.output c.input)
+      (ap (λ (x : ℕ). Ended (Returned (signed x)) c.output c.input) (word_is value below)))))
+
+  -- ---- back to a caller
+
+  back_goes : (line hi : ℕ) (d : labelled.Configuration) (f : states.Frame) (waiting : List states.Frame) → c.frames ≡ f ∷ waiting
+      → Chain program frames addresses w base (r 31) c.active.function (f ∷ waiting)
+      → Stands code line (ordinary (loaded frame value results) ++ lines.Return ∷ []) → line + length (ordinary (loaded frame value results)) + 1 ≤ hi → AtLine line r w d → Goes 1 line hi (Running d)
+  back_goes line hi d f waiting under (arguments, count, index, known, at, next, is_back, holds, chain) stands_here far later =
+      let size : ℕ = length (loaded frame value results) in
+      let same_size = length_ordinary (loaded frame value results) in
+      let own = fit c.active.function s.known in
+      let l = lies program well frames fit addresses pages calls few c r w base (r 31) (suc (length c.frames)) c.active.slots s in
+      let routine = well.functions c.active.function no_routine s.known in
+      let load = are_loaded globals_length (words_per_call * calls) frame r w c.active.slots value (routine_at program c.active.function).slots cell word_is results routine.results in_range in
+      let q : Words = after_r (loaded frame value results) r w in
+      let above : ℕ = base + 4 * frame.words in
+      let next_state : Configuration = record c {
+        active = record f.caller { slots = copied c.active.slots value results f.caller.slots f.result };
+        frames = waiting;
+      } in
+      let is_returned : performed program zeros c (plain.Return value) ≡ states.Running next_state = ap (returns c value results) under in
+      let base_is : after_r (loaded frame value results) r w 29 ≡ above =
+      load.base_moved ∙ (ap (λ (x : ℕ). add_of x (sign_extended (4 * frame.words))) s.base_is
+      ∙ add_small base (4 * frame.words) (omega (arith, own.within, own.small)) (omega (arith, l.below_end))) in
+      let deep : suc (suc (length waiting)) ≤ calls = subst (λ (fs : List states.Frame). suc (length fs) ≤ calls) under s.deep in
+      let left : r 30 + suc (suc (length waiting)) ≡ calls = subst (λ (fs : List states.Frame). r 30 + suc (length fs) ≡ calls) under s.left in
+      let there : Standing program frames addresses pages calls next_state (after_r (loaded frame value results) r w) w above (w (above + 4 * (frame_at frames f.caller.function).return_address)) (suc (suc (length waiting))) f.caller.slots = record {
+        known = known;
+        base_is = base_is;
+        zero_is = load.zero_same ∙ s.zero_is;
+        left = ap (λ (n : ℕ). n + suc (suc (length waiting))) load.left_same ∙ left;
+        deep = omega (arith, deep);
+        holds = holds;
+        chain = chain;
+        globals = s.globals;
+        input = s.input;
+        paged = s.paged;
+      } in
+      walk_few code formed addresses globals_length (words_per_call * calls) 1 (size + 1) line hi c.output _ (Running d) (omega arith)
+      (walk_block code formed addresses globals_length (words_per_call * calls) (loaded frame value results) 1 line line hi c.output c.input _ r w d later
+      (stands_front code line (ordinary (loaded frame value results)) (lines.Return ∷ []) stands_here) load.safe (omega arith)
+      (λ e after.
+      walk_return code formed addresses globals_length (words_per_call * calls) 0 (line + size) (line + size) hi c.output c.input _ (after_r (loaded frame value results) r w) (after_w (loaded frame value results) r w) e
+      (behind_line program f.caller.function index c.active.function arguments count f.result) lie after
+      (subst (λ (n : ℕ). slice_get code.lines (line + n) ≡ Some lines.Return) same_size (stands_back code line (ordinary (loaded frame value results)) (lines.Return ∷ []) stands_here).0)
+      (omega arith) (inside f.caller.function index c.active.function arguments count f.result at) (load.back_same ∙ is_back)
+      (λ g returned.
+      walk_end code formed addresses globals_length (words_per_call * calls) (suc (line + size)) hi c.output _ (Running g) (omega (arith, far, same_size))
+      (reached program well frames fit code formed addresses pages calls few c zeros (plain.Return value) (states.Running next_state) (Running g) zeros_allowed at_i is_returned
+      (within program well frames fit code formed addresses pages calls few next_state s.paged (omega (arith, deep)))
+      (inr (record {
+        run = g;
+        r = after_r (loaded frame value results) r w;
+        w = w;
+        base = above;
+        index = index;
+        callee = c.active.function;
+        arguments = arguments;
+        count = count;
+        result = f.result;
+        waiting = f.caller.slots;
+        values = c.active.slots;
+        first = value;
+        is = refl;
+        next = next;
+        call = at;
+        now = subst (λ (m : Words). AtLine (behind_line program f.caller.function index c.active.function arguments count f.result) (after_r (loaded frame value results) r w) m g) load.unchanged returned;
+        standing = there;
+        returned = load.returned;
+        slots = refl;
+      }))))))
+
+  few_results : results ≤ 3
+  few_results = (well.functions c.active.function no_routine s.known).results
+
+  loaded_length : length (ordinary (loaded frame value results)) ≡ results + 1
+  loaded_length = length_ordinary (loaded frame value results) ∙ length_loaded frame value results few_results
+
+  -- both cases of a return, from the lines that load
+  abbrev tail : List Line
+  tail = ordinary (loaded frame value results) ++ lines.Return ∷ []
+
+  plain_goes : (c.active.function == program.main) ≡ false → Stands code here tail → (fs : List states.Frame) → c.frames ≡ fs → Chain program frames addresses w base (r 31) c.active.function fs → Goes 1 here (here + (0 + results + 2)) (Running run)
+  plain_goes other stands_here [] under (last, is_back, is_main) = absurd (let e : false ≡ true = sym other ∙ eq-eqb c.active.function program.main is_main in cc)
+  plain_goes other stands_here (f ∷ waiting) under chain =
+      back_goes here (here + (0 + results + 2)) run f waiting under chain stands_here (omega (arith, loaded_length)) now
+
+  main_goes : (c.active.function == program.main) ≡ true → Stands code here (ending_code true frame here value ++ tail) → (fs : List states.Frame) → c.frames ≡ fs → Chain program frames addresses w base (r 31) c.active.function fs → Goes 1 here (here + (4 + results + 2)) (Running run)
+  main_goes main stands_here [] under (last, is_back, is_main) =
+      let stays : (if not (r 31 == r 0) then here + 4 else here + 1) ≡ here + 1 = ap (λ (b : Bool). if not b then here + 4 else here + 1) (eq-eqb (r 31) (r 0) (is_back ∙ sym s.zero_is)) in
+      let one : results ≡ 1 = ap (λ (f : ℕ). (routine_at program f).results) is_main ∙ well.main_results in
+      walk_branch code formed addresses globals_length (words_per_call * calls) 0 here here (here + (4 + results + 2)) c.output c.input _ r w run branch.NotEqual (register_of 31) (register_of 0) (here + 4) (here + 1) now stands_here.0 (omega arith) stays
+      (λ d later.
+      ends_goes (here + (4 + results + 2)) d (omega arith) under (omega (arith, one, in_range))
+      (stands_front code (here + 1) (ordinary (load_slot frame 4 value ∷ small 2 3 ∷ syscall ∷ [])) tail
+      (stands_back code here (lines.Branch branch.NotEqual (register_of 31) (register_of 0) (here + 4) ∷ []) (ordinary (load_slot frame 4 value ∷ small 2 3 ∷ syscall ∷ []) ++ tail) stands_here))
+      later)
+  main_goes main stands_here (f ∷ waiting) under (arguments, count, index, known, at, next, is_back, holds, chain) =
+      let line : ℕ = behind_line program f.caller.function index c.active.function arguments count f.result in
+      let high = lie.from (behind_line program f.caller.function index c.active.function arguments count f.result) (inside f.caller.function index c.active.function arguments count f.result at) in
+      let other : r 31 ≢ r 0 = λ e. absurd (omega (arith, e, s.zero_is, is_back, high)) in
+      let leaps : (if not (r 31 == r 0) then here + 4 else here + 1) ≡ here + 4 = ap (λ (b : Bool). if not b then here + 4 else here + 1) (ne_eqb (r 31) (r 0) other) in
+      walk_branch code formed addresses globals_length (words_per_call * calls) 0 here here (here + (4 + results + 2)) c.output c.input _ r w run branch.NotEqual (register_of 31) (register_of 0) (here + 4) (here + 4) now stands_here.0 (omega arith) leaps
+      (λ d later.
+      walk_from code formed addresses globals_length (words_per_call * calls) 0 (suc here) (here + 4) (here + (4 + results + 2)) c.output _ (Running d) (omega arith)
+      (walk_few code formed addresses globals_length (words_per_call * calls) 0 1 (here + 4) (here + (4 + results + 2)) c.output _ (Running d) (omega arith)
+      (back_goes (here + 4) (here + (4 + results + 2)) d f waiting under (arguments, count, index, known, at, next, is_back, holds, chain)
+      (stands_back code here (ending_code true frame here value) tail stands_here) (omega (arith, loaded_length)) later)))
+
+  pub return_goes : Goes 1 here (here + (ending_count program c.active.function + results + 2)) (Running run)
+  return_goes = elim (cases_Bool (c.active.function == program.main)) [
+    | inl main ↦
+        subst (λ (n : ℕ). Goes 1 here (here + (n + results + 2)) (Running run)) (sym (ap (λ (b : Bool). if b then 4 else 0) main))
+        (main_goes main (subst (λ (b : Bool). Stands code here (ending_code b frame here value ++ ordinary (loaded frame value results) ++ lines.Return ∷ [])) main stands) c.frames refl s.chain)
+    | inr other ↦
+        subst (λ (n : ℕ). Goes 1 here (here + (n + results + 2)) (Running run)) (sym (ap (λ (b : Bool). if b then 4 else 0) other))
+        (plain_goes other (subst (λ (b : Bool). Stands code here (ending_code b frame here value ++ ordinary (loaded frame value results) ++ lines.Return ∷ [])) other stands) c.frames refl s.chain)
+  ]
+
+-- ---- behind a call
+
+pub length_stores : (f : Frame) (slot : ℕ) (sources : List ℕ) → length (store_all f slot sources) ≡ length sources
+length_stores f slot [] = refl
+length_stores f slot (source ∷ sources) = ap suc (length_stores f (suc slot) sources)
+
+pub length_registers : (count : ℕ) → count ≤ 3 → length (result_registers count) ≡ count
+length_registers zero few_results = refl
+length_registers (suc zero) few_results = refl
+length_registers (suc (suc zero)) few_results = refl
+length_registers (suc (suc (suc zero))) few_results = refl
+length_registers (suc (suc (suc (suc count)))) few_results = absurd (omega (arith, few_results))
+
+-- one word more is copied
+slots_next : (from to : Words) (source count destination slot number word : ℕ) → slot ≡ destination + count → word ≡ from (source + count)
+    → put (copied from source count to destination) slot word number ≡ copied from source (suc count) to destination number
+slots_next from to source count destination slot number word is_slot is_word = elim (cases_eq number slot) [
+  | inl same ↦
+      let there : number ≡ destination + count = same ∙ is_slot in
+      ap (put (copied from source count to destination) slot word) same
+      ∙ (put-same (copied from source count to destination) slot word
+      ∙ (is_word ∙ sym (ap (copied from source (suc count) to destination) there ∙ copied-inside from to source (suc count) destination count (omega arith))))
+  | inr other ↦
+      put-other (copied from source count to destination) slot number word other
+      ∙ elim (cases_lt number destination) [
+        | inl below ↦ copied-below from to source count destination number below ∙ sym (copied-below from to source (suc count) destination number below)
+        | inr from_first ↦ elim (cases_lt number (destination + count)) [
+          | inl before ↦
+              let there : number ≡ destination + (number - destination) = omega (arith, from_first) in
+              ap (copied from source count to destination) there
+              ∙ (copied-inside from to source count destination (number - destination) (omega (arith, before, from_first))
+              ∙ sym (ap (copied from source (suc count) to destination) there ∙ copied-inside from to source (suc count) destination (number - destination) (omega (arith, before, from_first))))
+          | inr past ↦
+              copied-above from to source count destination number past
+              ∙ sym (copied-above from to source (suc count) destination number (beyond past other))
+        ]
+      ]
+]
+  where
+    beyond : destination + count ≤ number → number ≢ slot → destination + suc count ≤ number
+    beyond past other = omega (arith, past, other, is_slot)
+
+no_slots : (from to : Words) (source destination number : ℕ) → to number ≡ copied from source 0 to destination number
+no_slots from to source destination number = elim (cases_lt number destination) [
+  | inl below ↦ sym (copied-below from to source 0 destination number below)
+  | inr above ↦ sym (copied-above from to source 0 destination number (omega (arith, above)))
+]
+
+module _ (program : Program) (well : IsWellFormed program) (frames : List Frame) (fit : AreFrames program frames) (addresses : ℕ → ℕ) (pages calls : ℕ) (few : calls ≤ 4096)
+    (c : Configuration) (q : Words) (base back depth result first : ℕ) (values waiting : Words) where
+  abbrev StandsWith : (m slots : Words) → Type 0
+  StandsWith m slots = Standing program frames addresses pages calls c q m base back depth slots
+
+  same_slots : (m slots slots' : Words) → ((slot : ℕ) → slots slot ≡ slots' slot) → StandsWith m slots → StandsWith m slots'
+  same_slots m slots slots' same s = record {
+    known = s.known;
+    base_is = s.base_is;
+    zero_is = s.zero_is;
+    left = s.left;
+    deep = s.deep;
+    holds = λ slot below. s.holds slot below ∙ same slot;
+    chain = s.chain;
+    globals = s.globals;
+    input = s.input;
+    paged = s.paged;
+  }
+
+  -- the registers hold the values from this one on
+  abbrev Given : ℕ → List ℕ → Type 0
+  Given k [] = Unit {0}
+  Given k (source ∷ sources) = (q (source % 32) ≡ values (first + k)) × Given (suc k) sources
+
+  record AreStored (slot k : ℕ) (sources : List ℕ) (m : Words) : Type 0 where
+    pub safe : AreSafe globals_length (words_per_call * calls) (store_all (frame_at frames c.active.function) slot sources) q m
+    pub same : after_r (store_all (frame_at frames c.active.function) slot sources) q m ≡ q
+    pub standing : StandsWith (after_w (store_all (frame_at frames c.active.function) slot sources) q m) (copied values first (k + length sources) waiting result)
+
+  are_stored : (slot k : ℕ) (sources : List ℕ) (m : Words) → slot ≡ result + k → result + (k + length sources) ≤ (routine_at program c.active.function).slots → Given k sources
+      → StandsWith m (copied values first k waiting result) → AreStored slot k sources m
+  are_stored slot k [] m is_slot fits given s = record {
+    safe = tt;
+    same = refl;
+    standing = subst (λ (n : ℕ). StandsWith m (copied values first n waiting result)) (let e : k ≡ k + 0 = omega arith in e) s;
+  }
+  are_stored slot k (source ∷ sources) m is_slot fits (one, others) s =
+      let below : slot < (routine_at program c.active.function).slots = omega (arith, is_slot, fits) in
+      let there = slot_address program well frames fit addresses pages calls few c q m base back depth (copied values first k waiting result) s slot below in
+      let m1 : Words = put m (memory_address (q 29) (slot_offset (frame_at frames c.active.function) slot)) (q (source % 32)) in
+      let put_one = standing_slot program well frames fit addresses pages calls few c q m base back depth (copied values first k waiting result) s slot (q (source % 32)) below in
+      let in_m1 : StandsWith m1 (put (copied values first k waiting result) slot (q (source % 32))) =
+      subst (λ (a : ℕ). StandsWith (put m a (q (source % 32))) (put (copied values first k waiting result) slot (q (source % 32)))) (sym there) put_one in
+      let next = same_slots m1 (put (copied values first k waiting result) slot (q (source % 32))) (copied values first (suc k) waiting result)
+      (λ number. slots_next values waiting first k result slot number (q (source % 32)) is_slot one) in_m1 in
+      let rest = are_stored (suc slot) (suc k) sources m1 (omega (arith, is_slot)) (omega (arith, fits)) others next in
+      record {
+        safe = (slot_cell program well frames fit addresses pages calls few c q m base back depth (copied values first k waiting result) s slot below, rest.safe);
+        same = rest.same;
+        standing = subst (λ (n : ℕ). StandsWith (after_w (store_all (frame_at frames c.active.function) (suc slot) sources) q m1) (copied values first n waiting result)) (let e : suc k + length sources ≡ k + suc (length sources) = omega arith in e) rest.standing;
+      }
+
+  given : (count : ℕ) → count ≤ 3 → ((k : ℕ) → k < count → q (result_register k) ≡ values (first + k)) → Given 0 (result_registers count)
+  given zero few_results holds = tt
+  given (suc zero) few_results holds = (holds 0 (omega arith), tt)
+  given (suc (suc zero)) few_results holds = (holds 0 (omega arith), (holds 1 (omega arith), tt))
+  given (suc (suc (suc zero))) few_results holds = (holds 0 (omega arith), (holds 1 (omega arith), (holds 2 (omega arith), tt)))
+  given (suc (suc (suc (suc count)))) few_results holds = absurd (omega (arith, few_results))
+
+  pub stored : (count : ℕ) (m : Words) → count ≤ 3 → result + count ≤ (routine_at program c.active.function).slots → ((k : ℕ) → k < count → q (result_register k) ≡ values (first + k)) → StandsWith m waiting
+      → (AreSafe globals_length (words_per_call * calls) (store_all (frame_at frames c.active.function) result (result_registers count)) q m)
+      × (after_r (store_all (frame_at frames c.active.function) result (result_registers count)) q m ≡ q)
+      × StandsWith (after_w (store_all (frame_at frames c.active.function) result (result_registers count)) q m) (copied values first count waiting result)
+  stored count m few_results fits holds s =
+      let long = length_registers count few_results in
+      let all = are_stored result 0 (result_registers count) m (omega arith) (omega (arith, long, fits)) (given count few_results holds)
+      (same_slots m waiting (copied values first 0 waiting result) (λ number. no_slots values waiting first result number) s) in
+      (all.safe, all.same, subst (λ (n : ℕ). StandsWith (after_w (store_all (frame_at frames c.active.function) result (result_registers count)) q m) (copied values first n waiting result)) (let e : 0 + length (result_registers count) ≡ count = omega (arith, long) in e) all.standing)
+
+-- what stands behind a call brings the caller to its next instruction
+module _ (program : Program) (well : IsWellFormed program) (frames : List Frame) (fit : AreFrames program frames) (code : Labelled) (formed : IsFormed code) (addresses : ℕ → ℕ) (pages calls : ℕ) (few : calls ≤ 4096)
+    (c : Configuration) (t : State) (b : Back program well frames fit code formed addresses pages calls few c t)
+    (stands : Stands code (behind_line program c.active.function b.index b.callee b.arguments b.count b.result) (behind program frames c.active.function (plain.Call b.callee b.arguments b.count b.result)))
+    (room : b.result + (routine_at program b.callee).results ≤ (routine_at program c.active.function).slots) (few_results : (routine_at program b.callee).results ≤ 3) where
+  abbrev own_frame : Frame
+  own_frame = frame_at frames c.active.function
+
+  abbrev first_two : List Instr
+  first_two = load 31 (4 * own_frame.return_address) ∷ add_immediate 30 30 1 ∷ []
+
+  abbrev kept_words : List Instr
+  kept_words = store_all own_frame b.result (result_registers (routine_at program b.callee).results)
+
+  abbrev saved : ℕ
+  saved = b.w (b.base + 4 * own_frame.return_address)
+
+  abbrev restored : Words
+  restored = after_r first_two b.r b.w
+
+  back_is : restored 31 ≡ saved
+  back_is = ap b.w (return_address program well frames fit addresses pages calls few c b.r b.w b.base saved (suc (suc (length c.frames))) b.waiting b.standing)
+
+  left_is : restored 30 ≡ b.r 30 + 1
+  left_is = add_small (b.r 30) 1 (omega arith) (omega (arith, b.standing.left))
+
+  small_register : (k : ℕ) → result_register k < 30
+  small_register zero = omega arith
+  small_register (suc zero) = omega arith
+  small_register (suc (suc zero)) = omega arith
+  small_register (suc (suc (suc k))) = omega arith
+
+  register_kept : (k : ℕ) → restored (result_register k) ≡ b.r (result_register k)
+  register_kept k =
+      put-other (put b.r 31 _) 30 (result_register k) _ (λ e. absurd (omega (arith, e, small_register k)))
+      ∙ put-other b.r 31 (result_register k) _ (λ e. absurd (omega (arith, e, small_register k)))
+
+  restored_stands : Standing program frames addresses pages calls c restored b.w b.base saved (suc (length c.frames)) b.waiting
+  restored_stands = record {
+    known = b.standing.known;
+    base_is = b.standing.base_is;
+    zero_is = b.standing.zero_is;
+    left = one_less (restored 30) left_is;
+    deep = b.standing.deep;
+    holds = b.standing.holds;
+    chain = b.standing.chain;
+    globals = b.standing.globals;
+    input = b.standing.input;
+    paged = b.standing.paged;
+  }
+    where
+      one_less : (n : ℕ) → n ≡ b.r 30 + 1 → n + suc (length c.frames) ≡ calls
+      one_less n is = omega (arith, is, b.standing.left)
+
+  length_kept : length (first_two ++ kept_words) ≡ 2 + (routine_at program b.callee).results
+  length_kept = ap (λ (n : ℕ). suc (suc n)) (length_stores own_frame b.result (result_registers (routine_at program b.callee).results) ∙ length_registers (routine_at program b.callee).results few_results) ∙ (let e : suc (suc (routine_at program b.callee).results) ≡ 2 + (routine_at program b.callee).results = omega arith in e)
+
+  line_is : behind_line program c.active.function b.index b.callee b.arguments b.count b.result + length (first_two ++ kept_words) ≡ instruction_line program c.active.function c.active.next
+  line_is =
+      let e = line_next program c.active.function b.index (plain.Call b.callee b.arguments b.count b.result) b.call in
+      ap (λ (n : ℕ). behind_line program c.active.function b.index b.callee b.arguments b.count b.result + n) length_kept
+      ∙ ((let f : behind_line program c.active.function b.index b.callee b.arguments b.count b.result + (2 + (routine_at program b.callee).results) ≡ instruction_line program c.active.function (b.index + 1) = omega (arith, e) in f)
+      ∙ ap (instruction_line program c.active.function) (sym b.next))
+
+  pub behind_goes : (n hi : ℕ) (Goal : State → Type 0)
+      → ((u : State) → Ready program well frames fit code formed addresses pages calls few c u → Walk code formed addresses globals_length (words_per_call * calls) n (instruction_line program c.active.function c.active.next) hi c.output Goal u)
+      → Walk code formed addresses globals_length (words_per_call * calls) n (behind_line program c.active.function b.index b.callee b.arguments b.count b.result) hi c.output Goal (Running b.run)
+  behind_goes n hi Goal rest =
+      let k : ℕ = behind_line program c.active.function b.index b.callee b.arguments b.count b.result in
+      let all = stored program well frames fit addresses pages calls few c restored b.base saved (suc (length c.frames)) b.result b.first b.values b.waiting (routine_at program b.callee).results b.w few_results room
+      (λ j below. register_kept j ∙ b.returned j below) restored_stands in
+      walk_few code formed addresses globals_length (words_per_call * calls) n (length (first_two ++ kept_words) + n) k hi c.output Goal (Running b.run) (omega arith)
+      (walk_block code formed addresses globals_length (words_per_call * calls) (first_two ++ kept_words) n k k hi c.output c.input Goal b.r b.w b.run b.now stands
+      ((refl, return_cell program well frames fit addresses pages calls few c b.r b.w b.base saved (suc (suc (length c.frames))) b.waiting b.standing), (refl, all.0)) (omega arith)
+      (λ d later.
+      walk_from code formed addresses globals_length (words_per_call * calls) n (k + length (first_two ++ kept_words)) (instruction_line program c.active.function c.active.next) hi c.output Goal (Running d) (omega (arith, line_is))
+      (rest (Running d) (record {
+        run = d;
+        r = restored;
+        w = after_w kept_words restored b.w;
+        base = b.base;
+        is = refl;
+        now = now_at code formed addresses globals_length (words_per_call * calls) (k + length (first_two ++ kept_words)) (instruction_line program c.active.function c.active.next) c.output c.input restored (after_w kept_words restored b.w) d line_is
+            (now_is code formed addresses globals_length (words_per_call * calls) (k + length (first_two ++ kept_words)) c.output c.input (after_r kept_words restored b.w) (after_w kept_words restored b.w) restored (after_w kept_words restored b.w) d all.1 refl later);
+        standing =
+            subst (λ (x : ℕ). Standing program frames addresses pages calls c restored (after_w kept_words restored b.w) b.base x (suc (length c.frames)) c.active.slots) (sym back_is)
+            (subst (λ (x : Words). Standing program frames addresses pages calls c restored (after_w kept_words restored b.w) b.base saved (suc (length c.frames)) x) (sym b.slots) all.2);
+      }))))

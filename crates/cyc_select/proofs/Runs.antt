@@ -1,0 +1,280 @@
+-- Each step of the plain machine is matched by steps of the labelled machine through the place's own lines.
+use Rattle.std.proofs.Common.{◌≡◌, ◌≢◌, ℕ, zero, suc, ◌+◌, ◌-◌, ◌*◌, ◌^◌, ◌<◌, ◌≤◌, Bool, true, false, List, [], ◌∷◌, ◌++◌, length, Option, Some, None, slice_get, refl, sym, ap, subst, ◌∙◌, arith, inl, inr}
+use Rattle.std.specs.Prelude.{◌⊎◌, ◌==◌, if◌then◌else◌, All}
+use Rattle.std.specs.List.{AllByRecursion, range_with_len}
+use Rattle.std.proofs.lemmas.Bool.{cases_lt, cases_eq, eq-eqb, ne_eqb}
+use Rattle.cyc_words.specs.Ending.{Ending}
+use Rattle.std.proofs.lemmas.List.{get_or_past}
+use Rattle.cyc_words.specs.Word.{div_of, rem_of}
+use Rattle.cyc_isa.specs.declared.instr.MoveFromOp.TheVariants.{High, Low}
+use Rattle.cyc_machine.specs.State.{globals_length, words_per_call}
+use Rattle.cyc_plain.specs.declared.instruction.Instruction.{Instruction}
+use Rattle.cyc_plain.specs.declared.instruction.Instruction.TheVariants as plain
+use Rattle.cyc_plain.specs.declared.instruction.BinaryOperator.{BinaryOperator}
+use Rattle.cyc_plain.specs.declared.instruction.BinaryOperator.TheVariants as binary
+use Rattle.cyc_plain.specs.Operators.{binary_result, has_no_result}
+use Rattle.cyc_plain.specs.Program.{Routine, Program, CodePlace, no_routine, routine_at}
+use Rattle.cyc_plain.specs.Simulation as simulation
+use Rattle.cyc_plain.specs.Simulation.{IsOnTheWay, Matching, IsMatchedStep, IsStepped, Steps}
+use Rattle.cyc_plain.specs.State as states
+use Rattle.cyc_plain.specs.State.{Words, Configuration}
+use Rattle.cyc_plain.specs.Step as steps
+use Rattle.cyc_plain.specs.Step.{instruction_at, performed, executed, gives, step, is_within, Step}
+use Rattle.cyc_plain.specs.WellFormed.{IsWellFormed, IsInRange, IsRoutine, HasWords, HasWord}
+use Rattle.cyc_plain.proofs.Matching.{way_before}
+use Rattle.cyc_plain.proofs.Placed.{holds_at, routine_in, below_of_get}
+use Rattle.cyc_plain.proofs.RunLaws.{limited-within, zeros, zeros_allowed, stuck_within}
+use Rattle.cyc_plain.proofs.Steps.{function_known}
+use Rattle.cyc_frame.specs.Layout.{frame_at}
+use Rattle.cyc_frame.specs.declared.frame.Frame.{Frame}
+use Rattle.cyc_select.specs.Labelled.{Labelled, IsFormed, AreAddresses}
+use Rattle.cyc_select.specs.Machine as labelled
+use Rattle.cyc_select.specs.Machine.{State, Running, Ended, machine}
+use Rattle.cyc_select.specs.Selection.{body, behind, body_count, behind_count, count_of, operator_count, instruction_line}
+use Rattle.cyc_select.proofs.Lines.{line_next}
+use Rattle.cyc_select.proofs.Operations.{negated_quotient, negated_remainder}
+use Rattle.cyc_select.proofs.Walks.{Stands, stands_front, stands_back, Rises, rising_distinct, rising_inside, comes_map, Quiet, Walk, walk_few}
+use Rattle.cyc_select.proofs.Standing.{AreFrames, Standing, behind_line}
+use Rattle.cyc_select.proofs.Matches.{At, Ready, Back, Matches, Reached}
+use Rattle.cyc_select.proofs.Simple.{constant_goes, move_goes, unary_goes, add_goes, subtract_goes, multiply_goes, and_goes, or_goes, xor_goes, shift_left_goes, shift_right_goes, equal_goes, not_equal_goes, less_goes, less_or_equal_goes, greater_goes, greater_or_equal_goes, divide_goes, jump_goes, jump_if_zero_goes, jump_if_nonzero_goes, read_goes, write_goes, load_global_goes, store_global_goes, uncaught_goes}
+use Rattle.cyc_select.proofs.Calls.{call_goes}
+use Rattle.cyc_select.proofs.Returns.{return_goes, behind_goes}
+
+-- ---- the lines of each place
+
+-- the lines behind a call belong to the next place
+abbrev pub behind_of : Program → Option Instruction → ℕ
+behind_of program (Some i) = behind_count program i
+behind_of program None = 0
+
+abbrev pub previous_count : Program → List Instruction → (index : ℕ) → ℕ
+previous_count program code zero = 0
+previous_count program code (suc index) = behind_of program (slice_get code index)
+
+abbrev pub body_of : Program → (function : ℕ) → Option Instruction → ℕ
+body_of program function (Some i) = body_count program function i
+body_of program function None = 0
+
+abbrev pub own_of : Program → CodePlace → List ℕ
+own_of program place =
+    let code = (routine_at program place.function).code in
+    range_with_len
+    (instruction_line program place.function place.index - previous_count program code place.index)
+    (previous_count program code place.index + body_of program place.function (slice_get code place.index))
+
+-- the lines before a place are there
+pub previous_fits : (program : Program) (function index : ℕ) → previous_count program (routine_at program function).code index ≤ instruction_line program function index
+previous_fits program function zero = omega arith
+previous_fits program function (suc index) = go (slice_get (routine_at program function).code index) refl
+  where
+    go : (o : Option Instruction) → slice_get (routine_at program function).code index ≡ o → behind_of program o ≤ instruction_line program function (suc index)
+    go (Some i) at =
+        let e = line_next program function index i at in
+        let one : index + 1 ≡ suc index = omega arith in
+        omega (arith, e, ap (instruction_line program function) one)
+    go None at = omega arith
+
+module _ (program : Program) (well : IsWellFormed program) (words : HasWords program) (frames : List Frame) (fit : AreFrames program frames) (code : Labelled) (formed : IsFormed code) (addresses : ℕ → ℕ) (lie : AreAddresses code addresses)
+    (pages calls : ℕ) (few : calls ≤ 4096)
+    (stand : (function index : ℕ) (i : Instruction) → instruction_at program (record { function = function; index = index }) ≡ Some i
+    → Stands code (instruction_line program function index) (body program frames function (instruction_line program function index) i ++ behind program frames function i))
+    (long : (function line : ℕ) (i : Instruction) → length (body program frames function line i) ≡ body_count program function i) where
+  -- the lines behind a call stand where it returns to
+  behind_stands : (function index callee arguments count result : ℕ) → instruction_at program (record { function = function; index = index }) ≡ Some (plain.Call callee arguments count result)
+      → Stands code (behind_line program function index callee arguments count result) (behind program frames function (plain.Call callee arguments count result))
+  behind_stands function index callee arguments count result at =
+      let line : ℕ = instruction_line program function index in
+      let i : Instruction = plain.Call callee arguments count result in
+      subst (λ (n : ℕ). Stands code (instruction_line program function index + n) (behind program frames function (plain.Call callee arguments count result))) (long function line i)
+      (stands_back code line (body program frames function line i) (behind program frames function i) (stand function index i at))
+
+  behind_inside : (function index callee arguments count result : ℕ) → instruction_at program (record { function = function; index = index }) ≡ Some (plain.Call callee arguments count result)
+      → behind_line program function index callee arguments count result < length code.lines
+  behind_inside function index callee arguments count result at = below_of_get code.lines _ _ (behind_stands function index callee arguments count result at).0
+
+  in_range_of : (function index : ℕ) (i : Instruction) → instruction_at program (record { function = function; index = index }) ≡ Some i → IsInRange program (routine_at program function) i
+  in_range_of function index i at =
+      holds_at (IsInRange program (routine_at program function)) (routine_at program function).code index i
+      (routine_in program function well (function_known program (record { function = function; index = index }) i at)).instructions at
+
+  word_of_it : (function index : ℕ) (i : Instruction) → instruction_at program (record { function = function; index = index }) ≡ Some i → HasWord i
+  word_of_it function index i at =
+      holds_at HasWord (routine_at program function).code index i
+      (words.functions function no_routine (function_known program (record { function = function; index = index }) i at)) at
+
+  few_results : (function : ℕ) → (routine_at program function).results ≤ 3
+  few_results function = elim (cases_lt function (length program.functions)) [
+    | inl below ↦ (routine_in program function well below).results
+    | inr past ↦ subst (λ (r : Routine). r.results ≤ 3) (sym (get_or_past program.functions function no_routine past)) (let e : 0 ≤ 3 = omega arith in e)
+  ]
+
+  -- ---- one instruction
+
+  abbrev Never : Configuration → Type 0
+  Never c = (next : states.State) → Step program pages calls (states.Running c) next → states.status_of next ≡ simulation.Failed → ⊥
+
+  stuck_not : (c : Configuration) → Never c → step program zeros (states.Running c) ≡ states.Stuck c.output c.input → ⊥
+  stuck_not c never is =
+      never (states.Stuck c.output c.input)
+      (zeros, zeros_allowed, sym (limited-within pages calls (states.Running c) (step program zeros (states.Running c)) (ap (is_within pages calls) is ∙ stuck_within pages calls c.output c.input) ∙ is))
+      refl
+
+  divides : (c : Configuration) → Never c → (operator : BinaryOperator) (destination left right : ℕ) → instruction_at program (states.place_of (states.Running c)) ≡ Some (plain.Binary operator destination left right)
+      → ((b : ℕ) → b ≡ 0 → has_no_result operator b ≡ true) → c.active.slots right ≢ 0
+  divides c never operator destination left right at none is_zero =
+      stuck_not c never
+      (ap (executed program zeros c) at
+      ∙ ap (λ (b : Bool). if b then states.Stuck c.output c.input else gives c destination (binary_result operator (c.active.slots left) (c.active.slots right))) (none (c.active.slots right) is_zero))
+
+  module _ (c : Configuration) (never : Never c) (run : labelled.Configuration) (r w : Words) (base : ℕ)
+      (now : At program well frames fit code formed addresses pages calls few (instruction_line program c.active.function c.active.next) c.output c.input r w run)
+      (s : Standing program frames addresses pages calls c r w base (r 31) (suc (length c.frames)) c.active.slots) where
+    abbrev here : ℕ
+    here = instruction_line program c.active.function c.active.next
+
+    abbrev Goes : ℕ → Type 0
+    Goes count = Walk code formed addresses globals_length (words_per_call * calls) 1 here (here + count) c.output (Reached program well frames fit code formed addresses pages calls few c) (Running run)
+
+    abbrev IsAt : Instruction → Type 0
+    IsAt i = instruction_at program (states.place_of (states.Running c)) ≡ Some i
+
+    abbrev slots : ℕ
+    slots = (routine_at program c.active.function).slots
+
+    abbrev StandsHere : Instruction → Type 0
+    StandsHere i = Stands code here (body program frames c.active.function here i)
+
+    operator_goes : (operator : BinaryOperator) (destination left right : ℕ) → IsAt (plain.Binary operator destination left right) → destination < slots → left < slots → right < slots
+        → StandsHere (plain.Binary operator destination left right) → Goes (operator_count operator)
+    operator_goes binary.Add d l t at a b e stands = add_goes program well frames fit code formed addresses pages calls few c run r w base now s d l t a b e at stands
+    operator_goes binary.Subtract d l t at a b e stands = subtract_goes program well frames fit code formed addresses pages calls few c run r w base now s d l t a b e at stands
+    operator_goes binary.Multiply d l t at a b e stands = multiply_goes program well frames fit code formed addresses pages calls few c run r w base now s d l t a b e at stands
+    operator_goes binary.And d l t at a b e stands = and_goes program well frames fit code formed addresses pages calls few c run r w base now s d l t a b e at stands
+    operator_goes binary.Or d l t at a b e stands = or_goes program well frames fit code formed addresses pages calls few c run r w base now s d l t a b e at stands
+    operator_goes binary.Xor d l t at a b e stands = xor_goes program well frames fit code formed addresses pages calls few c run r w base now s d l t a b e at stands
+    operator_goes binary.ShiftLeft d l t at a b e stands = shift_left_goes program well frames fit code formed addresses pages calls few c run r w base now s d l t a b e at stands
+    operator_goes binary.ShiftRight d l t at a b e stands = shift_right_goes program well frames fit code formed addresses pages calls few c run r w base now s d l t a b e at stands
+    operator_goes binary.Equal d l t at a b e stands = equal_goes program well frames fit code formed addresses pages calls few c run r w base now s d l t a b e at stands
+    operator_goes binary.NotEqual d l t at a b e stands = not_equal_goes program well frames fit code formed addresses pages calls few c run r w base now s d l t a b e at stands
+    operator_goes binary.Less d l t at a b e stands = less_goes program well frames fit code formed addresses pages calls few c run r w base now s d l t a b e at stands
+    operator_goes binary.LessOrEqual d l t at a b e stands = less_or_equal_goes program well frames fit code formed addresses pages calls few c run r w base now s d l t a b e at stands
+    operator_goes binary.Greater d l t at a b e stands = greater_goes program well frames fit code formed addresses pages calls few c run r w base now s d l t a b e at stands
+    operator_goes binary.GreaterOrEqual d l t at a b e stands = greater_or_equal_goes program well frames fit code formed addresses pages calls few c run r w base now s d l t a b e at stands
+    operator_goes binary.Divide d l t at a b e stands =
+        let nonzero = divides c never binary.Divide d l t at (λ n is_zero. eq-eqb n 0 is_zero) in
+        divide_goes program well frames fit code formed addresses pages calls few c run r w base now s binary.Divide Low d l t at a b e
+        (ap (λ (x : Bool). if x then states.Stuck c.output c.input else gives c d (div_of (c.active.slots l) (c.active.slots t))) (ne_eqb (c.active.slots t) 0 nonzero)) nonzero refl negated_quotient stands
+    operator_goes binary.Remainder d l t at a b e stands =
+        let nonzero = divides c never binary.Remainder d l t at (λ n is_zero. eq-eqb n 0 is_zero) in
+        divide_goes program well frames fit code formed addresses pages calls few c run r w base now s binary.Remainder High d l t at a b e
+        (ap (λ (x : Bool). if x then states.Stuck c.output c.input else gives c d (rem_of (c.active.slots l) (c.active.slots t))) (ne_eqb (c.active.slots t) 0 nonzero)) nonzero refl negated_remainder stands
+
+    instruction_goes : (i : Instruction) → IsAt i → IsInRange program (routine_at program c.active.function) i → HasWord i → StandsHere i → Goes (body_count program c.active.function i)
+    instruction_goes (plain.Constant destination word) at below fits stands = constant_goes program well frames fit code formed addresses pages calls few c run r w base now s destination word at below fits stands
+    instruction_goes (plain.Move destination source) at (a, b) fits stands = move_goes program well frames fit code formed addresses pages calls few c run r w base now s destination source at a b stands
+    instruction_goes (plain.Unary operator destination operand) at (a, b) fits stands = unary_goes program well frames fit code formed addresses pages calls few c run r w base now s operator destination operand at a b stands
+    instruction_goes (plain.Binary operator destination left right) at (a, b, e) fits stands = operator_goes operator destination left right at a b e stands
+    instruction_goes (plain.Jump target) at below fits stands = jump_goes program well frames fit code formed addresses pages calls few c run r w base now s target at stands
+    instruction_goes (plain.JumpIfZero condition target) at (a, b) fits stands = jump_if_zero_goes program well frames fit code formed addresses pages calls few c run r w base now s condition target at a stands
+    instruction_goes (plain.JumpIfNonzero condition target) at (a, b) fits stands = jump_if_nonzero_goes program well frames fit code formed addresses pages calls few c run r w base now s condition target at a stands
+    instruction_goes (plain.Call callee arguments count result) at in_range fits stands =
+        call_goes program well frames fit code formed addresses pages calls few lie c run r w base now s callee arguments count result at in_range (behind_inside c.active.function c.active.next callee arguments count result at) stands
+    instruction_goes (plain.Return value) at in_range fits stands =
+        return_goes program well frames fit code formed addresses pages calls few lie c run r w base now s value at in_range behind_inside stands
+    instruction_goes (plain.ReadByte destination) at below fits stands = read_goes program well frames fit code formed addresses pages calls few c run r w base now s destination at below stands
+    instruction_goes (plain.WriteByte source) at below fits stands = write_goes program well frames fit code formed addresses pages calls few c run r w base now s source at below stands
+    instruction_goes (plain.LoadGlobal destination global) at (a, b) fits stands = load_global_goes program well frames fit code formed addresses pages calls few c run r w base now s destination global at a b stands
+    instruction_goes (plain.StoreGlobal global source) at (a, b) fits stands = store_global_goes program well frames fit code formed addresses pages calls few c run r w base now s global source at a b stands
+    instruction_goes (plain.Uncaught tag value) at below fits stands = uncaught_goes program well frames fit code formed addresses pages calls few c run r w base now s tag value at below fits stands
+
+  -- ---- a step from a state that matches
+
+  abbrev above : simulation.Machine
+  above = steps.machine program pages calls
+
+  abbrev below_machine : simulation.Machine
+  below_machine = machine code addresses
+
+  pub outputs_same : (s : states.State) (t : State) → Matches program well frames fit code formed addresses pages calls few s t → labelled.output_of t ≡ states.output_of s
+  outputs_same (states.Running c) t (inl ready) = ap labelled.output_of ready.is ∙ ready.now.output
+  outputs_same (states.Running c) t (inr back) = ap labelled.output_of back.is ∙ back.now.output
+  outputs_same (states.Ended ending out input) t is = ap labelled.output_of is
+  outputs_same (states.Stuck out input) t is = absurd is
+
+  pub endings_same : (s : states.State) (t : State) (ending : Ending) → Matches program well frames fit code formed addresses pages calls few s t → states.status_of s ≡ simulation.Ended ending → labelled.status_of t ≡ simulation.Ended ending
+  endings_same (states.Running c) t ending matches ended = absurd (let e : simulation.Running ≡ simulation.Ended ending = ended in cc)
+  endings_same (states.Ended other out input) t ending is ended = ap labelled.status_of is ∙ ended
+  endings_same (states.Stuck out input) t ending is ended = absurd is
+
+  abbrev pub matching : Matching above below_machine
+  matching = record {
+    Matches = Matches program well frames fit code formed addresses pages calls few;
+    weight = λ (s : states.State). 0;
+    own = own_of program;
+    outputs = outputs_same;
+    endings = endings_same;
+  }
+
+  -- a walk through own lines is a matched step
+  stepped : (c : Configuration) (t : State) (run : labelled.Configuration) (lo count : ℕ) (i : Instruction) → instruction_at program (states.place_of (states.Running c)) ≡ Some i → count ≡ body_count program c.active.function i
+      → instruction_line program c.active.function c.active.next - previous_count program (routine_at program c.active.function).code c.active.next ≤ lo → t ≡ Running run
+      → Walk code formed addresses globals_length (words_per_call * calls) 1 lo (instruction_line program c.active.function c.active.next + count) c.output (Reached program well frames fit code formed addresses pages calls few c) (Running run)
+      → IsStepped above below_machine matching (states.Running c) t
+  stepped c t run lo count i at count_is from is walk =
+      let function : ℕ = c.active.function in
+      let index : ℕ = c.active.next in
+      let previous : ℕ = previous_count program (routine_at program c.active.function).code c.active.next in
+      let here : ℕ = instruction_line program c.active.function c.active.next in
+      let fits = previous_fits program c.active.function c.active.next in
+      let body_is : body_of program c.active.function (slice_get (routine_at program c.active.function).code c.active.next) ≡ count = ap (body_of program c.active.function) at ∙ sym count_is in
+      let top : instruction_line program c.active.function c.active.next + count
+      ≡ instruction_line program c.active.function c.active.next - previous_count program (routine_at program c.active.function).code c.active.next + (previous_count program (routine_at program c.active.function).code c.active.next + body_of program c.active.function (slice_get (routine_at program c.active.function).code c.active.next)) = omega (arith, fits, body_is) in
+      subst (IsStepped above below_machine matching (states.Running c)) (sym is)
+      (record {
+        places = walk.places;
+        distinct = rising_distinct lo (instruction_line program c.active.function c.active.next + count) walk.places walk.rises;
+        inside = rising_inside _ _ lo walk.places from (subst (λ (n : ℕ). Rises lo n walk.places) top walk.rises);
+        comes = comes_map below_machine (Quiet code formed addresses globals_length (words_per_call * calls) c.output) (Reached program well frames fit code formed addresses pages calls few c)
+            (IsOnTheWay above below_machine (states.Running c)) (IsMatchedStep above below_machine matching (states.Running c) walk.places) walk.places (Running run)
+            (λ u quiet. way_before above below_machine matching (states.Running c) u quiet.0 quiet.1)
+            (λ u (next, goes, matches). record { next = next; step = goes; matches = matches; lighter = λ none. absurd (omega (arith, none, walk.enough)) })
+            walk.comes;
+      })
+
+  ready_goes : (c : Configuration) (t : State) → Never c → (ready : Ready program well frames fit code formed addresses pages calls few c t) (i : Instruction) → instruction_at program (states.place_of (states.Running c)) ≡ Some i
+      → Walk code formed addresses globals_length (words_per_call * calls) 1 (instruction_line program c.active.function c.active.next) (instruction_line program c.active.function c.active.next + body_count program c.active.function i) c.output (Reached program well frames fit code formed addresses pages calls few c) (Running ready.run)
+  ready_goes c t never ready i at =
+      instruction_goes c never ready.run ready.r ready.w ready.base ready.now ready.standing i at
+      (in_range_of c.active.function c.active.next i at) (word_of_it c.active.function c.active.next i at)
+      (stands_front code (instruction_line program c.active.function c.active.next) (body program frames c.active.function (instruction_line program c.active.function c.active.next) i) (behind program frames c.active.function i) (stand c.active.function c.active.next i at))
+
+  -- where the lines behind the call before it begin
+  before_it : (function index callee arguments count result next : ℕ) → next ≡ index + 1 → instruction_at program (record { function = function; index = index }) ≡ Some (plain.Call callee arguments count result)
+      → instruction_line program function next - previous_count program (routine_at program function).code next ≤ behind_line program function index callee arguments count result
+  before_it function index callee arguments count result next is at =
+      let one : next ≡ suc index = omega (arith, is) in
+      let e = line_next program function index (plain.Call callee arguments count result) at in
+      let previous : previous_count program (routine_at program function).code next ≡ 2 + (routine_at program callee).results = ap (previous_count program (routine_at program function).code) one ∙ ap (behind_of program) at in
+      omega (arith, previous, e, ap (instruction_line program function) is)
+
+  known_goes : (c : Configuration) (t : State) → Matches program well frames fit code formed addresses pages calls few (states.Running c) t → Never c → (i : Instruction) → instruction_at program (states.place_of (states.Running c)) ≡ Some i
+      → IsStepped above below_machine matching (states.Running c) t
+  known_goes c t (inl ready) never i at =
+      stepped c t ready.run (instruction_line program c.active.function c.active.next) (body_count program c.active.function i) i at refl (omega arith) ready.is (ready_goes c t never ready i at)
+  known_goes c t (inr back) never i at =
+      let in_range = in_range_of c.active.function back.index (plain.Call back.callee back.arguments back.count back.result) back.call in
+      stepped c t back.run (behind_line program c.active.function back.index back.callee back.arguments back.count back.result) (body_count program c.active.function i) i at refl
+      (before_it c.active.function back.index back.callee back.arguments back.count back.result c.active.next back.next back.call) back.is
+      (behind_goes program well frames fit code formed addresses pages calls few c t back (behind_stands c.active.function back.index back.callee back.arguments back.count back.result back.call) in_range.result_in_range (few_results back.callee)
+      1 (instruction_line program c.active.function c.active.next + body_count program c.active.function i) (Reached program well frames fit code formed addresses pages calls few c)
+      (λ u ready. subst (Walk code formed addresses globals_length (words_per_call * calls) 1 (instruction_line program c.active.function c.active.next) (instruction_line program c.active.function c.active.next + body_count program c.active.function i) c.output (Reached program well frames fit code formed addresses pages calls few c)) (sym ready.is)
+      (ready_goes c u never ready i at)))
+
+  pub all_steps : Steps above below_machine matching
+  all_steps (states.Running c) t matches running never = go (instruction_at program (states.place_of (states.Running c))) refl
+    where
+      go : (o : Option Instruction) → instruction_at program (states.place_of (states.Running c)) ≡ o → IsStepped above below_machine matching (states.Running c) t
+      go (Some i) at = known_goes c t matches never i at
+      go None at = absurd (stuck_not c never (ap (executed program zeros c) at))
+  all_steps (states.Ended ending out input) t matches running never = absurd (let e : simulation.Ended ending ≡ simulation.Running = running in cc)
+  all_steps (states.Stuck out input) t matches running never = absurd matches

@@ -1,0 +1,270 @@
+-- How a plain program's calls stand in the memory of the labelled machine: their frames lie one below another from the
+-- end of the stack on, each with its slots and, where it waits, its return address.
+use Rattle.std.proofs.Common.{◌≡◌, ◌≢◌, ℕ, zero, suc, ◌+◌, ◌-◌, ◌*◌, ◌%◌, ◌^◌, ◌<◌, ◌≤◌, Bool, true, false, List, [], ◌∷◌, length, Some, None, refl, sym, ap, subst, ◌∙◌, arith, inl, inr}
+use Rattle.std.specs.Prelude.{◌⊎◌, slice_index}
+use Rattle.std.specs.List.{AllByRecursion}
+use Rattle.cyc_words.specs.Word.{IsWord}
+use Rattle.cyc_isa.specs.Effect.{memory_address}
+use Rattle.cyc_machine.specs.State.{data_base, stack_end, globals_length, words_per_call}
+use Rattle.cyc_plain.specs.declared.instruction.Instruction.TheVariants as plain
+use Rattle.cyc_plain.specs.Program.{Routine, Program, CodePlace, routine_at, most_globals}
+use Rattle.cyc_plain.specs.State as states
+use Rattle.cyc_plain.specs.State.{Words, AreWords, put, copied, Activation, Configuration}
+use Rattle.cyc_plain.specs.Step.{instruction_at}
+use Rattle.cyc_plain.specs.WellFormed.{IsWellFormed}
+use Rattle.cyc_plain.proofs.SlotLaws.{put-same, put-other}
+use Rattle.std.proofs.lemmas.Bool.{cases_eq}
+use Rattle.cyc_frame.specs.Layout.{IsFrame, slot_word, frame_at}
+use Rattle.cyc_frame.specs.declared.frame.Frame.{Frame}
+use Rattle.cyc_select.specs.Labelled.{Labelled, IsFormed, AreAddresses}
+use Rattle.cyc_select.specs.Selection.{slot_offset, instruction_line, body_count, select_of}
+use Rattle.cyc_select.proofs.Cells.{IsCell}
+use Rattle.cyc_select.proofs.Operations.{address_at}
+
+-- each function of the program has a frame
+abbrev pub AreFrames : Program → List Frame → Type 0
+AreFrames program frames = (k : ℕ) → k < length program.functions → IsFrame (routine_at program k) (frame_at frames k)
+
+-- the slots of a function's call whose frame lies at this address
+abbrev pub Holds : Program → List Frame → (function base : ℕ) → (w slots : Words) → Type 0
+Holds program frames function base w slots =
+    (slot : ℕ) → slot < (routine_at program function).slots → w (base + slot_offset (frame_at frames function) slot) ≡ slots slot
+
+-- behind a call
+abbrev pub behind_line : Program → (function index callee arguments count result : ℕ) → ℕ
+behind_line program function index callee arguments count result =
+    instruction_line program function index + body_count program function (plain.Call callee arguments count result)
+
+-- the calls that wait, above the call of a function whose frame lies at this address, and which returns to this address
+abbrev pub Chain : Program → List Frame → (addresses : ℕ → ℕ) → (w : Words) → (base back function : ℕ) → List states.Frame → Type 0
+Chain program frames addresses w base back function [] =
+    (base + 4 * (frame_at frames function).words ≡ stack_end) × (back ≡ 0) × (function ≡ program.main)
+Chain program frames addresses w base back function (f ∷ waiting) =
+    (arguments count index : ℕ) × (f.caller.function < length program.functions)
+    × (instruction_at program (record { function = f.caller.function; index = index }) ≡ Some (plain.Call function arguments count f.result))
+    × (f.caller.next ≡ index + 1)
+    × (back ≡ addresses (behind_line program f.caller.function index function arguments count f.result))
+    × Holds program frames f.caller.function (base + 4 * (frame_at frames function).words) w f.caller.slots
+    × Chain program frames addresses w (base + 4 * (frame_at frames function).words)
+    (w (base + 4 * (frame_at frames function).words + 4 * (frame_at frames f.caller.function).return_address)) f.caller.function waiting
+
+module _ (program : Program) (frames : List Frame) (fit : AreFrames program frames) (addresses : ℕ → ℕ) where
+  abbrev pub size_of : ℕ → ℕ
+  size_of function = 4 * (frame_at frames function).words
+
+  -- memory below does not matter
+  pub chain_kept : (w w' : Words) (base back function : ℕ) (waiting : List states.Frame) → ((a : ℕ) → base + size_of function ≤ a → w' a ≡ w a)
+      → Chain program frames addresses w base back function waiting → Chain program frames addresses w' base back function waiting
+  chain_kept w w' base back function [] same chain = chain
+  chain_kept w w' base back function (f ∷ waiting) same (arguments, count, index, known, at, next, is_back, holds, chain) =
+      let above : ℕ = base + size_of function in (
+        arguments,
+        count,
+        index,
+        known,
+        at,
+        next,
+        is_back,
+        λ slot below. same (above + slot_offset (frame_at frames f.caller.function) slot) (omega arith) ∙ holds slot below,
+        subst (λ (b : ℕ). Chain program frames addresses w' above b f.caller.function waiting) (sym (same (above + 4 * (frame_at frames f.caller.function).return_address) (omega arith)))
+            (chain_kept w w' above (w (above + 4 * (frame_at frames f.caller.function).return_address)) f.caller.function waiting (λ a from. same a (omega arith)) chain),
+      )
+
+  -- where frames lie
+  pub record Lies (base function depth : ℕ) : Type 0 where
+    pub below_end : base + size_of function ≤ stack_end
+    pub above_low : stack_end ≤ base + 1024 * depth
+    pub aligned : base % 4 ≡ 0
+
+  pub chain_lies : (w : Words) (base back function : ℕ) (waiting : List states.Frame) → function < length program.functions → Chain program frames addresses w base back function waiting
+      → Lies base function (suc (length waiting))
+  chain_lies w base back function [] known (last, is_back, is_main) =
+      let frame = fit function known in
+      record { below_end = omega arith; above_low = omega (arith, frame.within, frame.small); aligned = omega arith }
+  chain_lies w base back function (f ∷ waiting) known (arguments, count, index, caller_known, at, next, is_back, holds, chain) =
+      let above : ℕ = base + size_of function in
+      let frame = fit function known in
+      let lies = chain_lies w above (w (above + 4 * (frame_at frames f.caller.function).return_address)) f.caller.function waiting caller_known chain in
+      record { below_end = omega (arith, lies.below_end); above_low = omega (arith, lies.above_low, frame.within, frame.small); aligned = omega (arith, lies.aligned) }
+
+-- a call under way, with these slots
+pub record Standing (program : Program) (frames : List Frame) (addresses : ℕ → ℕ) (pages calls : ℕ) (c : Configuration) (r w : Words) (base back depth : ℕ) (slots : Words) : Type 0 where
+  pub known : c.active.function < length program.functions
+  pub base_is : r 29 ≡ base
+  pub zero_is : r 0 ≡ 0
+  pub left : r 30 + depth ≡ calls
+  pub deep : suc (length c.frames) ≤ calls
+  pub holds : Holds program frames c.active.function base w slots
+  pub chain : Chain program frames addresses w base back c.active.function c.frames
+  pub globals : (global : ℕ) → global < length program.globals → w (data_base + 4 * global) ≡ c.globals global
+  pub input : AllByRecursion IsWord c.input
+  pub paged : c.store.pages ≤ pages
+
+module _ (program : Program) (well : IsWellFormed program) (frames : List Frame) (fit : AreFrames program frames) (addresses : ℕ → ℕ) (pages calls : ℕ) (few : calls ≤ 4096) where
+  abbrev data_words : ℕ
+  data_words = globals_length
+
+  abbrev stack_words : ℕ
+  stack_words = words_per_call * calls
+
+  module _ (c : Configuration) (r w : Words) (base back depth : ℕ) (slots : Words) (s : Standing program frames addresses pages calls c r w base back depth slots) where
+    pub lies : Lies program frames fit addresses base c.active.function (suc (length c.frames))
+    lies = chain_lies program frames fit addresses w base back c.active.function c.frames s.known s.chain
+
+    -- a word of the frame
+    pub word_address : (word : ℕ) → word < (frame_at frames c.active.function).words → memory_address (r 29) (4 * word) ≡ base + 4 * word
+    word_address word inside =
+        let frame = fit c.active.function s.known in
+        ap (λ (x : ℕ). memory_address x (4 * word)) s.base_is
+        ∙ address_at base (4 * word) (omega (arith, inside, frame.within, frame.small)) (omega (arith, inside, lies.below_end))
+
+    pub word_cell : (word : ℕ) → word < (frame_at frames c.active.function).words → IsCell data_words stack_words (base + 4 * word)
+    word_cell word inside =
+        inr ((omega (arith, lies.aligned)), (omega (arith, lies.above_low, s.deep)), (omega (arith, inside, lies.below_end)))
+
+    pub slot_address : (slot : ℕ) → slot < (routine_at program c.active.function).slots → memory_address (r 29) (slot_offset (frame_at frames c.active.function) slot) ≡ base + slot_offset (frame_at frames c.active.function) slot
+    slot_address slot below = word_address (slot_word (frame_at frames c.active.function) slot) ((fit c.active.function s.known).inside slot below)
+
+    pub slot_cell : (slot : ℕ) → slot < (routine_at program c.active.function).slots → IsCell data_words stack_words (memory_address (r 29) (slot_offset (frame_at frames c.active.function) slot))
+    slot_cell slot below =
+        subst (IsCell data_words stack_words) (sym (slot_address slot below)) (word_cell (slot_word (frame_at frames c.active.function) slot) ((fit c.active.function s.known).inside slot below))
+
+    pub slot_word_is : (slot : ℕ) → slot < (routine_at program c.active.function).slots → w (memory_address (r 29) (slot_offset (frame_at frames c.active.function) slot)) ≡ slots slot
+    slot_word_is slot below = ap w (slot_address slot below) ∙ s.holds slot below
+
+    pub return_address : memory_address (r 29) (4 * (frame_at frames c.active.function).return_address) ≡ base + 4 * (frame_at frames c.active.function).return_address
+    return_address = word_address (frame_at frames c.active.function).return_address (fit c.active.function s.known).return_inside
+
+    pub return_cell : IsCell data_words stack_words (memory_address (r 29) (4 * (frame_at frames c.active.function).return_address))
+    return_cell = subst (IsCell data_words stack_words) (sym return_address) (word_cell (frame_at frames c.active.function).return_address (fit c.active.function s.known).return_inside)
+
+    -- the word of a global
+    pub global_cell : (global : ℕ) → global < length program.globals → IsCell data_words stack_words (data_base + 4 * global)
+    global_cell global below = inl ((omega arith), (omega arith), (omega (arith, well.globals)))
+
+    -- ---- changes
+
+    -- other registers
+    pub standing_registers : (r' : Words) → r' 0 ≡ r 0 → r' 29 ≡ r 29 → r' 30 ≡ r 30 → Standing program frames addresses pages calls c r' w base back depth slots
+    standing_registers r' zero_same base_same left_same = record {
+      known = s.known;
+      base_is = base_same ∙ s.base_is;
+      zero_is = zero_same ∙ s.zero_is;
+      left = ap (λ (n : ℕ). n + depth) left_same ∙ s.left;
+      deep = s.deep;
+      holds = s.holds;
+      chain = s.chain;
+      globals = s.globals;
+      input = s.input;
+      paged = s.paged;
+    }
+
+    -- the same call, at another place
+    pub standing_at : (d : Configuration) → d.active.function ≡ c.active.function → d.frames ≡ c.frames → d.globals ≡ c.globals → d.store ≡ c.store → AllByRecursion IsWord d.input
+        → Standing program frames addresses pages calls d r w base back depth slots
+    standing_at d function_same frames_same globals_same store_same input = record {
+      known = subst (λ (f : ℕ). f < length program.functions) (sym function_same) s.known;
+      base_is = s.base_is;
+      zero_is = s.zero_is;
+      left = s.left;
+      deep = subst (λ (fs : List states.Frame). suc (length fs) ≤ calls) (sym frames_same) s.deep;
+      holds = subst (λ (f : ℕ). Holds program frames f base w slots) (sym function_same) s.holds;
+      chain = subst (λ (f : ℕ). Chain program frames addresses w base back f d.frames) (sym function_same)
+          (subst (λ (fs : List states.Frame). Chain program frames addresses w base back c.active.function fs) (sym frames_same) s.chain);
+      globals = λ global below. s.globals global below ∙ ap (λ (g : Words). g global) (sym globals_same);
+      input = input;
+      paged = subst (λ (x : states.Store). x.pages ≤ pages) (sym store_same) s.paged;
+    }
+
+    -- a word of the frame and the data are apart
+    above_data : (word global : ℕ) → word < (frame_at frames c.active.function).words → global < length program.globals → data_base + 4 * global ≢ base + 4 * word
+    above_data word global inside below same =
+        absurd (omega (arith, same, below, well.globals, lies.above_low, s.deep))
+
+    other_slot : (a b : ℕ) → a < (routine_at program c.active.function).slots → b < (routine_at program c.active.function).slots → b ≢ a
+        → base + slot_offset (frame_at frames c.active.function) b ≢ base + slot_offset (frame_at frames c.active.function) a
+    other_slot a b a_below b_below apart same =
+        apart ((fit c.active.function s.known).apart b a b_below a_below (omega (arith, same)))
+
+    abbrev slot_at : ℕ → ℕ
+    slot_at slot = base + slot_offset (frame_at frames c.active.function) slot
+
+    abbrev return_at : ℕ
+    return_at = base + 4 * (frame_at frames c.active.function).return_address
+
+    abbrev global_at : ℕ → ℕ
+    global_at global = data_base + 4 * global
+
+    -- a slot written
+    pub standing_slot : (slot word : ℕ) → slot < (routine_at program c.active.function).slots
+        → Standing program frames addresses pages calls c r (put w (base + slot_offset (frame_at frames c.active.function) slot) word) base back depth (put slots slot word)
+    standing_slot slot word below = record {
+      known = s.known;
+      base_is = s.base_is;
+      zero_is = s.zero_is;
+      left = s.left;
+      deep = s.deep;
+      holds = λ other other_below. elim (cases_eq other slot) [
+        | inl same ↦
+            ap (λ (x : ℕ). put w (slot_at slot) word (base + slot_offset (frame_at frames c.active.function) x)) same
+            ∙ (put-same w (slot_at slot) word ∙ sym (ap (put slots slot word) same ∙ put-same slots slot word))
+        | inr apart ↦
+            put-other w (slot_at slot) (base + slot_offset (frame_at frames c.active.function) other) word (other_slot slot other below other_below apart)
+            ∙ (s.holds other other_below ∙ sym (put-other slots slot other word apart))
+      ];
+      chain = chain_kept program frames fit addresses w (put w (slot_at slot) word) base back c.active.function c.frames
+          (λ a from. put-other w (slot_at slot) a word (λ e. absurd (omega (arith, e, from, (fit c.active.function s.known).inside slot below)))) s.chain;
+      globals = λ global global_below.
+          put-other w (slot_at slot) (data_base + 4 * global) word (above_data (slot_word (frame_at frames c.active.function) slot) global ((fit c.active.function s.known).inside slot below) global_below)
+          ∙ s.globals global global_below;
+      input = s.input;
+      paged = s.paged;
+    }
+
+    -- the word for the return address written
+    pub standing_return : (word : ℕ) → Standing program frames addresses pages calls c r (put w (base + 4 * (frame_at frames c.active.function).return_address) word) base back depth slots
+    standing_return word = record {
+      known = s.known;
+      base_is = s.base_is;
+      zero_is = s.zero_is;
+      left = s.left;
+      deep = s.deep;
+      holds = λ slot below.
+          put-other w return_at (base + slot_offset (frame_at frames c.active.function) slot) word
+          (λ e. (fit c.active.function s.known).beside slot below (omega (arith, e)))
+          ∙ s.holds slot below;
+      chain = chain_kept program frames fit addresses w (put w return_at word) base back c.active.function c.frames
+          (λ a from. put-other w return_at a word (λ e. absurd (omega (arith, e, from, (fit c.active.function s.known).return_inside)))) s.chain;
+      globals = λ global below.
+          put-other w return_at (data_base + 4 * global) word (above_data (frame_at frames c.active.function).return_address global (fit c.active.function s.known).return_inside below)
+          ∙ s.globals global below;
+      input = s.input;
+      paged = s.paged;
+    }
+
+    -- a global written
+    pub standing_global : (global word : ℕ) → global < length program.globals
+        → Standing program frames addresses pages calls (record c { globals = put c.globals global word }) r (put w (data_base + 4 * global) word) base back depth slots
+    standing_global global word below = record {
+      known = s.known;
+      base_is = s.base_is;
+      zero_is = s.zero_is;
+      left = s.left;
+      deep = s.deep;
+      holds = λ slot slot_below.
+          put-other w (global_at global) (base + slot_offset (frame_at frames c.active.function) slot) word
+          (λ e. above_data (slot_word (frame_at frames c.active.function) slot) global ((fit c.active.function s.known).inside slot slot_below) below (sym e))
+          ∙ s.holds slot slot_below;
+      chain = chain_kept program frames fit addresses w (put w (global_at global) word) base back c.active.function c.frames
+          (λ a from. put-other w (global_at global) a word (λ e. absurd (omega (arith, e, from, below, well.globals, lies.above_low, s.deep)))) s.chain;
+      globals = λ other other_below. elim (cases_eq other global) [
+        | inl same ↦
+            ap (λ (x : ℕ). put w (global_at global) word (data_base + 4 * x)) same
+            ∙ (put-same w (global_at global) word ∙ sym (ap (put c.globals global word) same ∙ put-same c.globals global word))
+        | inr apart ↦
+            put-other w (global_at global) (data_base + 4 * other) word (λ e. apart (omega (arith, e)))
+            ∙ (s.globals other other_below ∙ sym (put-other c.globals global other word apart))
+      ];
+      input = s.input;
+      paged = s.paged;
+    }

@@ -1,0 +1,173 @@
+-- The code of a program, put together: how long its parts are, and where each stands.
+use Rattle.std.proofs.Common.{◌≡◌, ℕ, zero, suc, ◌+◌, ◌-◌, ◌*◌, ◌<◌, ◌≤◌, Bool, true, false, List, [], ◌∷◌, ◌++◌, length, map, take, Some, None, slice_get, refl, sym, ap, subst, ◌∙◌, arith, inl, inr, length-append, append_assoc}
+use Rattle.std.specs.Prelude.{sum_by, ◌==◌, if◌then◌else◌, slice_index_or}
+use Rattle.std.proofs.lemmas.Bool.{cases_Bool}
+use Rattle.std.proofs.lemmas.List.Sums.{sum_by-cons}
+use Rattle.cyc_isa.specs.declared.instr.Instr.{Instr}
+use Rattle.cyc_plain.specs.declared.instruction.Instruction.{Instruction}
+use Rattle.cyc_plain.specs.declared.instruction.Instruction.TheVariants as plain
+use Rattle.cyc_plain.specs.declared.instruction.UnaryOperator.TheVariants as unary
+use Rattle.cyc_plain.specs.declared.instruction.BinaryOperator.{BinaryOperator}
+use Rattle.cyc_plain.specs.declared.instruction.BinaryOperator.TheVariants as binary
+use Rattle.cyc_plain.specs.Program.{Routine, Program, no_routine, routine_at}
+use Rattle.cyc_plain.specs.Step.{instruction_at}
+use Rattle.cyc_plain.proofs.Steps.{function_known}
+use Rattle.cyc_frame.specs.Layout.{frame_at}
+use Rattle.cyc_frame.specs.declared.frame.Frame.{Frame}
+use Rattle.cyc_select.specs.declared.code.Line.{Line}
+use Rattle.cyc_select.specs.declared.code.Line.TheVariants as lines
+use Rattle.cyc_select.specs.Labelled.{Labelled}
+use Rattle.cyc_select.specs.Selection.{ordinary, copies, load_all, store_all, pop_frame, result_registers, ending_code, ending_count, operator_code, operator_count, call_code, return_code, body, behind, body_count, behind_count, count_of, function_count, functions_count, start_count, function_line, instruction_line, code_lines, function_lines, start_lines, select_of}
+use Rattle.cyc_select.proofs.Calls.{length_ordinary, length-copies}
+use Rattle.cyc_select.proofs.Returns.{loaded, length_loaded, length_stores, length_registers}
+use Rattle.cyc_select.proofs.Walks.{Stands, stands_front, stands_back}
+
+slice_get-seam : (front : List Line) (l : Line) (rest : List Line) → slice_get (front ++ l ∷ rest) (length front) ≡ Some l
+slice_get-seam [] l rest = refl
+slice_get-seam (x ∷ front) l rest = slice_get-seam front l rest
+
+module _ (program : Program) (frames : List Frame) (few_results : (function : ℕ) → (routine_at program function).results ≤ 3) where
+  length_ending : (b : Bool) (frame : Frame) (here value : ℕ) → length (ending_code b frame here value) ≡ (if b then 4 else 0)
+  length_ending true frame here value = refl
+  length_ending false frame here value = refl
+
+  length_operator : (frame : Frame) (here : ℕ) (operator : BinaryOperator) (destination left right : ℕ) → length (operator_code frame here operator destination left right) ≡ operator_count operator
+  length_operator frame here binary.Add d l r = refl
+  length_operator frame here binary.Subtract d l r = refl
+  length_operator frame here binary.Multiply d l r = refl
+  length_operator frame here binary.Divide d l r = refl
+  length_operator frame here binary.Remainder d l r = refl
+  length_operator frame here binary.And d l r = refl
+  length_operator frame here binary.Or d l r = refl
+  length_operator frame here binary.Xor d l r = refl
+  length_operator frame here binary.ShiftLeft d l r = refl
+  length_operator frame here binary.ShiftRight d l r = refl
+  length_operator frame here binary.Equal d l r = refl
+  length_operator frame here binary.NotEqual d l r = refl
+  length_operator frame here binary.Less d l r = refl
+  length_operator frame here binary.LessOrEqual d l r = refl
+  length_operator frame here binary.Greater d l r = refl
+  length_operator frame here binary.GreaterOrEqual d l r = refl
+
+  pub length_body : (function here : ℕ) (i : Instruction) → length (body program frames function here i) ≡ body_count program function i
+  length_body function here (plain.Constant destination word) = refl
+  length_body function here (plain.Move destination source) = refl
+  length_body function here (plain.Unary operator destination operand) = refl
+  length_body function here (plain.Binary operator destination left right) = length_operator (frame_at frames function) here operator destination left right
+  length_body function here (plain.Jump target) = refl
+  length_body function here (plain.JumpIfZero condition target) = refl
+  length_body function here (plain.JumpIfNonzero condition target) = refl
+  length_body function here (plain.Call callee arguments count result) =
+      let whole = length-append (ordinary (copies (frame_at frames function) (frame_at frames callee) arguments 0 count)) (lines.Call (function_line program callee) ∷ []) in
+      let parts = length_ordinary (copies (frame_at frames function) (frame_at frames callee) arguments 0 count) in
+      let copied = length-copies (frame_at frames function) (frame_at frames callee) arguments 0 count in
+      let e : suc (suc (suc (suc (suc (suc (length (ordinary (copies (frame_at frames function) (frame_at frames callee) arguments 0 count) ++ lines.Call (function_line program callee) ∷ []))))))) ≡ 7 + 2 * count = omega (arith, whole, parts, copied) in
+      e
+  length_body function here (plain.Return value) =
+      let front = length-append (ending_code (function == program.main) (frame_at frames function) here value) (ordinary (loaded (frame_at frames function) value (routine_at program function).results)) in
+      let all = length-append (ending_code (function == program.main) (frame_at frames function) here value ++ ordinary (loaded (frame_at frames function) value (routine_at program function).results)) (lines.Return ∷ []) in
+      let ended = length_ending (function == program.main) (frame_at frames function) here value in
+      let ordered = length_ordinary (loaded (frame_at frames function) value (routine_at program function).results) in
+      let loads = length_loaded (frame_at frames function) value (routine_at program function).results (few_results function) in
+      let e : length (ending_code (function == program.main) (frame_at frames function) here value ++ ordinary (loaded (frame_at frames function) value (routine_at program function).results) ++ lines.Return ∷ []) ≡ ending_count program function + (routine_at program function).results + 2 = omega (arith, front, all, ended, ordered, loads) in
+      e
+  length_body function here (plain.ReadByte destination) = refl
+  length_body function here (plain.WriteByte source) = refl
+  length_body function here (plain.LoadGlobal destination global) = refl
+  length_body function here (plain.StoreGlobal global source) = refl
+  length_body function here (plain.Uncaught tag value) = refl
+
+  pub length_behind : (function : ℕ) (i : Instruction) → length (behind program frames function i) ≡ behind_count program i
+  length_behind function (plain.Call callee arguments count result) =
+      let a = length_ordinary (store_all (frame_at frames function) result (result_registers (routine_at program callee).results)) in
+      let b = length_stores (frame_at frames function) result (result_registers (routine_at program callee).results) in
+      let d = length_registers (routine_at program callee).results (few_results callee) in
+      let e : suc (suc (length (ordinary (store_all (frame_at frames function) result (result_registers (routine_at program callee).results))))) ≡ 2 + (routine_at program callee).results = omega (arith, a, b, d) in
+      e
+  length_behind function (plain.Constant destination word) = refl
+  length_behind function (plain.Move destination source) = refl
+  length_behind function (plain.Unary operator destination operand) = refl
+  length_behind function (plain.Binary operator destination left right) = refl
+  length_behind function (plain.Jump target) = refl
+  length_behind function (plain.JumpIfZero condition target) = refl
+  length_behind function (plain.JumpIfNonzero condition target) = refl
+  length_behind function (plain.Return value) = refl
+  length_behind function (plain.ReadByte destination) = refl
+  length_behind function (plain.WriteByte source) = refl
+  length_behind function (plain.LoadGlobal destination global) = refl
+  length_behind function (plain.StoreGlobal global source) = refl
+  length_behind function (plain.Uncaught tag value) = refl
+
+  length_both : (function here : ℕ) (i : Instruction) → length (body program frames function here i ++ behind program frames function i) ≡ count_of program function i
+  length_both function here i =
+      omega (arith, length-append (body program frames function here i) (behind program frames function i), length_body function here i, length_behind function i)
+
+  pub length_code : (function here : ℕ) (code : List Instruction) → length (code_lines program frames function here code) ≡ sum_by (count_of program function) code
+  length_code function here [] = refl
+  length_code function here (i ∷ code) =
+      omega (arith, length-append (body program frames function here i ++ behind program frames function i) (code_lines program frames function (here + count_of program function i) code), length_both function here i, length_code function (here + count_of program function i) code, sum_by-cons (count_of program function) i code)
+
+  pub length_functions : (function here : ℕ) (routines : List Routine) → length (function_lines program frames function here routines) ≡ functions_count program function routines
+  length_functions function here [] = refl
+  length_functions function here (r ∷ routines) =
+      omega (arith, length-append (code_lines program frames function here r.code) (function_lines program frames (suc function) (here + function_count program function r) routines), length_code function here r.code, length_functions (suc function) (here + function_count program function r) routines)
+
+  module _ (all : Labelled) where
+    code_stands : (function here : ℕ) (code : List Instruction) (index n : ℕ) (i : Instruction) → slice_get code index ≡ Some i → n ≡ here + sum_by (count_of program function) (take index code)
+        → Stands all here (code_lines program frames function here code) → Stands all n (body program frames function n i ++ behind program frames function i)
+    code_stands function here [] index n i at is stands = absurd (let e : None ≡ Some i = at in cc)
+    code_stands function here (x ∷ code) zero n i at is stands =
+        let same : x ≡ i = (let e : Some x ≡ Some i = at in cc) in
+        let there : here ≡ n = omega (arith, is) in
+        subst (λ (k : ℕ). Stands all k (body program frames function k i ++ behind program frames function i)) there
+        (subst (λ (y : Instruction). Stands all here (body program frames function here y ++ behind program frames function y)) same
+        (stands_front all here (body program frames function here x ++ behind program frames function x) (code_lines program frames function (here + count_of program function x) code) stands))
+    code_stands function here (x ∷ code) (suc index) n i at is stands =
+        let long = length_both function here x in
+        code_stands function (here + count_of program function x) code index n i at (omega (arith, is, sum_by-cons (count_of program function) x (take index code)))
+        (subst (λ (k : ℕ). Stands all (here + k) (code_lines program frames function (here + count_of program function x) code)) long
+        (stands_back all here (body program frames function here x ++ behind program frames function x) (code_lines program frames function (here + count_of program function x) code) stands))
+
+    functions_stand : (first here : ℕ) (routines : List Routine) (k n : ℕ) → k < length routines → n ≡ here + functions_count program first (take k routines)
+        → Stands all here (function_lines program frames first here routines) → Stands all n (code_lines program frames (first + k) n (slice_index_or routines k no_routine).code)
+    functions_stand first here [] k n below is stands = absurd (omega arith)
+    functions_stand first here (r ∷ routines) zero n below is stands =
+        let there : here ≡ n = omega (arith, is) in
+        let same : first ≡ first + 0 = omega arith in
+        subst (λ (f : ℕ). Stands all n (code_lines program frames f n r.code)) same
+        (subst (λ (m : ℕ). Stands all m (code_lines program frames first m r.code)) there
+        (stands_front all here (code_lines program frames first here r.code) (function_lines program frames (suc first) (here + function_count program first r) routines) stands))
+    functions_stand first here (r ∷ routines) (suc k) n below is stands =
+        let long = length_code first here r.code in
+        let same : suc first + k ≡ first + suc k = omega arith in
+        subst (λ (f : ℕ). Stands all n (code_lines program frames f n (slice_index_or routines k no_routine).code)) same
+        (functions_stand (suc first) (here + function_count program first r) routines k n (omega (arith, below)) (omega (arith, is))
+        (subst (λ (m : ℕ). Stands all (here + m) (function_lines program frames (suc first) (here + function_count program first r) routines)) long
+        (stands_back all here (code_lines program frames first here r.code) (function_lines program frames (suc first) (here + function_count program first r) routines) stands)))
+
+  -- all lines stand
+  stands_from : (front rest : List Line) (globals : List ℕ) → Stands (record { lines = front ++ rest; globals = globals }) (length front) rest
+  stands_from front [] globals = tt
+  stands_from front (l ∷ rest) globals = (
+    slice_get-seam front l rest,
+    subst (λ (ls : List Line). Stands (record { lines = ls; globals = globals }) (length front + 1) rest) (append_assoc front (l ∷ []) rest)
+        (subst (λ (n : ℕ). Stands (record { lines = (front ++ l ∷ []) ++ rest; globals = globals }) n rest) (length-append front (l ∷ [])) (stands_from (front ++ l ∷ []) rest globals)),
+  )
+
+  pub starts : Stands (select_of program frames) 0 (start_lines program frames)
+  starts = stands_front (select_of program frames) 0 (start_lines program frames) (function_lines program frames 0 start_count program.functions) (stands_from [] (start_lines program frames ++ function_lines program frames 0 start_count program.functions) program.globals)
+
+  pub stand_functions : Stands (select_of program frames) start_count (function_lines program frames 0 start_count program.functions)
+  stand_functions = stands_back (select_of program frames) 0 (start_lines program frames) (function_lines program frames 0 start_count program.functions) (stands_from [] (start_lines program frames ++ function_lines program frames 0 start_count program.functions) program.globals)
+
+  pub stand_function : (function : ℕ) → function < length program.functions → Stands (select_of program frames) (function_line program function) (code_lines program frames function (function_line program function) (routine_at program function).code)
+  stand_function function known =
+      let same : 0 + function ≡ function = omega arith in
+      subst (λ (f : ℕ). Stands (select_of program frames) (function_line program function) (code_lines program frames f (function_line program function) (routine_at program function).code)) same
+      (functions_stand (select_of program frames) 0 start_count program.functions function (function_line program function) known refl stand_functions)
+
+  pub stand : (function index : ℕ) (i : Instruction) → instruction_at program (record { function = function; index = index }) ≡ Some i
+      → Stands (select_of program frames) (instruction_line program function index) (body program frames function (instruction_line program function index) i ++ behind program frames function i)
+  stand function index i at =
+      code_stands (select_of program frames) function (function_line program function) (routine_at program function).code index (instruction_line program function index) i at refl
+      (stand_function function (function_known program (record { function = function; index = index }) i at))

@@ -1,0 +1,188 @@
+-- What an ordinary instruction does to registers and memory, where both are seen as functions from numbers to words.
+use Rattle.std.proofs.Common.{◌≡◌, ◌≢◌, ℕ, ◌+◌, ◌-◌, ◌*◌, ◌%◌, ◌^◌, ◌<◌, ◌≤◌, Bool, true, false, not, ◌&&◌, ◌||◌, List, [], ◌∷◌, length, Option, None, Some, refl, sym, ap, subst, ◌∙◌, arith, inl, inr}
+use Rattle.std.specs.Prelude.{◌⊎◌, ◌==◌, if◌then◌else◌, slice_set, slice_index}
+use Rattle.std.proofs.lemmas.Bool.{cases_eq, eq-eqb, ne_eqb, cond-true, cond-false, eqb-true}
+use Rattle.std.proofs.lemmas.List.{get_or-set_same, get_or-set_other, length-set}
+use Rattle.cyc_isa.specs.declared.instr.Instr.{Instr}
+use Rattle.cyc_isa.specs.declared.instr.Instr.TheVariants.{Immediate, LoadUpper, Memory, Branch, BranchZero, Jump, Shift, ShiftVariable, JumpRegister, JumpRegisterLink, Exception, MoveFrom, MultiplyDivide, Arithmetic}
+use Rattle.cyc_isa.specs.declared.instr.MemoryOp.TheVariants.{LoadWord, StoreWord}
+use Rattle.cyc_isa.specs.declared.instr.MoveFromOp.TheVariants.{High, Low}
+use Rattle.cyc_isa.specs.declared.instr.MultiplyDivideOp.TheVariants.{Multiply, Divide}
+use Rattle.cyc_isa.specs.Effect.{immediate_result, load_upper_result, arithmetic_result, shift_result, high_result, low_result, memory_address}
+use Rattle.cyc_machine.specs.declared.event.Cause.{Cause}
+use Rattle.cyc_machine.specs.declared.event.Event.{Event}
+use Rattle.cyc_machine.specs.declared.event.Event.TheVariants.{Ran}
+use Rattle.cyc_machine.specs.declared.phase.Phase.{Phase}
+use Rattle.cyc_machine.specs.declared.phase.Phase.TheVariants as phases
+use Rattle.cyc_machine.specs.State as machines
+use Rattle.cyc_machine.specs.State.{Core, Place, InText, InGlobals, InStack, Nowhere, register, with_register, place_of, loaded, stored, data_base, stack_base, word_number}
+use Rattle.cyc_machine.specs.Step.{Action, Does, Acts, executes, after, cause_of, first_of, is_nowhere, is_text, is_aligned, refuses_or_performs, performs}
+use Rattle.cyc_machine.specs.Run.{World, told}
+use Rattle.cyc_machine.proofs.MemoryLaws.{length-globals-stored, length-stack-stored}
+use Rattle.cyc_plain.specs.State.{Words, put}
+use Rattle.cyc_plain.proofs.SlotLaws.{put-same, put-other}
+use Rattle.cyc_select.specs.Machine.{Configuration, State, Running, core_of, memory_of, machine_of, world_of, from_world, settled, Performs, word_in}
+use Rattle.cyc_select.proofs.Cells.{IsCell, cell, place_of-data, place_of-stack, cell-stored}
+
+-- The registers, with HI and LO as 32 and 33, and the memory of a configuration are these. The ranges have so many words.
+pub record View (globals stack : ℕ) (c : Configuration) (r w : Words) : Type 0 where
+  pub wide : length c.registers ≡ 32
+  pub data_words : length c.globals ≡ globals
+  pub stack_words : length c.stack ≡ stack
+  pub few_globals : globals ≤ 1048576
+  pub few_stack : stack ≤ 1048576
+  pub reg : (n : ℕ) → n < 32 → word_in c n ≡ r n
+  pub high : c.high ≡ r 32
+  pub low : c.low ≡ r 33
+  pub mem : (a : ℕ) → IsCell globals stack a → cell (memory_of c) a ≡ w a
+
+-- ---- what an instruction does
+
+abbrev pub does_r : Instr → (r w : Words) → Words
+does_r (Immediate op target source half) r w = put r target.number (immediate_result op (r source.number) half)
+does_r (LoadUpper target half) r w = put r target.number (load_upper_result half)
+does_r (Memory LoadWord target base offset) r w = put r target.number (w (memory_address (r base.number) offset))
+does_r (ShiftVariable op destination source by) r w = put r destination.number (shift_result op (r source.number) (r by.number))
+does_r (MoveFrom High destination) r w = put r destination.number (r 32)
+does_r (MoveFrom Low destination) r w = put r destination.number (r 33)
+does_r (MultiplyDivide op left right) r w = put (put r 32 (high_result op (r left.number) (r right.number))) 33 (low_result op (r left.number) (r right.number))
+does_r (Arithmetic op destination left right) r w = put r destination.number (arithmetic_result op (r left.number) (r right.number))
+does_r i r w = r
+
+abbrev pub does_w : Instr → (r w : Words) → Words
+does_w (Memory StoreWord source base offset) r w = put w (memory_address (r base.number) offset) (r source.number)
+does_w i r w = w
+
+-- a register that can be written
+abbrev pub IsWritable : ℕ → Type 0
+IsWritable number = (number == 0) ≡ false
+
+-- when it does so, and does not trap
+abbrev pub IsSafe : (globals stack : ℕ) → Instr → Words → Type 0
+IsSafe globals stack (Immediate op target source half) r = IsWritable target.number
+IsSafe globals stack (LoadUpper target half) r = IsWritable target.number
+IsSafe globals stack (Memory LoadWord target base offset) r =
+    IsWritable target.number × IsCell globals stack (memory_address (r base.number) offset)
+IsSafe globals stack (Memory StoreWord source base offset) r = IsCell globals stack (memory_address (r base.number) offset)
+IsSafe globals stack (ShiftVariable op destination source by) r = IsWritable destination.number
+IsSafe globals stack (MoveFrom op destination) r = IsWritable destination.number
+IsSafe globals stack (MultiplyDivide Multiply left right) r = Unit {0}
+IsSafe globals stack (MultiplyDivide Divide left right) r =
+    (r right.number ≢ 0) × (r left.number ≡ 2 ^ 31 → r right.number ≡ 2 ^ 32 - 1 → ⊥)
+IsSafe globals stack (Arithmetic op destination left right) r = IsWritable destination.number
+IsSafe globals stack i r = ⊥
+
+-- the configuration after an instruction that is performed
+abbrev pub moved : Configuration → Instr → Configuration
+moved c i = from_world (record { machine = after (machine_of c) i; output = c.output; input = c.input }) (c.line + 1)
+
+-- ---- registers
+
+pub set_register : (core : Core) (n v m : ℕ) → length core.registers ≡ 32 → n < 32 → IsWritable n → register (with_register core n v) m ≡ put (register core) n v m
+set_register core n v m wide below writable =
+    let regs : (with_register core n v).registers ≡ slice_set core.registers n v = cond-false (n == 0) core.registers (slice_set core.registers n v) writable in
+    ap (λ (l : List ℕ). if m == 0 then 0 else slice_index l m) regs
+    ∙ elim (cases_eq m n) [
+      | inl same ↦
+          let not_zero : (m == 0) ≡ false = ap (λ (k : ℕ). k == 0) same ∙ writable in
+          cond-false (m == 0) 0 (slice_index (slice_set core.registers n v) m) not_zero
+          ∙ (ap (slice_index (slice_set core.registers n v)) same ∙ get_or-set_same core.registers n v 0 (omega (arith, wide, below)))
+          ∙ sym (ap (put (register core) n v) same ∙ put-same (register core) n v)
+      | inr other ↦
+          ap (λ (x : ℕ). if m == 0 then 0 else x) (get_or-set_other core.registers n m v 0 other)
+          ∙ sym (put-other (register core) n m v other)
+    ]
+
+module _ (globals stack : ℕ) (c : Configuration) (r w : Words) (view : View globals stack c r w) where
+  -- one register is written
+  pub view_put : (n v word line : ℕ) → n < 32 → IsWritable n → v ≡ word
+      → View globals stack (record c { registers = (with_register (core_of c) n v).registers; line = line }) (put r n word) w
+  view_put n v word line below writable same = record {
+    wide = ap length (cond-false (n == 0) c.registers (slice_set c.registers n v) writable) ∙ (length-set c.registers n v ∙ view.wide);
+    data_words = view.data_words;
+    stack_words = view.stack_words;
+    few_globals = view.few_globals;
+    few_stack = view.few_stack;
+    reg = λ m m_below.
+        set_register (core_of c) n v m view.wide below writable
+        ∙ elim (cases_eq m n) [
+          | inl equal ↦ (ap (put (register (core_of c)) n v) equal ∙ put-same (register (core_of c)) n v) ∙ (same ∙ sym (ap (put r n word) equal ∙ put-same r n word))
+          | inr other ↦ put-other (register (core_of c)) n m v other ∙ (view.reg m m_below ∙ sym (put-other r n m word other))
+        ];
+    high = view.high ∙ sym (put-other r n 32 word (λ e. absurd (omega (arith, e, below))));
+    low = view.low ∙ sym (put-other r n 33 word (λ e. absurd (omega (arith, e, below))));
+    mem = view.mem;
+  }
+
+  -- another line is next, and other things are printed and read
+  pub view_seen : (line : ℕ) (output input : List ℕ) → View globals stack (record c { line = line; output = output; input = input }) r w
+  view_seen line output input = record {
+    wide = view.wide;
+    data_words = view.data_words;
+    stack_words = view.stack_words;
+    few_globals = view.few_globals;
+    few_stack = view.few_stack;
+    reg = view.reg;
+    high = view.high;
+    low = view.low;
+    mem = view.mem;
+  }
+
+  pub view_at : (line : ℕ) → View globals stack (record c { line = line }) r w
+  view_at line = view_seen line c.output c.input
+
+  -- HI and LO are written
+  pub view_product : (h l high low line : ℕ) → h ≡ high → l ≡ low → View globals stack (record c { high = h; low = l; line = line }) (put (put r 32 high) 33 low) w
+  view_product h l high low line same_high same_low = record {
+    wide = view.wide;
+    data_words = view.data_words;
+    stack_words = view.stack_words;
+    few_globals = view.few_globals;
+    few_stack = view.few_stack;
+    reg = λ m m_below.
+        view.reg m m_below
+        ∙ sym (put-other (put r 32 high) 33 m low (λ e. absurd (omega (arith, e, m_below))) ∙ put-other r 32 m high (λ e. absurd (omega (arith, e, m_below))));
+    high = same_high ∙ sym (put-other (put r 32 high) 33 32 low (λ e. absurd (omega (arith, e))) ∙ put-same r 32 high);
+    low = same_low ∙ sym (put-same (put r 32 high) 33 low);
+    mem = view.mem;
+  }
+
+  -- a word of memory is written
+  same_memory : (place : Place) (word : ℕ)
+      → let m : machines.Memory = record { text = []; globals = (stored (memory_of c) place word).globals; stack = (stored (memory_of c) place word).stack } in
+      m ≡ stored (memory_of c) place word
+  same_memory (InText n) word = refl
+  same_memory (InGlobals n) word = refl
+  same_memory (InStack n) word = refl
+  same_memory Nowhere word = refl
+
+  pub view_store : (a address v word line : ℕ) → IsCell globals stack a → address ≡ a → v ≡ word
+      → View globals stack (record c {
+        globals = (stored (memory_of c) (place_of (memory_of c) address) v).globals;
+        stack = (stored (memory_of c) (place_of (memory_of c) address) v).stack;
+        line = line;
+      }) r (put w a word)
+  view_store a address v word line at same_address same = record {
+    wide = view.wide;
+    data_words = length-globals-stored (memory_of c) (place_of (memory_of c) address) v ∙ view.data_words;
+    stack_words = length-stack-stored (memory_of c) (place_of (memory_of c) address) v ∙ view.stack_words;
+    few_globals = view.few_globals;
+    few_stack = view.few_stack;
+    reg = view.reg;
+    high = view.high;
+    low = view.low;
+    mem = λ b b_at.
+        ap (λ (m : machines.Memory). cell m b) (same_memory (place_of (memory_of c) address) v)
+        ∙ (ap (λ (x : ℕ). cell (stored (memory_of c) (place_of (memory_of c) x) v) b) same_address
+        ∙ (ap (λ (x : ℕ). cell (stored (memory_of c) (place_of (memory_of c) a) x) b) same
+        ∙ (cell-stored c.globals c.stack (omega (arith, view.data_words, view.few_globals)) (omega (arith, view.stack_words, view.few_stack)) a word b
+        (subst (λ (n : ℕ). IsCell n (length c.stack) a) (sym view.data_words) (subst (λ (n : ℕ). IsCell globals n a) (sym view.stack_words) at))
+        (subst (λ (n : ℕ). IsCell n (length c.stack) b) (sym view.data_words) (subst (λ (n : ℕ). IsCell globals n b) (sym view.stack_words) b_at))
+        ∙ kept b b_at)));
+  }
+    where
+      kept : (b : ℕ) → IsCell globals stack b → put (cell (memory_of c)) a word b ≡ put w a word b
+      kept b b_at = elim (cases_eq b a) [
+        | inl equal ↦ (ap (put (cell (memory_of c)) a word) equal ∙ put-same (cell (memory_of c)) a word) ∙ sym (ap (put w a word) equal ∙ put-same w a word)
+        | inr other ↦ put-other (cell (memory_of c)) a b word other ∙ (view.mem b b_at ∙ sym (put-other w a b word other))
+      ]

@@ -1,0 +1,377 @@
+-- Walks: stretches of a run of labelled code through lines whose numbers rise.
+use Rattle.std.proofs.Common.{◌≡◌, ◌≢◌, ℕ, zero, suc, ◌+◌, ◌-◌, ◌*◌, ◌^◌, ◌<◌, ◌≤◌, ◌%◌, drop, Bool, true, false, List, [], ◌∷◌, ◌++◌, length, map, Option, None, Some, slice_get, refl, sym, ap, subst, ◌∙◌, arith, inl, inr}
+use Rattle.std.specs.Prelude.{◌⊎◌, ◌==◌, if◌then◌else◌, Contains}
+use Rattle.std.specs.List.{AllByRecursion, range_with_len}
+use Rattle.std.proofs.lemmas.List.FromFn.{get_or-range_with_len, length-range_with_len}
+use Rattle.cyc_isa.specs.Effect.{branch_taken, memory_address, immediate_result, load_upper_result, arithmetic_result, shift_result, high_result, low_result}
+use Rattle.cyc_isa.specs.declared.instr.Instr.{Instr}
+use Rattle.cyc_isa.specs.declared.instr.Instr.TheVariants.{Immediate, LoadUpper, Memory, Branch, BranchZero, Jump, Shift, ShiftVariable, JumpRegister, JumpRegisterLink, Exception, MoveFrom, MultiplyDivide, Arithmetic}
+use Rattle.cyc_isa.specs.declared.instr.MemoryOp.TheVariants.{LoadWord, StoreWord}
+use Rattle.cyc_isa.specs.declared.instr.MultiplyDivideOp.TheVariants.{Multiply, Divide}
+use Rattle.cyc_isa.specs.declared.instr.MoveFromOp.TheVariants.{High, Low}
+use Rattle.cyc_isa.specs.declared.instr.BranchOp.{BranchOp}
+use Rattle.cyc_isa.specs.declared.operand.Register.{Register}
+use Rattle.cyc_plain.specs.Simulation as simulation
+use Rattle.cyc_plain.specs.Simulation.{Machine, Comes, IsDistinct}
+use Rattle.cyc_plain.specs.State.{Words, AreWords, put}
+use Rattle.cyc_plain.proofs.SlotLaws.{put-same, put-other}
+use Rattle.cyc_plain.proofs.Placed.{holds_at}
+use Rattle.cyc_isa.specs.Encoding.{IsEncodable}
+use Rattle.cyc_isa.proofs.EffectLemmas.{IsWord-immediate_result, IsWord-load_upper_result, IsWord-arithmetic_result, IsWord-shift_result, IsWord-low_result, IsWord-high_result}
+use Rattle.std.proofs.lemmas.Bool.{cases_eq}
+use Rattle.cyc_select.specs.declared.code.Line.{Line}
+use Rattle.cyc_select.specs.declared.code.Line.TheVariants as lines
+use Rattle.cyc_select.specs.Labelled.{Labelled, IsFormed, IsFormedLine, is_ordinary, AreAddresses}
+use Rattle.cyc_words.specs.Ending.{Ending, Returned, Uncaught, Full}
+use Rattle.cyc_words.specs.Word.{IsWord, signed}
+use Rattle.cyc_isa.specs.Decoding.{trap_code_of}
+use Rattle.cyc_select.specs.Machine.{Configuration, State, Running, Ended, Step, Executes, ExecutesAt, Performs, PerformsOrdinary, machine, status_of, output_of, core_of, linked, at, word_in}
+use Rattle.cyc_select.specs.Selection.{ordinary, syscall}
+use Rattle.cyc_select.proofs.Views.{View, does_r, does_w, IsSafe, moved, view_at, view_seen, view_put}
+use Rattle.cyc_select.proofs.Effects.{performed, moved_view, byte_of, given_byte, gets_byte, printed_byte, puts_byte, ends_returned, ends_uncaught, ends_full}
+
+-- ---- rising places
+
+abbrev pub Rises : (lo hi : ℕ) → List ℕ → Type 0
+Rises lo hi [] = lo ≤ hi
+Rises lo hi (p ∷ places) = (lo ≤ p) × Rises (suc p) hi places
+
+apart : (x lo hi : ℕ) (places : List ℕ) → x < lo → Rises lo hi places → AllByRecursion (λ (y : ℕ). x ≢ y) places
+apart x lo hi [] below rises = tt
+apart x lo hi (p ∷ places) below (first, rest) = ((λ e. absurd (omega (arith, e, first, below))), apart x (suc p) hi places (omega arith) rest)
+
+pub rising_distinct : (lo hi : ℕ) (places : List ℕ) → Rises lo hi places → IsDistinct places
+rising_distinct lo hi [] rises = tt
+rising_distinct lo hi (p ∷ places) (first, rest) = (apart p (suc p) hi places (omega arith) rest, rising_distinct (suc p) hi places rest)
+
+rising_below : (lo hi : ℕ) (places : List ℕ) → Rises lo hi places → lo ≤ hi
+rising_below lo hi [] rises = rises
+rising_below lo hi (p ∷ places) (first, rest) = omega (arith, first, rising_below (suc p) hi places rest)
+
+in_range : (a n q : ℕ) → a ≤ q → q < a + n → Contains (range_with_len a n) q
+in_range a n q from below = (q - a, omega (arith, length-range_with_len a n), get_or-range_with_len a n (q - a) q (omega arith) ∙ (let e : a + (q - a) ≡ q = omega arith in e))
+
+pub rising_inside : (a n lo : ℕ) (places : List ℕ) → a ≤ lo → Rises lo (a + n) places → AllByRecursion (Contains (range_with_len a n)) places
+rising_inside a n lo [] from rises = tt
+rising_inside a n lo (p ∷ places) from (first, rest) =
+    (in_range a n p (omega arith) (omega (arith, rising_below (suc p) (a + n) places rest)), rising_inside a n (suc p) places (omega arith) rest)
+
+-- a stretch seen otherwise
+pub comes_map : (m : Machine) (Way Goal Way' Goal' : m.State → Type 0) (places : List m.Place) (s : m.State)
+    → ((t : m.State) → Way t → Way' t) → ((t : m.State) → Goal t → Goal' t) → Comes m Way Goal places s → Comes m Way' Goal' places s
+comes_map m Way Goal Way' Goal' [] s ways goals comes = goals s comes
+comes_map m Way Goal Way' Goal' (p ∷ places) s ways goals (stands, way, goes) =
+    (stands, ways s way, λ next step. comes_map m Way Goal Way' Goal' places next ways goals (goes next step))
+
+-- ---- code that stands at a line
+
+abbrev pub Stands : Labelled → ℕ → List Line → Type 0
+Stands code k [] = Unit {0}
+Stands code k (l ∷ ls) = (slice_get code.lines k ≡ Some l) × Stands code (k + 1) ls
+
+stands_to : (code : Labelled) (k j : ℕ) (ls : List Line) → k ≡ j → Stands code k ls → Stands code j ls
+stands_to code k j ls same stands = subst (λ (n : ℕ). Stands code n ls) same stands
+
+pub stands_front : (code : Labelled) (k : ℕ) (xs ys : List Line) → Stands code k (xs ++ ys) → Stands code k xs
+stands_front code k [] ys stands = tt
+stands_front code k (x ∷ xs) ys (first, rest) = (first, stands_front code (k + 1) xs ys rest)
+
+pub stands_back : (code : Labelled) (k : ℕ) (xs ys : List Line) → Stands code k (xs ++ ys) → Stands code (k + length xs) ys
+stands_back code k [] ys stands = stands_to code k (k + 0) ys (omega arith) stands
+stands_back code k (x ∷ xs) ys (first, rest) = stands_to code (k + 1 + length xs) (k + suc (length xs)) ys (omega arith) (stands_back code (k + 1) xs ys rest)
+
+-- ---- one after another
+
+abbrev pub after_r : List Instr → (r w : Words) → Words
+after_r [] r w = r
+after_r (i ∷ is) r w = after_r is (does_r i r w) (does_w i r w)
+
+abbrev pub after_w : List Instr → (r w : Words) → Words
+after_w [] r w = w
+after_w (i ∷ is) r w = after_w is (does_r i r w) (does_w i r w)
+
+abbrev pub AreSafe : (globals stack : ℕ) → List Instr → (r w : Words) → Type 0
+AreSafe globals stack [] r w = Unit {0}
+AreSafe globals stack (i ∷ is) r w = IsSafe globals stack i r × AreSafe globals stack is (does_r i r w) (does_w i r w)
+
+pub after_r-append : (is js : List Instr) (r w : Words) → after_r (is ++ js) r w ≡ after_r js (after_r is r w) (after_w is r w)
+after_r-append [] js r w = refl
+after_r-append (i ∷ is) js r w = after_r-append is js (does_r i r w) (does_w i r w)
+
+pub after_w-append : (is js : List Instr) (r w : Words) → after_w (is ++ js) r w ≡ after_w js (after_r is r w) (after_w is r w)
+after_w-append [] js r w = refl
+after_w-append (i ∷ is) js r w = after_w-append is js (does_r i r w) (does_w i r w)
+
+put_words : (words : Words) (number word : ℕ) → AreWords words → IsWord word → AreWords (put words number word)
+put_words words number word all one other = elim (cases_eq other number) [
+  | inl same ↦ subst IsWord (sym (ap (put words number word) same ∙ put-same words number word)) one
+  | inr apart ↦ subst IsWord (sym (put-other words number other word apart)) (all other)
+]
+
+does_words_r : (i : Instr) (r w : Words) → IsEncodable i → AreWords r → AreWords w → AreWords (does_r i r w)
+does_words_r (Immediate op target source half) r w fits all mem = put_words r target.number _ all (IsWord-immediate_result op (r source.number) half (all source.number) fits)
+does_words_r (LoadUpper target half) r w fits all mem = put_words r target.number _ all (IsWord-load_upper_result half fits)
+does_words_r (Memory LoadWord target base offset) r w fits all mem = put_words r target.number _ all (mem (memory_address (r base.number) offset))
+does_words_r (Memory StoreWord source base offset) r w fits all mem = all
+does_words_r (Branch op left right offset) r w fits all mem = all
+does_words_r (BranchZero op source offset) r w fits all mem = all
+does_words_r (Jump op index) r w fits all mem = all
+does_words_r (Shift op destination source amount) r w fits all mem = all
+does_words_r (ShiftVariable op destination source by) r w fits all mem = put_words r destination.number _ all (IsWord-shift_result op (r source.number) (r by.number) (all source.number))
+does_words_r (JumpRegister source) r w fits all mem = all
+does_words_r (JumpRegisterLink destination source) r w fits all mem = all
+does_words_r (Exception op code) r w fits all mem = all
+does_words_r (MoveFrom High destination) r w fits all mem = put_words r destination.number _ all (all 32)
+does_words_r (MoveFrom Low destination) r w fits all mem = put_words r destination.number _ all (all 33)
+does_words_r (MultiplyDivide op left right) r w fits all mem =
+    put_words (put r 32 (high_result op (r left.number) (r right.number))) 33 _
+    (put_words r 32 _ all (IsWord-high_result op (r left.number) (r right.number) (all left.number) (all right.number)))
+    (IsWord-low_result op (r left.number) (r right.number))
+does_words_r (Arithmetic op destination left right) r w fits all mem =
+    put_words r destination.number _ all (IsWord-arithmetic_result op (r left.number) (r right.number) (all left.number) (all right.number))
+
+does_words_w : (i : Instr) (r w : Words) → AreWords r → AreWords w → AreWords (does_w i r w)
+does_words_w (Memory StoreWord source base offset) r w all mem = put_words w (memory_address (r base.number) offset) (r source.number) mem (all source.number)
+does_words_w (Memory LoadWord target base offset) r w all mem = mem
+does_words_w (Immediate op target source half) r w all mem = mem
+does_words_w (LoadUpper target half) r w all mem = mem
+does_words_w (Branch op left right offset) r w all mem = mem
+does_words_w (BranchZero op source offset) r w all mem = mem
+does_words_w (Jump op index) r w all mem = mem
+does_words_w (Shift op destination source amount) r w all mem = mem
+does_words_w (ShiftVariable op destination source by) r w all mem = mem
+does_words_w (JumpRegister source) r w all mem = mem
+does_words_w (JumpRegisterLink destination source) r w all mem = mem
+does_words_w (Exception op code) r w all mem = mem
+does_words_w (MoveFrom op destination) r w all mem = mem
+does_words_w (MultiplyDivide op left right) r w all mem = mem
+does_words_w (Arithmetic op destination left right) r w all mem = mem
+
+safe_ordinary : (globals stack : ℕ) (i : Instr) (r : Words) → IsSafe globals stack i r → is_ordinary i ≡ true
+safe_ordinary globals stack (Immediate op target source half) r safe = refl
+safe_ordinary globals stack (LoadUpper target half) r safe = refl
+safe_ordinary globals stack (Memory op target base offset) r safe = refl
+safe_ordinary globals stack (Branch op left right offset) r safe = absurd safe
+safe_ordinary globals stack (BranchZero op source offset) r safe = absurd safe
+safe_ordinary globals stack (Jump op index) r safe = absurd safe
+safe_ordinary globals stack (Shift op destination source amount) r safe = absurd safe
+safe_ordinary globals stack (ShiftVariable op destination source by) r safe = refl
+safe_ordinary globals stack (JumpRegister source) r safe = absurd safe
+safe_ordinary globals stack (JumpRegisterLink destination source) r safe = absurd safe
+safe_ordinary globals stack (Exception op code) r safe = absurd safe
+safe_ordinary globals stack (MoveFrom op destination) r safe = refl
+safe_ordinary globals stack (MultiplyDivide op left right) r safe = refl
+safe_ordinary globals stack (Arithmetic op destination left right) r safe = refl
+
+module _ (code : Labelled) (formed : IsFormed code) (addresses : ℕ → ℕ) (globals stack : ℕ) where
+  -- under way, with this printed
+  abbrev pub Quiet : List ℕ → State → Type 0
+  Quiet out t = (status_of t ≡ simulation.Running) × (output_of t ≡ out)
+
+  -- Each run from here meets so many places at least, which rise from one line to another, and comes to the goal.
+  pub record Walk (least lo hi : ℕ) (out : List ℕ) (Goal : State → Type 0) (t : State) : Type 0 where
+    pub places : List ℕ
+    pub enough : least ≤ length places
+    pub rises : Rises lo hi places
+    pub comes : Comes (machine code addresses) (Quiet out) Goal places t
+
+  pub walk_end : (lo hi : ℕ) (out : List ℕ) (Goal : State → Type 0) (t : State) → lo ≤ hi → Goal t → Walk 0 lo hi out Goal t
+  walk_end lo hi out Goal t below goal = record { places = []; enough = omega arith; rises = below; comes = goal }
+
+  pub walk_step : (n lo hi : ℕ) (out : List ℕ) (Goal : State → Type 0) (c : Configuration) (u : State) → lo ≤ c.line → c.output ≡ out
+      → ((next : State) → Step code addresses (Running c) next → next ≡ u) → Walk n (suc c.line) hi out Goal u → Walk (suc n) lo hi out Goal (Running c)
+  walk_step n lo hi out Goal c u from output only rest = record {
+    places = c.line ∷ rest.places;
+    enough = omega (arith, rest.enough);
+    rises = (from, rest.rises);
+    comes = (refl, (refl, output), λ next step. subst (λ (t : State). Comes (machine code addresses) (Quiet out) Goal rest.places t) (sym (only next step)) rest.comes);
+  }
+
+  pub walk_few : (m n lo hi : ℕ) (out : List ℕ) (Goal : State → Type 0) (t : State) → m ≤ n → Walk n lo hi out Goal t → Walk m lo hi out Goal t
+  walk_few m n lo hi out Goal t fewer walk = record { places = walk.places; enough = omega (arith, walk.enough); rises = walk.rises; comes = walk.comes }
+
+  rises_from : (lo from hi : ℕ) (places : List ℕ) → lo ≤ from → Rises from hi places → Rises lo hi places
+  rises_from lo from hi [] below rises = omega arith
+  rises_from lo from hi (p ∷ places) below (first, rest) = ((omega arith), rest)
+
+  pub walk_from : (n lo from hi : ℕ) (out : List ℕ) (Goal : State → Type 0) (t : State) → lo ≤ from → Walk n from hi out Goal t → Walk n lo hi out Goal t
+  walk_from n lo from hi out Goal t below walk = record { places = walk.places; enough = walk.enough; rises = rises_from lo from hi walk.places below walk.rises; comes = walk.comes }
+
+  -- The run stands at this line, and registers and memory are these.
+  pub record Now (line : ℕ) (out rest : List ℕ) (r w : Words) (c : Configuration) : Type 0 where
+    pub view : View globals stack c r w
+    pub r_words : AreWords r
+    pub w_words : AreWords w
+    pub at_line : c.line ≡ line
+    pub output : c.output ≡ out
+    pub input : c.input ≡ rest
+
+  pub now_at : (k j : ℕ) (out input : List ℕ) (r w : Words) (c : Configuration) → k ≡ j → Now k out input r w c → Now j out input r w c
+  now_at k j out input r w c same now = record { view = now.view; r_words = now.r_words; w_words = now.w_words; at_line = now.at_line ∙ same; output = now.output; input = now.input }
+
+  pub now_is : (k : ℕ) (out input : List ℕ) (r w r' w' : Words) (c : Configuration) → r ≡ r' → w ≡ w' → Now k out input r w c → Now k out input r' w' c
+  now_is k out input r w r' w' c same_r same_w now =
+      subst (λ (x : Words). Now k out input x w' c) same_r (subst (λ (x : Words). Now k out input r x c) same_w now)
+
+  executes_line : (c : Configuration) (l : Line) (next : State) → slice_get code.lines c.line ≡ Some l → Step code addresses (Running c) next → Executes code addresses c l next
+  executes_line c l next stands step = subst (λ (o : Option Line). ExecutesAt code addresses c o next) stands step
+
+  stands_now : (k : ℕ) (out input : List ℕ) (r w : Words) (c : Configuration) (l : Line) → Now k out input r w c → slice_get code.lines k ≡ Some l → slice_get code.lines c.line ≡ Some l
+  stands_now k out input r w c l now stands = ap (slice_get code.lines) now.at_line ∙ stands
+
+  -- an ordinary instruction, whatever it does
+  pub performs_now : (k : ℕ) (out input : List ℕ) (r w : Words) (c : Configuration) (i : Instr) (next : State) → Now k out input r w c → slice_get code.lines k ≡ Some (lines.Ordinary i) → is_ordinary i ≡ true
+      → Step code addresses (Running c) next → Performs c i next
+  performs_now k out input r w c i next now stands is step =
+      subst (λ (b : Bool). PerformsOrdinary b c i next) is
+      (executes_line c (lines.Ordinary i) next (stands_now k out input r w c (lines.Ordinary i) now stands) step)
+
+  pub moved_now : (k : ℕ) (out input : List ℕ) (r w : Words) (c : Configuration) (i : Instr) → Now k out input r w c → IsEncodable i → View globals stack (moved c i) (does_r i r w) (does_w i r w)
+      → Now (k + 1) out input (does_r i r w) (does_w i r w) (moved c i)
+  moved_now k out input r w c i now fits view = record { view = view; r_words = does_words_r i r w fits now.r_words now.w_words; w_words = does_words_w i r w now.r_words now.w_words; at_line = ap (λ (n : ℕ). n + 1) now.at_line; output = now.output; input = now.input }
+
+  -- A stretch of safe instructions. (The view of what is left does not depend on what is next.)
+  pub walk_block : (is : List Instr) (n k lo hi : ℕ) (out input : List ℕ) (Goal : State → Type 0) (r w : Words) (c : Configuration)
+      → Now k out input r w c → Stands code k (ordinary is) → AreSafe globals stack is r w → lo ≤ k
+      → ((d : Configuration) → Now (k + length is) out input (after_r is r w) (after_w is r w) d → Walk n (k + length is) hi out Goal (Running d))
+      → Walk (length is + n) lo hi out Goal (Running c)
+  walk_block [] n k lo hi out input Goal r w c now stands safe from goes =
+      walk_few (0 + n) n lo hi out Goal (Running c) (omega arith)
+      (walk_from n lo (k + 0) hi out Goal (Running c) (omega arith) (goes c (now_at k (k + 0) out input r w c (omega arith) now)))
+  walk_block (i ∷ is) n k lo hi out input Goal r w c now (stands, rest) (safe, others) from goes =
+      let ordinary_one = safe_ordinary globals stack i r safe in
+      let view = moved_view globals stack c r w now.view i safe in
+      let fits = (holds_at (IsFormedLine (length code.lines)) code.lines k (lines.Ordinary i) formed stands).1 in
+      walk_few (suc (length is) + n) (suc (length is + n)) lo hi out Goal (Running c) (omega arith)
+      (walk_step (length is + n) lo hi out Goal c (Running (moved c i)) (omega (arith, from, now.at_line)) now.output (λ next step. performed globals stack c r w now.view i next safe (performs_now k out input r w c i next now stands ordinary_one step))
+      (walk_from (length is + n) (suc c.line) (k + 1) hi out Goal (Running (moved c i)) (omega (arith, now.at_line))
+      (walk_block is n (k + 1) (k + 1) hi out input Goal (does_r i r w) (does_w i r w) (moved c i) (moved_now k out input r w c i now fits view) rest others (omega arith)
+      (λ d later.
+      walk_from n (k + 1 + length is) (k + suc (length is)) hi out Goal (Running d) (omega arith)
+      (goes d (now_at (k + 1 + length is) (k + suc (length is)) out input _ _ d (omega arith) later))))))
+
+  -- ---- branches, jumps, calls and returns
+
+  at_now : (k j : ℕ) (out input : List ℕ) (r w : Words) (c : Configuration) → Now k out input r w c → Now j out input r w (at c j)
+  at_now k j out input r w c now = record { view = view_at globals stack c r w now.view j; r_words = now.r_words; w_words = now.w_words; at_line = refl; output = now.output; input = now.input }
+
+  pub walk_branch : (n k lo hi : ℕ) (out input : List ℕ) (Goal : State → Type 0) (r w : Words) (c : Configuration) (op : BranchOp) (left right : Register) (label target : ℕ)
+      → Now k out input r w c → slice_get code.lines k ≡ Some (lines.Branch op left right label) → lo ≤ k
+      → (if branch_taken op (r left.number) (r right.number) then label else k + 1) ≡ target
+      → ((d : Configuration) → Now target out input r w d → Walk n (suc k) hi out Goal (Running d))
+      → Walk (suc n) lo hi out Goal (Running c)
+  walk_branch n k lo hi out input Goal r w c op left right label target now stands from goes_to rest =
+      let there : (if branch_taken op (word_in c left.number) (word_in c right.number) then label else c.line + 1) ≡ target =
+      ap (λ (x : ℕ). if branch_taken op x (word_in c right.number) then label else c.line + 1) (now.view.reg left.number left.in_range)
+      ∙ (ap (λ (x : ℕ). if branch_taken op (r left.number) x then label else c.line + 1) (now.view.reg right.number right.in_range)
+      ∙ (ap (λ (x : ℕ). if branch_taken op (r left.number) (r right.number) then label else x + 1) now.at_line ∙ goes_to)) in
+      walk_step n lo hi out Goal c (Running (at c target)) (omega (arith, from, now.at_line)) now.output
+      (λ next step.
+      executes_line c (lines.Branch op left right label) next (stands_now k out input r w c (lines.Branch op left right label) now stands) step
+      ∙ ap (λ (x : ℕ). Running (at c x)) there)
+      (walk_from n (suc c.line) (suc k) hi out Goal (Running (at c target)) (omega (arith, now.at_line)) (rest (at c target) (at_now k target out input r w c now)))
+
+  pub walk_jump : (n k lo hi : ℕ) (out input : List ℕ) (Goal : State → Type 0) (r w : Words) (c : Configuration) (label : ℕ)
+      → Now k out input r w c → slice_get code.lines k ≡ Some (lines.Jump label) → lo ≤ k
+      → ((d : Configuration) → Now label out input r w d → Walk n (suc k) hi out Goal (Running d))
+      → Walk (suc n) lo hi out Goal (Running c)
+  walk_jump n k lo hi out input Goal r w c label now stands from rest =
+      walk_step n lo hi out Goal c (Running (at c label)) (omega (arith, from, now.at_line)) now.output
+      (λ next step. executes_line c (lines.Jump label) next (stands_now k out input r w c (lines.Jump label) now stands) step)
+      (walk_from n (suc c.line) (suc k) hi out Goal (Running (at c label)) (omega (arith, now.at_line)) (rest (at c label) (at_now k label out input r w c now)))
+
+  pub walk_call : (n k lo hi : ℕ) (out input : List ℕ) (Goal : State → Type 0) (r w : Words) (c : Configuration) (label : ℕ)
+      → Now k out input r w c → slice_get code.lines k ≡ Some (lines.Call label) → lo ≤ k → IsWord (addresses (k + 1))
+      → ((d : Configuration) → Now label out input (put r 31 (addresses (k + 1))) w d → Walk n (suc k) hi out Goal (Running d))
+      → Walk (suc n) lo hi out Goal (Running c)
+  walk_call n k lo hi out input Goal r w c label now stands from word rest =
+      let view = view_put globals stack c r w now.view 31 (addresses (c.line + 1)) (addresses (k + 1)) label (omega arith) refl (ap (λ (x : ℕ). addresses (x + 1)) now.at_line) in
+      walk_step n lo hi out Goal c (Running (at (linked addresses c) label)) (omega (arith, from, now.at_line)) now.output
+      (λ next step. executes_line c (lines.Call label) next (stands_now k out input r w c (lines.Call label) now stands) step)
+      (walk_from n (suc c.line) (suc k) hi out Goal (Running (at (linked addresses c) label)) (omega (arith, now.at_line))
+      (rest (at (linked addresses c) label) (record { view = view; r_words = put_words r 31 (addresses (k + 1)) now.r_words word; w_words = now.w_words; at_line = refl; output = now.output; input = now.input })))
+
+  pub walk_return : (n k lo hi : ℕ) (out input : List ℕ) (Goal : State → Type 0) (r w : Words) (c : Configuration) (line : ℕ)
+      → AreAddresses code addresses → Now k out input r w c → slice_get code.lines k ≡ Some lines.Return → lo ≤ k → line < length code.lines → r 31 ≡ addresses line
+      → ((d : Configuration) → Now line out input r w d → Walk n (suc k) hi out Goal (Running d))
+      → Walk (suc n) lo hi out Goal (Running c)
+  walk_return n k lo hi out input Goal r w c line lie now stands from inside is_address rest =
+      let holds : word_in c 31 ≡ addresses line = now.view.reg 31 (omega arith) ∙ is_address in
+      walk_step n lo hi out Goal c (Running (at c line)) (omega (arith, from, now.at_line)) now.output
+      (λ next step. elim (executes_line c lines.Return next (stands_now k out input r w c lines.Return now stands) step) [
+        | inl (other, below, lies, is) ↦ is ∙ ap (λ (x : ℕ). Running (at c x)) (lie.apart other line below inside (lies ∙ holds))
+        | inr (nowhere, is) ↦ absurd (nowhere line inside (sym holds))
+      ])
+      (walk_from n (suc c.line) (suc k) hi out Goal (Running (at c line)) (omega (arith, now.at_line)) (rest (at c line) (at_now k line out input r w c now)))
+
+  -- ---- services
+
+  syscall_now : (k : ℕ) (out input : List ℕ) (r w : Words) (c : Configuration) (next : State) → Now k out input r w c → slice_get code.lines k ≡ Some (lines.Ordinary syscall)
+      → Step code addresses (Running c) next → Performs c syscall next
+  syscall_now k out input r w c next now stands step = performs_now k out input r w c syscall next now stands refl step
+
+  pub walk_get : (n k lo hi : ℕ) (out input : List ℕ) (Goal : State → Type 0) (r w : Words) (c : Configuration)
+      → Now k out input r w c → slice_get code.lines k ≡ Some (lines.Ordinary syscall) → lo ≤ k → r 2 ≡ 1 → IsWord (byte_of input)
+      → ((d : Configuration) → Now (k + 1) out (drop 1 input) (put r 2 (byte_of input)) w d → Walk n (suc k) hi out Goal (Running d))
+      → Walk (suc n) lo hi out Goal (Running c)
+  walk_get n k lo hi out input Goal r w c now stands from number word rest =
+      let view = view_put globals stack c r w now.view 2 (byte_of c.input) (byte_of input) (c.line + 1) (omega arith) refl (ap byte_of now.input) in
+      walk_step n lo hi out Goal c (Running (given_byte c)) (omega (arith, from, now.at_line)) now.output
+      (λ next step. gets_byte c (trap_code_of 0) next (now.view.reg 2 (omega arith) ∙ number) (syscall_now k out input r w c next now stands step))
+      (walk_from n (suc c.line) (suc k) hi out Goal (Running (given_byte c)) (omega (arith, now.at_line))
+      (rest (given_byte c) (record { view = view_seen globals stack _ _ w view (c.line + 1) c.output (drop 1 c.input); r_words = put_words r 2 (byte_of input) now.r_words word; w_words = now.w_words; at_line = ap (λ (x : ℕ). x + 1) now.at_line; output = now.output; input = ap (drop 1) now.input })))
+
+  -- the goal is reached as soon as a byte is printed, or the run has ended
+  pub walk_put : (k lo hi : ℕ) (out input : List ℕ) (Goal : State → Type 0) (r w : Words) (c : Configuration)
+      → Now k out input r w c → slice_get code.lines k ≡ Some (lines.Ordinary syscall) → lo ≤ k → suc k ≤ hi → r 2 ≡ 2
+      → ((d : Configuration) → Now (k + 1) (out ++ r 4 % 256 ∷ []) input r w d → Goal (Running d))
+      → Walk 1 lo hi out Goal (Running c)
+  walk_put k lo hi out input Goal r w c now stands from below number rest =
+      walk_step 0 lo hi out Goal c (Running (printed_byte c)) (omega (arith, from, now.at_line)) now.output
+      (λ next step. puts_byte c (trap_code_of 0) next (now.view.reg 2 (omega arith) ∙ number) (syscall_now k out input r w c next now stands step))
+      (walk_end (suc c.line) hi out Goal (Running (printed_byte c)) (omega (arith, below, now.at_line))
+      (rest (printed_byte c) (record {
+        view = view_seen globals stack c r w now.view (c.line + 1) (c.output ++ word_in c 4 % 256 ∷ []) c.input;
+        r_words = now.r_words;
+        w_words = now.w_words;
+        at_line = ap (λ (x : ℕ). x + 1) now.at_line;
+        output = ap (λ (l : List ℕ). l ++ word_in c 4 % 256 ∷ []) now.output ∙ ap (λ (x : ℕ). out ++ x % 256 ∷ []) (now.view.reg 4 (omega arith));
+        input = now.input;
+      })))
+
+  ended_as : (k : ℕ) (out input : List ℕ) (r w : Words) (c : Configuration) (ending ended : Ending) → Now k out input r w c → ending ≡ ended
+      → Ended ending c.output c.input ≡ Ended ended out input
+  ended_as k out input r w c ending ended now same =
+      ap (λ (e : Ending). Ended e c.output c.input) same
+      ∙ (ap (λ (l : List ℕ). Ended ended l c.input) now.output ∙ ap (λ (l : List ℕ). Ended ended out l) now.input)
+
+  pub walk_returned : (k lo hi : ℕ) (out input : List ℕ) (Goal : State → Type 0) (r w : Words) (c : Configuration)
+      → Now k out input r w c → slice_get code.lines k ≡ Some (lines.Ordinary syscall) → lo ≤ k → suc k ≤ hi → r 2 ≡ 3
+      → Goal (Ended (Returned (signed (r 4))) out input) → Walk 1 lo hi out Goal (Running c)
+  walk_returned k lo hi out input Goal r w c now stands from below number goal =
+      walk_step 0 lo hi out Goal c (Ended (Returned (signed (r 4))) out input) (omega (arith, from, now.at_line)) now.output
+      (λ next step.
+      ends_returned c (trap_code_of 0) next (now.view.reg 2 (omega arith) ∙ number) (syscall_now k out input r w c next now stands step)
+      ∙ ended_as k out input r w c _ _ now (ap (λ (x : ℕ). Returned (signed x)) (now.view.reg 4 (omega arith))))
+      (walk_end (suc c.line) hi out Goal _ (omega (arith, below, now.at_line)) goal)
+
+  pub walk_uncaught : (k lo hi : ℕ) (out input : List ℕ) (Goal : State → Type 0) (r w : Words) (c : Configuration)
+      → Now k out input r w c → slice_get code.lines k ≡ Some (lines.Ordinary syscall) → lo ≤ k → suc k ≤ hi → r 2 ≡ 4
+      → Goal (Ended (Uncaught (r 4) (signed (r 5))) out input) → Walk 1 lo hi out Goal (Running c)
+  walk_uncaught k lo hi out input Goal r w c now stands from below number goal =
+      walk_step 0 lo hi out Goal c (Ended (Uncaught (r 4) (signed (r 5))) out input) (omega (arith, from, now.at_line)) now.output
+      (λ next step.
+      ends_uncaught c (trap_code_of 0) next (now.view.reg 2 (omega arith) ∙ number) (syscall_now k out input r w c next now stands step)
+      ∙ ended_as k out input r w c _ _ now
+      (ap (λ (x : ℕ). Uncaught x (signed (word_in c 5))) (now.view.reg 4 (omega arith)) ∙ ap (λ (x : ℕ). Uncaught (r 4) (signed x)) (now.view.reg 5 (omega arith))))
+      (walk_end (suc c.line) hi out Goal _ (omega (arith, below, now.at_line)) goal)
+
+  pub walk_full : (k lo hi : ℕ) (out input : List ℕ) (Goal : State → Type 0) (r w : Words) (c : Configuration)
+      → Now k out input r w c → slice_get code.lines k ≡ Some (lines.Ordinary syscall) → lo ≤ k → suc k ≤ hi → r 2 ≡ 11
+      → Goal (Ended Full out input) → Walk 1 lo hi out Goal (Running c)
+  walk_full k lo hi out input Goal r w c now stands from below number goal =
+      walk_step 0 lo hi out Goal c (Ended Full out input) (omega (arith, from, now.at_line)) now.output
+      (λ next step.
+      ends_full c (trap_code_of 0) next (now.view.reg 2 (omega arith) ∙ number) (syscall_now k out input r w c next now stands step)
+      ∙ ended_as k out input r w c _ _ now refl)
+      (walk_end (suc c.line) hi out Goal _ (omega (arith, below, now.at_line)) goal)

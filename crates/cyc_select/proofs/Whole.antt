@@ -1,0 +1,63 @@
+-- The code that is selected is the program's.
+use Rattle.std.proofs.Common.{◌≡◌, ℕ, zero, suc, ◌+◌, ◌-◌, ◌*◌, ◌<◌, ◌≤◌, List, [], ◌∷◌, ◌++◌, length, map, Some, slice_get, refl, sym, ap, subst, ◌∙◌, arith, inl, inr}
+use Rattle.std.specs.Prelude.{sum_by, flat_map, Contains, slice_index_or}
+use Rattle.std.specs.List.{range_with_len, AllByRecursion}
+use Rattle.std.proofs.lemmas.List.Sums.{sum_by-cons, sum_by-append}
+use Rattle.std.proofs.lemmas.List.FromFn.{length-range_with_len}
+use Rattle.cyc_plain.specs.declared.instruction.Instruction.{Instruction}
+use Rattle.cyc_plain.specs.Program.{Routine, Program, CodePlace, no_routine, routine_at, places_from, places_of, size}
+use Rattle.cyc_plain.specs.WellFormed.{IsWellFormed, HasWords}
+use Rattle.cyc_plain.proofs.Places.{sum_by-flat_map}
+use Rattle.cyc_frame.specs.declared.frame.Frame.{Frame}
+use Rattle.cyc_select.specs.Labelled.{Labelled, words_of, all_words}
+use Rattle.cyc_select.specs.Selected.{IsCodeOf, words_at, words_for_each, most_start_words}
+use Rattle.cyc_select.specs.Selection.{count_of, function_count, start_count, function_line, code_lines, function_lines, start_lines, select_of}
+use Rattle.cyc_select.proofs.Formed.{few_results, formed}
+use Rattle.cyc_select.proofs.Parts.{place_in, own_function, own_some, parts}
+use Rattle.cyc_select.proofs.Runs.{own_of}
+use Rattle.cyc_select.proofs.Sizes.{words_range, code_words, functions_words}
+use Rattle.cyc_select.proofs.Standing.{AreFrames}
+use Rattle.cyc_select.proofs.Start.{follows}
+use Rattle.cyc_select.proofs.Structure.{length_body, length_code, stand, stand_function, starts}
+
+-- a sum over mapped places
+sum_by-map : {X Y : Type 0} (price : Y → ℕ) (f : X → Y) (xs : List X) → sum_by price (map f xs) ≡ sum_by (λ x. price (f x)) xs
+sum_by-map price f [] = refl
+sum_by-map price f (x ∷ xs) = omega (arith, sum_by-cons price (f x) (map f xs), sum_by-cons (λ y. price (f y)) x xs, sum_by-map price f xs)
+
+module _ (program : Program) (well : IsWellFormed program) (words : HasWords program) (frames : List Frame) (fit : AreFrames program frames) where
+  few_own : (function : ℕ) → function < length program.functions
+      → sum_by (λ (index : ℕ). sum_by (words_at (select_of program frames)) (own_of program (record { function = function; index = index }))) (range_with_len 0 (length (routine_at program function).code))
+      ≤ words_for_each * size (routine_at program function)
+  few_own function known =
+      let indices = range_with_len 0 (length (routine_at program function).code) in
+      let price : ℕ → ℕ = words_at (select_of program frames) in
+      let one = sum_by-map (λ (p : CodePlace). sum_by (words_at (select_of program frames)) (own_of program p)) (place_in function) (range_with_len 0 (length (routine_at program function).code)) in
+      let two = sum_by-flat_map (words_at (select_of program frames)) (own_of program) (map (place_in function) (range_with_len 0 (length (routine_at program function).code))) in
+      let three : sum_by (words_at (select_of program frames)) (flat_map (own_of program) (map (place_in function) (range_with_len 0 (length (routine_at program function).code)))) ≡ sum_by (words_at (select_of program frames)) (range_with_len (function_line program function) (function_count program function (routine_at program function))) = ap (sum_by (words_at (select_of program frames))) (own_function program well frames function known) in
+      let long = length_code program frames (few_results program well) function (function_line program function) (routine_at program function).code in
+      let four : sum_by (words_at (select_of program frames)) (range_with_len (function_line program function) (function_count program function (routine_at program function))) ≡ sum_by (words_at (select_of program frames)) (range_with_len (function_line program function) (length (code_lines program frames function (function_line program function) (routine_at program function).code))) = ap (λ (n : ℕ). sum_by (words_at (select_of program frames)) (range_with_len (function_line program function) n)) (sym long) in
+      let five = words_range (select_of program frames) (function_line program function) (code_lines program frames function (function_line program function) (routine_at program function).code) (stand_function program frames (few_results program well) function known) in
+      omega (arith, one, two, three, four, five, code_words program frames (few_results program well) function (function_line program function) (routine_at program function).code)
+
+  few_before : sum_by (words_at (select_of program frames)) (range_with_len 0 3) ≤ most_start_words
+  few_before = omega (arith, words_range (select_of program frames) 0 (start_lines program frames) (starts program frames (few_results program well)))
+
+  few_words : all_words (select_of program frames).lines ≤ most_start_words + words_for_each * sum_by size program.functions
+  few_words =
+      omega (arith, sum_by-append words_of (start_lines program frames) (function_lines program frames 0 start_count program.functions), functions_words program frames (few_results program well) 0 start_count program.functions)
+
+  pub is_code_of : IsCodeOf program (select_of program frames)
+  is_code_of = record {
+    formed = formed program well words frames fit;
+    before = range_with_len 0 3;
+    own = own_of program;
+    parts = parts program well frames;
+    some = own_some program;
+    few_before = few_before;
+    few_own = few_own;
+    few_words = few_words;
+    follows = λ pages calls allowed input bytes addresses lie never.
+        follows program well words frames fit (select_of program frames) (formed program well words frames fit) addresses lie pages calls allowed
+        (stand program frames (few_results program well)) (λ function line i. length_body program frames (few_results program well) function line i) (starts program frames (few_results program well)) refl input bytes never;
+  }

@@ -1,0 +1,44 @@
+use Rattle.std.proofs.Common.{◌≡◌, ℕ, ◌+◌, ◌*◌, ◌<◌, ◌≤◌, List, length, ap, sym, subst, ◌∙◌, arith}
+use Rattle.std.specs.Prelude.{sum_by, slice_index_or}
+use Rattle.std.proofs.lemmas.List.{length-map}
+use Rattle.cyc_plain.specs.declared.instruction.Instruction.{Instruction}
+use Rattle.cyc_plain.specs.Program.{Routine, program_of, routine_of, routine_at, instruction_size, size}
+use Rattle.cyc_select.specs.Selection.{function_line}
+use Rattle.cyc_select.specs.Emission.{instruction_lines, most_size, most_lines, lines_for_each}
+use Rattle.cyc_select.proofs.Numbering.{ready_starts, ready_start, ready_size, ready_fits, routine_is}
+use Rattle.cyc_select.proofs.emitter.Emitter.function.Goals as goal
+
+pub bounds-program-function : goal.bounds-program-function
+bounds-program-function c =
+    omega (arith, length-map c.args.program.now.plain.now.functions.items routine_of, ready_starts c.requires.ready)
+
+pub instruction_lines-requires-clause-small : goal.instruction_lines-requires-clause-small
+instruction_lines-requires-clause-small c =
+    let program = program_of c.args.program.now.plain.now in
+    let below : c.args.function < length program.functions = omega (arith, length-map c.args.program.now.plain.now.functions.items routine_of) in
+    let same : c.deref.result.now ≡ (routine_at program c.args.function).code = c.deref.ensures.value ∙ ap (λ (r : Routine). r.code) (routine_is c.args.program.now.plain.now.functions.items c.args.function c.index.result.now c.requires.function c.index.ensures) in
+    subst (λ (code : List Instruction). sum_by instruction_size code ≤ most_size) (sym same) (ready_size c.requires.ready c.args.function below)
+
+pub instruction_lines-requires-clause-fits : goal.instruction_lines-requires-clause-fits
+instruction_lines-requires-clause-fits c =
+    let program = program_of c.args.program.now.plain.now in
+    let below : c.args.function < length program.functions = omega (arith, length-map c.args.program.now.plain.now.functions.items routine_of) in
+    let same : c.deref.result.now ≡ (routine_at program c.args.function).code = c.deref.ensures.value ∙ ap (λ (r : Routine). r.code) (routine_is c.args.program.now.plain.now.functions.items c.args.function c.index.result.now c.requires.function c.index.ensures) in
+    subst (λ (code : List Instruction). slice_index_or c.args.program.now.starts.now c.args.function 0 + lines_for_each * sum_by instruction_size code ≤ most_lines) (sym same)
+    (subst (λ (n : ℕ). n + lines_for_each * size (routine_at program c.args.function) ≤ most_lines) (sym (ready_start c.requires.ready c.args.function below))
+    (ready_fits c.requires.ready c.args.function below))
+
+pub code-requires-clause-known : goal.code-requires-clause-known
+code-requires-clause-known c =
+    let program = program_of c.args.program.now.plain.now in
+    let below : c.args.function < length program.functions = omega (arith, length-map c.args.program.now.plain.now.functions.items routine_of) in
+    let same : c.deref.result.now ≡ (routine_at program c.args.function).code = c.deref.ensures.value ∙ ap (λ (r : Routine). r.code) (routine_is c.args.program.now.plain.now.functions.items c.args.function c.index.result.now c.requires.function c.index.ensures) in
+    record {
+      ready = c.requires.ready;
+      function_in_range = below;
+      lines_are =
+          c.deref-2.ensures.value
+          ∙ c.in_ok-lines.ensures
+          ∙ ap (λ (n : ℕ). instruction_lines program c.args.function n c.deref.result.now) (ready_start c.requires.ready c.args.function below)
+          ∙ ap (λ (code : List Instruction). instruction_lines program c.args.function (function_line program c.args.function) code) same;
+    }

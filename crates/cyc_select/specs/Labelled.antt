@@ -1,0 +1,58 @@
+-- Labelled code, as mathematical data: machine code before its addresses are known. This project's own choice, after the
+-- form that assemblers read.
+use Rattle.std.specs.Prelude.{◌≡◌, ◌≢◌, ℕ, ◌+◌, ◌*◌, ◌%◌, ◌<◌, ◌≤◌, Bool, true, false, List, length, All, sum_by}
+use Rattle.cyc_isa.specs.Encoding.{IsEncodable}
+use Rattle.cyc_isa.specs.declared.instr.Instr.{Instr}
+use Rattle.cyc_isa.specs.declared.instr.Instr.TheVariants.{Branch, BranchZero, Jump, JumpRegister, JumpRegisterLink}
+use Rattle.cyc_machine.specs.State.{text_base, text_end}
+use Rattle.cyc_select.specs.declared.code.Line.{Line}
+use Rattle.cyc_select.specs.declared.code.Line.TheVariants as lines
+use Rattle.cyc_select.specs.declared.code.Code.{Code}
+
+-- the lines, of which the first is executed first, and what the data range begins with
+pub record Labelled : Type 0 where
+  pub lines : List Line
+  pub globals : List ℕ
+
+abbrev pub labelled_of : Code → Labelled
+labelled_of code = record { lines = code.lines.items; globals = code.globals.items }
+
+-- an instruction that is neither a branch nor a jump
+abbrev pub is_ordinary : Instr → Bool
+is_ordinary (Branch op left right offset) = false
+is_ordinary (BranchZero op source offset) = false
+is_ordinary (Jump op index) = false
+is_ordinary (JumpRegister source) = false
+is_ordinary (JumpRegisterLink destination source) = false
+is_ordinary instruction = true
+
+-- A line is formed in code of so many lines: an ordinary instruction is one, and fits its word; a label that is used
+-- stands before a line of the code, and so it stands once.
+abbrev pub IsFormedLine : ℕ → Line → Type 0
+IsFormedLine count (lines.Ordinary instruction) = (is_ordinary instruction ≡ true) × IsEncodable instruction
+IsFormedLine count (lines.Branch op left right label) = label < count
+IsFormedLine count (lines.Jump label) = label < count
+IsFormedLine count (lines.Call label) = label < count
+IsFormedLine count lines.Return = Unit {0}
+
+abbrev pub IsFormed : Labelled → Type 0
+IsFormed code = All (IsFormedLine (length code.lines)) code.lines
+
+-- How many words a line takes at most: a branch is two instructions with their delay slots where its target is far, and
+-- a jump has a delay slot.
+abbrev pub words_of : Line → ℕ
+words_of (lines.Ordinary instruction) = 1
+words_of (lines.Branch op left right label) = 4
+words_of (lines.Jump label) = 2
+words_of (lines.Call label) = 2
+words_of lines.Return = 2
+
+abbrev pub all_words : List Line → ℕ
+all_words code = sum_by words_of code
+
+-- Where lines lie: each at an address of its own, a multiple of 4 in the text range.
+pub record AreAddresses (code : Labelled) (addresses : ℕ → ℕ) : Type 0 where
+  pub apart : (a b : ℕ) → a < length code.lines → b < length code.lines → addresses a ≡ addresses b → a ≡ b
+  pub aligned : (line : ℕ) → line < length code.lines → addresses line % 4 ≡ 0
+  pub from : (line : ℕ) → line < length code.lines → text_base ≤ addresses line
+  pub below : (line : ℕ) → line < length code.lines → addresses line < text_end

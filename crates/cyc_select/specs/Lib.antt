@@ -1,0 +1,5 @@
+pub mod Labelled
+pub mod Machine
+pub mod Selection
+pub mod Selected
+pub mod Emission

@@ -1,0 +1,43 @@
+-- When labelled code is the code of a plain program.
+use Rattle.std.specs.Prelude.{◌≡◌, ◌≢◌, ℕ, ◌+◌, ◌*◌, ◌<◌, ◌≤◌, List, [], ◌∷◌, ◌++◌, length, map, sum_by, Contains, slice_index_or}
+use Rattle.std.specs.List.{AllByRecursion, range_with_len, flat_map}
+use Rattle.cyc_machine.specs.Bounds.{AreAllowed}
+use Rattle.cyc_plain.specs.Simulation.{NeverFails, Follows}
+use Rattle.cyc_plain.specs.Program.{Program, CodePlace, routine_at, places_of, size}
+use Rattle.cyc_plain.specs.Step as plain
+use Rattle.cyc_select.specs.declared.code.Line.{Line}
+use Rattle.cyc_select.specs.declared.code.Line.TheVariants as lines
+use Rattle.cyc_select.specs.Labelled.{Labelled, IsFormed, AreAddresses, words_of, all_words}
+use Rattle.cyc_select.specs.Machine as labelled
+
+-- a function's code has at most so many words for each unit of its size
+abbrev pub words_for_each : ℕ
+words_for_each = 20
+
+-- and the code before them at most so many
+abbrev pub most_start_words : ℕ
+most_start_words = 4096
+
+-- how many words the line of this number takes at most
+abbrev pub words_at : Labelled → ℕ → ℕ
+words_at code number = words_of (slice_index_or code.lines number lines.Return)
+
+-- Each line belongs to the start or to one place of the plain program, each place has lines of its own, and a run of the
+-- code follows a run of the program: it meets a place's own lines once for each step from the place.
+pub record IsCodeOf (program : Program) (code : Labelled) : Type 0 where
+  pub formed : IsFormed code
+  pub before : List ℕ
+  pub own : CodePlace → List ℕ
+  pub parts : before ++ flat_map own (places_of program) ≡ range_with_len 0 (length code.lines)
+  pub some : (place : CodePlace) → Contains (places_of program) place → 0 < length (own place)
+  pub few_before : sum_by (words_at code) before ≤ most_start_words
+  pub few_own : (function : ℕ) → function < length program.functions
+      → sum_by (λ (index : ℕ). sum_by (words_at code) (own (record { function = function; index = index })))
+      (range_with_len 0 (length (routine_at program function).code))
+      ≤ words_for_each * size (routine_at program function)
+  pub few_words : all_words code.lines ≤ most_start_words + words_for_each * sum_by size program.functions
+  pub follows : (pages calls : ℕ) → AreAllowed pages calls → (input : List ℕ) → AllByRecursion (λ b. b < 256) input
+      → (addresses : ℕ → ℕ) → AreAddresses code addresses
+      → NeverFails (plain.machine program pages calls) (plain.start program input)
+      → Follows (plain.machine program pages calls) (labelled.machine code addresses) before own
+      (plain.start program input) (labelled.start code calls input)

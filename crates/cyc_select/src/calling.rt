@@ -1,0 +1,192 @@
+//! The lines of calls and returns.
+ghost use Rattle.std.specs.Prelude.{◌≡◌, ◌+◌, ◌*◌, ◌<◌, ◌≤◌, [], ◌∷◌, ◌++◌, true, length, OnOk};
+ghost use Rattle.cyc_plain.specs.Program.{greatest_value};
+ghost use Rattle.cyc_frame.specs.Layout.{most_words};
+ghost use Rattle.cyc_select.specs.Selection.{load, store_slot, slot_offset, copies, ordinary, load_all, store_all, ending_code};
+ghost use Rattle.cyc_select.specs.Emission.{Emits, Reaches, most_lines, enter_code, calling_code, returned_code, returning_code};
+
+use crate::code::Line;
+use crate::emitter::Emitter;
+use crate::instructions::{
+    CALLS, FIRST, RETURN_ADDRESS, SERVICE, SERVICE_FIRST, ZERO, add_immediate, load, load_slot,
+    minus, offset_of, pop_frame, push_frame, small, store, store_slot, syscall,
+};
+use cyc_frame::Frame;
+use cyc_isa::BranchOp;
+use std::alloc::AllocError;
+
+/// The services of the system that end a run.
+const EXIT: u16 = 3;
+
+const TOO_MANY_CALLS: u16 = 11;
+
+/// The registers of what a function returns.
+const RESULTS: [u8; 3] = [2, 3, 5];
+
+impl Emitter {
+    /// One argument, from the caller's slot to the callee's, whose frame is the current one already.
+    fn argument(
+        &mut self,
+        caller: Frame,
+        callee: Frame,
+        source: usize,
+        slot: usize,
+    ) -> Result<(), AllocError>
+        requires words { callee.words ≤ most_words }
+        requires source { Reaches caller source 1 }
+        requires target { Reaches callee slot 1 }
+        ensures { Emits result self.old self.new (ordinary (load 8 (4 * callee.words + slot_offset caller source) ∷ store_slot callee 8 slot ∷ [])) }
+    {
+        let offset = offset_of(callee.words) + offset_of(caller.first_slot + source);
+        self.ordinary(&[load(FIRST, offset), store_slot(callee, FIRST, slot)])
+    }
+
+    /// The arguments, from the caller's slots to the first ones of the callee.
+    fn arguments(
+        &mut self,
+        caller: Frame,
+        callee: Frame,
+        source: usize,
+        count: usize,
+    ) -> Result<(), AllocError>
+        requires words { callee.words ≤ most_words }
+        requires source { Reaches caller source count }
+        requires target { Reaches callee 0 count }
+        ensures { Emits result self.old self.new (ordinary (copies caller callee source 0 count)) }
+    {
+        for slot in 0..count {
+            self.argument(caller, callee, source + slot, slot)?;
+        }
+        Ok(())
+    }
+
+    /// The end of a run where too many calls are under way, and the change to the callee's frame.
+    fn enter(&mut self, caller: Frame, callee: Frame) -> Result<(), AllocError>
+        requires return_address { caller.return_address ≤ most_words }
+        requires some { 0 < callee.words }
+        requires words { callee.words ≤ most_words }
+        ensures { Emits result self.old self.new (enter_code caller callee) }
+    {
+        self.ordinary(&[
+            small(SERVICE, TOO_MANY_CALLS),
+            syscall(),
+            store(RETURN_ADDRESS, offset_of(caller.return_address)),
+            add_immediate(CALLS, CALLS, minus(1)),
+            push_frame(callee),
+        ])
+    }
+
+    /// A call of the function whose first line is the label.
+    pub(crate) fn call(
+        &mut self,
+        frames: (Frame, Frame),
+        here: usize,
+        label: usize,
+        arguments: usize,
+        count: usize,
+    ) -> Result<(), AllocError>
+        requires fits { here ≤ most_lines }
+        requires return_address { frames.0.return_address ≤ most_words }
+        requires some { 0 < frames.1.words }
+        requires words { frames.1.words ≤ most_words }
+        requires source { Reaches frames.0 arguments count }
+        requires target { Reaches frames.1 0 count }
+        ensures { Emits result self.old self.new (calling_code frames.0 frames.1 here label arguments count) }
+    {
+        let (caller, callee) = frames;
+        self.branch(BranchOp::NotEqual, CALLS, ZERO, here + 3)?;
+        self.enter(caller, callee)?;
+        self.arguments(caller, callee, arguments, count)?;
+        self.line(Line::Call { label })
+    }
+
+    /// Registers into the slots from one on.
+    fn store_all(&mut self, frame: Frame, slot: usize, sources: &[u8]) -> Result<(), AllocError>
+        requires { Reaches frame slot (length sources.now) }
+        ensures { Emits result self.old self.new (ordinary (store_all frame slot sources.now)) }
+    {
+        let mut next = slot;
+        for source in sources {
+            self.ordinary(&[store_slot(frame, *source, next)])?;
+            next += 1;
+        }
+        Ok(())
+    }
+
+    /// The slots from one on into registers.
+    fn load_all(&mut self, frame: Frame, slot: usize, targets: &[u8]) -> Result<(), AllocError>
+        requires { Reaches frame slot (length targets.now) }
+        ensures { Emits result self.old self.new (ordinary (load_all frame slot targets.now)) }
+    {
+        let mut next = slot;
+        for target in targets {
+            self.ordinary(&[load_slot(frame, *target, next)])?;
+            next += 1;
+        }
+        Ok(())
+    }
+
+    /// Behind a call: the caller has its return address and the number of calls again, and gets what was returned.
+    pub(crate) fn returned(
+        &mut self,
+        frame: Frame,
+        slot: usize,
+        results: usize,
+    ) -> Result<(), AllocError>
+        requires return_address { frame.return_address ≤ most_words }
+        requires few { results ≤ greatest_value }
+        requires target { Reaches frame slot results }
+        ensures { Emits result self.old self.new (returned_code frame slot results) }
+    {
+        self.ordinary(&[
+            load(RETURN_ADDRESS, offset_of(frame.return_address)),
+            add_immediate(CALLS, CALLS, 1),
+        ])?;
+        self.store_all(frame, slot, &RESULTS[..results])
+    }
+
+    /// The end of a run, where `main` was called first.
+    fn ending(
+        &mut self,
+        is_main: bool,
+        frame: Frame,
+        here: usize,
+        value: usize,
+    ) -> Result<(), AllocError>
+        requires fits { here ≤ most_lines }
+        requires source { is_main ≡ true → Reaches frame value 1 }
+        ensures { Emits result self.old self.new (ending_code is_main frame here value) }
+    {
+        if !is_main {
+            return Ok(());
+        }
+        self.branch(BranchOp::NotEqual, RETURN_ADDRESS, ZERO, here + 4)?;
+        self.ordinary(&[
+            load_slot(frame, SERVICE_FIRST, value),
+            small(SERVICE, EXIT),
+            syscall(),
+        ])
+    }
+
+    /// A return.
+    pub(crate) fn returning(
+        &mut self,
+        is_main: bool,
+        frame: Frame,
+        here: usize,
+        value: usize,
+        results: usize,
+    ) -> Result<(), AllocError>
+        requires fits { here ≤ most_lines }
+        requires words { frame.words ≤ most_words }
+        requires few { results ≤ greatest_value }
+        requires main { is_main ≡ true → Reaches frame value 1 }
+        requires source { Reaches frame value results }
+        ensures { Emits result self.old self.new (returning_code is_main frame here value results) }
+    {
+        self.ending(is_main, frame, here, value)?;
+        self.load_all(frame, value, &RESULTS[..results])?;
+        self.ordinary(&[pop_frame(frame)])?;
+        self.line(Line::Return)
+    }
+}

@@ -1,0 +1,38 @@
+//! Labelled code: machine code before its addresses are known.
+
+use cyc_isa::{BranchOp, Instr, Register};
+
+/// A line of labelled code. A label is the number of the line that it stands before, so each label stands once.
+#[derive(Clone, Copy, Debug, PartialEq, Eq)]
+pub enum Line {
+    /// An instruction that is neither a branch nor a jump.
+    Ordinary {
+        instruction: Instr,
+    },
+    /// Where the two registers are equal, or not equal, the line of the label is executed next.
+    Branch {
+        op: BranchOp,
+        left: Register,
+        right: Register,
+        label: usize,
+    },
+    /// The line of the label is executed next.
+    Jump {
+        label: usize,
+    },
+    /// The same, with the address of the line behind this one in register 31.
+    Call {
+        label: usize,
+    },
+    /// The line whose address is in register 31 is executed next.
+    Return,
+}
+
+/// A program as labelled code.
+#[derive(Drop)]
+pub struct Code {
+    /// Execution starts at the first line.
+    pub lines: Vec<Line>,
+    /// The first words of the machine's data range.
+    pub globals: Vec<u32>,
+}

@@ -1,0 +1,144 @@
+//! How many lines each instruction has, and which number the first of them has.
+ghost use Rattle.std.specs.Prelude.{◌≡◌, ◌+◌, ◌*◌, ◌<◌, ◌≤◌, length, map, sum_by, All, IfOk};
+ghost use Rattle.cyc_plain.specs.Program.{program_of, routine_of, routine_at, instruction_size, size, greatest_value};
+ghost use Rattle.cyc_plain.specs.WellFormed.{IsWellFormed, IsInRange};
+ghost use Rattle.cyc_select.specs.Selection.{operator_count, ending_count, body_count, behind_count, count_of, start_count};
+ghost use Rattle.cyc_select.specs.Emission.{AreFew, most_size, most_lines, lines_for_each, instruction_lines, function_starts};
+
+use cyc_plain::{BinaryOperator, Instruction, Plain};
+use std::alloc::{AllocError, Global};
+
+/// The start has so many lines.
+const START: usize = 3;
+
+/// How many words a function returns.
+pub(crate) fn results_of(plain: &Plain, function: usize) -> usize
+    requires { function < length plain.now.functions.items }
+    ensures { result ≡ (routine_at (program_of plain.now) function).results }
+{
+    plain.functions[function].results
+}
+
+fn operator_count(operator: BinaryOperator) -> usize
+    ensures { result ≡ operator_count operator }
+{
+    match operator {
+        BinaryOperator::Divide | BinaryOperator::Remainder => 9,
+        BinaryOperator::Multiply
+        | BinaryOperator::Equal
+        | BinaryOperator::NotEqual
+        | BinaryOperator::LessOrEqual
+        | BinaryOperator::GreaterOrEqual => 5,
+        _ => 4,
+    }
+}
+
+/// The lines of a return.
+fn return_count(plain: &Plain, function: usize) -> usize
+    requires function { function < length plain.now.functions.items }
+    requires few { AreFew (program_of plain.now) }
+    ensures { result ≡ ending_count (program_of plain.now) function + (routine_at (program_of plain.now) function).results + 2 }
+{
+    let ending = if function == plain.main { 4 } else { 0 };
+    ending + results_of(plain, function) + 2
+}
+
+/// The lines of an instruction up to what it does.
+fn body_count(plain: &Plain, function: usize, instruction: Instruction) -> usize
+    requires function { function < length plain.now.functions.items }
+    requires few { AreFew (program_of plain.now) }
+    requires small { instruction_size instruction ≤ most_size }
+    ensures { result ≡ body_count (program_of plain.now) function instruction }
+{
+    match instruction {
+        Instruction::Constant { .. } | Instruction::Unary { .. } => 3,
+        Instruction::Move { .. } => 2,
+        Instruction::Binary { operator, .. } => operator_count(operator),
+        Instruction::Jump { .. } => 1,
+        Instruction::JumpIfZero { .. } | Instruction::JumpIfNonzero { .. } => 2,
+        Instruction::Call { count, .. } => 7 + 2 * count,
+        Instruction::Return { .. } => return_count(plain, function),
+        Instruction::ReadByte { .. } | Instruction::WriteByte { .. } => 3,
+        Instruction::LoadGlobal { .. } | Instruction::StoreGlobal { .. } => 4,
+        Instruction::Uncaught { .. } => 5,
+    }
+}
+
+/// Behind a call, the lines that are executed after it returned.
+fn behind_count(plain: &Plain, function: usize, instruction: Instruction) -> usize
+    requires few { AreFew (program_of plain.now) }
+    requires in_range { IsInRange (program_of plain.now) (routine_at (program_of plain.now) function) instruction }
+    ensures { result ≡ behind_count (program_of plain.now) instruction }
+{
+    match instruction {
+        Instruction::Call { function, .. } => 2 + results_of(plain, function),
+        _ => 0,
+    }
+}
+
+/// The lines of an instruction.
+fn count_of(plain: &Plain, function: usize, instruction: Instruction) -> usize
+    requires function { function < length plain.now.functions.items }
+    requires few { AreFew (program_of plain.now) }
+    requires in_range { IsInRange (program_of plain.now) (routine_at (program_of plain.now) function) instruction }
+    requires small { instruction_size instruction ≤ most_size }
+    ensures { result ≡ count_of (program_of plain.now) function instruction }
+{
+    body_count(plain, function, instruction) + behind_count(plain, function, instruction)
+}
+
+/// The lines of a function's code.
+fn code_count(plain: &Plain, function: usize, code: &[Instruction]) -> usize
+    requires function { function < length plain.now.functions.items }
+    requires few { AreFew (program_of plain.now) }
+    requires in_range { All (IsInRange (program_of plain.now) (routine_at (program_of plain.now) function)) code.now }
+    requires small { sum_by instruction_size code.now ≤ most_size }
+    ensures value { result ≡ sum_by (count_of (program_of plain.now) function) code.now }
+    ensures small { result ≤ lines_for_each * sum_by instruction_size code.now }
+{
+    let mut lines = 0;
+    for instruction in code {
+        lines += count_of(plain, function, *instruction);
+    }
+    lines
+}
+
+/// The number of the first line of each instruction of a function's code, where the first one has this.
+pub(crate) fn instruction_lines(
+    alloc: Global,
+    plain: &Plain,
+    function: usize,
+    first: usize,
+    code: &[Instruction],
+) -> Result<Vec<usize>, AllocError>
+    requires function { function < length plain.now.functions.items }
+    requires few { AreFew (program_of plain.now) }
+    requires in_range { All (IsInRange (program_of plain.now) (routine_at (program_of plain.now) function)) code.now }
+    requires small { sum_by instruction_size code.now ≤ most_size }
+    requires fits { first + lines_for_each * sum_by instruction_size code.now ≤ most_lines }
+    ensures { IfOk result (λ lines. lines.items ≡ instruction_lines (program_of plain.now) function first code.now) }
+{
+    let mut lines = Vec::new(alloc);
+    let mut here = first;
+    for instruction in code {
+        lines.push(here)?;
+        here += count_of(plain, function, *instruction);
+    }
+    Ok(lines)
+}
+
+/// The number of the first line of each function.
+pub(crate) fn function_starts(alloc: Global, plain: &Plain) -> Result<Vec<usize>, AllocError>
+    requires well_formed { IsWellFormed (program_of plain.now) }
+    requires small { sum_by size (program_of plain.now).functions ≤ most_size }
+    ensures { IfOk result (λ starts. starts.items ≡ function_starts (program_of plain.now) 0 start_count (program_of plain.now).functions) }
+{
+    let mut starts = Vec::new(alloc);
+    let mut here = START;
+    for function in &plain.functions {
+        let lines = code_count(plain, starts.len(), &function.code);
+        starts.push(here)?;
+        here += lines;
+    }
+    Ok(starts)
+}

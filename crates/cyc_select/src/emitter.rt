@@ -1,0 +1,65 @@
+//! Lines that are being made.
+ghost use Rattle.std.specs.Prelude.{◌≡◌, [], ◌∷◌, OnOk};
+ghost use Rattle.cyc_isa.specs.Decoding.{register_of};
+ghost use Rattle.cyc_select.specs.declared.code.Line.TheVariants as lines;
+ghost use Rattle.cyc_select.specs.Selection.{ordinary};
+ghost use Rattle.cyc_select.specs.Emission.{Emits};
+
+use crate::code::Line;
+use crate::instructions::register;
+use cyc_isa::{BranchOp, Instr};
+use std::alloc::{AllocError, Global};
+
+/// The lines of a program, as far as they are made.
+#[derive(Drop)]
+pub(crate) struct Emitter {
+    pub(crate) lines: Vec<Line>,
+}
+
+impl Emitter {
+    pub(crate) fn new(alloc: Global) -> Emitter
+        ensures { result.lines.items ≡ [] }
+    {
+        Emitter {
+            lines: Vec::new(alloc),
+        }
+    }
+
+    /// One line more.
+    pub(crate) fn line(&mut self, line: Line) -> Result<(), AllocError>
+        ensures { Emits result self.old self.new (line ∷ []) }
+    {
+        self.lines.push(line)?;
+        Ok(())
+    }
+
+    /// A branch on two registers, to a line.
+    pub(crate) fn branch(
+        &mut self,
+        op: BranchOp,
+        left: u8,
+        right: u8,
+        label: usize,
+    ) -> Result<(), AllocError>
+        ensures { Emits result self.old self.new (lines.Branch op (register_of left) (register_of right) label ∷ []) }
+    {
+        self.line(Line::Branch {
+            op,
+            left: register(left),
+            right: register(right),
+            label,
+        })
+    }
+
+    /// Lines of one instruction each.
+    pub(crate) fn ordinary(&mut self, instructions: &[Instr]) -> Result<(), AllocError>
+        ensures { Emits result self.old self.new (ordinary instructions.now) }
+    {
+        for instruction in instructions {
+            self.line(Line::Ordinary {
+                instruction: *instruction,
+            })?;
+        }
+        Ok(())
+    }
+}

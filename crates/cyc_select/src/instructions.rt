@@ -1,0 +1,175 @@
+//! Single instructions of the machine, by what they are used for.
+ghost use Rattle.std.specs.Prelude.{◌≡◌, ◌+◌, ◌*◌, ◌<◌, ◌≤◌};
+ghost use Rattle.cyc_isa.specs.Decoding.{register_of, trap_code_of};
+ghost use Rattle.cyc_frame.specs.Layout.{most_words};
+ghost use Rattle.cyc_select.specs.Selection.{load, store, load_slot, store_slot, add_immediate, small, minus, is_zero, syscall, push_frame, pop_frame};
+ghost use Rattle.cyc_select.specs.Emission.{Reaches, load_upper, or_lower};
+
+use cyc_frame::Frame;
+use cyc_isa::{ExceptionOp, ImmediateOp, Instr, MemoryOp, Register, TrapCode};
+
+/// Always 0.
+pub(crate) const ZERO: u8 = 0;
+/// The number of a service of the system, and the first register of what a function returns.
+pub(crate) const SERVICE: u8 = 2;
+/// The arguments of a service.
+pub(crate) const SERVICE_FIRST: u8 = 4;
+
+pub(crate) const SERVICE_SECOND: u8 = 5;
+/// Operands inside an instruction.
+pub(crate) const FIRST: u8 = 8;
+
+pub(crate) const SECOND: u8 = 9;
+
+pub(crate) const THIRD: u8 = 10;
+/// The address of the current frame.
+pub(crate) const FRAME: u8 = 29;
+/// How many more calls may be under way.
+pub(crate) const CALLS: u8 = 30;
+/// The return address.
+pub(crate) const RETURN_ADDRESS: u8 = 31;
+
+/// The register of this number, which counts modulo 32.
+pub(crate) fn register(number: u8) -> Register
+    ensures { result ≡ register_of number }
+{
+    Register {
+        number: number % 32,
+    }
+}
+
+/// The offset of a word from a frame's lowest address on, in bytes.
+pub(crate) fn offset_of(word: usize) -> u16
+    requires { word ≤ 2 * most_words }
+    ensures { result ≡ 4 * word }
+{
+    (4 * word) as u16
+}
+
+/// A half less than 0, by so much.
+pub(crate) fn minus(number: u16) -> u16
+    requires { 0 < number }
+    ensures { result ≡ minus number }
+{
+    u16::MAX - number + 1
+}
+
+/// A word of memory into a register, from an offset from the frame's address.
+pub(crate) fn load(target: u8, offset: u16) -> Instr
+    ensures { result ≡ load target offset }
+{
+    Instr::Memory {
+        op: MemoryOp::LoadWord,
+        target: register(target),
+        base: register(FRAME),
+        offset,
+    }
+}
+
+/// A register into a word of memory.
+pub(crate) fn store(source: u8, offset: u16) -> Instr
+    ensures { result ≡ store source offset }
+{
+    Instr::Memory {
+        op: MemoryOp::StoreWord,
+        target: register(source),
+        base: register(FRAME),
+        offset,
+    }
+}
+
+/// A slot of the current frame into a register.
+pub(crate) fn load_slot(frame: Frame, target: u8, slot: usize) -> Instr
+    requires { Reaches frame slot 1 }
+    ensures { result ≡ load_slot frame target slot }
+{
+    load(target, offset_of(frame.first_slot + slot))
+}
+
+/// A register into a slot of the current frame.
+pub(crate) fn store_slot(frame: Frame, source: u8, slot: usize) -> Instr
+    requires { Reaches frame slot 1 }
+    ensures { result ≡ store_slot frame source slot }
+{
+    store(source, offset_of(frame.first_slot + slot))
+}
+
+/// A register's sum with a half.
+pub(crate) fn add_immediate(target: u8, source: u8, half: u16) -> Instr
+    ensures { result ≡ add_immediate target source half }
+{
+    Instr::Immediate {
+        op: ImmediateOp::AddUnsigned,
+        target: register(target),
+        source: register(source),
+        immediate: half,
+    }
+}
+
+/// A small number that is not negative.
+pub(crate) fn small(target: u8, number: u16) -> Instr
+    ensures { result ≡ small target number }
+{
+    add_immediate(target, ZERO, number)
+}
+
+/// 1 where the register is 0, and 0 elsewhere.
+pub(crate) fn is_zero(number: u8) -> Instr
+    ensures { result ≡ is_zero number }
+{
+    Instr::Immediate {
+        op: ImmediateOp::SetLessUnsigned,
+        target: register(number),
+        source: register(number),
+        immediate: 1,
+    }
+}
+
+/// A call of the system.
+pub(crate) fn syscall() -> Instr
+    ensures { result ≡ syscall }
+{
+    Instr::Exception {
+        op: ExceptionOp::Syscall,
+        code: TrapCode { code: 0 },
+    }
+}
+
+/// The upper half of a word into a register.
+pub(crate) fn load_upper(target: u8, word: u32) -> Instr
+    ensures { result ≡ load_upper target word }
+{
+    Instr::LoadUpper {
+        target: register(target),
+        immediate: (word / 0x1_0000) as u16,
+    }
+}
+
+/// The lower half of a word into a register that has the upper one.
+pub(crate) fn or_lower(target: u8, word: u32) -> Instr
+    ensures { result ≡ or_lower target word }
+{
+    Instr::Immediate {
+        op: ImmediateOp::Or,
+        target: register(target),
+        source: register(target),
+        immediate: (word % 0x1_0000) as u16,
+    }
+}
+
+/// The frame of a function that is called comes below the current one.
+pub(crate) fn push_frame(frame: Frame) -> Instr
+    requires some { 0 < frame.words }
+    requires small { frame.words ≤ most_words }
+    ensures { result ≡ push_frame frame }
+{
+    add_immediate(FRAME, FRAME, minus(offset_of(frame.words)))
+}
+
+/// The current frame is left.
+pub(crate) fn pop_frame(frame: Frame) -> Instr
+    requires { frame.words ≤ most_words }
+    ensures { result ≡ pop_frame frame }
+{
+    add_immediate(FRAME, FRAME, offset_of(frame.words))
+}

@@ -1,0 +1,17 @@
+//! Instruction selection: the plain program as labelled code of the machine.
+#![tactic(auto)]
+
+mod bodies;
+mod calling;
+mod code;
+mod counting;
+mod emitter;
+mod instructions;
+mod operators;
+mod selection;
+mod tables;
+#[cfg(test)]
+mod tests;
+
+pub use code::{Code, Line};
+pub use selection::select;

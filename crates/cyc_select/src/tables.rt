@@ -1,0 +1,80 @@
+//! What the lines of a function are made from.
+ghost use Rattle.std.specs.Prelude.{◌≡◌, ◌+◌, ◌<◌, ◌≤◌, ◌==◌, length};
+ghost use Rattle.cyc_plain.specs.Program.{program_of, routine_at, layout_words, greatest_value};
+ghost use Rattle.cyc_frame.specs.Layout.{frame_at, most_words};
+ghost use Rattle.cyc_select.specs.Selection.{function_line, instruction_line};
+ghost use Rattle.cyc_select.specs.Emission.{IsKnown};
+
+use crate::counting::results_of;
+use cyc_frame::Frame;
+use cyc_plain::Plain;
+
+/// A program, its functions' frames, and the number of the first line of each function.
+#[derive(Clone, Copy)]
+pub(crate) struct Ready<'a> {
+    pub(crate) plain: &'a Plain,
+    pub(crate) frames: &'a [Frame],
+    pub(crate) starts: &'a [usize],
+}
+
+/// A function of a program, and what its lines name besides it.
+#[derive(Clone, Copy)]
+pub(crate) struct Tables<'a> {
+    pub(crate) plain: &'a Plain,
+    pub(crate) frames: &'a [Frame],
+    /// The number of the first line of each function.
+    pub(crate) starts: &'a [usize],
+    /// The number of the first line of each instruction of the function.
+    pub(crate) lines: &'a [usize],
+    pub(crate) function: usize,
+}
+
+impl<'a> Tables<'a> {
+    /// The frame of a function.
+    pub(crate) fn frame(&self, function: usize) -> Frame
+        requires known { IsKnown self.now }
+        requires function { function < length self.now.plain.now.functions.items }
+        ensures value { result ≡ frame_at self.now.frames.now function }
+        ensures words { result.words ≡ layout_words + (routine_at (program_of self.now.plain.now) function).slots }
+        ensures small { result.words ≤ most_words }
+        ensures return_address { result.return_address ≡ 0 }
+        ensures first_slot { result.first_slot ≡ layout_words }
+    {
+        self.frames[function]
+    }
+
+    /// The number of the first line of a function.
+    pub(crate) fn start(&self, function: usize) -> usize
+        requires known { IsKnown self.now }
+        requires function { function < length self.now.plain.now.functions.items }
+        ensures { result ≡ function_line (program_of self.now.plain.now) function }
+    {
+        self.starts[function]
+    }
+
+    /// The number of the first line of an instruction.
+    pub(crate) fn line(&self, index: usize) -> usize
+        requires known { IsKnown self.now }
+        requires index { index < length (routine_at (program_of self.now.plain.now) self.now.function).code }
+        ensures { result ≡ instruction_line (program_of self.now.plain.now) self.now.function index }
+    {
+        self.lines[index]
+    }
+
+    /// How many words a function returns.
+    pub(crate) fn results(&self, function: usize) -> usize
+        requires known { IsKnown self.now }
+        requires function { function < length self.now.plain.now.functions.items }
+        ensures value { result ≡ (routine_at (program_of self.now.plain.now) function).results }
+        ensures few { result ≤ greatest_value }
+    {
+        results_of(self.plain, function)
+    }
+
+    /// Whether the function is called first.
+    pub(crate) fn is_main(&self) -> bool
+        ensures { result ≡ (self.now.function == (program_of self.now.plain.now).main) }
+    {
+        self.function == self.plain.main
+    }
+}
