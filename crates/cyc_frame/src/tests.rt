@@ -8,7 +8,12 @@ use std::alloc::{AllocError, Global};
 use std::test::Fail;
 
 /// A function at this line with so many slots, in a frame of so many words.
-fn function_of(alloc: Global, line: u32, slots: usize, frame_count: usize) -> Result<Function, AllocError> {
+fn function_of(
+    alloc: Global,
+    line: u32,
+    slots: usize,
+    frame_count: usize,
+) -> Result<Function, AllocError> {
     Ok(Function {
         name: Span { line, column: 5 },
         parameters: 0,
@@ -59,6 +64,9 @@ fn slots_stand_behind_the_words_that_are_kept(rt: HostRuntime) -> Result<(), Fai
 fn a_frame_of_257_words_is_refused(rt: HostRuntime) -> Result<(), Fail> {
     let plain = program_of(rt.alloc(), 257)?;
     assert!(rt; cyc_plain::well_formed(&plain));
-    assert_eq!(rt; layout(rt.alloc(), &plain).err(), Some(Fault::new(Code::FrameTooLarge, 2, 5)));
+    assert_eq!(rt;
+        layout(rt.alloc(), &plain).err(),
+        Some(Fault::new(Code::FrameTooLarge, 2, 5))
+    );
     Ok(())
 }
