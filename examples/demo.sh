@@ -6,12 +6,20 @@ PATH="$(cd ../crates/cyclone/out && pwd):$PATH"
 room=$(mktemp -d)
 trap 'rm -rf "$room"' EXIT
 
-show() {
+# show COMMAND ..: with no input
+show() { show_on /dev/null "$@"; }
+
+# show_on INPUT COMMAND ..
+show_on() {
+  input=$1
+  shift
   echo
-  echo "\$ $*"
-  "$@" > "$room/printed" 2> "$room/said"
+  if [ "$input" = /dev/null ]; then echo "\$ $*"; else echo "\$ $* < $input"; fi
+  "$@" < "$input" > "$room/printed" 2> "$room/said"
   status=$?
-  [ -s "$room/printed" ] && { cat "$room/printed"; echo; }
+  head -n "${lines:-1000}" "$room/printed"
+  # what is said begins a line of its own
+  [ -z "$(tail -c 1 "$room/printed")" ] || echo
   cat "$room/said"
   echo "(exit status $status)"
 }
@@ -19,8 +27,26 @@ show() {
 show cat hello.cyc
 show cyclone compile hello.cyc -o "$room/hello.elf"
 show cyclone run "$room/hello.elf"
+echo
+echo "its first eight instructions:"
+lines=8
 show cyclone disasm "$room/hello.elf"
+lines=1000
 show cyclone run "$room/hello.elf" --steps 1
+
+show cat count.cyc
+show cyclone compile count.cyc -o "$room/count.elf"
+show_on count.in cyclone run "$room/count.elf"
+show_on count.in cyclone run "$room/count.elf" --calls 2
+
+show cyclone compile primes.cyc -o "$room/primes.elf"
+show cyclone run "$room/primes.elf"
+
+echo
+echo "an average of nothing, where a division by 0 ends the run:"
+show cyclone compile average.cyc -o "$room/average.elf"
+show cyclone run "$room/average.elf"
+
 show cyclone check squares.cyc
 show cyclone check wrong.cyc
 show cyclone check unset.cyc

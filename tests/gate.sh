@@ -1,6 +1,6 @@
 #!/usr/bin/env bash
-# The gate: every proof, must-fail edit and test of the crates (rt ci), then the command-line suite on the program
-# that this has just proved and built. The last line is `N passed, M failed` over all of it.
+# The gate: every proof, must-fail edit and test of the crates (rt ci), then the command-line suite, the examples and random
+# programs on the program that this has just proved and built. The last line is `N passed, M failed` over all of it.
 set -u
 cd "$(dirname "$0")/.."
 log=$(mktemp)
@@ -36,5 +36,7 @@ sh tests/tools.sh || echo "tests/tools.sh: a tool of the suite could not be inst
 add "proofs" rt ci
 add "the suite's runner" python3 tests/self_test.py
 add "command line" python3 tests/run.py
+add "examples" python3 tests/examples.py
+add "random programs" python3 tests/differential.py
 echo "$passed passed, $failed failed"
 [ "$failed" -eq 0 ]
