@@ -64,9 +64,9 @@ yet\", once its tokens and its grammar are in order.";
 const COMPILE_HELP: &str = "Example:
   cyclone compile hello.cyc -o hello.elf
 
-A program that is refused writes no file: a message says what is wrong and where. So far one
-form is compiled, int main(){ putchar(N+..); return N+..; } with a number for each N; another
-program that check accepts is refused with fault 60, \"not built yet\".";
+A program that is refused writes no file: a message says what is wrong and where. So far
+programs over ints are compiled; a text that uses more of the language is refused with fault
+60, \"not built yet\".";
 
 const RUN_HELP: &str = "Example:
   echo hello | cyclone run echo.elf --pages 64 --steps 5000000
