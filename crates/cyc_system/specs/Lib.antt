@@ -1,11 +1,7 @@
-pub mod Form
-pub mod Reading
-pub mod Parsed
-pub mod Preserves
-pub mod Meaning
+pub mod FullPreservation
+pub mod ProgramImage
 pub mod Front
-pub mod Refusal
-pub mod Code
+pub mod Compiled
 pub mod Faults
 pub mod Engine
 pub mod Turn

@@ -1,24 +1,20 @@
 //! Laws of the definitions in `specs/`. Each function does nothing: its contract is the law, and so it is proved with the
 //! crate.
 
-ghost use Rattle.std.specs.Prelude.{◌≡◌, List, ℕ, Ok};
+ghost use Rattle.std.specs.Prelude.{◌≡◌, ◌<◌, List, ℕ, Ok};
+ghost use Rattle.std.specs.List.{AllByRecursion};
 ghost use Rattle.cyc_elf.specs.Image.{ImageContents};
 ghost use Rattle.cyc_elf.specs.Reading.{reading};
+ghost use Rattle.cyc_machine.specs.Bounds.{Bounds, AreAllowed};
 ghost use Rattle.cyc_words.specs.declared.fault.Fault.{Fault};
-ghost use Rattle.cyc_types.specs.TypedTrees as typed;
-ghost use Rattle.cyc_system.specs.Form.{Program, IsForm};
+ghost use Rattle.cyc_types.specs.TypedTrees.{Program};
 ghost use Rattle.cyc_system.specs.Front.{IsAcceptedText, IsRefusedText};
-ghost use Rattle.cyc_system.specs.Preserves.{Meaning, IsLoadable, IsImageOf};
-
-/// A text is at most one program.
-pub fn one_program()
-    ensures { (text : List ℕ) (p q : Program) → IsForm text p → IsForm text q → p ≡ q }
-{}
+ghost use Rattle.cyc_system.specs.FullPreservation.{NeverGoesWrong, DoesTheSame, AreAlike, IsLoadable, IsImageOf};
 
 /// The front half leaves no choice: a text is accepted with one typed program at most, and no refusal of an accepted text is true.
 pub fn accepted_or_refused()
-    ensures one_program { (text : List ℕ) (p q : typed.Program) → IsAcceptedText text p → IsAcceptedText text q → p ≡ q }
-    ensures not_both { (text : List ℕ) (p : typed.Program) (f : Fault) → IsAcceptedText text p → IsRefusedText text f → ⊥ }
+    ensures one_program { (text : List ℕ) (p q : Program) → IsAcceptedText text p → IsAcceptedText text q → p ≡ q }
+    ensures not_both { (text : List ℕ) (p : Program) (f : Fault) → IsAcceptedText text p → IsRefusedText text f → ⊥ }
 {
     cyc_lex::laws::one_answer();
     cyc_parse::laws::one_tree();
@@ -30,5 +26,13 @@ pub fn accepted_or_refused()
 
 /// What `compile` answers is read as an image, and the machine never answers that it has no place for it.
 pub fn compiled_images_load()
-    ensures { (meaning : Meaning) (file : List ℕ) → IsImageOf meaning file → (image : ImageContents) × (reading file ≡ Ok image) × IsLoadable image }
+    ensures { (p : Program) (file : List ℕ) → IsImageOf p file → (image : ImageContents) × (reading file ≡ Ok image) × IsLoadable image }
+{}
+
+/// An image that does what a program means: each run of the machine is, in what is seen of it, the program's limited run, and none
+/// ends with a trap.
+pub fn images_run_alike()
+    ensures { (p : Program) (image : ImageContents) → DoesTheSame p image
+        → (limits : Bounds) (input : List ℕ) → AreAllowed limits.pages limits.calls → AllByRecursion (λ b. b < 256) input
+        → NeverGoesWrong p limits input → AreAlike p image limits input }
 {}

@@ -4,10 +4,9 @@
 mod compiler;
 mod engine;
 mod front;
-mod generate;
+mod image;
 pub mod laws;
 mod listing;
-mod read;
 mod report;
 #[cfg(test)]
 mod tests;

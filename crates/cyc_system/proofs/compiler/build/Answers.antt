@@ -1,25 +1,27 @@
-use Rattle.std.proofs.Common.{◌∙◌, ap, length, Ok}
-use Rattle.cyc_system.specs.Code.{program_code, code_image}
-use Rattle.cyc_system.specs.Parsed.{program_of}
-use Rattle.cyc_system.proofs.Compiles.{program_is_code, short_code, code_well_formed, code_fits, image_of_program}
+use Rattle.std.proofs.Common.{◌≡◌, ◌⊎◌, inl, inr, Ok, Err}
+use Rattle.cyc_types.specs.TypedTreeView.{view_program}
+use Rattle.cyc_plain.specs.Program.{program_of}
+use Rattle.cyc_system.proofs.Amounts.{lowered_small}
+use Rattle.cyc_system.proofs.Sizes.{small_below}
+use Rattle.cyc_system.proofs.Refusals.{layout_refuses, too_large_below}
 use Rattle.cyc_system.proofs.compiler.build.Goals as goal
 
-pub image_of-requires : goal.image_of-requires
-image_of-requires c =
-    let p = program_of c.args.program.now in
-    rw c.in_ok-code.ensures (short_code _ (length (program_code p)) (program_is_code p c.requires.printed c.requires.returned))
+pub returns-in-Err-layout-clause-refused : goal.returns-in-Err-layout-clause-refused
+returns-in-Err-layout-clause-refused c =
+    layout_refuses (view_program c.args.program.now.tree) (program_of c.in-Ok.plain) c.in-Ok.ensures.accepted c.in-Ok.ensures.refuses c.in-Err-layout.fault c.in-Err-layout.ensures.refused
 
-pub write_image-requires-clause-well_formed : goal.write_image-requires-clause-well_formed
-write_image-requires-clause-well_formed c =
-    let p = program_of c.args.program.now in
-    rw (c.in_ok-image.ensures, c.in_ok-code.ensures) (code_well_formed _ (length (program_code p)) (program_is_code p c.requires.printed c.requires.returned))
+pub returns-in-Err-layout-clause-accepts : goal.returns-in-Err-layout-clause-accepts
+returns-in-Err-layout-clause-accepts c = λ small.
+    c.in-Err-layout.ensures.accepts (small_below (view_program c.args.program.now.tree) (program_of c.in-Ok.plain) c.in-Ok.ensures.accepted small)
 
-pub write_image-requires-clause-fits : goal.write_image-requires-clause-fits
-write_image-requires-clause-fits c =
-    let p = program_of c.args.program.now in
-    rw (c.in_ok-image.ensures, c.in_ok-code.ensures) (code_fits _ (length (program_code p)) (program_is_code p c.requires.printed c.requires.returned))
+pub returns-in-Err-layout-clause-refuses : goal.returns-in-Err-layout-clause-refuses
+returns-in-Err-layout-clause-refuses c = λ fault large.
+    c.in-Err-layout.ensures.refuses fault (too_large_below (view_program c.args.program.now.tree) (program_of c.in-Ok.plain) c.in-Ok.ensures.accepted c.in-Ok.ensures.refuses fault large)
 
-pub returns : goal.returns
-returns c =
-    image_of_program (program_of c.args.program.now) c.in_ok-file.file.items c.requires.printed c.requires.returned
-    (c.in_ok-file.ensures.read_again ∙ ap (λ i. Ok i) (c.in_ok-image.ensures ∙ ap code_image c.in_ok-code.ensures))
+pub image_of-requires-clause-few : goal.image_of-requires-clause-few
+image_of-requires-clause-few c =
+    lowered_small (view_program c.args.program.now.tree) (program_of c.in-Ok.plain) c.in-Ok.ensures.accepted c.requires.small
+
+pub returns-clause-refuses : goal.returns-clause-refuses
+returns-clause-refuses c = λ fault large.
+    absurd (c.in-Ok-layout.ensures.refuses fault (too_large_below (view_program c.args.program.now.tree) (program_of c.in-Ok.plain) c.in-Ok.ensures.accepted c.in-Ok.ensures.refuses fault large))

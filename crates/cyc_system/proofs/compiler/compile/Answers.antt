@@ -1,36 +1,41 @@
-use Rattle.std.proofs.Common.{◌≡◌, sym, ◌∙◌, inr, ap}
-use Rattle.std.proofs.lemmas.Result.{err_from_is_err_and}
-use Rattle.std.specs.Option.{option_map}
+use Rattle.std.proofs.Common.{◌≡◌, ◌⊎◌, inl, inr, sym, subst, Ok, Err}
+use Rattle.std.specs.Prelude.{MatchResult}
+use Rattle.cyc_words.specs.declared.fault.Fault.{Fault}
+use Rattle.cyc_lex.specs.Refusals.{memory_fault}
+use Rattle.cyc_types.specs.TypedTrees.{Program}
 use Rattle.cyc_types.specs.TypedTreeView.{view_program}
-use Rattle.cyc_system.specs.Parsed.{program_of}
-use Rattle.cyc_system.specs.Refusal.{not_built_yet}
-use Rattle.cyc_system.proofs.Programs.{program_reads}
-use Rattle.cyc_system.proofs.Compiles.{not_of_form, front_refuses}
+use Rattle.cyc_lower.proofs.Accepted.{accepted_can_be_lowered}
+use Rattle.cyc_system.specs.Front.{names_in}
+use Rattle.cyc_system.specs.Compiled.{IsTooLarge, IsSmallEnough}
+use Rattle.cyc_system.proofs.Amounts.{accepted_light}
+use Rattle.cyc_system.proofs.Refusals.{front_refuses, front_is_refused}
 use Rattle.cyc_system.proofs.compiler.compile.Goals as goal
 
-pub returns-in_err-accept-clause-refused : goal.returns-in_err-accept-clause-refused
-returns-in_err-accept-clause-refused c =
-    let p = err_from_is_err_and c.from_residual.result c.from_residual.ensures.1 in
-    rw (p.1, p.2) (front_refuses c.args.text.now c.in_err-accept.field-0.0 c.in_err-accept.ensures.refused)
+pub build-requires-clause-small : goal.build-requires-clause-small
+build-requires-clause-small c = accepted_light c.args.text.now (view_program c.in-Ok.program.tree) c.in-Ok.ensures.accepted
 
-pub returns-in_default-parsed-clause-refused : goal.returns-in_default-parsed-clause-refused
-returns-in_default-parsed-clause-refused c =
-    let is : c.new.result ≡ not_built_yet = (λ i. record { code = c.new.ensures.code i; line = c.new.ensures.line i; column = c.new.ensures.column i }) in
-    let no_form = not_of_form c.args.text.now (sym c.in-Ok.ensures ∙ ap (option_map program_of) c.in_default-parsed.is) in
-    inr (inr ((view_program c.in_ok-accept.field-0.tree, c.in_ok-accept.ensures.accepted, no_form), is))
+pub build-requires-clause-can_be : goal.build-requires-clause-can_be
+build-requires-clause-can_be c =
+    let a = c.in-Ok.ensures.accepted in
+    accepted_can_be_lowered (names_in a.tokens) c.args.text.now a.tokens a.tree (view_program c.in-Ok.program.tree) a.has_tokens.rule a.has_tokens.within a.has_tree.0 a.typed
 
-pub returns-in_default-parsed-clause-refuses : goal.returns-in_default-parsed-clause-refuses
-returns-in_default-parsed-clause-refuses c = λ fault h. absurd (c.in_ok-accept.ensures.refuses fault h)
+pub returns-in-Ok-clause-accepts : goal.returns-in-Ok-clause-accepts
+returns-in-Ok-clause-accepts c = λ p accepted small.
+    c.build.ensures.accepts (subst IsSmallEnough (sym (c.in-Ok.ensures.accepts p accepted)) small)
 
-pub build-requires-clause-printed : goal.build-requires-clause-printed
-build-requires-clause-printed c =
-    (program_reads c.args.text.now (program_of c.in-Some.program) (sym c.in-Ok.ensures ∙ ap (option_map program_of) c.in-Some.is)).printed
+pub returns-in-Ok-clause-refuses : goal.returns-in-Ok-clause-refuses
+returns-in-Ok-clause-refuses c = λ fault has.
+    elim has [
+      | inl front ↦ absurd (c.in-Ok.ensures.refuses fault front)
+      | inr (p, a, large) ↦ c.build.ensures.refuses fault (subst (λ (q : Program). IsTooLarge q fault) (sym (c.in-Ok.ensures.accepts p a)) large)
+    ]
 
-pub build-requires-clause-returned : goal.build-requires-clause-returned
-build-requires-clause-returned c =
-    (program_reads c.args.text.now (program_of c.in-Some.program) (sym c.in-Ok.ensures ∙ ap (option_map program_of) c.in-Some.is)).returned
+pub returns-in-Err-clause-refused : goal.returns-in-Err-clause-refused
+returns-in-Err-clause-refused c = front_refuses c.args.text.now c.in-Err.fault c.in-Err.ensures.refused
 
-pub returns-in-Ok-build-clause-accepted : goal.returns-in-Ok-build-clause-accepted
-returns-in-Ok-build-clause-accepted c =
-    let form = program_reads c.args.text.now (program_of c.in-Some.program) (sym c.in-Ok.ensures ∙ ap (option_map program_of) c.in-Some.is) in
-    (program_of c.in-Some.program, (c.in_ok-accept.ensures.accepted.has_tokens.short, form), c.in-Ok-build.ensures)
+pub returns-in-Err-clause-accepts : goal.returns-in-Err-clause-accepts
+returns-in-Err-clause-accepts c = λ p accepted small. c.in-Err.ensures.accepts p accepted
+
+pub returns-in-Err-clause-refuses : goal.returns-in-Err-clause-refuses
+returns-in-Err-clause-refuses c = λ fault has.
+    front_is_refused c.args.text.now c.in-Err.fault fault c.in-Err.ensures.accepts (c.in-Err.ensures.refuses fault) has

@@ -1,0 +1,126 @@
+-- Full preservation in the words of the two runs: the program's limited run, and the machine's runs.
+use Rattle.std.proofs.Common.{◌≡◌, ◌≢◌, ℕ, zero, suc, ◌+◌, ◌*◌, ◌<◌, List, Option, Some, None, refl, sym, ap, subst, ◌∙◌}
+use Rattle.std.specs.List.{AllByRecursion}
+use Rattle.cyc_words.specs.Ending.{Ending}
+use Rattle.cyc_words.specs.Prefix.{IsPrefix}
+use Rattle.cyc_elf.specs.Image.{ImageContents}
+use Rattle.cyc_machine.specs.Bounds.{Bounds, AreAllowed}
+use Rattle.cyc_machine.specs.Run.{World, Run, end_in, end_of, ending_of}
+use Rattle.cyc_machine.specs.Start.{start_world}
+use Rattle.cyc_machine.specs.declared.event.Cause.{Cause}
+use Rattle.cyc_machine.specs.declared.event.End.{End}
+use Rattle.cyc_machine.specs.declared.event.End.TheVariants.{Trap}
+use Rattle.cyc_machine.specs.declared.phase.Phase.{Phase}
+use Rattle.cyc_machine.specs.declared.phase.Phase.TheVariants as phases
+use Rattle.cyc_types.specs.TypedTrees.{Program}
+use Rattle.cyc_meaning.specs.State as meaning
+use Rattle.cyc_meaning.specs.Run.{start, limited_steps}
+use Rattle.cyc_plain.specs.Simulation as simulation
+use Rattle.cyc_plain.specs.Simulation.{NeverFails, Preserves}
+use Rattle.cyc_lower.specs.Lowered.{source_machine, status_in}
+use Rattle.cyc_asm.specs.Machine as words
+use Rattle.cyc_asm.specs.Machine.{world_machine, status_at}
+use Rattle.cyc_system.specs.FullPreservation.{text_words, limited, NeverGoesWrong, DoesTheSame, IsAhead, IsBehind, AreAlike}
+
+-- ---- the runs
+
+source_run : (p : Program) (pages calls n : ℕ) (s t : meaning.State) → simulation.Run (source_machine p pages calls) n s t → t ≡ limited_steps p pages calls n s
+source_run p pages calls zero s t run = run
+source_run p pages calls (suc n) s t (mid, step, rest) =
+    source_run p pages calls n mid t rest ∙ ap (limited_steps p pages calls n) step
+
+world_run : (n : ℕ) (v w : World) → Run n v w → simulation.Run world_machine n v w
+world_run zero v w run = run
+world_run (suc n) v w (mid, goes, rest) = (mid, goes, world_run n mid w rest)
+
+-- ---- statuses
+
+not_failed : (status : meaning.Status) → status ≢ meaning.IsDead → status ≢ meaning.IsWrong → status_in status ≡ simulation.Failed → ⊥
+not_failed meaning.GoesOn alive right failed = cc
+not_failed (meaning.HasEnded ending) alive right failed = cc
+not_failed meaning.IsDead alive right failed = alive refl
+not_failed meaning.IsWrong alive right failed = right refl
+
+has_ended : (status : meaning.Status) (ending : Ending) → status_in status ≡ simulation.Ended ending → status ≡ meaning.HasEnded ending
+has_ended meaning.GoesOn ending ended = cc
+has_ended (meaning.HasEnded e) ending ended = cc
+has_ended meaning.IsDead ending ended = cc
+has_ended meaning.IsWrong ending ended = cc
+
+closed : (found : Option Ending) (ending : Ending) → status_at found ≡ simulation.Ended ending → found ≡ Some ending
+closed (Some e) ending ended = cc
+closed None ending ended = cc
+
+end_shown : (phase : Phase) (ending : Ending) → words.status_in phase ≡ simulation.Ended ending → (end : End) × (end_in phase ≡ Some end) × (ending_of end ≡ Some ending)
+end_shown phases.Running ending ended = absurd (let e : simulation.Running ≡ simulation.Ended ending = ended in cc)
+end_shown phases.Waiting ending ended = absurd (let e : simulation.Running ≡ simulation.Ended ending = ended in cc)
+end_shown (phases.Over end) ending ended = (end, refl, closed (ending_of end) ending ended)
+
+open_or_ended : (found : Option Ending) → (status_at found ≡ simulation.Failed → ⊥) → (ending : Ending) × (found ≡ Some ending) × (status_at found ≡ simulation.Ended ending)
+open_or_ended (Some ending) fine = (ending, refl, refl)
+open_or_ended None fine = absurd (fine refl)
+
+ending_shown : (phase : Phase) (end : End) → end_in phase ≡ Some end → (words.status_in phase ≡ simulation.Failed → ⊥) → (ending : Ending) × (ending_of end ≡ Some ending) × (words.status_in phase ≡ simulation.Ended ending)
+ending_shown phases.Running end over fine = absurd (let e : None ≡ Some end = over in cc)
+ending_shown phases.Waiting end over fine = absurd (let e : None ≡ Some end = over in cc)
+ending_shown (phases.Over last) end over fine =
+    let same : last ≡ end = cc in
+    subst (λ e. (ending : Ending) × (ending_of e ≡ Some ending) × (status_at (ending_of last) ≡ simulation.Ended ending)) same (open_or_ended (ending_of last) fine)
+
+trap_fails : (phase : Phase) (cause : Cause) → end_in phase ≡ Some (Trap cause) → words.status_in phase ≡ simulation.Failed
+trap_fails phases.Running cause over = absurd (let e : None ≡ Some (Trap cause) = over in cc)
+trap_fails phases.Waiting cause over = absurd (let e : None ≡ Some (Trap cause) = over in cc)
+trap_fails (phases.Over end) cause over = ap (λ (e : End). status_at (ending_of e)) (let same : end ≡ Trap cause = cc in same)
+
+-- ---- a program that never goes wrong never fails
+
+pub never_fails : (p : Program) (limits : Bounds) (input : List ℕ) → NeverGoesWrong p limits input → NeverFails (source_machine p limits.pages limits.calls) (start p input)
+never_fails p limits input never n s run failed =
+    let is = source_run p limits.pages limits.calls n (start p input) s run in
+    let (alive, right) = never n in
+    not_failed (meaning.status_of (limited p limits input n)) alive right (sym (ap (λ (t : meaning.State). status_in (meaning.status_of t)) is) ∙ failed)
+
+-- ---- and the two runs
+
+module _ (p : Program) (image : ImageContents) (limits : Bounds) (input : List ℕ)
+    (does : Preserves (source_machine p limits.pages limits.calls) world_machine (text_words image) (start p input) (start_world image limits input)) where
+  ahead : (n : ℕ) (w : World) → Run ((n + 1) * text_words image) (start_world image limits input) w → IsAhead (limited p limits input n) w
+  ahead n w run =
+      let (state, made, prefix, ends) = does.ahead n w (world_run ((n + 1) * text_words image) (start_world image limits input) w run) in
+      let is : state ≡ limited p limits input n = source_run p limits.pages limits.calls n (start p input) state made in
+      subst (λ (s : meaning.State). IsAhead s w) is (
+        prefix,
+        λ ending ended.
+            let (over, output) = ends ending (ap status_in ended) in
+            (end_shown w.machine.phase ending over, output),
+      )
+
+  fine : (m : ℕ) (w : World) → Run m (start_world image limits input) w → words.status_in w.machine.phase ≡ simulation.Failed → ⊥
+  fine m w run failed = does.never_fails m w (world_run m (start_world image limits input) w run) failed
+
+  behind : (m : ℕ) (w : World) → Run m (start_world image limits input) w → (k : ℕ) × IsBehind w (limited p limits input k)
+  behind m w run =
+      let (k, state, made, prefix, ends) = does.behind m w (world_run m (start_world image limits input) w run) in
+      let is : state ≡ limited p limits input k = source_run p limits.pages limits.calls k (start p input) state made in (
+        k,
+        subst (λ (s : meaning.State). IsBehind w s) is (
+          prefix,
+          λ end over.
+              let (ending, shown, ended) = ending_shown w.machine.phase end over (fine m w run) in
+              let (source_ended, output) = ends ending ended in
+              ((ending, shown, has_ended (meaning.status_of state) ending source_ended), output),
+        ),
+      )
+
+  pub alike_of : AreAlike p image limits input
+  alike_of = record {
+    ahead = ahead;
+    behind = behind;
+    never_traps = λ m w run cause over. fine m w run (trap_fails w.machine.phase cause over);
+  }
+
+pub are_alike : (p : Program) (image : ImageContents) → DoesTheSame p image
+    → (limits : Bounds) (input : List ℕ) → AreAllowed limits.pages limits.calls → AllByRecursion (λ b. b < 256) input → NeverGoesWrong p limits input
+    → AreAlike p image limits input
+are_alike p image does limits input allowed bytes never =
+    alike_of p image limits input (does limits input allowed bytes never)

@@ -1,0 +1,71 @@
+-- A program is too large exactly where its plain program has a frame that is, function by function.
+use Rattle.std.proofs.Common.{◌≡◌, ◌⊎◌, inl, inr, ℕ, zero, suc, ◌+◌, ◌*◌, ◌≤◌, ◌<◌, List, [], ◌∷◌, length, None, Some, refl, sym, ap, subst, ◌∙◌, arith}
+use Rattle.std.specs.Prelude.{slice_index_or}
+use Rattle.cyc_words.specs.declared.fault.Fault.{Fault}
+use Rattle.cyc_words.specs.declared.fault.Code.TheVariants.{FrameTooLarge}
+use Rattle.cyc_types.specs.TypedTrees.{Function, Program}
+use Rattle.cyc_types.specs.TypingRules.{count}
+use Rattle.cyc_types.specs.Numbered.{numbered}
+use Rattle.cyc_plain.specs.Program.{Routine, Program as PlainProgram, no_routine, routine_at}
+use Rattle.cyc_lower.specs.FrameCount.{frame_count}
+use Rattle.cyc_lower.specs.Lowered.{most_functions, IsLoweredFunction, AreLoweredFunctions, IsLowered}
+use Rattle.cyc_frame.specs.Layout.{most_words, AreSmall}
+use Rattle.cyc_frame.specs.Layout as frames
+use Rattle.cyc_system.specs.Compiled.{HasLargeFrame, IsTooLarge, IsSmallEnough}
+
+-- each function of the source has its own below, and the other way round
+source_at : (hs : List Function) (rs : List Routine) (k : ℕ) → AreLoweredFunctions hs rs → k < length rs
+    → (h : Function) × (numbered hs k ≡ Some h) × IsLoweredFunction h (slice_index_or rs k no_routine)
+source_at [] [] k are below = absurd (omega arith)
+source_at [] (r ∷ rs) k are below = absurd are
+source_at (h ∷ hs) [] k are below = absurd are
+source_at (h ∷ hs) (r ∷ rs) zero (is, are) below = (h, refl, is)
+source_at (h ∷ hs) (r ∷ rs) (suc k) (is, are) below = source_at hs rs k are (omega arith)
+
+lowered_at : (hs : List Function) (rs : List Routine) (k : ℕ) (h : Function) → AreLoweredFunctions hs rs → numbered hs k ≡ Some h
+    → (k < length rs) × IsLoweredFunction h (slice_index_or rs k no_routine)
+lowered_at [] [] k h are there = absurd (let e : None ≡ Some h = there in cc)
+lowered_at [] (r ∷ rs) k h are there = absurd are
+lowered_at (g ∷ hs) [] k h are there = absurd are
+lowered_at (g ∷ hs) (r ∷ rs) zero h (is, are) there =
+    let same : g ≡ h = (let e : Some g ≡ Some h = there in cc) in
+    ((omega arith), subst (λ (f : Function). IsLoweredFunction f r) same is)
+lowered_at (g ∷ hs) (r ∷ rs) (suc k) h (is, are) there =
+    let (below, found) = lowered_at hs rs k h are there in ((omega arith), found)
+
+module _ (p : Program) (lowered : PlainProgram) (is : IsLowered p lowered) where
+  -- a refusal of the layout is one of the source
+  pub large_above : (f : Fault) → frames.IsTooLarge lowered f → HasLargeFrame p f
+  large_above f l =
+      let (h, there, made) = source_at p.functions lowered.functions l.function is.functions l.is_function in
+      record {
+        number = l.function;
+        function = h;
+        is = there;
+        large = omega (arith, l.large, made.frame);
+        first = λ k g before at.
+            let (below, early) = lowered_at p.functions lowered.functions k g is.functions at in
+            omega (arith, l.first k before, early.frame);
+        fault = λ i. record { code = l.code i; line = (l.line ∙ ap (λ s. s.line) made.name) i; column = (l.column ∙ ap (λ s. s.column) made.name) i };
+      }
+
+  pub large_below : (f : Fault) → HasLargeFrame p f → frames.IsTooLarge lowered f
+  large_below f l =
+      let (below, made) = lowered_at p.functions lowered.functions l.number l.function is.functions l.is in
+      record {
+        function = l.number;
+        is_function = below;
+        large = omega (arith, l.large, made.frame);
+        first = λ k before.
+            let (g, at, early) = source_at p.functions lowered.functions k is.functions (omega (arith, before, below)) in
+            omega (arith, l.first k g before at, early.frame);
+        code = ap (λ x. x.code) l.fault;
+        line = ap (λ x. x.line) l.fault ∙ sym (ap (λ s. s.line) made.name);
+        column = ap (λ x. x.column) l.fault ∙ sym (ap (λ s. s.column) made.name);
+      }
+
+  -- and where no frame is too large above, none is below
+  pub small_below : IsSmallEnough p → AreSmall lowered
+  small_below small = λ k below.
+      let (h, at, made) = source_at p.functions lowered.functions k is.functions below in
+      omega (arith, small.frames k h at, made.frame)

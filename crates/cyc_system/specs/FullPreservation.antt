@@ -1,0 +1,87 @@
+-- FULL PRESERVATION: what it means that a file does what a program means, and nothing else.
+--
+-- The program has one limited run for each input. The machine has many runs from an image, since its services may
+-- choose; each of them does what the program does. This project's own choice: the form of the promise, and its bound of
+-- so many instructions for each step of the program.
+use Rattle.std.specs.Prelude.{◌≡◌, ◌≢◌, ℕ, ◌+◌, ◌*◌, ◌/◌, ◌<◌, Bool, false, List, Option, None, Some, Result, Ok, sum_by, if◌then◌else◌}
+use Rattle.std.specs.List.{AllByRecursion}
+use Rattle.cyc_words.specs.Ending.{Ending}
+use Rattle.cyc_words.specs.Prefix.{IsPrefix}
+use Rattle.cyc_elf.specs.Image.{ImageContents, padded}
+use Rattle.cyc_elf.specs.Reading.{reading}
+use Rattle.cyc_machine.specs.Bounds.{Bounds, AreAllowed}
+use Rattle.cyc_machine.specs.Run.{World, Run, end_of, ending_of}
+use Rattle.cyc_machine.specs.Start.{lies_in_text, has_outside, start_world}
+use Rattle.cyc_machine.specs.declared.event.Cause.{Cause}
+use Rattle.cyc_machine.specs.declared.event.End.{End}
+use Rattle.cyc_machine.specs.declared.event.End.TheVariants.{Trap}
+use Rattle.cyc_types.specs.TypedTrees.{Program}
+use Rattle.cyc_meaning.specs.State as meaning
+use Rattle.cyc_meaning.specs.State.{State, Status, HasEnded, IsDead, IsWrong}
+use Rattle.cyc_meaning.specs.Run.{start, limited_run}
+use Rattle.cyc_plain.specs.Simulation.{Preserves}
+use Rattle.cyc_lower.specs.Lowered.{source_machine}
+use Rattle.cyc_asm.specs.Machine.{world_machine}
+
+-- how many words of text an image has
+abbrev pub text_words : ImageContents → ℕ
+text_words image = sum_by (λ s. if lies_in_text s then padded s.size / 4 else 0) image.segments
+
+-- the machine has a place for each segment of the image
+abbrev pub IsLoadable : ImageContents → Type 0
+IsLoadable image = has_outside image ≡ false
+
+-- the state of a program's limited run after so many steps
+abbrev pub limited : Program → Bounds → (input : List ℕ) → ℕ → State
+limited p limits input n = limited_run p limits.pages limits.calls input n
+
+-- With these limits and this input the program never reads or writes what is no more, and never comes to a state where
+-- no case of its meaning applies.
+abbrev pub NeverGoesWrong : Program → Bounds → (input : List ℕ) → Type 0
+NeverGoesWrong p limits input =
+    (n : ℕ) → (meaning.status_of (limited p limits input n) ≢ IsDead)
+    × (meaning.status_of (limited p limits input n) ≢ IsWrong)
+
+-- The image does what the program means: for all limits that are allowed, and each input on which the program never goes
+-- wrong. With T words of text, T instructions are enough for each step of the program, and T before the first.
+abbrev pub DoesTheSame : Program → ImageContents → Type 0
+DoesTheSame p image =
+    (limits : Bounds) (input : List ℕ) → AreAllowed limits.pages limits.calls → AllByRecursion (λ b. b < 256) input
+    → NeverGoesWrong p limits input
+    → Preserves (source_machine p limits.pages limits.calls) world_machine (text_words image)
+    (start p input) (start_world image limits input)
+
+-- a file is an image that the machine can load, and that does what the program means
+pub record IsImageOf (p : Program) (file : List ℕ) : Type 0 where
+  pub image : ImageContents
+  pub read : reading file ≡ Ok image
+  pub loads : IsLoadable image
+  pub does : DoesTheSame p image
+
+-- ---- the same in the words of the two runs
+
+-- Within (n + 1) * T instructions the machine has printed at least what the program prints in n steps, and where the
+-- program has ended, so has the machine: alike, and with equal output.
+abbrev pub IsAhead : (program : State) → World → Type 0
+IsAhead s w =
+    IsPrefix (meaning.output_of s) w.output
+    × ((ending : Ending) → meaning.status_of s ≡ HasEnded ending
+    → ((end : End) × (end_of w ≡ Some end) × (ending_of end ≡ Some ending)) × (w.output ≡ meaning.output_of s))
+
+-- The machine has printed no more than the program, and where it has ended, so has the program: alike, and with equal
+-- output.
+abbrev pub IsBehind : World → (program : State) → Type 0
+IsBehind w s =
+    IsPrefix w.output (meaning.output_of s)
+    × ((end : End) → end_of w ≡ Some end
+    → ((ending : Ending) × (ending_of end ≡ Some ending) × (meaning.status_of s ≡ HasEnded ending))
+    × (meaning.output_of s ≡ w.output))
+
+-- one run of the machine after another, against the one of the program
+pub record AreAlike (p : Program) (image : ImageContents) (limits : Bounds) (input : List ℕ) : Type 0 where
+  pub ahead : (n : ℕ) (w : World) → Run ((n + 1) * text_words image) (start_world image limits input) w
+      → IsAhead (limited p limits input n) w
+  pub behind : (m : ℕ) (w : World) → Run m (start_world image limits input) w
+      → (k : ℕ) × IsBehind w (limited p limits input k)
+  pub never_traps : (m : ℕ) (w : World) → Run m (start_world image limits input) w
+      → (cause : Cause) → end_of w ≡ Some (Trap cause) → ⊥

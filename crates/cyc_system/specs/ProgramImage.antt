@@ -1,0 +1,34 @@
+-- The image of a compiled program. That text is to be read (4) and executed (1), and data to be read (4) and written (2),
+-- is as in the System V ABI, chapter 5, "Program Header"; the segments and their addresses are this project's own choice.
+use Rattle.std.specs.Prelude.{ℕ, List, [], ◌∷◌, length}
+use Rattle.std.specs.List.{flat_map}
+use Rattle.cyc_words.specs.Bytes.{bytes_of_word}
+use Rattle.cyc_elf.specs.Image.{SegmentContents, ImageContents}
+use Rattle.cyc_machine.specs.State.{text_base, data_base}
+
+-- words in memory, one behind the other
+abbrev pub bytes_of_words : List ℕ → List ℕ
+bytes_of_words words = flat_map bytes_of_word words
+
+abbrev pub segment_of : (vaddr flags : ℕ) → (words : List ℕ) → SegmentContents
+segment_of vaddr flags words = record {
+  vaddr = vaddr;
+  flags = flags;
+  bytes = bytes_of_words words;
+  size = length (bytes_of_words words);
+}
+
+abbrev pub text_segment : (words : List ℕ) → SegmentContents
+text_segment words = segment_of text_base 5 words
+
+abbrev pub data_segment : (globals : List ℕ) → SegmentContents
+data_segment globals = segment_of data_base 6 globals
+
+-- where there are no globals there is no segment for them
+abbrev pub data_segments : (globals : List ℕ) → List SegmentContents
+data_segments [] = []
+data_segments (word ∷ globals) = data_segment (word ∷ globals) ∷ []
+
+-- the words of text, entered at the first, and what the globals hold at the start
+abbrev pub program_image : (words globals : List ℕ) → ImageContents
+program_image words globals = record { entry = text_base; segments = text_segment words ∷ data_segments globals }

@@ -1,0 +1,87 @@
+//! The image of a compiled program: its words of text, and what its globals hold at the start.
+
+ghost use Rattle.std.specs.Prelude.{◌≡◌, ◌+◌, ◌*◌, ◌^◌, ◌<◌, ◌≤◌, Ok, IfOk, length};
+ghost use Rattle.std.specs.List.{AllByRecursion};
+ghost use Rattle.cyc_words.specs.Word.{IsWord};
+ghost use Rattle.cyc_elf.specs.Image.{segment_contents, contents_of};
+ghost use Rattle.cyc_elf.specs.Reading.{reading};
+ghost use Rattle.cyc_machine.specs.State.{text_base, text_end, globals_length};
+ghost use Rattle.cyc_system.specs.ProgramImage.{bytes_of_words, segment_of, program_image};
+
+use cyc_elf::{Image, Segment, write_image};
+use cyc_words::bytes_of;
+use std::alloc::{AllocError, Global};
+
+/// The address of the text's first word, where a run begins.
+const TEXT_BASE: u32 = 0x40_0000;
+
+/// The address of the first global.
+const DATA_BASE: u32 = 0x1000_0000;
+
+/// The flags of a segment that is read (4) and executed (1).
+const READ_AND_EXECUTE: u32 = 5;
+
+/// The flags of a segment that is read (4) and written (2).
+const READ_AND_WRITE: u32 = 6;
+
+/// The bytes of words, one behind the other.
+fn bytes_of_words(alloc: Global, words: &[u32]) -> Result<Vec<u8>, AllocError>
+    ensures bytes { IfOk result (λ bytes. bytes.items ≡ bytes_of_words words.now) }
+    ensures words { IfOk result (λ _. AllByRecursion IsWord words.now) }
+{
+    let mut bytes = Vec::new(alloc);
+    for word in words {
+        bytes.extend_from_slice(&bytes_of(*word))?;
+    }
+    Ok(bytes)
+}
+
+/// A segment of words.
+fn segment_of(alloc: Global, vaddr: u32, flags: u32, words: &[u32]) -> Result<Segment, AllocError>
+    requires { 4 * length words.now < 2 ^ 32 }
+    ensures segment { IfOk result (λ segment. segment_contents segment ≡ segment_of vaddr flags words.now) }
+    ensures words { IfOk result (λ _. AllByRecursion IsWord words.now) }
+{
+    let bytes = bytes_of_words(alloc, words)?;
+    let size = bytes.len() as u32;
+    Ok(Segment {
+        vaddr,
+        flags,
+        bytes,
+        size,
+    })
+}
+
+/// The image of a program: a segment of text, and one of data where there are globals.
+fn image_of(alloc: Global, words: &[u32], globals: &[u32]) -> Result<Image, AllocError>
+    requires fit { text_base + 4 * length words.now ≤ text_end }
+    requires few { length globals.now ≤ globals_length }
+    ensures image { IfOk result (λ image. contents_of image ≡ program_image words.now globals.now) }
+    ensures words { IfOk result (λ _. AllByRecursion IsWord words.now) }
+    ensures globals { IfOk result (λ _. AllByRecursion IsWord globals.now) }
+{
+    let text = segment_of(alloc, TEXT_BASE, READ_AND_EXECUTE, words)?;
+    let segments = if globals.is_empty() {
+        vec![in alloc; text]?
+    } else {
+        let data = segment_of(alloc, DATA_BASE, READ_AND_WRITE, globals)?;
+        vec![in alloc; text, data]?
+    };
+    Ok(Image {
+        entry: TEXT_BASE,
+        segments,
+    })
+}
+
+/// The image of a program, as the bytes of a file.
+pub(crate) fn file_of(alloc: Global, words: &[u32], globals: &[u32]) -> Result<Vec<u8>, AllocError>
+    requires some { 0 < length words.now }
+    requires fit { text_base + 4 * length words.now ≤ text_end }
+    requires few { length globals.now ≤ globals_length }
+    ensures read { IfOk result (λ file. reading file.items ≡ Ok (program_image words.now globals.now)) }
+    ensures words { IfOk result (λ _. AllByRecursion IsWord words.now) }
+    ensures globals { IfOk result (λ _. AllByRecursion IsWord globals.now) }
+{
+    let image = image_of(alloc, words, globals)?;
+    write_image(alloc, &image)
+}
