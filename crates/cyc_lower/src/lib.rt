@@ -10,5 +10,3 @@ mod functions;
 mod operators;
 mod program;
 mod statements;
-#[cfg(test)]
-mod tests;
