@@ -72,7 +72,8 @@ pub fn hint(code: Code) -> &'static str {
             "return a value on every path; a condition is not computed, so end with a return",
         Code::TooManyFunctions => "put the work of several functions into one",
         Code::FrameTooLarge => "move some of its variables or expressions to another function",
-        Code::NotBuiltYet => "write it with ints alone: so far programs over ints are checked and compiled",
+        Code::NotBuiltYet =>
+            "write it with ints alone: so far programs over ints are checked and compiled",
     }
 }
 
