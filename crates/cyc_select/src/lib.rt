@@ -10,8 +10,6 @@ mod instructions;
 mod operators;
 mod selection;
 mod tables;
-#[cfg(test)]
-mod tests;
 
 pub use code::{Code, Line};
 pub use selection::select;
