@@ -11,10 +11,10 @@ use Rattle.cyc_machine.specs.Run.{World, Goes, told}
 use Rattle.cyc_machine.specs.declared.event.Event.TheVariants.{Ran}
 use Rattle.cyc_machine.specs.declared.phase.Phase.TheVariants as phases
 use Rattle.cyc_machine.proofs.StepLaws.{action_of-instruction, Step-action}
-use Rattle.cyc_plain.specs.Simulation.{Comes}
+use Rattle.cyc_words.specs.Simulation.{Comes}
 use Rattle.cyc_select.specs.Machine.{Configuration}
 use Rattle.cyc_asm.specs.Text.{text_of, IsAt, nothing}
-use Rattle.cyc_asm.specs.Machine.{world_machine}
+use Rattle.cyc_machine.specs.WorldMachine.{world_machine}
 
 -- The machine with a configuration's registers and memory and this text, at an address. `next` is executed after it.
 abbrev pub world_at : List ℕ → Configuration → (counter next : ℕ) → (in_slot : Bool) → World

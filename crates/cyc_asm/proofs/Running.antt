@@ -12,13 +12,14 @@ use Rattle.cyc_machine.specs.State.{words_per_call, stack_end}
 use Rattle.cyc_machine.specs.Step.{StepIn}
 use Rattle.cyc_machine.specs.Run.{World, Goes}
 use Rattle.cyc_machine.proofs.RunLaws.{Goes-over, Goes-output}
-use Rattle.cyc_plain.specs.Simulation.{Ended, IsLawful}
-use Rattle.cyc_plain.proofs.Simulation.{simulates, running_ended}
+use Rattle.cyc_words.specs.Simulation.{Ended, IsLawful}
+use Rattle.cyc_words.proofs.Simulation.{simulates, running_ended}
 use Rattle.cyc_select.specs.Labelled.{Labelled}
 use Rattle.cyc_select.specs.Machine as labelled
 use Rattle.cyc_select.specs.Machine.{Configuration}
 use Rattle.cyc_asm.specs.Text.{IsTextOf}
-use Rattle.cyc_asm.specs.Machine.{world_machine, status_in, Runs, start}
+use Rattle.cyc_asm.specs.Machine.{Runs, start}
+use Rattle.cyc_machine.specs.WorldMachine.{world_machine, status_in}
 use Rattle.cyc_asm.proofs.Fetching.{world_at}
 use Rattle.cyc_asm.proofs.Steps.{above, matching, matched}
 

@@ -24,9 +24,9 @@ use Rattle.cyc_machine.specs.Step.{Action, Acts, Does, cause_of, executes, perfo
 use Rattle.cyc_machine.specs.Run.{World, told, Goes, ending_of}
 use Rattle.cyc_machine.proofs.StepLaws.{executes-performs, Step-action}
 use Rattle.cyc_machine.proofs.ShapeLaws.{Goes-shape}
-use Rattle.cyc_plain.specs.Simulation.{Machine, Running, Ended, Failed, Matching, IsOnTheWay, IsMatchedStep, IsStepped, Steps, Comes}
-use Rattle.cyc_plain.proofs.Simulation.{running_ended}
-use Rattle.cyc_plain.proofs.Matching.{by_one, way_before}
+use Rattle.cyc_words.specs.Simulation.{Machine, Running, Ended, Failed, Matching, IsOnTheWay, IsMatchedStep, IsStepped, Steps, Comes}
+use Rattle.cyc_words.proofs.Simulation.{running_ended}
+use Rattle.cyc_words.proofs.Matching.{by_one, way_before}
 use Rattle.cyc_select.specs.declared.code.Line.{Line}
 use Rattle.cyc_select.specs.declared.code.Line.TheVariants as lines
 use Rattle.cyc_select.specs.Labelled.{Labelled, is_ordinary}
@@ -34,7 +34,7 @@ use Rattle.cyc_select.specs.Machine as labelled
 use Rattle.cyc_select.specs.Machine.{Configuration, machine_of, world_of, from_world, word_in, linked, core_of}
 use Rattle.cyc_asm.specs.Layout.{is_near}
 use Rattle.cyc_asm.specs.Text.{IsAt, IsTextOf, Stands, StandsBranch, own, nothing, inverse_of, return_register}
-use Rattle.cyc_asm.specs.Machine.{world_machine, status_in, status_at}
+use Rattle.cyc_machine.specs.WorldMachine.{world_machine, status_in, status_at}
 use Rattle.cyc_asm.proofs.Fetching.{world_at, fetches, through}
 use Rattle.cyc_asm.proofs.Ordinary.{Shown, same_cause, performed}
 use Rattle.cyc_asm.proofs.Stretches.{in_own}

@@ -1,37 +1,14 @@
 -- What the words of a text do: the machine that runs them follows the labelled machine.
-use Rattle.std.specs.Prelude.{ℕ, ◌*◌, ◌≤◌, List, [], replicate, Option, Some, None}
-use Rattle.cyc_words.specs.Ending.{Ending}
+use Rattle.std.specs.Prelude.{ℕ, ◌*◌, ◌≤◌, List, [], replicate}
 use Rattle.cyc_machine.specs.Start.{start_core}
 use Rattle.cyc_machine.specs.State.{text_base, words_per_call}
-use Rattle.cyc_machine.specs.Run.{World, Goes, ending_of}
-use Rattle.cyc_machine.specs.declared.phase.Phase.{Phase}
+use Rattle.cyc_words.specs.Simulation.{NeverFails, Follows}
+use Rattle.cyc_machine.specs.Run.{World}
+use Rattle.cyc_machine.specs.WorldMachine.{world_machine}
 use Rattle.cyc_machine.specs.declared.phase.Phase.TheVariants as phases
-use Rattle.cyc_plain.specs.Simulation.{Machine, Status, Running, Ended, Failed, NeverFails, Follows}
 use Rattle.cyc_select.specs.Labelled.{Labelled}
 use Rattle.cyc_select.specs.Machine as labelled
 use Rattle.cyc_asm.specs.Text.{text_of, own}
-
--- a trap is no program's end
-abbrev pub status_at : Option Ending → Status
-status_at (Some ending) = Ended ending
-status_at None = Failed
-
--- a machine that waits for a byte is given one at once
-abbrev pub status_in : Phase → Status
-status_in phases.Running = Running
-status_in phases.Waiting = Running
-status_in (phases.Over end) = status_at (ending_of end)
-
--- The machine in its world, which is at the address of the next instruction.
-abbrev pub world_machine : Machine
-world_machine = record {
-  State = World;
-  Place = ℕ;
-  Step = Goes;
-  place = λ w. w.machine.core.counter;
-  output = λ w. w.output;
-  status = λ w. status_in w.machine.phase;
-}
 
 -- the world in which the machine starts with these words of text, and these words in the data range
 abbrev pub start_in : (words globals stack : List ℕ) → (calls : ℕ) → (input : List ℕ) → World

@@ -1,7 +1,7 @@
 //! From labelled code to words.
 
 ghost use Rattle.std.specs.Prelude.{◌≡◌, length, All, IfOk, IfErr};
-ghost use Rattle.cyc_frame.specs.Layout.{memory_fault};
+ghost use Rattle.cyc_words.specs.Fault.{memory_fault};
 ghost use Rattle.cyc_select.specs.Labelled.{labelled_of, IsFormed, IsFormedLine};
 ghost use Rattle.cyc_asm.specs.Layout.{Fits, addresses_of};
 ghost use Rattle.cyc_asm.specs.Text.{IsTextOf};

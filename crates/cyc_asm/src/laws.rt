@@ -4,10 +4,11 @@
 ghost use Rattle.std.specs.Prelude.{◌≡◌, ℕ, ◌+◌, List, ◌++◌, length};
 ghost use Rattle.std.specs.List.{range_with_len, flat_map};
 ghost use Rattle.cyc_isa.specs.Encoding.{word_of};
-ghost use Rattle.cyc_plain.specs.Simulation.{IsLawful};
+ghost use Rattle.cyc_words.specs.Simulation.{IsLawful};
 ghost use Rattle.cyc_select.specs.Labelled.{Labelled};
 ghost use Rattle.cyc_asm.specs.Text.{IsTextOf, nothing, own};
-ghost use Rattle.cyc_asm.specs.Machine.{world_machine, Runs};
+ghost use Rattle.cyc_asm.specs.Machine.{Runs};
+ghost use Rattle.cyc_machine.specs.WorldMachine.{world_machine};
 ghost use Rattle.cyc_asm.specs.Image.{AreRoomy, Starts};
 
 /// The word of an empty delay slot is 0.

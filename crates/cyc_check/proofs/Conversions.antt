@@ -12,7 +12,6 @@ use Rattle.cyc_types.specs.declared.typed.Converted.{Converted}
 use Rattle.cyc_types.specs.Types.{Ty, Int, Pointer, Handle, Key, Struct}
 use Rattle.cyc_types.specs.TypedTrees as typed
 use Rattle.cyc_types.specs.TypedTreeView.{arguments_of}
-use Rattle.cyc_types.specs.TypingRules.{count}
 use Rattle.cyc_types.specs.Checking.{Checked, and_then, is_int, conversion, convert_by, convert, pass, call}
 use Rattle.cyc_types.specs.Refusals.{fault_at}
 use Rattle.cyc_types.specs.Scopes.{Meaning, Routine}
@@ -54,11 +53,11 @@ pass_ints (e ∷ es) (c ∷ cs) h = ap (λ o. and_then o (λ d. and_then (pass (
     by_test h true = ap (λ o. and_then o (λ ds. Ok (typed.MoreArguments first ds))) h ∙ regroup (passed es cs) (as_ints (map value_of cs)) first
     by_test h false = refl
 
-count_ints : (n : ℕ) → count (ints n) ≡ n
+count_ints : (n : ℕ) → length (ints n) ≡ n
 count_ints zero = refl
 count_ints (suc n) = ap suc (count_ints n)
 
-count_values : (cs : List Converted) → count (map value_of cs) ≡ length cs
+count_values : (cs : List Converted) → length (map value_of cs) ≡ length cs
 count_values [] = refl
 count_values (c ∷ cs) = ap suc (count_values cs)
 
@@ -70,7 +69,7 @@ module _ (p : Place) (es : List Expr) (cs : List Converted) (f : Callee) (n : �
   answer b o = cond b (and_then o (λ as'. Ok (typed.Call f as' (result_if r)))) (Err (fault_at codes.TypeMismatch p))
 
   counted : call routine p (expressions_of es) (map value_of cs) ≡ answer (nat_eq (length cs) n) (pass (expressions_of es) (map value_of cs) (ints n))
-  counted = ap (λ b. answer b (pass (expressions_of es) (map value_of cs) (ints n))) (ap (λ k. nat_eq k (count (ints n))) (count_values cs) ∙ ap (nat_eq (length cs)) (count_ints n))
+  counted = ap (λ b. answer b (pass (expressions_of es) (map value_of cs) (ints n))) (ap (λ k. nat_eq k (length (ints n))) (count_values cs) ∙ ap (nat_eq (length cs)) (count_ints n))
 
   pub called_well : (m : Meaning) → Routine f (record { parameters = ints n; result = result_if r }) ≡ m → length cs ≡ n → length es ≡ length cs → arguments_of cs ≡ as_ints (map value_of cs) → (o : Checked (Unit {0})) → passed es cs ≡ o
       → call m p (expressions_of es) (map value_of cs) ≡ and_then o (λ _. Ok (typed.Call f (arguments_of cs) (result_if r)))

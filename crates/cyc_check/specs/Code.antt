@@ -31,10 +31,6 @@ abbrev pub Gives : {X Y : Type 0} → (X → Y) → Result X Stop → Checked Y 
 Gives view (Ok x) checked = checked ≡ Ok (view x)
 Gives view (Err e) checked = Stops e checked
 
--- want of memory
-abbrev pub memory_fault : Fault
-memory_fault = record { code = codes.Memory; line = 0; column = 0 }
-
 -- ---- types
 
 abbrev pub ints : ℕ → List Ty

@@ -21,10 +21,10 @@ ghost use Rattle.cyc_check.specs.Checkers.{scope_of};
 use crate::checker::Checker;
 use crate::declared::Meaning;
 use crate::stop::{Stop, not_built, refused};
-use cyc_syntax::{BinaryOperator, Expr, Ident, Operation, PrefixOperator, Span};
+use cyc_syntax::{BinaryOperator, Expr, Ident, Operation, PrefixOperator};
+use cyc_words::{Code, Span};
 use cyc_types::typed::{Callee, Converted, Kind, LogicalOperator, Lvalue, Operator, UnaryOperator};
 use cyc_types::{Ty, typed};
-use cyc_words::Code;
 use std::alloc::{AllocError, Global};
 
 /// The place of an expression's first token.

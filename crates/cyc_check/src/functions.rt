@@ -15,7 +15,8 @@ use crate::checker::Checker;
 use crate::declared::Declared;
 use crate::locals::{Local, Locals};
 use crate::stop::{Stop, not_built};
-use cyc_syntax::{Declaration, Ident, Item, Member, ParameterList, Parameters, Span, WrittenType};
+use cyc_syntax::{Declaration, Ident, Item, Member, ParameterList, Parameters, WrittenType};
+use cyc_words::Span;
 use cyc_types::{Ty, typed};
 use std::alloc::Global;
 

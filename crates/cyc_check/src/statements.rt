@@ -15,10 +15,10 @@ use crate::checker::Checker;
 use crate::expressions::{converted, is_int, mismatch};
 use crate::locals::Local;
 use crate::stop::{Stop, not_built, refused};
-use cyc_syntax::{Expr, Ident, Item, Span, Stmt};
+use cyc_syntax::{Expr, Ident, Item, Stmt};
+use cyc_words::{Code, Span};
 use cyc_types::typed::Converted;
 use cyc_types::{Ty, typed};
-use cyc_words::Code;
 use std::alloc::{AllocError, Global};
 
 #[tactic(auto, using(crate::proofs::TypedViews::block_view))]

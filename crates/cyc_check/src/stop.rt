@@ -4,8 +4,7 @@ ghost use Rattle.cyc_syntax.specs.TreeView.{place_of_span};
 ghost use Rattle.cyc_types.specs.Refusals.{fault_at, not_built, no_main};
 ghost use Rattle.cyc_check.specs.declared.stop.Stop.TheVariants.{Memory, Refused};
 
-use cyc_syntax::Span;
-use cyc_words::{Code, Fault};
+use cyc_words::{Code, Fault, Span};
 use std::alloc::{AllocError, AllocFailed};
 
 #[derive(Clone, Copy, Debug, PartialEq, Eq)]

@@ -7,7 +7,8 @@ ghost use Rattle.cyc_types.specs.TypedTreeView.{view_program};
 ghost use Rattle.cyc_types.specs.TypingRules.{IsTypedProgram};
 ghost use Rattle.cyc_types.specs.Refusals.{IsRefusedProgram};
 ghost use Rattle.cyc_types.specs.Checking.{check_of};
-ghost use Rattle.cyc_check.specs.Code.{Gives, memory_fault};
+ghost use Rattle.cyc_check.specs.Code.{Gives};
+ghost use Rattle.cyc_words.specs.Fault.{memory_fault};
 
 use crate::functions::functions_of;
 use crate::heads::{declared_by, number_of};

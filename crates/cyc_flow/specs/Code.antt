@@ -39,7 +39,3 @@ Gives (Err e) verdict behind = Stops e verdict
 abbrev pub Goes : Result StateCode Stop → Kept → State → State → State → Type 0
 Goes (Ok s) verdict behind breaks met = (verdict ≡ Ok tt) × (view_state s ≡ behind) × (met ≡ breaks)
 Goes (Err e) verdict behind breaks met = Stops e verdict
-
--- want of memory
-abbrev pub memory_fault : Fault
-memory_fault = record { code = faults.Memory; line = 0; column = 0 }

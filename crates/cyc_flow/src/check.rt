@@ -5,7 +5,8 @@ ghost use Rattle.cyc_types.specs.TypedTreeView.{view_function, view_program};
 ghost use Rattle.cyc_types.specs.FlowRules.{start_of, IsAllowedProgram};
 ghost use Rattle.cyc_types.specs.FlowRefusals.{IsStoppedProgram};
 ghost use Rattle.cyc_types.specs.FlowChecking.{keep_end, keep_function, keep_functions};
-ghost use Rattle.cyc_flow.specs.Code.{view_state, memory_fault, Allows};
+ghost use Rattle.cyc_flow.specs.Code.{view_state, Allows};
+ghost use Rattle.cyc_words.specs.Fault.{memory_fault};
 
 use crate::expressions::refusal;
 use crate::state::{Fullness, State, add};

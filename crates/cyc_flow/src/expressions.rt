@@ -11,9 +11,8 @@ ghost use Rattle.cyc_flow.specs.Steps.{keep_operation, after_operation};
 
 use crate::state::{Fullness, State, meet};
 use crate::stop::Stop;
-use cyc_syntax::Span;
+use cyc_words::{Code, Fault, Span};
 use cyc_types::typed::{Converted, Expr, Lvalue, Operation};
-use cyc_words::{Code, Fault};
 use std::alloc::Global;
 
 /// The refusal with this code at this place.

@@ -3,9 +3,8 @@
 use crate::expressions::refusal;
 use crate::state::{State, meet};
 use crate::stop::Stop;
-use cyc_syntax::Span;
+use cyc_words::{Code, Span};
 use cyc_types::typed::{Item, Stmt};
-use cyc_words::Code;
 use std::alloc::Global;
 use std::mem;
 

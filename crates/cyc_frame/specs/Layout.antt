@@ -3,7 +3,7 @@
 use Rattle.std.specs.Prelude.{◌≡◌, ◌≢◌, ℕ, ◌+◌, ◌<◌, ◌≤◌, Bool, nat_lt, if◌then◌else◌, List, [], ◌∷◌, length, map, Option, Some, None, slice_index_or}
 use Rattle.cyc_words.specs.declared.fault.Code.TheVariants as faults
 use Rattle.cyc_words.specs.declared.fault.Fault.{Fault}
-use Rattle.cyc_syntax.specs.declared.tokens.Span.{Span}
+use Rattle.cyc_words.specs.declared.span.Span.{Span}
 use Rattle.cyc_plain.specs.Program.{Routine, Program, routine_at, layout_words}
 use Rattle.cyc_frame.specs.declared.frame.Frame.{Frame}
 
@@ -59,7 +59,3 @@ pub record IsTooLarge (program : Program) (fault : Fault) : Type 0 where
   pub code : fault.code ≡ faults.FrameTooLarge
   pub line : fault.line ≡ (routine_at program function).name.line
   pub column : fault.column ≡ (routine_at program function).name.column
-
--- want of memory
-abbrev pub memory_fault : Fault
-memory_fault = record { code = faults.Memory; line = 0; column = 0 }

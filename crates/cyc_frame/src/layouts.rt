@@ -4,12 +4,12 @@ ghost use Rattle.std.specs.Prelude.{◌≡◌, ℕ, ◌+◌, ◌<◌, ◌≤◌,
 ghost use Rattle.cyc_words.specs.declared.fault.Fault.{Fault};
 ghost use Rattle.cyc_plain.specs.Program.{program_of, routine_of, routine_at};
 ghost use Rattle.cyc_plain.specs.WellFormed.{IsWellFormed};
-ghost use Rattle.cyc_frame.specs.Layout.{IsFrame, IsTooLarge, AreSmall, first_too_large, frame_of, frames_of, frame_at, memory_fault, most_words};
+ghost use Rattle.cyc_frame.specs.Layout.{IsFrame, IsTooLarge, AreSmall, first_too_large, frame_of, frames_of, frame_at, most_words};
+ghost use Rattle.cyc_words.specs.Fault.{memory_fault};
 
 use crate::frame::{Frame, Frames};
 use cyc_plain::{Function, LAYOUT_WORDS, Plain};
-use cyc_syntax::Span;
-use cyc_words::{Code, Fault};
+use cyc_words::{Code, Fault, Span};
 use std::alloc::{AllocError, Global};
 
 /// A frame has at most so many words, since the machine's stack has so many for each call.

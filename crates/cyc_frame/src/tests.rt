@@ -2,8 +2,7 @@
 
 use super::*;
 use cyc_plain::{Function, Instruction, Plain};
-use cyc_syntax::Span;
-use cyc_words::{Code, Fault};
+use cyc_words::{Code, Fault, Span};
 use std::alloc::{AllocError, Global};
 use std::test::Fail;
 

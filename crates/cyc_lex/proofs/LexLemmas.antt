@@ -5,7 +5,7 @@ use Rattle.std.proofs.lemmas.Bool.{cases_lt}
 use Rattle.std.proofs.lemmas.List.{take-append-drop, length-drop, length_push, length-map, drop-drop, drop_all, map_push}
 use Rattle.std.proofs.Math.Seq.{take-add}
 use Rattle.std.proofs.lemmas.List.Elements.{All-push, All-append, All-cons, All-nil}
-use Rattle.cyc_syntax.specs.declared.tokens.Span.{Span}
+use Rattle.cyc_words.specs.declared.span.Span.{Span}
 use Rattle.cyc_syntax.specs.declared.tokens.Token.{Token as CodeToken}
 use Rattle.cyc_syntax.specs.declared.tokens.TokenKind.{TokenKind}
 use Rattle.cyc_syntax.specs.Spelling.{Piece, Lexeme, Space, Comment, OpenComment, SpellsToken}

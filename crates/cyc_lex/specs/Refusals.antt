@@ -51,7 +51,3 @@ pub record IsAccepted (text : List ℕ) (tokens : List Token) : Type 0 where
   pub short : length text ≤ max_bytes
   pub rule : HasTokens text tokens
   pub within : IsWithinLimits tokens
-
--- want of memory
-abbrev pub memory_fault : Fault
-memory_fault = record { code = codes.Memory; line = 0; column = 0 }

@@ -1,14 +1,14 @@
 //! The tokens of a text, or its first fault.
-ghost use Rattle.std.specs.Prelude.{◌≡◌, ◌≤◌, ◌⊎◌, List, length, map, IfOk, IfErr, MatchResult};
-ghost use Rattle.cyc_words.specs.declared.fault.Fault.{Fault};
-ghost use Rattle.cyc_syntax.specs.Tokens as pure;
+ghost use Rattle.std.specs.Prelude.{◌≡◌, ◌≤◌, ◌⊎◌, length, map, IfOk, IfErr};
+ghost use Rattle.cyc_words.specs.Decision.{Decides};
+ghost use Rattle.cyc_words.specs.Fault.{memory_fault};
 ghost use Rattle.cyc_syntax.specs.Tokens.{token_of};
 ghost use Rattle.cyc_syntax.specs.TokenRule.{AreTokensOf};
-ghost use Rattle.cyc_lex.specs.Refusals.{IsAccepted, IsRefused, memory_fault};
+ghost use Rattle.cyc_lex.specs.Refusals.{IsAccepted, IsRefused};
 
 use crate::pieces::read_piece;
-use cyc_syntax::{Span, Token, place_behind};
-use cyc_words::{Code, Fault};
+use cyc_syntax::{Token, place_behind};
+use cyc_words::{Code, Fault, Span};
 use std::alloc::Global;
 
 /// The most bytes of a text.
@@ -23,16 +23,10 @@ pub const MAX_TOKENS: usize = 60000;
 /// begins, a comment is not closed, a number is above the limit, or a token stands that is one too many; of several reasons
 /// the one with the lowest code. Any growth of the list of tokens may be refused for want of memory.
 pub fn lex(alloc: Global, text: &[u8]) -> Result<Vec<Token>, Fault>
-    // What is accepted has these tokens, each where it says that it lies. What is refused has this fault.
-    ensures accepted { IfOk result (λ v. IsAccepted text.now (map (token_of text.now) v.items)) }
+    // What is accepted has tokens, and these are answered; what is refused has its first fault.
+    ensures decides { Decides (IsAccepted text.now) (λ tokens v. map (token_of text.now) v.items ≡ tokens) (IsRefused text.now) (IsRefused text.now) result }
+    // Each token lies where it says.
     ensures lie { IfOk result (λ v. AreTokensOf text.now v.items) }
-    ensures refused { IfErr result (λ f. (f ≡ memory_fault) ⊎ IsRefused text.now f) }
-
-    // And the other way round, want of memory aside.
-    ensures accepts { (tokens : List pure.Token) → IsAccepted text.now tokens
-        → MatchResult result (λ v. map (token_of text.now) v.items ≡ tokens) (λ f. f ≡ memory_fault) }
-    ensures refuses { (fault : Fault) → IsRefused text.now fault
-        → MatchResult result (λ _. ⊥) (λ f. (f ≡ memory_fault) ⊎ (f ≡ fault)) }
 {
     if text.len() > MAX_BYTES {
         return Err(Fault::new(Code::TextTooLong, 1, 1));
@@ -61,17 +55,12 @@ fn read_tokens(alloc: Global, text: &[u8]) -> Result<Vec<Token>, Fault>
                 return Err(Fault::new(Code::TooManyTokens, place.line, place.column));
             }
             let span = place;
-            if tokens
-                .push(Token {
-                    kind,
-                    span,
-                    start,
-                    end,
-                })
-                .is_err()
-            {
-                return Err(Fault::memory());
-            }
+            tokens.push(Token {
+                kind,
+                span,
+                start,
+                end,
+            })?;
         }
         place = place_behind(place, &text[start..end]);
         start = end;

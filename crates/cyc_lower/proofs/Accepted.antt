@@ -17,7 +17,7 @@ use Rattle.cyc_syntax.specs.Grammar.{HasTree}
 use Rattle.cyc_syntax.specs.Weight.{tree_weight}
 use Rattle.cyc_syntax.proofs.WeightLemmas.{tree_weight-length}
 use Rattle.cyc_types.specs.TypedTrees.{Program}
-use Rattle.cyc_types.specs.TypingRules.{count, IsTypedProgram}
+use Rattle.cyc_types.specs.TypingRules.{IsTypedProgram}
 use Rattle.cyc_types.specs.Weight.{program_weight}
 use Rattle.cyc_types.proofs.NumberedLemmas.{program_numbered}
 use Rattle.cyc_types.proofs.WeightLemmas.{program_lighter, declarations_counted}
@@ -29,7 +29,7 @@ pub can_be_lowered : (texts : List (List ℕ)) (symbols : List Symbol) (tree : L
     → HasTree symbols tree → AreOfWordsSymbols symbols → tree_weight tree ≤ max_tokens → IsTypedProgram texts tree p → CanBeLowered p
 can_be_lowered texts symbols tree p has words light typed =
     let fewer : program_weight p ≤ tree_weight tree = program_lighter texts tree p typed in
-    let counted : 3 * count p.globals + 6 * count p.functions ≤ program_weight p = declarations_counted p in
+    let counted : 3 * length p.globals + 6 * length p.functions ≤ program_weight p = declarations_counted p in
     record {
       is_numbered = program_numbered texts tree p typed;
       of_words = typed_constants texts tree p typed (tree_constants symbols tree has words);

@@ -2,12 +2,12 @@
 use Rattle.std.proofs.Common.{◌≡◌, ◌≢◌, ℕ, zero, suc, Bool, true, false, List, [], ◌∷◌, ◌++◌, length, set, Option, None, Some, slice_get, refl, sym, ap, subst, ◌∙◌, length-set}
 use Rattle.std.specs.Prelude.{if◌then◌else◌}
 use Rattle.std.proofs.lemmas.Option.{none-some, same_Some}
-use Rattle.cyc_plain.specs.Simulation.{Failed}
+use Rattle.cyc_words.specs.Simulation.{Failed}
 use Rattle.cyc_types.specs.declared.typed.Kind.{Kind}
 use Rattle.cyc_meaning.specs.Values.{Value, Cell}
 use Rattle.cyc_meaning.specs.State.{Sort, Heap, Globals, Stack, Lexical, Dynamic, Region, Object, World, Access, Found, Closed, Missing, found_region, region_at, is_live, Located, located, cell_in, cell_at, stack_region, closed, written, has_pages, counted, Environment, with_local, made, variable, Entry, Focus, Given, State, Running, status_of}
 use Rattle.cyc_meaning.specs.Step.{read, loaded, loaded_from, stored, declared, closing}
-use Rattle.cyc_lower.specs.Lowered.{status_in}
+use Rattle.cyc_meaning.specs.SourceMachine.{status_in}
 use Rattle.cyc_lower.proofs.Relation.{content_of_cell, content_of, contents, IsQuietSort, AreQuiet}
 use Rattle.cyc_lower.proofs.Data.{get_set_same, get_set_other}
 

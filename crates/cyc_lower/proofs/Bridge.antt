@@ -10,7 +10,6 @@ use Rattle.cyc_types.specs.declared.typed.Operator.{Operator}
 use Rattle.cyc_types.specs.declared.typed.Operator.TheVariants as operators
 use Rattle.cyc_types.specs.Types.{Ty}
 use Rattle.cyc_types.specs.TypedTrees.{Lvalue, Local, Global, Expression, Number, Copy, Call, Unary, Binary, Assign, Converted, Convert, Arguments, NoArguments, MoreArguments, Operations, NoOperations, ThenCompute, ThenTest, Statement, Block, Empty, Evaluate, If, While, Return, Break, Continue, Items, NoItems, MoreItems, Execute, Declare, Function, Program}
-use Rattle.cyc_types.specs.TypingRules.{count}
 use Rattle.cyc_types.specs.Scopes.{Signature}
 use Rattle.cyc_types.specs.Numbered.{Bounds, argument_count, IsWithin, IsNumbered, IsNumberedConverted, AreNumberedArguments, AreNumberedOperations, IsNumberedReturn, IsNumberedInitial, IsNumberedStatement, AreNumberedItems, bounds_of, signatures_of, AreNumberedFunctions, IsNumberedProgram}
 use Rattle.cyc_plain.specs.declared.instruction.Instruction.{Instruction}
@@ -234,4 +233,4 @@ module _ (source : Program) where
   functions_stand pages calls some_page numbered n h there =
       subst (λ (code : List Instruction). BodyStands h code (bounds_at source n)) (sym (ap (λ (r : Routine). r.code) (routine_there n h there)))
       (subst (λ (o : Option Function). BodyStands h (function_code h) (bounds_in source o)) (sym there)
-      (body_stands h (numbered_function (count source.globals) (signatures_of source.functions) source.functions n h numbered.functions there)))
+      (body_stands h (numbered_function (length source.globals) (signatures_of source.functions) source.functions n h numbered.functions there)))

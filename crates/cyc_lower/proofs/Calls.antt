@@ -10,20 +10,19 @@ use Rattle.cyc_types.specs.declared.typed.Callee.{Callee}
 use Rattle.cyc_types.specs.declared.typed.Callee.TheVariants as callees
 use Rattle.cyc_types.specs.Types.{Ty}
 use Rattle.cyc_types.specs.TypedTrees.{Items, Function, Program}
-use Rattle.cyc_types.specs.TypingRules.{count}
 use Rattle.cyc_plain.specs.declared.instruction.Instruction.TheVariants as instructions
-use Rattle.cyc_plain.specs.Simulation.{IsOnTheWay}
+use Rattle.cyc_words.specs.Simulation.{IsOnTheWay}
 use Rattle.cyc_plain.specs.State as plain
 use Rattle.cyc_plain.specs.State.{Words, put, copied, Frame, Store, Configuration}
 use Rattle.cyc_plain.specs.Step.{Choice, with_slots, at, advanced, performed, executed}
 use Rattle.cyc_plain.specs.Step as plain_step
 use Rattle.cyc_plain.proofs.RunLaws.{limited-full}
 use Rattle.cyc_plain.proofs.SlotLaws.{put-same, put-other}
-use Rattle.cyc_plain.proofs.Matching.{way_after}
+use Rattle.cyc_words.proofs.Matching.{way_after}
 use Rattle.cyc_meaning.specs.Values.{Value, Int, kind_of}
 use Rattle.cyc_meaning.specs.State.{World, Environment, no_locals, with_local, variable, made, opened, region_at, Entry, Rest, Caller, calls_in, demand, status_of, Focus, Given, Proceeding, Calling, Entering, Binding, State, Running, Ended}
 use Rattle.cyc_meaning.specs.Step.{wrong, inside, region_end, called, step}
-use Rattle.cyc_lower.specs.Lowered.{status_in}
+use Rattle.cyc_meaning.specs.SourceMachine.{status_in}
 use Rattle.cyc_meaning.specs.Run.{is_within, limited_step}
 use Rattle.cyc_lower.specs.Lowering.{lower_program}
 use Rattle.cyc_lower.proofs.Stands.{At, ItemsAt}
@@ -136,9 +135,9 @@ module _ (source : Program) (pages calls : ℕ) (some_page : 1 ≤ pages) where
       → (m : ℕ) × ItemsAt (code_of source n) (bounds_at source n) h.body 0 (base_of source n) 0 m
       × At (code_of source n) m (instructions.Return (base_of source n))
 
-  parameters_fit : (n : ℕ) (h : Function) → slice_get source.functions n ≡ Some h → count h.parameters ≤ base_of source n
+  parameters_fit : (n : ℕ) (h : Function) → slice_get source.functions n ≡ Some h → length h.parameters ≤ base_of source n
   parameters_fit n h there =
-      let locals : base_of source n ≡ count h.parameters + count h.locals = ap (λ o. (bounds_in source o).locals) there in
+      let locals : base_of source n ≡ length h.parameters + length h.locals = ap (λ o. (bounds_in source o).locals) there in
       omega (arith, locals)
 
   -- a function has been called, with its arguments in the first slots

@@ -5,7 +5,6 @@ use Rattle.std.proofs.lemmas.Bool.{cases_eq, eq-eqb, eqb-true, false_from_ne_tru
 use Rattle.std.proofs.lemmas.List.{reverse-append, length-reverse}
 use Rattle.std.proofs.lemmas.Option.{same_Some, none-some}
 use Rattle.cyc_types.specs.TypedTrees.{Program}
-use Rattle.cyc_types.specs.TypingRules.{count}
 use Rattle.cyc_plain.specs.State.{Words, put, copied, Frame}
 use Rattle.cyc_plain.proofs.SlotLaws.{put-same, put-other, copied-inside}
 use Rattle.cyc_meaning.specs.Values.{Value}
@@ -216,7 +215,7 @@ locals_raised base objects locals low high higher slots raised hold = record {
 
 module _ (source : Program) where
   abbrev global_count : ℕ
-  global_count = count source.globals
+  global_count = length source.globals
 
   pub globals_below : (objects : List Object) (high : ℕ) (frames : List Frame) (outer : List Environment) → FramesHold source objects high frames outer → global_count ≤ high
   globals_below objects high [] [] hold = hold

@@ -5,7 +5,6 @@ use Rattle.cyc_types.specs.declared.typed.Callee.{Callee}
 use Rattle.cyc_types.specs.declared.typed.Kind.{Kind}
 use Rattle.cyc_types.specs.Types.{Ty}
 use Rattle.cyc_types.specs.TypedTrees.{Lvalue, Local, Global, Expression, Number, Copy, Call, Unary, Binary, Assign, Convert, Arguments, NoArguments, MoreArguments, Function, Program}
-use Rattle.cyc_types.specs.TypingRules.{count}
 use Rattle.cyc_types.specs.Numbered.{argument_count}
 use Rattle.cyc_plain.specs.State as plain
 use Rattle.cyc_plain.specs.State.{put, Configuration}
@@ -80,12 +79,12 @@ module _ (source : Program) (pages calls : ℕ) (some_page : 1 ≤ pages) where
 
   -- ---- places
 
-  globals_in : (h : Option Function) → (bounds_in source h).globals ≡ count source.globals
+  globals_in : (h : Option Function) → (bounds_in source h).globals ≡ length source.globals
   globals_in None = refl
   globals_in (Some h) = refl
 
   -- a global of the program, in the bounds of any of its functions
-  pub global_there : (g n : ℕ) → n < (bounds_at source g).globals → n < count source.globals
+  pub global_there : (g n : ℕ) → n < (bounds_at source g).globals → n < length source.globals
   global_there g n few = omega (arith, few, globals_in (slice_get source.functions g))
 
   copies : (l : Lvalue) (t : Ty) (k : List Entry) (e : Environment) (w : World) (c : Configuration) → IsStep (Evaluating (Copy l t)) k e w c

@@ -17,17 +17,17 @@ use Rattle.cyc_plain.specs.declared.instruction.Instruction.{Instruction}
 use Rattle.cyc_plain.specs.declared.instruction.Instruction.TheVariants.{Move, Jump, JumpIfZero, JumpIfNonzero}
 use Rattle.cyc_plain.specs.declared.instruction.Instruction.TheVariants as instructions
 use Rattle.cyc_plain.specs.declared.instruction.BinaryOperator.TheVariants as plain_binary
-use Rattle.cyc_plain.specs.Simulation.{Status, Ended}
-use Rattle.cyc_plain.specs.Simulation as simulation
+use Rattle.cyc_words.specs.Simulation.{Status, Ended}
+use Rattle.cyc_words.specs.Simulation as simulation
 use Rattle.cyc_plain.specs.State.{State, output_of, status_of}
 use Rattle.cyc_plain.specs.Step.{run, start}
 use Rattle.cyc_plain.specs.Checking.{is_well_formed}
 use Rattle.cyc_plain.proofs.RunLaws.{zeros}
 use Rattle.cyc_meaning.specs.State.{status_of as status_of_source}
 use Rattle.cyc_meaning.specs.Run.{limited_run}
-use Rattle.cyc_lower.specs.FrameCount.{frame_count, expression_need}
+use Rattle.cyc_meaning.specs.FrameCount.{frame_count, expression_need}
 use Rattle.cyc_lower.specs.Lowering.{function_code, lower_program}
-use Rattle.cyc_lower.specs.Lowered.{status_in}
+use Rattle.cyc_meaning.specs.SourceMachine.{status_in}
 
 -- ---- trees
 

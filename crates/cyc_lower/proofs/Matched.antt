@@ -6,21 +6,21 @@ use Rattle.std.proofs.lemmas.Bool.{le-leb, and_from}
 use Rattle.cyc_words.specs.Ending.{Ending, Full}
 use Rattle.cyc_types.specs.TypedTrees.{Program}
 use Rattle.cyc_plain.specs.declared.instruction.Instruction.{Instruction}
-use Rattle.cyc_plain.specs.Simulation as simulation
-use Rattle.cyc_plain.specs.Simulation.{Status, Failed, Machine, Matching, Comes, IsOnTheWay, IsMatchedStep, IsStepped, IsDistinct}
+use Rattle.cyc_words.specs.Simulation as simulation
+use Rattle.cyc_words.specs.Simulation.{Status, Failed, Machine, Matching, Comes, IsOnTheWay, IsMatchedStep, IsStepped, IsDistinct}
 use Rattle.cyc_plain.specs.Program.{CodePlace, places_of}
 use Rattle.cyc_plain.specs.State as plain
 use Rattle.cyc_plain.specs.State.{Frame, Configuration}
 use Rattle.cyc_plain.specs.Step.{Choice, performed, machine}
 use Rattle.cyc_plain.specs.Step as plain_step
-use Rattle.cyc_plain.proofs.Matching.{by_none, way_before}
+use Rattle.cyc_words.proofs.Matching.{by_none, way_before}
 use Rattle.cyc_plain.proofs.Steps.{step_performs, place_known}
-use Rattle.cyc_meaning.specs.Demand.{demand_of}
+use Rattle.cyc_words.specs.Demand.{demand_of}
 use Rattle.cyc_meaning.specs.State.{World, Environment, ConvertTo, Operate, Chain, Apply, Decide, Store, Pass, Initialise, Choose, Test, Return, Entry, Needs, Discard, Rest, Join, Loop, CloseRegion, Caller, Main, counted, calls_in, Focus, Evaluating, Given, Executing, Proceeding, Calling, Entering, Binding, Breaking, Continuing, Returning, Throwing, State, Running, Ended, Dead, Wrong, output_of, input_of, status_of}
 use Rattle.cyc_meaning.specs.Step.{step}
 use Rattle.cyc_meaning.specs.Run.{is_within, limited_step}
 use Rattle.cyc_lower.specs.Lowering.{lower_program}
-use Rattle.cyc_lower.specs.Lowered.{status_in, source_machine}
+use Rattle.cyc_meaning.specs.SourceMachine.{status_in, source_machine}
 use Rattle.cyc_lower.proofs.Weights.{weight}
 use Rattle.cyc_lower.proofs.Stands.{At}
 use Rattle.cyc_lower.proofs.Relation.{SharedAt, ValueStack, StatementStack, FocusAt, Related, Matches, code_of}

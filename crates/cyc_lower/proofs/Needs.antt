@@ -1,4 +1,4 @@
--- What the frame count of a function is at most, by the length of its code: so the count of a function whose code was made fits a
+-- What the frame length of a function is at most, by the length of its code: so the length of a function whose code was made fits a
 -- machine's number.
 use Rattle.std.proofs.Common.{◌≡◌, ℕ, suc, ◌+◌, ◌*◌, ◌≤◌, List, [], ◌∷◌, ◌++◌, length, Option, None, Some, arith, length-append}
 use Rattle.cyc_syntax.specs.declared.tree.PointerKind.{PointerKind}
@@ -12,11 +12,10 @@ use Rattle.cyc_types.specs.declared.typed.Operator.TheVariants as operators
 use Rattle.cyc_types.specs.Types.{Ty, words_of, words_of_mark}
 use Rattle.cyc_types.specs.Types as types
 use Rattle.cyc_types.specs.TypedTrees.{Lvalue, Local, Global, Expression, Number, Copy, Call, Unary, Binary, Assign, Converted, Convert, Arguments, NoArguments, MoreArguments, Operations, NoOperations, ThenCompute, ThenTest, type_of, Statement, Block, Empty, Evaluate, If, While, Return, Break, Continue, Items, NoItems, MoreItems, Execute, Declare, Function}
-use Rattle.cyc_types.specs.TypingRules.{count}
 use Rattle.cyc_types.specs.Numbered.{argument_count}
 use Rattle.cyc_plain.specs.declared.instruction.Instruction.TheVariants as instructions
 use Rattle.cyc_meaning.specs.Values.{words_of_kind}
-use Rattle.cyc_lower.specs.FrameCount.{result_words, operand_words, converted_words, argument_words, expression_need, converted_need, arguments_need, operations_need, initial_need, statement_need, items_need, words_of_all, frame_count}
+use Rattle.cyc_meaning.specs.FrameCount.{result_words, operand_words, converted_words, argument_words, expression_need, converted_need, arguments_need, operations_need, initial_need, statement_need, items_need, words_of_all, frame_count}
 use Rattle.cyc_lower.specs.Lowering.{unary_operator, break_target, continue_target, conversion_code, operator_code, truth_code, load_code, store_code, call_code, test_code, expression_code, converted_code, arguments_code, operations_code, return_code, declaration_code, statement_code, items_code, first_temporary, function_code}
 
 -- ---- words
@@ -52,7 +51,7 @@ operand_most None = omega arith
 converted_most : (c : Converted) → converted_words c ≤ 3
 converted_most (Convert from to a) = omega (arith, kind_most from, kind_most to)
 
-pub all_words_most : (ts : List Ty) → words_of_all ts ≤ 3 * count ts
+pub all_words_most : (ts : List Ty) → words_of_all ts ≤ 3 * length ts
 all_words_most [] = omega arith
 all_words_most (t ∷ ts) = omega (arith, words_most t, all_words_most ts)
 
@@ -215,7 +214,7 @@ mutual
       let back = items_code js (p + length front) loop d in
       omega (arith, length-append front back, initial_bounded v n p d, items_bounded js (p + length front) loop d)
 
--- the frame count, by the length of the code and the number of locals
+-- the frame length, by the length of the code and the number of locals
 pub frame_bounded : (h : Function) → frame_count h ≤ 24 + 3 * first_temporary h + 5 * length (function_code h)
 frame_bounded h =
     let d = first_temporary h in

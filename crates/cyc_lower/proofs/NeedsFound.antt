@@ -20,7 +20,7 @@ use Rattle.cyc_types.specs.TypeView.{view_ty}
 use Rattle.cyc_types.specs.TypedTrees.{Expression, Statement, Call, Binary, Block, type_of}
 use Rattle.cyc_types.specs.TypedTreeView.{view_expression, view_converted, view_statement, arguments_of, operations_of, items_of}
 use Rattle.cyc_types.proofs.TypedTreeViewLemmas.{view_call, view_binary, view_block}
-use Rattle.cyc_lower.specs.FrameCount.{operand_words, converted_words, expression_need, converted_need, argument_words, arguments_need, operations_need, statement_need, items_need, words_of_all}
+use Rattle.cyc_meaning.specs.FrameCount.{operand_words, converted_words, expression_need, converted_need, argument_words, arguments_need, operations_need, statement_need, items_need, words_of_all}
 use Rattle.cyc_lower.specs.Emission.{call_need, operation_need, item_need}
 
 -- ---- arguments

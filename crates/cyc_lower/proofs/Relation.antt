@@ -2,7 +2,6 @@
 use Rattle.std.proofs.Common.{◌≡◌, ℕ, suc, ◌+◌, ◌≤◌, ◌<◌, List, [], ◌∷◌, ◌++◌, length, Option, None, Some, slice_get}
 use Rattle.std.specs.Prelude.{◌⊎◌}
 use Rattle.cyc_types.specs.TypedTrees.{Lvalue, Expression, Statement, Function, Program}
-use Rattle.cyc_types.specs.TypingRules.{count}
 use Rattle.cyc_types.specs.Numbered.{Bounds, bounds_of, signatures_of, argument_count}
 use Rattle.cyc_plain.specs.declared.instruction.Instruction.{Instruction}
 use Rattle.cyc_plain.specs.declared.instruction.Instruction.TheVariants as instructions
@@ -117,8 +116,8 @@ module _ (source : Program) where
   code_of g = (routine_at (lower_program source) g).code
 
   abbrev pub bounds_in : Option Function → Bounds
-  bounds_in None = record { globals = count source.globals; functions = signatures_of source.functions; locals = 0; regions = 0; result = None }
-  bounds_in (Some h) = bounds_of (count source.globals) (signatures_of source.functions) h
+  bounds_in None = record { globals = length source.globals; functions = signatures_of source.functions; locals = 0; regions = 0; result = None }
+  bounds_in (Some h) = bounds_of (length source.globals) (signatures_of source.functions) h
 
   abbrev pub bounds_at : ℕ → Bounds
   bounds_at g = bounds_in (slice_get source.functions g)
@@ -135,7 +134,7 @@ module _ (source : Program) where
 
   -- the calls that wait, whose objects lie apart by order: those of an older call have smaller numbers
   abbrev pub FramesHold : List Object → (high : ℕ) → List Frame → List Environment → Type 0
-  FramesHold objects high [] [] = count source.globals ≤ high
+  FramesHold objects high [] [] = length source.globals ≤ high
   FramesHold objects high (f ∷ frames) (e ∷ outer) = (low : ℕ) × (low ≤ high) × LocalsHold (base_of f.caller.function) objects e.locals low high f.caller.slots × FramesHold objects low frames outer
   FramesHold objects high [] (e ∷ outer) = ⊥
   FramesHold objects high (f ∷ frames) [] = ⊥
@@ -144,7 +143,7 @@ module _ (source : Program) where
   DataAt g objects locals outer slots globals frames = (low : ℕ) × (low ≤ length objects)
       × LocalsHold (base_of g) objects locals low (length objects) slots
       × FramesHold objects low frames outer
-      × GlobalsHold (count source.globals) objects globals
+      × GlobalsHold (length source.globals) objects globals
 
   -- ---- the control stack and the code
 
@@ -242,10 +241,10 @@ module _ (source : Program) where
       × ValueStack g locals q frames k
   FocusAt (Entering h arguments) k locals g p slots frames =
       (m : ℕ) × ItemsAt (code_of g) (bounds_at g) h.body 0 (base_of g) p m × StatementStack g 0 m frames k
-      × HoldsFrom slots 0 arguments × (count h.parameters ≤ base_of g)
+      × HoldsFrom slots 0 arguments × (length h.parameters ≤ base_of g)
   FocusAt (Binding number types arguments body) k locals g p slots frames =
       (m : ℕ) × ItemsAt (code_of g) (bounds_at g) body 0 (base_of g) p m × StatementStack g 0 m frames k
-      × HoldsFrom slots number arguments × (number + count types ≤ base_of g)
+      × HoldsFrom slots number arguments × (number + length types ≤ base_of g)
   FocusAt Breaking k locals g p slots frames =
       (loop : ℕ) × (q : ℕ) × At (code_of g) p (instructions.Jump (break_target loop)) × StatementStack g loop q frames k
   FocusAt Continuing k locals g p slots frames =

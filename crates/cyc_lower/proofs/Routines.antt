@@ -1,5 +1,5 @@
 -- Functions and globals that are lowered one after the other.
-use Rattle.std.proofs.Common.{◌≡◌, ℕ, zero, suc, ◌+◌, ◌<◌, ◌≤◌, List, [], ◌∷◌, ◌++◌, length, get_or, map, Option, Some, None, option_map, refl, sym, ap, ◌∙◌, arith}
+use Rattle.std.proofs.Common.{◌≡◌, ℕ, zero, suc, ◌+◌, ◌<◌, ◌≤◌, List, [], ◌∷◌, ◌++◌, length, get_or, map, Option, Some, None, option_map, refl, sym, ap, ◌∙◌, arith, slice_get}
 use Rattle.cyc_words.specs.declared.fault.Code.{Code}
 use Rattle.cyc_words.specs.declared.fault.Code.TheVariants.{TooManyFunctions}
 use Rattle.cyc_words.specs.declared.fault.Fault.{Fault}
@@ -8,28 +8,26 @@ use Rattle.cyc_types.specs.declared.typed.Function.{Function as FunctionCode}
 use Rattle.cyc_types.specs.TypeView.{view_ty}
 use Rattle.cyc_types.specs.TypedTrees.{Function, Program}
 use Rattle.cyc_types.specs.TypedTreeView.{view_function, view_program, items_of}
-use Rattle.cyc_types.specs.TypingRules.{count}
-use Rattle.cyc_types.specs.Numbered.{numbered}
 use Rattle.cyc_plain.specs.declared.instruction.Instruction.{Instruction}
 use Rattle.cyc_plain.specs.declared.instruction.Instruction.TheVariants as instructions
 use Rattle.cyc_plain.specs.Program.{Routine}
-use Rattle.cyc_lower.specs.FrameCount.{items_need, frame_count}
+use Rattle.cyc_meaning.specs.FrameCount.{items_need, frame_count}
 use Rattle.cyc_lower.specs.Lowering.{results_of, items_code, lower_function}
 use Rattle.cyc_lower.specs.Lowered.{most_functions, HasTooMany}
 use Rattle.cyc_lower.specs.Emission.{most_words, most_locals}
 use Rattle.cyc_lower.proofs.NeedBounds.{words_of_types}
 
-pub counted : {A B : Type 0} (f : A → B) (xs : List A) → count (map f xs) ≡ length xs
+pub counted : {A B : Type 0} (f : A → B) (xs : List A) → length (map f xs) ≡ length xs
 counted f [] = refl
 counted f (x ∷ xs) = ap suc (counted f xs)
 
 -- the element with a number, in a list that is mapped
-pub numbered_at : {A B : Type 0} (f : A → B) (xs : List A) (n : ℕ) (x : A) → n < length xs → x ≡ get_or xs n x → numbered (map f xs) n ≡ Some (f x)
+pub numbered_at : {A B : Type 0} (f : A → B) (xs : List A) (n : ℕ) (x : A) → n < length xs → x ≡ get_or xs n x → slice_get (map f xs) n ≡ Some (f x)
 numbered_at f [] n x inside at = absurd (omega arith)
 numbered_at f (y ∷ ys) zero x inside at = ap (λ z. Some (f z)) (sym at)
 numbered_at f (y ∷ ys) (suc n) x inside at = numbered_at f ys n x (omega arith) at
 
-pub numbered_past : {A B : Type 0} (f : A → B) (xs : List A) (n : ℕ) → length xs ≤ n → numbered (map f xs) n ≡ None
+pub numbered_past : {A B : Type 0} (f : A → B) (xs : List A) (n : ℕ) → length xs ≤ n → slice_get (map f xs) n ≡ None
 numbered_past f [] n past = refl
 numbered_past f (y ∷ ys) zero past = absurd (omega arith)
 numbered_past f (y ∷ ys) (suc n) past = numbered_past f ys n (omega arith)
@@ -58,15 +56,15 @@ module _ (f : FunctionCode) (p l d results need slots frame : ℕ) (code : List 
       → frame ≡ frame_count (view_function f) → code ≡ items_code (items_of f.body.items) 0 0 d ++ instructions.Return d ∷ []
       → record { name = f.span; parameters = p; results = results; slots = slots; frame_count = frame; code = code } ≡ lower_function (view_function f)
   made_function ps ls ds rs ns ss fs cs =
-      let pc : p ≡ count (map view_ty f.parameters.items) = ps ∙ sym (counted view_ty f.parameters.items) in
-      let dc : d ≡ count (map view_ty f.parameters.items) + count (map view_ty f.locals.items) = omega (arith, ds, pc, ls, counted view_ty f.locals.items) in
+      let pc : p ≡ length (map view_ty f.parameters.items) = ps ∙ sym (counted view_ty f.parameters.items) in
+      let dc : d ≡ length (map view_ty f.parameters.items) + length (map view_ty f.locals.items) = omega (arith, ds, pc, ls, counted view_ty f.locals.items) in
       ap (λ (x : List Instruction). record { name = f.span; parameters = p; results = results; slots = slots; frame_count = frame; code = x }) cs
       ∙ ap (λ (x : ℕ). record { name = f.span; parameters = p; results = x; slots = slots; frame_count = frame; code = Returning f d }) rs
       ∙ ap (λ (x : ℕ). record { name = f.span; parameters = p; results = results_of (option_map view_ty f.result); slots = slots; frame_count = x; code = Returning f d }) fs
       ∙ ap (λ (x : ℕ). record { name = f.span; parameters = p; results = results_of (option_map view_ty f.result); slots = x; frame_count = frame_count (view_function f); code = Returning f d }) ss
       ∙ ap (λ (x : ℕ). WithLocals f x d need) pc
-      ∙ ap (λ (x : ℕ). WithLocals f (count (map view_ty f.parameters.items)) x need) dc
-      ∙ ap (λ (x : ℕ). WithLocals f (count (map view_ty f.parameters.items)) (count (map view_ty f.parameters.items) + count (map view_ty f.locals.items)) x) ns
+      ∙ ap (λ (x : ℕ). WithLocals f (length (map view_ty f.parameters.items)) x need) dc
+      ∙ ap (λ (x : ℕ). WithLocals f (length (map view_ty f.parameters.items)) (length (map view_ty f.parameters.items) + length (map view_ty f.locals.items)) x) ns
 
 -- ---- more functions than there may be
 

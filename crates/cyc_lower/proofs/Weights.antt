@@ -1,8 +1,7 @@
 -- The weight of a source state, which falls with each step that the plain program makes no step for.
-use Rattle.std.proofs.Common.{ℕ, suc, ◌+◌, List, [], ◌∷◌, Option, None, Some}
+use Rattle.std.proofs.Common.{ℕ, suc, ◌+◌, List, [], ◌∷◌, Option, None, Some, length}
 use Rattle.cyc_types.specs.TypedTrees.{Expression, Number, Copy, Call, Unary, Binary, Assign, Converted, Convert, Arguments, NoArguments, MoreArguments, Operations, NoOperations, ThenCompute, ThenTest, Statement, Block, Empty, Evaluate, If, While, Break, Continue, Items, NoItems, MoreItems, Execute, Declare}
 use Rattle.cyc_types.specs.TypedTrees as typed
-use Rattle.cyc_types.specs.TypingRules.{count}
 use Rattle.cyc_meaning.specs.State.{Awaiting, Chain, Pass, Entry, Needs, Rest, Focus, Evaluating, Executing, Entering, Binding, State, Running}
 
 -- An expression that begins with an instruction weighs nothing. One that begins with another weighs more than that and what
@@ -67,8 +66,8 @@ stack_weight (entry ∷ k) = entry_weight entry + stack_weight k
 abbrev pub focus_weight : Focus → ℕ
 focus_weight (Evaluating a) = expression_weight a
 focus_weight (Executing s) = statement_weight s
-focus_weight (Entering h arguments) = suc (suc (suc (suc (count h.parameters + items_weight h.body))))
-focus_weight (Binding number types arguments body) = suc (suc (count types + items_weight body))
+focus_weight (Entering h arguments) = suc (suc (suc (suc (length h.parameters + items_weight h.body))))
+focus_weight (Binding number types arguments body) = suc (suc (length types + items_weight body))
 focus_weight focus = 0
 
 abbrev pub weight : State → ℕ

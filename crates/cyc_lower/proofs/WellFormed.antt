@@ -15,15 +15,14 @@ use Rattle.cyc_types.specs.declared.typed.LogicalOperator.TheVariants as logical
 use Rattle.cyc_types.specs.Types.{Ty, words_of, words_of_mark}
 use Rattle.cyc_types.specs.Types as types
 use Rattle.cyc_types.specs.TypedTrees.{Lvalue, Local, Global, Expression, Number, Copy, Call, Unary, Binary, Assign, Converted, Convert, Arguments, NoArguments, MoreArguments, Operations, NoOperations, ThenCompute, ThenTest, type_of, Statement, Block, Empty, Evaluate, If, While, Return, Break, Continue, Items, NoItems, MoreItems, Execute, Declare, GlobalVariable, Function, Program}
-use Rattle.cyc_types.specs.TypingRules.{count}
 use Rattle.cyc_types.specs.Scopes.{Signature}
-use Rattle.cyc_types.specs.Numbered.{Bounds, numbered, signature_of, signatures_of, IsSignature, argument_count, IsWithin, IsNumbered, IsNumberedConverted, AreNumberedArguments, AreNumberedOperations, IsNumberedReturn, IsNumberedInitial, IsNumberedStatement, AreNumberedItems, bounds_of, AreNumberedFunctions, IsNumberedProgram}
+use Rattle.cyc_types.specs.Numbered.{Bounds, signature_of, signatures_of, IsSignature, argument_count, IsWithin, IsNumbered, IsNumberedConverted, AreNumberedArguments, AreNumberedOperations, IsNumberedReturn, IsNumberedInitial, IsNumberedStatement, AreNumberedItems, bounds_of, AreNumberedFunctions, IsNumberedProgram}
 use Rattle.cyc_plain.specs.declared.instruction.Instruction.{Instruction}
 use Rattle.cyc_plain.specs.declared.instruction.Instruction.TheVariants as instructions
 use Rattle.cyc_plain.specs.Program.{Routine, Program as PlainProgram, no_routine, routine_at, most_globals}
 use Rattle.cyc_plain.specs.WellFormed.{IsInRange, IsRoutine, IsWellFormed, leaves}
 use Rattle.cyc_meaning.specs.Values.{words_of_kind}
-use Rattle.cyc_lower.specs.FrameCount.{result_words, operand_words, converted_words, argument_words, expression_need, converted_need, arguments_need, operations_need, initial_need, statement_need, items_need, words_of_all}
+use Rattle.cyc_meaning.specs.FrameCount.{result_words, operand_words, converted_words, argument_words, expression_need, converted_need, arguments_need, operations_need, initial_need, statement_need, items_need, words_of_all}
 use Rattle.cyc_lower.specs.Lowering.{slot_of, unary_operator, break_target, continue_target, conversion_code, operator_code, truth_code, load_code, store_code, call_code, test_code, expression_code, converted_code, arguments_code, operations_code, return_code, declaration_code, statement_code, items_code, first_temporary, results_of, lower_function, lower_global, lower_program}
 
 -- ---- lists
@@ -86,7 +85,7 @@ results_few : (t : Option Ty) → results_of t ≤ 1
 results_few None = omega arith
 results_few (Some t) = omega arith
 
-types_words : (ts : List Ty) → count ts ≤ words_of_all ts
+types_words : (ts : List Ty) → length ts ≤ words_of_all ts
 types_words [] = omega arith
 types_words (t ∷ ts) = omega (arith, words_positive t, types_words ts)
 
@@ -95,10 +94,10 @@ types_words (t ∷ ts) = omega (arith, words_positive t, types_words ts)
 -- what the functions of a program have, which the bounds of a function name
 record IsKnown (program : PlainProgram) (n : ℕ) (s : Signature) : Type 0 where
   pub there : n < length program.functions
-  pub parameters : (routine_at program n).parameters ≡ count s.parameters
+  pub parameters : (routine_at program n).parameters ≡ length s.parameters
   pub results : (routine_at program n).results ≡ results_of s.result
 
-module _ (program : PlainProgram) (r : Routine) (b : Bounds) (locals : b.locals ≤ r.slots) (globals : b.globals ≡ length program.globals) (known : (n : ℕ) (s : Signature) → numbered b.functions n ≡ Some s → IsKnown program n s) (results : r.results ≤ 1) where
+module _ (program : PlainProgram) (r : Routine) (b : Bounds) (locals : b.locals ≤ r.slots) (globals : b.globals ≡ length program.globals) (known : (n : ℕ) (s : Signature) → slice_get b.functions n ≡ Some s → IsKnown program n s) (results : r.results ≤ 1) where
   abbrev AreIn : List Instruction → Type 0
   AreIn code = AllByRecursion (IsInRange program r) code
 
@@ -122,9 +121,9 @@ module _ (program : PlainProgram) (r : Routine) (b : Bounds) (locals : b.locals 
   store_in (Local w n) d within few = ((omega (arith, within, locals), few), tt)
   store_in (Global n) d within few = ((omega (arith, within, globals), few), tt)
 
-  call_in : (f : Callee) (n : ℕ) (t : Option Ty) (s : Signature) (d words : ℕ) → IsSignature b f s → n ≡ count s.parameters → t ≡ s.result → n ≤ words → d + (words + result_words t) ≤ r.slots → AreIn (call_code f n d)
+  call_in : (f : Callee) (n : ℕ) (t : Option Ty) (s : Signature) (d words : ℕ) → IsSignature b f s → n ≡ length s.parameters → t ≡ s.result → n ≤ words → d + (words + result_words t) ≤ r.slots → AreIn (call_code f n d)
   call_in callees.Putchar n t s d words signature many same enough few =
-      let one : n ≡ 1 = many ∙ ap (λ (x : Signature). count x.parameters) signature in
+      let one : n ≡ 1 = many ∙ ap (λ (x : Signature). length x.parameters) signature in
       let gives : result_words t ≡ 1 = ap result_words (same ∙ ap (λ (x : Signature). x.result) signature) in
       let room : d + 2 ≤ r.slots = omega (arith, few, enough, one, gives) in
       (omega (arith, room), (omega (arith, room), ((omega (arith, room), omega (arith, room), omega (arith, room)), tt)))
@@ -155,50 +154,50 @@ module _ (program : PlainProgram) (r : Routine) (b : Bounds) (locals : b.locals 
 
   mutual
     expression_in : (a : Expression) (p d : ℕ) → IsNumbered b a → d + expression_need a ≤ r.slots → p + length (expression_code a p d) < length r.code → AreIn (expression_code a p d)
-    expression_in (Number n) p d numbered few short = (omega (arith, few), tt)
-    expression_in (Copy l t) p d numbered few short = load_in l d numbered (omega (arith, few, words_positive t))
-    expression_in (Call f cs t) p d (s, signature, many, same, numbered) few short =
+    expression_in (Number n) p d slice_get few short = (omega (arith, few), tt)
+    expression_in (Copy l t) p d slice_get few short = load_in l d slice_get (omega (arith, few, words_positive t))
+    expression_in (Call f cs t) p d (s, signature, many, same, slice_get) few short =
         let front = arguments_code cs p d in
         let back = call_code f (argument_count cs) d in
         append front back
-        (arguments_in cs p d d 0 numbered (omega arith) (omega (arith, few)) (omega (arith, few)) (omega (arith, short, length-append front back)))
+        (arguments_in cs p d d 0 slice_get (omega arith) (omega (arith, few)) (omega (arith, few)) (omega (arith, short, length-append front back)))
         (call_in f (argument_count cs) t s d (argument_words cs) signature many same (arguments_words cs) (omega (arith, few)))
-    expression_in (Unary o a) p d numbered few short =
+    expression_in (Unary o a) p d slice_get few short =
         let front = expression_code a p d in
         let back = instructions.Unary (unary_operator o) d d ∷ [] in
         let room : d < r.slots = omega (arith, few) in
-        append front back (expression_in a p d numbered (omega (arith, few)) (omega (arith, short, length-append front back))) ((room, room), tt)
-    expression_in (Binary a os t) p d (numbered, rest) few short =
+        append front back (expression_in a p d slice_get (omega (arith, few)) (omega (arith, short, length-append front back))) ((room, room), tt)
+    expression_in (Binary a os t) p d (slice_get, rest) few short =
         let front = expression_code a p d in
         let back = operations_code os (p + length front) d in
-        append front back (expression_in a p d numbered (omega (arith, few)) (omega (arith, short, length-append front back)))
+        append front back (expression_in a p d slice_get (omega (arith, few)) (omega (arith, short, length-append front back)))
         (operations_in os t (p + length front) d (operand_words (type_of a)) rest (operand_positive (type_of a)) (omega (arith, few)) (omega (arith, short, length-append front back)))
-    expression_in (Assign l c t) p d (within, numbered) few short =
+    expression_in (Assign l c t) p d (within, slice_get) few short =
         let front = converted_code c p d in
         let back = store_code l d in
-        append front back (converted_in c p d numbered (omega (arith, few)) (omega (arith, few)) (omega (arith, short, length-append front back)))
+        append front back (converted_in c p d slice_get (omega (arith, few)) (omega (arith, few)) (omega (arith, short, length-append front back)))
         (store_in l d within (omega (arith, few)))
 
     converted_in : (c : Converted) (p d : ℕ) → IsNumberedConverted b c → d < r.slots → d + converted_need c ≤ r.slots → p + length (converted_code c p d) < length r.code → AreIn (converted_code c p d)
-    converted_in (Convert from to a) p d numbered room few short =
+    converted_in (Convert from to a) p d slice_get room few short =
         let front = expression_code a p d in
         let back = conversion_code to (p + length front) d in
-        append front back (expression_in a p d numbered few (omega (arith, short, length-append front back)))
+        append front back (expression_in a p d slice_get few (omega (arith, short, length-append front back)))
         (conversion_in to (p + length front) d room (omega (arith, short, length-append front back)))
 
     -- the arguments begin at `first`, and those before have so many words
     arguments_in : (cs : Arguments) (p d first before : ℕ) → AreNumberedArguments b cs → d ≤ first + before → first + (before + argument_words cs) ≤ r.slots → first + arguments_need cs before ≤ r.slots → p + length (arguments_code cs p d) < length r.code → AreIn (arguments_code cs p d)
-    arguments_in NoArguments p d first before numbered place few needs short = tt
-    arguments_in (MoreArguments c cs) p d first before (numbered, rest) place few needs short =
+    arguments_in NoArguments p d first before slice_get place few needs short = tt
+    arguments_in (MoreArguments c cs) p d first before (slice_get, rest) place few needs short =
         let front = converted_code c p d in
         let back = arguments_code cs (p + length front) (suc d) in
         append front back
-        (converted_in c p d numbered (omega (arith, few, place, converted_positive c)) (omega (arith, needs, place)) (omega (arith, short, length-append front back)))
+        (converted_in c p d slice_get (omega (arith, few, place, converted_positive c)) (omega (arith, needs, place)) (omega (arith, short, length-append front back)))
         (arguments_in cs (p + length front) (suc d) first (before + converted_words c) rest (omega (arith, place, converted_positive c)) (omega (arith, few)) (omega (arith, needs)) (omega (arith, short, length-append front back)))
 
     operations_in : (os : Operations) (t : Ty) (p d left : ℕ) → AreNumberedOperations b os → 1 ≤ left → d + operations_need os t left ≤ r.slots → p + length (operations_code os p d) < length r.code → AreIn (operations_code os p d)
-    operations_in NoOperations t p d left numbered some few short = tt
-    operations_in (ThenCompute o a os) t p d left (numbered, rest) some few short =
+    operations_in NoOperations t p d left slice_get some few short = tt
+    operations_in (ThenCompute o a os) t p d left (slice_get, rest) some few short =
         let operand = expression_code a p (suc d) in
         let operator = operator_code o (p + length operand) d in
         let front = operand ++ operator in
@@ -206,44 +205,44 @@ module _ (program : PlainProgram) (r : Routine) (b : Bounds) (locals : b.locals 
         let long = length-append front back in
         let long_front = length-append operand operator in
         append front back
-        (append operand operator (expression_in a p (suc d) numbered (omega (arith, few, some)) (omega (arith, short, long, long_front)))
+        (append operand operator (expression_in a p (suc d) slice_get (omega (arith, few, some)) (omega (arith, short, long, long_front)))
         (operator_in o (p + length operand) d (omega (arith, few, some, operand_positive (type_of a), words_positive t)) (omega (arith, short, long, long_front))))
         (operations_in os t (p + length front) d (words_of t) rest (words_positive t) (omega (arith, few)) (omega (arith, short, long)))
-    operations_in (ThenTest o a os) t p d left (numbered, rest) some few short =
+    operations_in (ThenTest o a os) t p d left (slice_get, rest) some few short =
         let operand = expression_code a (p + 1) d in
         let front = test_code o operand p d in
         let back = operations_code os (p + length front) d in
         let long = length-append front back in
         let long_front = length-append operand (truth_code d) in
         append front back
-        (test_in o operand p d (omega (arith, few, some)) (omega (arith, short, long)) (expression_in a (p + 1) d numbered (omega (arith, few)) (omega (arith, short, long, long_front))))
+        (test_in o operand p d (omega (arith, few, some)) (omega (arith, short, long)) (expression_in a (p + 1) d slice_get (omega (arith, few)) (omega (arith, short, long, long_front))))
         (operations_in os t (p + length front) d (words_of t) rest (words_positive t) (omega (arith, few)) (omega (arith, short, long)))
 
   -- ---- statements
 
   return_in : (v : Option Converted) (p d : ℕ) → IsNumberedReturn b b.result v → d + initial_need v < r.slots → p + length (return_code v p d) < length r.code → AreIn (return_code v p d)
-  return_in None p d numbered few short = (omega (arith, few, results), tt)
-  return_in (Some c) p d numbered few short =
+  return_in None p d slice_get few short = (omega (arith, few, results), tt)
+  return_in (Some c) p d slice_get few short =
       let front = converted_code c p d in
       let back = instructions.Return d ∷ [] in
-      append front back (converted_in c p d (value_of b.result numbered) (omega (arith, few)) (omega (arith, few)) (omega (arith, short, length-append front back))) (omega (arith, few, results), tt)
+      append front back (converted_in c p d (value_of b.result slice_get) (omega (arith, few)) (omega (arith, few)) (omega (arith, short, length-append front back))) (omega (arith, few, results), tt)
     where
       value_of : (result : Option Ty) → IsNumberedReturn b result (Some c) → IsNumberedConverted b c
-      value_of None numbered = absurd numbered
-      value_of (Some t) numbered = numbered
+      value_of None slice_get = absurd slice_get
+      value_of (Some t) slice_get = slice_get
 
   declaration_in : (n : ℕ) (v : Option Converted) (p d : ℕ) → n < b.locals → IsNumberedInitial b v → d + initial_need v < r.slots → p + length (declaration_code n v p d) < length r.code → AreIn (declaration_code n v p d)
-  declaration_in n None p d within numbered few short = tt
-  declaration_in n (Some c) p d within numbered few short =
+  declaration_in n None p d within slice_get few short = tt
+  declaration_in n (Some c) p d within slice_get few short =
       let front = converted_code c p d in
       let back = instructions.Move (slot_of n) d ∷ [] in
-      append front back (converted_in c p d numbered (omega (arith, few)) (omega (arith, few)) (omega (arith, short, length-append front back))) ((omega (arith, within, locals), omega (arith, few)), tt)
+      append front back (converted_in c p d slice_get (omega (arith, few)) (omega (arith, few)) (omega (arith, short, length-append front back))) ((omega (arith, within, locals), omega (arith, few)), tt)
 
   mutual
     statement_in : (s : Statement) (in_loop : Bool) (p loop d : ℕ) → IsNumberedStatement b in_loop s → (in_loop ≡ true → loop + 2 < length r.code) → d + statement_need s < r.slots → p + length (statement_code s p loop d) < length r.code → AreIn (statement_code s p loop d)
-    statement_in (Block n js) in_loop p loop d (few_regions, numbered) around few short = items_in js in_loop p loop d numbered around few short
-    statement_in Empty in_loop p loop d numbered around few short = tt
-    statement_in (Evaluate a) in_loop p loop d numbered around few short = expression_in a p d numbered (omega (arith, few)) short
+    statement_in (Block n js) in_loop p loop d (few_regions, slice_get) around few short = items_in js in_loop p loop d slice_get around few short
+    statement_in Empty in_loop p loop d slice_get around few short = tt
+    statement_in (Evaluate a) in_loop p loop d slice_get around few short = expression_in a p d slice_get (omega (arith, few)) short
     statement_in (If a s t) in_loop p loop d (numbered_a, numbered_s, numbered_t) around few short =
         let condition = expression_code a p d in
         let m = p + length condition in
@@ -275,53 +274,53 @@ module _ (program : PlainProgram) (r : Routine) (b : Bounds) (locals : b.locals 
                 (omega (arith, short, long, long_front), tt),
           ),
         )
-    statement_in (Return v) in_loop p loop d numbered around few short = return_in v p d numbered few short
-    statement_in Break in_loop p loop d numbered around few short = (omega (arith, around numbered), tt)
-    statement_in Continue in_loop p loop d numbered around few short = (omega (arith, around numbered), tt)
+    statement_in (Return v) in_loop p loop d slice_get around few short = return_in v p d slice_get few short
+    statement_in Break in_loop p loop d slice_get around few short = (omega (arith, around slice_get), tt)
+    statement_in Continue in_loop p loop d slice_get around few short = (omega (arith, around slice_get), tt)
 
     items_in : (js : Items) (in_loop : Bool) (p loop d : ℕ) → AreNumberedItems b in_loop js → (in_loop ≡ true → loop + 2 < length r.code) → d + items_need js < r.slots → p + length (items_code js p loop d) < length r.code → AreIn (items_code js p loop d)
-    items_in NoItems in_loop p loop d numbered around few short = tt
-    items_in (MoreItems (Execute s) js) in_loop p loop d (numbered, rest) around few short =
+    items_in NoItems in_loop p loop d slice_get around few short = tt
+    items_in (MoreItems (Execute s) js) in_loop p loop d (slice_get, rest) around few short =
         let front = statement_code s p loop d in
         let back = items_code js (p + length front) loop d in
         let long = length-append front back in
-        append front back (statement_in s in_loop p loop d numbered around (omega (arith, few)) (omega (arith, short, long)))
+        append front back (statement_in s in_loop p loop d slice_get around (omega (arith, few)) (omega (arith, short, long)))
         (items_in js in_loop (p + length front) loop d rest around (omega (arith, few)) (omega (arith, short, long)))
-    items_in (MoreItems (Declare n t v) js) in_loop p loop d (within, numbered, rest) around few short =
+    items_in (MoreItems (Declare n t v) js) in_loop p loop d (within, slice_get, rest) around few short =
         let front = declaration_code n v p d in
         let back = items_code js (p + length front) loop d in
         let long = length-append front back in
-        append front back (declaration_in n v p d within numbered (omega (arith, few)) (omega (arith, short, long)))
+        append front back (declaration_in n v p d within slice_get (omega (arith, few)) (omega (arith, short, long)))
         (items_in js in_loop (p + length front) loop d rest around (omega (arith, few)) (omega (arith, short, long)))
 
 -- ---- functions
 
-signatures_known : (hs : List Function) (n : ℕ) (s : Signature) → numbered (signatures_of hs) n ≡ Some s
+signatures_known : (hs : List Function) (n : ℕ) (s : Signature) → slice_get (signatures_of hs) n ≡ Some s
     → (n < length (map lower_function hs))
-    × ((slice_index_or (map lower_function hs) n no_routine).parameters ≡ count s.parameters)
+    × ((slice_index_or (map lower_function hs) n no_routine).parameters ≡ length s.parameters)
     × ((slice_index_or (map lower_function hs) n no_routine).results ≡ results_of s.result)
 signatures_known [] n s there = absurd (none-some s there)
 signatures_known (h ∷ hs) zero s there =
     let same : signature_of h ≡ s = same_Some (signature_of h) s there in
-    (omega arith, ap (λ (x : Signature). count x.parameters) same, ap (λ (x : Signature). results_of x.result) same)
+    (omega arith, ap (λ (x : Signature). length x.parameters) same, ap (λ (x : Signature). results_of x.result) same)
 signatures_known (h ∷ hs) (suc n) s there =
     let (few, parameters, results) = signatures_known hs n s there in (omega (arith, few), parameters, results)
 
-globals_counted : (gs : List GlobalVariable) → count gs ≡ length (map lower_global gs)
+globals_counted : (gs : List GlobalVariable) → length gs ≡ length (map lower_global gs)
 globals_counted [] = refl
 globals_counted (g ∷ gs) = ap suc (globals_counted gs)
 
 module _ (source : Program) (is_numbered : IsNumberedProgram source) where
-  known_functions : (n : ℕ) (s : Signature) → numbered (signatures_of source.functions) n ≡ Some s → IsKnown (lower_program source) n s
+  known_functions : (n : ℕ) (s : Signature) → slice_get (signatures_of source.functions) n ≡ Some s → IsKnown (lower_program source) n s
   known_functions n s there =
       let (few, parameters, results) = signatures_known source.functions n s there in
       record { there = few; parameters = parameters; results = results }
 
-  function_well : (h : Function) → AreNumberedItems (bounds_of (count source.globals) (signatures_of source.functions) h) false h.body → IsRoutine (lower_program source) (lower_function h)
+  function_well : (h : Function) → AreNumberedItems (bounds_of (length source.globals) (signatures_of source.functions) h) false h.body → IsRoutine (lower_program source) (lower_function h)
   function_well h numbered_body =
       let d = first_temporary h in
       let r = lower_function h in
-      let b = bounds_of (count source.globals) (signatures_of source.functions) h in
+      let b = bounds_of (length source.globals) (signatures_of source.functions) h in
       let body = items_code h.body 0 0 d in
       let end = instructions.Return d ∷ [] in
       let long = length-append body end in
@@ -337,11 +336,11 @@ module _ (source : Program) (is_numbered : IsNumberedProgram source) where
         last = subst (λ (o : Option Instruction). IsSomeAnd o (λ i. leaves i ≡ true)) (sym (last_of body (instructions.Return d))) refl;
       }
 
-  functions_well : (hs : List Function) → AreNumberedFunctions (count source.globals) (signatures_of source.functions) hs → AllByRecursion (IsRoutine (lower_program source)) (map lower_function hs)
+  functions_well : (hs : List Function) → AreNumberedFunctions (length source.globals) (signatures_of source.functions) hs → AllByRecursion (IsRoutine (lower_program source)) (map lower_function hs)
   functions_well [] numbered_all = tt
   functions_well (h ∷ hs) (first, rest) = (function_well h first, functions_well hs rest)
 
-  pub well_formed : count source.globals ≤ most_globals → IsWellFormed (lower_program source)
+  pub well_formed : length source.globals ≤ most_globals → IsWellFormed (lower_program source)
   well_formed few =
       let main = known_functions source.main _ is_numbered.main in
       record {

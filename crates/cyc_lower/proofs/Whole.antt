@@ -6,21 +6,21 @@ use Rattle.std.proofs.lemmas.Option.{same_Some, none-some}
 use Rattle.cyc_words.specs.Ending.{Full}
 use Rattle.cyc_types.specs.TypedTrees.{Constant, Word, GlobalVariable, Function, Program}
 use Rattle.cyc_types.specs.TypedTrees as typed
-use Rattle.cyc_types.specs.TypingRules.{count}
 use Rattle.cyc_types.specs.Numbered.{IsNumberedProgram}
-use Rattle.cyc_plain.specs.Simulation as simulation
-use Rattle.cyc_plain.specs.Simulation.{Failed, NeverFails, Follows, Steps}
+use Rattle.cyc_words.specs.Simulation as simulation
+use Rattle.cyc_words.specs.Simulation.{Failed, NeverFails, Follows, Steps}
 use Rattle.cyc_plain.specs.State as plain
 use Rattle.cyc_plain.specs.State.{Configuration, start_store}
 use Rattle.cyc_plain.specs.Step as plain_step
 use Rattle.cyc_plain.proofs.RunLaws.{lawful}
-use Rattle.cyc_plain.proofs.Simulation.{simulates}
+use Rattle.cyc_words.proofs.Simulation.{simulates}
 use Rattle.cyc_meaning.specs.Values.{Value, Int, Null}
 use Rattle.cyc_meaning.specs.State.{World, Environment, no_locals, constant_value, global_object, first_world, Entry, Main, Focus, Evaluating, Given, Executing, Proceeding, Calling, Entering, Binding, Breaking, Continuing, Returning, Throwing, State, Running, Ended, Dead, Wrong, output_of, input_of, status_of}
 use Rattle.cyc_meaning.specs.Step.{wrong, called, step}
 use Rattle.cyc_meaning.specs.Run.{start, is_within, limited_step}
 use Rattle.cyc_lower.specs.Lowering.{initial_word, lower_global, lower_program}
-use Rattle.cyc_lower.specs.Lowered.{status_in, FollowsSource}
+use Rattle.cyc_lower.specs.Lowered.{FollowsSource}
+use Rattle.cyc_meaning.specs.SourceMachine.{status_in}
 use Rattle.cyc_lower.proofs.Relation.{Is, contents, Related, Matches}
 use Rattle.cyc_lower.proofs.Data.{no_locals_hold}
 use Rattle.cyc_lower.proofs.Accesses.{IsWell}
@@ -42,7 +42,7 @@ globals_start (g ∷ gs) zero v has = first g.value has
     first typed.Null e = subst (λ u. Is u 0) (same_Some Null v e) refl
 globals_start (g ∷ gs) (suc number) v has = globals_start gs number v has
 
-globals_many : (gs : List GlobalVariable) → count gs ≤ length (map global_object gs)
+globals_many : (gs : List GlobalVariable) → length gs ≤ length (map global_object gs)
 globals_many [] = omega arith
 globals_many (g ∷ gs) = omega (arith, globals_many gs)
 

@@ -1,5 +1,5 @@
 -- What the code that emits says of itself: what it adds to the code made so far.
-use Rattle.std.specs.Prelude.{◌≡◌, ℕ, suc, ◌+◌, ◌^◌, ◌≤◌, List, ◌++◌, length, max, Option, Some, option_map, Result, OnOk}
+use Rattle.std.specs.Prelude.{◌≡◌, ℕ, suc, ◌+◌, ◌^◌, ◌≤◌, List, ◌++◌, length, max, Option, Some, option_map, Result, OnOk, slice_get}
 use Rattle.std.specs.declared.alloc.AllocError.{AllocError}
 use Rattle.cyc_syntax.specs.Trees.{Declaration}
 use Rattle.cyc_types.specs.declared.typed.Operation.{Operation}
@@ -9,11 +9,10 @@ use Rattle.cyc_types.specs.declared.typed.Item.TheVariants as item
 use Rattle.cyc_types.specs.Types.{Ty, words_of}
 use Rattle.cyc_types.specs.TypedTrees.{Expression, Arguments, Statement, Function, Program, type_of}
 use Rattle.cyc_types.specs.TypingRules.{IsTypedProgram}
-use Rattle.cyc_types.specs.Numbered.{numbered}
 use Rattle.cyc_types.specs.TypedTreeView.{view_expression, view_converted, view_statement}
 use Rattle.cyc_plain.specs.declared.instruction.Instruction.{Instruction}
 use Rattle.cyc_lower.specs.Lowering.{expression_code, compute_code, test_code, while_code, statement_code, declaration_code}
-use Rattle.cyc_lower.specs.FrameCount.{result_words, operand_words, argument_words, arguments_need, expression_need, initial_need, statement_need, frame_count}
+use Rattle.cyc_meaning.specs.FrameCount.{result_words, operand_words, argument_words, arguments_need, expression_need, initial_need, statement_need, frame_count}
 use Rattle.cyc_lower.specs.declared.emitter.Emitter.{Emitter}
 
 -- this code is added behind what there was
@@ -72,4 +71,4 @@ most_weight = 60000
 
 -- the frame of each function has few enough words
 abbrev pub AreSmall : List Function → Type 0
-AreSmall hs = (n : ℕ) (h : Function) → numbered hs n ≡ Some h → frame_count h ≤ most_words
+AreSmall hs = (n : ℕ) (h : Function) → slice_get hs n ≡ Some h → frame_count h ≤ most_words

@@ -1,5 +1,4 @@
-pub mod FrameCount
-pub mod Lowering
-pub mod Lowered
-pub mod Words
 pub mod Emission
+pub mod Lowered
+pub mod Lowering
+pub mod Words

@@ -1,22 +1,20 @@
 -- What the lowering promises of the plain program that it makes, and which texts it refuses.
-use Rattle.std.specs.Prelude.{◌≡◌, ℕ, ◌*◌, ◌≤◌, ◌⊎◌, List, [], ◌∷◌, Result, Ok, Err, Some}
-use Rattle.cyc_words.specs.declared.fault.Code.TheVariants.{Memory, TooManyFunctions}
+use Rattle.std.specs.Prelude.{◌≡◌, ℕ, ◌*◌, ◌≤◌, ◌⊎◌, List, [], ◌∷◌, Result, Ok, Err, Some, length, slice_get}
+use Rattle.cyc_words.specs.declared.fault.Code.TheVariants.{TooManyFunctions}
 use Rattle.cyc_words.specs.declared.fault.Fault.{Fault}
+use Rattle.cyc_words.specs.Fault.{memory_fault}
 use Rattle.cyc_types.specs.TypedTrees.{Function, Program}
-use Rattle.cyc_types.specs.TypingRules.{count}
-use Rattle.cyc_types.specs.Numbered.{IsNumberedProgram, numbered}
+use Rattle.cyc_types.specs.Numbered.{IsNumberedProgram}
 use Rattle.cyc_types.specs.Weight.{function_weight}
-use Rattle.cyc_plain.specs.Simulation as simulation
-use Rattle.cyc_plain.specs.Simulation.{Status, Machine, NeverFails, Follows}
+use Rattle.cyc_words.specs.Simulation.{NeverFails, Follows}
 use Rattle.cyc_plain.specs.declared.program.Plain.{Plain}
 use Rattle.cyc_plain.specs.Program.{Routine, Program as PlainProgram, program_of, size, most_globals, places_of}
 use Rattle.cyc_plain.specs.Step.{machine}
 use Rattle.cyc_plain.specs.Step as plain
 use Rattle.cyc_plain.specs.WellFormed.{IsWellFormed, HasWords}
-use Rattle.cyc_meaning.specs.State.{State, output_of, status_of}
-use Rattle.cyc_meaning.specs.State as meaning
-use Rattle.cyc_meaning.specs.Run.{start, limited_step}
-use Rattle.cyc_lower.specs.FrameCount.{frame_count}
+use Rattle.cyc_meaning.specs.Run.{start}
+use Rattle.cyc_meaning.specs.SourceMachine.{source_machine}
+use Rattle.cyc_meaning.specs.FrameCount.{frame_count}
 use Rattle.cyc_lower.specs.Lowering.{span_of_place}
 use Rattle.cyc_lower.specs.Words.{IsOfWordsProgram}
 
@@ -28,28 +26,10 @@ most_functions = 4096
 
 -- there are more, and this is the name of the first one too many
 abbrev pub HasTooMany : Program → Fault → Type 0
-HasTooMany p f = (h : Function) × (numbered p.functions most_functions ≡ Some h)
+HasTooMany p f = (h : Function) × (slice_get p.functions most_functions ≡ Some h)
     × (f ≡ record { code = TooManyFunctions; line = h.place.line; column = h.place.column })
 
--- ---- the source as a machine
-
--- a dead access is no end of a program, nor is a state where no case applies
-abbrev pub status_in : meaning.Status → Status
-status_in meaning.GoesOn = simulation.Running
-status_in (meaning.HasEnded ending) = simulation.Ended ending
-status_in meaning.IsDead = simulation.Failed
-status_in meaning.IsWrong = simulation.Failed
-
--- A source program with limits. It has no code, so all its states are in one place.
-abbrev pub source_machine : Program → (pages calls : ℕ) → Machine
-source_machine source pages calls = record {
-  State = State;
-  Place = Unit {0};
-  Step = λ old new. new ≡ limited_step source pages calls old;
-  place = λ s. tt;
-  output = output_of;
-  status = λ s. status_in (status_of s);
-}
+-- ---- what the plain program does
 
 -- Each run of the plain program is one of the source, with these limits and this input, if no run of the source fails. The
 -- steps of the plain program that match one of the source meet no place twice.
@@ -84,18 +64,14 @@ pub record IsLowered (source : Program) (lowered : PlainProgram) : Type 0 where
   pub functions : AreLoweredFunctions source.functions lowered.functions
   pub follows : (pages calls : ℕ) (input : List ℕ) → 1 ≤ pages → 1 ≤ calls → FollowsSource source lowered pages calls input
 
--- What is asked of the typed tree. That of a text has it all: it is numbered, its constants are words, and it has fewer globals
+-- What is asked of the typed tree. That of a text has it all: it is slice_get, its constants are words, and it has fewer globals
 -- than tokens.
 pub record CanBeLowered (source : Program) : Type 0 where
   pub is_numbered : IsNumberedProgram source
   pub of_words : IsOfWordsProgram source
-  pub few_globals : count source.globals ≤ most_globals
-
--- want of memory
-abbrev pub memory_fault : Fault
-memory_fault = record { code = Memory; line = 0; column = 0 }
+  pub few_globals : length source.globals ≤ most_globals
 
 -- The answer: a plain program where there are not too many functions, and else the fault. Memory may be wanting for either.
 abbrev pub IsAnswer : Program → Result Plain Fault → Type 0
-IsAnswer source (Ok lowered) = (count source.functions ≤ most_functions) × IsLowered source (program_of lowered)
+IsAnswer source (Ok lowered) = (length source.functions ≤ most_functions) × IsLowered source (program_of lowered)
 IsAnswer source (Err fault) = (fault ≡ memory_fault) ⊎ HasTooMany source fault

@@ -3,7 +3,7 @@
 --
 -- Here each value is one word.
 use Rattle.std.specs.Prelude.{ℕ, suc, ◌+◌, List, [], ◌∷◌, ◌++◌, length, map, Option, None, Some}
-use Rattle.cyc_syntax.specs.declared.tokens.Span.{Span}
+use Rattle.cyc_words.specs.declared.span.Span.{Span}
 use Rattle.cyc_syntax.specs.Symbols.{Place}
 use Rattle.cyc_types.specs.declared.typed.Kind.{Kind}
 use Rattle.cyc_types.specs.declared.typed.Kind.TheVariants as kinds
@@ -17,7 +17,6 @@ use Rattle.cyc_types.specs.declared.typed.LogicalOperator.{LogicalOperator}
 use Rattle.cyc_types.specs.declared.typed.LogicalOperator.TheVariants as logical
 use Rattle.cyc_types.specs.Types.{Ty}
 use Rattle.cyc_types.specs.TypedTrees.{Lvalue, Local, Global, Expression, Number, Copy, Call, Unary, Binary, Assign, Converted, Convert, Arguments, NoArguments, MoreArguments, Operations, NoOperations, ThenCompute, ThenTest, Statement, Block, Empty, Evaluate, If, While, Return, Break, Continue, Items, NoItems, MoreItems, Execute, Declare, Constant, Word, Null, GlobalVariable, Function, Program}
-use Rattle.cyc_types.specs.TypingRules.{count}
 use Rattle.cyc_types.specs.Numbered.{argument_count}
 use Rattle.cyc_plain.specs.declared.instruction.UnaryOperator.{UnaryOperator as PlainUnary}
 use Rattle.cyc_plain.specs.declared.instruction.UnaryOperator.TheVariants as plain_unary
@@ -27,7 +26,7 @@ use Rattle.cyc_plain.specs.declared.instruction.Instruction.{Instruction}
 use Rattle.cyc_plain.specs.declared.instruction.Instruction.TheVariants as instructions
 use Rattle.cyc_plain.specs.Program.{Routine, Program as PlainProgram}
 use Rattle.cyc_meaning.specs.Operators.{null_exception, division_by_zero}
-use Rattle.cyc_lower.specs.FrameCount.{frame_count, items_need}
+use Rattle.cyc_meaning.specs.FrameCount.{frame_count, items_need}
 
 -- ---- slots and operators
 
@@ -37,7 +36,7 @@ slot_of number = number
 
 -- the first slot behind the locals of a function
 abbrev pub first_temporary : Function → ℕ
-first_temporary h = count h.parameters + count h.locals
+first_temporary h = length h.parameters + length h.locals
 
 abbrev pub unary_operator : UnaryOperator → PlainUnary
 unary_operator unary.Negate = plain_unary.Negate
@@ -231,7 +230,7 @@ span_of_place p = record { line = p.line; column = p.column }
 abbrev pub lower_function : Function → Routine
 lower_function h = record {
   name = span_of_place h.place;
-  parameters = count h.parameters;
+  parameters = length h.parameters;
   results = results_of h.result;
   slots = first_temporary h + items_need h.body + 1;
   frame_count = frame_count h;

@@ -5,7 +5,7 @@ ghost use Rattle.cyc_types.specs.TypedTrees.{type_of};
 ghost use Rattle.cyc_types.specs.TypeView.{view_ty};
 ghost use Rattle.cyc_types.specs.TypedTreeView.{view_expression, view_converted, view_statement, view_function, arguments_of, operations_of, items_of};
 ghost use Rattle.cyc_meaning.specs.Values.{words_of_kind};
-ghost use Rattle.cyc_lower.specs.FrameCount.{result_words, operand_words, converted_words, expression_need, converted_need, operations_need, argument_words, initial_need, statement_need, items_need, words_of_all, frame_count};
+ghost use Rattle.cyc_meaning.specs.FrameCount.{result_words, operand_words, converted_words, expression_need, converted_need, operations_need, argument_words, initial_need, statement_need, items_need, words_of_all, frame_count};
 ghost use Rattle.cyc_lower.specs.Emission.{most_words, call_need, operation_need, item_need};
 
 use cyc_types::Ty;

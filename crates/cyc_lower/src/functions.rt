@@ -3,7 +3,7 @@ ghost use Rattle.std.specs.Prelude.{◌≡◌, ◌≤◌, map, option_map, IfOk}
 ghost use Rattle.cyc_types.specs.TypeView.{view_ty};
 ghost use Rattle.cyc_types.specs.TypedTreeView.{view_constant, view_global, view_function, view_program};
 ghost use Rattle.cyc_plain.specs.Program.{routine_of, program_of};
-ghost use Rattle.cyc_lower.specs.FrameCount.{frame_count};
+ghost use Rattle.cyc_meaning.specs.FrameCount.{frame_count};
 ghost use Rattle.cyc_lower.specs.Lowering.{results_of, initial_word, lower_function, lower_global, lower_program};
 ghost use Rattle.cyc_lower.specs.Emission.{most_words, AreSmall};
 

@@ -4,7 +4,7 @@ ghost use Rattle.cyc_words.specs.declared.fault.Fault.{Fault};
 ghost use Rattle.cyc_types.specs.Weight.{program_weight};
 ghost use Rattle.cyc_types.specs.TypedTreeView.{view_program};
 ghost use Rattle.cyc_plain.specs.Program.{program_of};
-ghost use Rattle.cyc_flow.specs.Code.{memory_fault};
+ghost use Rattle.cyc_words.specs.Fault.{memory_fault};
 ghost use Rattle.cyc_lower.specs.Lowering.{lower_program};
 ghost use Rattle.cyc_lower.specs.Lowered.{HasTooMany, IsLowered, CanBeLowered};
 ghost use Rattle.cyc_lower.specs.Emission.{IsTyped, most_weight};

@@ -5,3 +5,4 @@ pub mod Shape
 pub mod Start
 pub mod State
 pub mod Step
+pub mod WorldMachine

@@ -6,7 +6,7 @@ use Rattle.cyc_types.specs.declared.typed.UnaryOperator.TheVariants as unary
 use Rattle.cyc_meaning.specs.Values.{Int, Null, Thin, Fat, Handle, Key, block_size}
 use Rattle.cyc_meaning.specs.Operators.{Gives, Raises, Misfits, is_zero, binary_result, unary_result}
 use Rattle.cyc_meaning.specs.Conversion.{conversion}
-use Rattle.cyc_meaning.specs.Demand.{region_pages, class_of, blocks_in_page, pages_for, class_pages, demand_of}
+use Rattle.cyc_words.specs.Demand.{region_pages, class_of, blocks_in_page, pages_for, class_pages, demand_of}
 use Rattle.cyc_meaning.specs.State.{Heap, Globals, Stack, Lexical, Dynamic, counted}
 
 -- ---- conversion

@@ -4,7 +4,7 @@ use Rattle.std.specs.Prelude.{if◌then◌else◌, slice_get}
 use Rattle.std.specs.List.{AllByRecursion}
 use Rattle.cyc_types.specs.TypedTrees.{Program}
 use Rattle.cyc_meaning.specs.Values.{Cell}
-use Rattle.cyc_meaning.specs.Demand.{demand_of}
+use Rattle.cyc_words.specs.Demand.{demand_of}
 use Rattle.cyc_meaning.specs.State.{Sort, Heap, Globals, Stack, Lexical, Dynamic, Region, Object, World, Found, Closed, Missing, found_region, region_at, Located, located, is_live, cell_in, cell_at, stack_region, variable, Main, State, Running, Ended, Dead, Wrong, GoesOn, HasEnded, IsDead, IsWrong, status_of, demand, has_pages, counted, first_world}
 use Rattle.cyc_meaning.specs.Step.{step, stepped}
 use Rattle.cyc_meaning.specs.Effects.{Changes, Keeps, Opens, Closes, Makes, Writes, Prints, Reads, RegionStays, ObjectStays, WorldStays, StaysIn}

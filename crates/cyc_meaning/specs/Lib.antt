@@ -1,9 +1,10 @@
 pub mod Conversion
-pub mod Demand
 pub mod Effects
+pub mod FrameCount
 pub mod Nesting
 pub mod Operators
 pub mod Run
+pub mod SourceMachine
 pub mod State
 pub mod Step
 pub mod Values

@@ -11,7 +11,7 @@ use Rattle.cyc_types.specs.Types.{Ty}
 use Rattle.cyc_types.specs.TypedTrees.{Expression, Arguments, Operations, Statement, Items, Constant, Word, GlobalVariable, Function, Program}
 use Rattle.cyc_types.specs.TypedTrees as typed
 use Rattle.cyc_meaning.specs.Values.{Value, Int, Null, Cell, kind_of}
-use Rattle.cyc_meaning.specs.Demand.{demand_of}
+use Rattle.cyc_words.specs.Demand.{demand_of}
 
 -- ---- regions and objects
 

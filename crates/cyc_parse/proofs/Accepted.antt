@@ -2,6 +2,7 @@
 use Rattle.std.proofs.Common.{◌≡◌, ◌⊎◌, ℕ, List, [], ◌∷◌, inl, inr, Result, Ok, Err, refl, sym, ap, subst, ◌∙◌}
 use Rattle.std.specs.Prelude.{IfOk, IfErr, MatchResult}
 use Rattle.std.proofs.lemmas.List.{length-map}
+use Rattle.cyc_words.specs.Fault.{memory_fault}
 use Rattle.cyc_words.specs.declared.fault.Fault.{Fault}
 use Rattle.cyc_syntax.specs.Tokens.{Token}
 use Rattle.cyc_syntax.specs.Symbols.{Symbol, symbols_of}
@@ -10,7 +11,7 @@ use Rattle.cyc_syntax.specs.Grammar.{HasTree, IsWithinLimits}
 use Rattle.cyc_syntax.specs.declared.tree.Tree.{Tree}
 use Rattle.cyc_parse.specs.Parsing.{Outcome, Refusal, and_then, bind}
 use Rattle.cyc_parse.specs.Declarations.{program_of}
-use Rattle.cyc_parse.specs.Answers.{at_end, whole_program, end_of, fault_of, memory_fault, IsAnswer}
+use Rattle.cyc_parse.specs.Answers.{at_end, whole_program, end_of, fault_of, IsAnswer}
 use Rattle.cyc_parse.specs.Acceptance.{declarations_of, IsAccepted, IsRefused, BreaksLimit}
 use Rattle.cyc_parse.proofs.Soundness.{program_of-sound, answered_weight}
 use Rattle.cyc_parse.proofs.Refused.{program_of-refused, within_limits_answered, first_limit_refused}

@@ -1,7 +1,8 @@
 -- How the parser of a text ends: a program that is read whole leaves nothing, and a refusal has its place in the text.
 use Rattle.std.proofs.Common.{◌≡◌, ◌⊎◌, ℕ, List, [], ◌∷◌, map, fold, inl, inr, Ok, Err, sym, ap, ◌∙◌}
+use Rattle.cyc_words.specs.Fault.{memory_fault}
 use Rattle.cyc_words.specs.declared.fault.Fault.{Fault}
-use Rattle.cyc_syntax.specs.declared.tokens.Span.{Span}
+use Rattle.cyc_words.specs.declared.span.Span.{Span}
 use Rattle.cyc_syntax.specs.Names.{with_text}
 use Rattle.cyc_syntax.specs.Place.{IsBehind}
 use Rattle.cyc_syntax.specs.Tokens.{Token}
@@ -10,7 +11,7 @@ use Rattle.cyc_syntax.specs.Symbols.{Place, Symbol, texts_in, symbol_of, symbols
 use Rattle.cyc_syntax.specs.Trees.{Declaration}
 use Rattle.cyc_parse.specs.Parsing.{Outcome, and_then, bind}
 use Rattle.cyc_parse.specs.Declarations.{program_of}
-use Rattle.cyc_parse.specs.Answers.{at_end, whole_program, end_of, fault_of, memory_fault, IsRefused, IsAnswer}
+use Rattle.cyc_parse.specs.Answers.{at_end, whole_program, end_of, fault_of, IsRefused, IsAnswer}
 
 left_of : Outcome (List Declaration) → List Symbol
 left_of (Ok p) = p.1

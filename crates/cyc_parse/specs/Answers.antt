@@ -3,6 +3,7 @@ use Rattle.std.specs.Prelude.{◌≡◌, ◌⊎◌, ℕ, List, [], ◌∷◌, ma
 use Rattle.cyc_words.specs.declared.fault.Code.{Code}
 use Rattle.cyc_words.specs.declared.fault.Code.TheVariants as codes
 use Rattle.cyc_words.specs.declared.fault.Fault.{Fault}
+use Rattle.cyc_words.specs.Fault.{memory_fault}
 use Rattle.cyc_syntax.specs.Names.{distinct_texts}
 use Rattle.cyc_syntax.specs.Tokens.{Token}
 use Rattle.cyc_syntax.specs.TokenRule.{line_behind, column_behind}
@@ -45,10 +46,6 @@ fault_of end refusal = record {
   line = (place_at end refusal.left).line;
   column = (place_at end refusal.left).column;
 }
-
--- want of memory
-abbrev pub memory_fault : Fault
-memory_fault = record { code = codes.Memory; line = 0; column = 0 }
 
 -- The symbols are refused with this fault, in a text that ends at this place.
 pub record IsRefused (end : Place) (symbols : List Symbol) (fault : Fault) : Type 0 where

@@ -9,7 +9,8 @@ ghost use Rattle.cyc_parse.specs.Parsing.{next, sees, opens_regions, advance, si
 
 use crate::stop::{Reason, Stop};
 use crate::symbol::{Symbol, Terminal};
-use cyc_syntax::{Ident, Keyword, Sign, Span};
+use cyc_syntax::{Ident, Keyword, Sign};
+use cyc_words::Span;
 use std::alloc::Global;
 use std::marker::Model;
 

@@ -11,10 +11,8 @@ use crate::cursor::{Parser, refusal};
 use crate::stop::{Reason, Stop};
 use crate::symbol::Terminal;
 use crate::types::MAX_ITEMS;
-use cyc_syntax::{
-    BaseType, Constraint, Constructor, Declaration, GlobalValue, Ident, Keyword, Member,
-    ParameterList, Parameters, Sign, Span, WrittenType,
-};
+use cyc_syntax::{BaseType, Constraint, Constructor, Declaration, GlobalValue, Ident, Keyword, Member, ParameterList, Parameters, Sign, WrittenType};
+use cyc_words::Span;
 
 /// The most levels of nesting.
 const MAX_NESTING: u32 = 200;

@@ -13,9 +13,8 @@ use crate::cursor::{Parser, refusal};
 use crate::stop::{Reason, Stop};
 use crate::symbol::Terminal;
 use crate::types::MAX_ITEMS;
-use cyc_syntax::{
-    BinaryOperator, Expr, Ident, Initial, Keyword, Operation, Postfix, PrefixOperator, Sign, Span,
-};
+use cyc_syntax::{BinaryOperator, Expr, Ident, Initial, Keyword, Operation, Postfix, PrefixOperator, Sign};
+use cyc_words::Span;
 use std::alloc::{AllocError, Global};
 
 /// The levels of the binary operators, of which the last is the loosest.

@@ -13,7 +13,8 @@ use crate::cursor::{Parser, refusal};
 use crate::expressions::LEVELS;
 use crate::stop::{Reason, Stop};
 use crate::symbol::Terminal;
-use cyc_syntax::{Block, Clause, Expr, Ident, Initial, Item, Keyword, Sign, Span, Stmt};
+use cyc_syntax::{Block, Clause, Expr, Ident, Initial, Item, Keyword, Sign, Stmt};
+use cyc_words::Span;
 use std::alloc::{AllocError, Global};
 
 /// What stands between the brackets of a `catch`: its clauses, and the items of its default clause, where there is one.

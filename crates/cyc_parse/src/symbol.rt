@@ -1,6 +1,7 @@
 //! What the parser reads: tokens whose names are numbers.
 
-use cyc_syntax::{Keyword, Name, Sign, Span};
+use cyc_syntax::{Keyword, Name, Sign};
+use cyc_words::Span;
 
 /// A token without its place. A region name and an identifier of one text have one name.
 #[derive(Clone, Copy)]

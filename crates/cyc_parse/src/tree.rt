@@ -1,5 +1,6 @@
 //! From the tokens of a text to its tree, or to its fault.
 ghost use Rattle.std.specs.Prelude.{◌≡◌, ◌≤◌, ◌⊎◌, List, [], ◌∷◌, length, map, fold, All, Ok, IfOk, IfErr, OnOk, MatchResult};
+ghost use Rattle.cyc_words.specs.Fault.{memory_fault};
 ghost use Rattle.cyc_syntax.specs.Names.{with_text};
 ghost use Rattle.cyc_syntax.specs.Tokens.{token_of};
 ghost use Rattle.cyc_syntax.specs.TokenRule.{LiesIn, AreTokensOf, max_bytes};
@@ -9,15 +10,15 @@ ghost use Rattle.cyc_syntax.specs.Trees as pure;
 ghost use Rattle.cyc_syntax.specs.TreeView.{place_of_span, view_declaration};
 ghost use Rattle.cyc_parse.specs.Code.{Gives, view_reason, view_symbol};
 ghost use Rattle.cyc_parse.specs.Parsing.{Refusal};
-ghost use Rattle.cyc_parse.specs.Answers.{whole_program, code_of, end_of, fault_of, memory_fault, IsAnswer};
+ghost use Rattle.cyc_parse.specs.Answers.{whole_program, code_of, end_of, fault_of, IsAnswer};
 ghost use Rattle.cyc_parse.specs.Answers as answers;
 ghost use Rattle.cyc_parse.specs.Acceptance.{declarations_of, IsAccepted, IsRefused, BreaksLimit};
 
 use crate::cursor::Parser;
 use crate::stop::{Reason, Stop};
 use crate::symbol::{Symbol, Terminal};
-use cyc_syntax::{Declaration, Names, Span, Token, TokenKind, Tree, place_behind};
-use cyc_words::{Code, Fault};
+use cyc_syntax::{Declaration, Names, Token, TokenKind, Tree, place_behind};
+use cyc_words::{Code, Fault, Span};
 use std::alloc::{AllocError, Global};
 
 /// The tree of a text that has these tokens, or its fault.

@@ -9,7 +9,8 @@ ghost use Rattle.cyc_parse.specs.Types.{begins_type, mark_at, optional_region, r
 use crate::cursor::{Parser, refusal};
 use crate::stop::{Reason, Stop};
 use crate::symbol::Terminal;
-use cyc_syntax::{BaseType, Ident, Keyword, Pointer, PointerKind, Sign, Span, WrittenType};
+use cyc_syntax::{BaseType, Ident, Keyword, Pointer, PointerKind, Sign, WrittenType};
+use cyc_words::Span;
 
 /// The most items that a list may have.
 pub(crate) const MAX_ITEMS: u32 = 64;

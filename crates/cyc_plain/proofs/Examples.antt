@@ -9,8 +9,8 @@ use Rattle.cyc_plain.specs.declared.instruction.UnaryOperator.{UnaryOperator}
 use Rattle.cyc_plain.specs.declared.instruction.UnaryOperator.TheVariants as unary
 use Rattle.cyc_plain.specs.declared.instruction.BinaryOperator.{BinaryOperator}
 use Rattle.cyc_plain.specs.declared.instruction.BinaryOperator.TheVariants as binary
-use Rattle.cyc_plain.specs.Simulation.{Status, Ended, Failed}
-use Rattle.cyc_plain.specs.Simulation as simulation
+use Rattle.cyc_words.specs.Simulation.{Status, Ended, Failed}
+use Rattle.cyc_words.specs.Simulation as simulation
 use Rattle.cyc_plain.specs.Program.{Routine, Program, size, places_of}
 use Rattle.cyc_plain.specs.State.{State, output_of, input_of, status_of, depth}
 use Rattle.cyc_plain.specs.Step.{run, start}

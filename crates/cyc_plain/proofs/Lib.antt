@@ -1,9 +1,6 @@
 pub mod Examples
-pub mod Matching
 pub mod Placed
-pub mod Places
 pub mod RunLaws
-pub mod Simulation
 pub mod SlotLaws
 pub mod Steps
 pub mod WellFormed

@@ -9,8 +9,8 @@ use Rattle.cyc_plain.specs.declared.instruction.Instruction.{Instruction}
 use Rattle.cyc_plain.specs.declared.instruction.Instruction.TheVariants as instructions
 use Rattle.cyc_plain.specs.declared.instruction.BinaryOperator.{BinaryOperator}
 use Rattle.cyc_plain.specs.Operators.{has_no_result, binary_result}
-use Rattle.cyc_plain.specs.Simulation as simulation
-use Rattle.cyc_plain.specs.Simulation.{Run}
+use Rattle.cyc_words.specs.Simulation as simulation
+use Rattle.cyc_words.specs.Simulation.{Run}
 use Rattle.cyc_plain.specs.Program.{Routine, Program, no_routine, routine_at}
 use Rattle.cyc_plain.specs.State.{Frame, Configuration, State, Running, Ended, Stuck, status_of, place_of}
 use Rattle.cyc_plain.specs.Step.{Choice, gives, returns, performed, executed, instruction_at, step, Step, start, machine}

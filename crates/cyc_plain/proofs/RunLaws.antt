@@ -8,12 +8,12 @@ use Rattle.cyc_words.proofs.PrefixLemmas.{IsPrefix-refl, IsPrefix-append}
 use Rattle.cyc_plain.specs.declared.instruction.Instruction.{Instruction}
 use Rattle.cyc_plain.specs.declared.instruction.Instruction.TheVariants as instructions
 use Rattle.cyc_plain.specs.Operators.{has_no_result, binary_result}
-use Rattle.cyc_plain.specs.Simulation as simulation
-use Rattle.cyc_plain.specs.Simulation.{Status, IsLawful, Run}
+use Rattle.cyc_words.specs.Simulation as simulation
+use Rattle.cyc_words.specs.Simulation.{Status, IsLawful, Run}
 use Rattle.cyc_plain.specs.Program.{Program, routine_at}
 use Rattle.cyc_plain.specs.State.{Frame, Configuration, State, Running, Ended, Stuck, output_of, input_of, status_of, place_of}
 use Rattle.cyc_plain.specs.Step.{Choice, IsAllowed, gives, returns, performed, executed, instruction_at, step, is_within, limited, limited_step, Step, start, machine}
-use Rattle.cyc_plain.proofs.Simulation.{Run-grows, Run-stays}
+use Rattle.cyc_words.proofs.Simulation.{Run-grows, Run-stays}
 
 -- ---- limits
 

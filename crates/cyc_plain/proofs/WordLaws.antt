@@ -13,7 +13,7 @@ use Rattle.cyc_plain.specs.declared.instruction.BinaryOperator.TheVariants as bi
 use Rattle.cyc_plain.specs.declared.instruction.Instruction.{Instruction}
 use Rattle.cyc_plain.specs.declared.instruction.Instruction.TheVariants as instructions
 use Rattle.cyc_plain.specs.Operators.{truth, unary_result, binary_result, has_no_result}
-use Rattle.cyc_plain.specs.Simulation.{Run}
+use Rattle.cyc_words.specs.Simulation.{Run}
 use Rattle.cyc_plain.specs.Program.{Program, CodePlace, no_routine, routine_at}
 use Rattle.cyc_plain.specs.State.{Words, AreWords, put, copied, Frame, Configuration, State, Running, Ended, Stuck, place_of, HoldsWords}
 use Rattle.cyc_plain.specs.Step.{Choice, IsAllowed, gives, returns, performed, executed, instruction_at, step, start, machine}

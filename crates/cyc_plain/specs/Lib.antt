@@ -1,7 +1,6 @@
 pub mod Checking
 pub mod Operators
 pub mod Program
-pub mod Simulation
 pub mod State
 pub mod Step
 pub mod WellFormed

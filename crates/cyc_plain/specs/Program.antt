@@ -2,7 +2,7 @@
 -- it has, and all numbers, are this project's own choice.
 use Rattle.std.specs.Prelude.{ℕ, suc, ◌+◌, List, [], ◌∷◌, ◌++◌, length, map, sum_by, slice_index_or}
 use Rattle.std.specs.List.{range_with_len}
-use Rattle.cyc_syntax.specs.declared.tokens.Span.{Span}
+use Rattle.cyc_words.specs.declared.span.Span.{Span}
 use Rattle.cyc_plain.specs.declared.instruction.Instruction.{Instruction}
 use Rattle.cyc_plain.specs.declared.instruction.Instruction.TheVariants.{Call}
 use Rattle.cyc_plain.specs.declared.program.Function.{Function}

@@ -4,7 +4,7 @@ use Rattle.std.specs.Prelude.{ℕ, suc, ◌+◌, ◌-◌, ◌==◌, ◌&&◌, na
 use Rattle.std.specs.List.{AllByRecursion}
 use Rattle.cyc_words.specs.Word.{IsWord}
 use Rattle.cyc_words.specs.Ending.{Ending}
-use Rattle.cyc_plain.specs.Simulation as simulation
+use Rattle.cyc_words.specs.Simulation as simulation
 use Rattle.cyc_plain.specs.Program.{CodePlace}
 
 -- the word that each slot, or each global, holds

@@ -7,7 +7,7 @@ use Rattle.cyc_plain.specs.declared.instruction.Instruction.{Instruction}
 use Rattle.cyc_plain.specs.declared.instruction.Instruction.TheVariants as instructions
 use Rattle.cyc_plain.specs.Operators.{unary_result, binary_result, has_no_result}
 use Rattle.cyc_plain.specs.Program.{Program, CodePlace, routine_at}
-use Rattle.cyc_plain.specs.Simulation.{Machine}
+use Rattle.cyc_words.specs.Simulation.{Machine}
 use Rattle.cyc_plain.specs.State.{Words, AreWords, put, copied, Frame, Configuration, State, Running, Ended, Stuck, start_store, output_of, input_of, status_of, place_of, demand, depth}
 
 -- What a step may choose freely: the words that are in the slots of a new call before they are written.

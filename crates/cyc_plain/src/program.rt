@@ -1,7 +1,7 @@
 //! A plain program: its functions and its globals.
 
 use crate::instruction::Instruction;
-use cyc_syntax::Span;
+use cyc_words::Span;
 
 /// A function. Its first slots are its parameters.
 #[derive(Drop)]

@@ -1,7 +1,7 @@
 //! Each way to be ill-formed, one at a time.
 
 use super::*;
-use cyc_syntax::Span;
+use cyc_words::Span;
 use std::alloc::{AllocError, Global};
 use std::test::Fail;
 

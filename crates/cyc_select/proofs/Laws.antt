@@ -12,8 +12,8 @@ use Rattle.cyc_machine.specs.declared.event.Event.{Event}
 use Rattle.cyc_machine.specs.declared.event.Event.TheVariants.{Ran, WantsByte, Puts, Ended}
 use Rattle.cyc_machine.specs.declared.phase.Phase.{Phase}
 use Rattle.cyc_machine.specs.declared.phase.Phase.TheVariants as phases
-use Rattle.cyc_plain.specs.Simulation as simulation
-use Rattle.cyc_plain.specs.Simulation.{IsLawful}
+use Rattle.cyc_words.specs.Simulation as simulation
+use Rattle.cyc_words.specs.Simulation.{IsLawful}
 use Rattle.cyc_select.specs.declared.code.Line.{Line}
 use Rattle.cyc_select.specs.declared.code.Line.TheVariants as lines
 use Rattle.cyc_select.specs.Labelled.{Labelled, is_ordinary}

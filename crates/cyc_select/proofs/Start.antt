@@ -12,15 +12,15 @@ use Rattle.cyc_machine.specs.Bounds.{AreAllowed}
 use Rattle.cyc_machine.specs.State.{Memory, Place, InText, InGlobals, InStack, Nowhere, loaded, place_of, data_base, stack_base, stack_end, word_number, globals_length, words_per_call}
 use Rattle.cyc_plain.specs.declared.instruction.Instruction.{Instruction}
 use Rattle.cyc_plain.specs.Program.{Program, CodePlace, routine_at}
-use Rattle.cyc_plain.specs.Simulation as simulation
-use Rattle.cyc_plain.specs.Simulation.{Comes, Follows, IsOnTheWay, NeverFails}
+use Rattle.cyc_words.specs.Simulation as simulation
+use Rattle.cyc_words.specs.Simulation.{Comes, Follows, IsOnTheWay, NeverFails}
 use Rattle.cyc_plain.specs.State as states
 use Rattle.cyc_plain.specs.State.{Words, AreWords, Configuration}
 use Rattle.cyc_plain.specs.Step as steps
 use Rattle.cyc_plain.specs.Step.{instruction_at}
 use Rattle.cyc_plain.specs.WellFormed.{IsWellFormed, HasWords}
-use Rattle.cyc_plain.proofs.Matching.{way_before}
-use Rattle.cyc_plain.proofs.Simulation.{simulates}
+use Rattle.cyc_words.proofs.Matching.{way_before}
+use Rattle.cyc_words.proofs.Simulation.{simulates}
 use Rattle.cyc_frame.specs.Layout.{frame_at, slot_word}
 use Rattle.cyc_frame.specs.declared.frame.Frame.{Frame}
 use Rattle.cyc_select.specs.declared.code.Line.{Line}

@@ -11,8 +11,8 @@ use Rattle.cyc_isa.specs.declared.instr.MultiplyDivideOp.TheVariants.{Multiply, 
 use Rattle.cyc_isa.specs.declared.instr.MoveFromOp.TheVariants.{High, Low}
 use Rattle.cyc_isa.specs.declared.instr.BranchOp.{BranchOp}
 use Rattle.cyc_isa.specs.declared.operand.Register.{Register}
-use Rattle.cyc_plain.specs.Simulation as simulation
-use Rattle.cyc_plain.specs.Simulation.{Machine, Comes, IsDistinct}
+use Rattle.cyc_words.specs.Simulation as simulation
+use Rattle.cyc_words.specs.Simulation.{Machine, Comes, IsDistinct}
 use Rattle.cyc_plain.specs.State.{Words, AreWords, put}
 use Rattle.cyc_plain.proofs.SlotLaws.{put-same, put-other}
 use Rattle.cyc_plain.proofs.Placed.{holds_at}

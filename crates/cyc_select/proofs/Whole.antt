@@ -7,7 +7,7 @@ use Rattle.std.proofs.lemmas.List.FromFn.{length-range_with_len}
 use Rattle.cyc_plain.specs.declared.instruction.Instruction.{Instruction}
 use Rattle.cyc_plain.specs.Program.{Routine, Program, CodePlace, no_routine, routine_at, places_from, places_of, size}
 use Rattle.cyc_plain.specs.WellFormed.{IsWellFormed, HasWords}
-use Rattle.cyc_plain.proofs.Places.{sum_by-flat_map}
+use Rattle.cyc_words.proofs.Prices.{sum_by-flat_map}
 use Rattle.cyc_frame.specs.declared.frame.Frame.{Frame}
 use Rattle.cyc_select.specs.Labelled.{Labelled, words_of, all_words}
 use Rattle.cyc_select.specs.Selected.{IsCodeOf, words_at, words_for_each, most_start_words}

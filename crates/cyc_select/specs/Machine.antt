@@ -13,7 +13,7 @@ use Rattle.cyc_machine.specs.Run.{World, told, ending_of}
 use Rattle.cyc_machine.specs.declared.event.Event.{Event}
 use Rattle.cyc_machine.specs.declared.phase.Phase.{Phase}
 use Rattle.cyc_machine.specs.declared.phase.Phase.TheVariants as phases
-use Rattle.cyc_plain.specs.Simulation as simulation
+use Rattle.cyc_words.specs.Simulation as simulation
 use Rattle.cyc_select.specs.Labelled.{Labelled, is_ordinary}
 use Rattle.cyc_select.specs.declared.code.Line.{Line}
 use Rattle.cyc_select.specs.declared.code.Line.TheVariants as lines

@@ -2,7 +2,8 @@
 ghost use Rattle.std.specs.Prelude.{◌≡◌, ℕ, ◌+◌, ◌<◌, ◌≤◌, ◌++◌, length, sum_by, IfOk, IfErr, OnOk};
 ghost use Rattle.cyc_plain.specs.Program.{program_of, routine_at, size};
 ghost use Rattle.cyc_plain.specs.WellFormed.{IsWellFormed, HasWords};
-ghost use Rattle.cyc_frame.specs.Layout.{AreSmall, IsFrame, frames_of, frame_at, memory_fault, most_words};
+ghost use Rattle.cyc_frame.specs.Layout.{AreSmall, IsFrame, frames_of, frame_at, most_words};
+ghost use Rattle.cyc_words.specs.Fault.{memory_fault};
 ghost use Rattle.cyc_select.specs.Labelled.{labelled_of};
 ghost use Rattle.cyc_select.specs.Selected.{IsCodeOf};
 ghost use Rattle.cyc_select.specs.Selection.{code_lines, function_lines, function_line, start_count, select_of};

@@ -3,7 +3,7 @@ use Rattle.std.proofs.Common.{◌≡◌, List, [], ◌∷◌, map, Option, Some,
 use Rattle.std.specs.declared.vec.Vec.{Vec}
 use Rattle.std.specs.declared.boxed.Box.{Box}
 use Rattle.std.specs.declared.alloc.Global.{Global as Heap}
-use Rattle.cyc_syntax.specs.declared.tokens.Span.{Span}
+use Rattle.cyc_words.specs.declared.span.Span.{Span}
 use Rattle.cyc_syntax.specs.declared.tree.Ident.{Ident}
 use Rattle.cyc_syntax.specs.declared.tree.Expr.{Expr, Row_of-Expr, end_of-Expr, more_of-Expr, items-the_row-Expr, Row_of-Postfix, end_of-Postfix, more_of-Postfix, items-the_row-Postfix, Row_of-Operation, end_of-Operation, more_of-Operation, items-the_row-Operation}
 use Rattle.cyc_syntax.specs.declared.tree.Expr.TheBlock.{hidden-the_row-Expr-0, items_hidden-the_row-Expr-0, hidden-the_row-Postfix-1, items_hidden-the_row-Postfix-1, hidden-the_row-Operation-2, items_hidden-the_row-Operation-2}

@@ -1,6 +1,6 @@
 -- Where a place of the code stands.
 use Rattle.std.specs.Prelude.{◌≡◌, ℕ, List}
-use Rattle.cyc_syntax.specs.declared.tokens.Span.{Span}
+use Rattle.cyc_words.specs.declared.span.Span.{Span}
 use Rattle.cyc_syntax.specs.TokenRule.{line_behind, column_behind}
 
 -- the place just behind these bytes

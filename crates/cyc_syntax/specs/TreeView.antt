@@ -3,7 +3,7 @@ use Rattle.std.specs.Prelude.{ℕ, List, [], ◌∷◌, map, Option, Some, None,
 use Rattle.std.specs.declared.vec.Vec.{Vec}
 use Rattle.std.specs.declared.alloc.Global.{Global as Heap}
 use Rattle.cyc_syntax.specs.declared.interning.Name.{Name}
-use Rattle.cyc_syntax.specs.declared.tokens.Span.{Span}
+use Rattle.cyc_words.specs.declared.span.Span.{Span}
 use Rattle.cyc_syntax.specs.declared.tree.Ident.{Ident}
 use Rattle.cyc_syntax.specs.declared.tree.Pointer.{Pointer as PointerCode}
 use Rattle.cyc_syntax.specs.declared.tree.BaseType.{BaseType as BaseTypeCode}

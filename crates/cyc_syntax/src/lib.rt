@@ -4,7 +4,7 @@
 
 pub use interning::{Name, Names};
 pub use place::place_behind;
-pub use tokens::{Keyword, Sign, Span, Token, TokenKind};
+pub use tokens::{Keyword, Sign, Token, TokenKind};
 pub use tree::{
     BaseType, BinaryOperator, Block, Clause, Constraint, Constructor, Declaration, Expr,
     GlobalValue, Ident, Initial, Item, Member, Operation, ParameterList, Parameters, Pointer,

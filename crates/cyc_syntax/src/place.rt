@@ -2,7 +2,7 @@
 ghost use Rattle.std.specs.Prelude.{◌≡◌, ℕ, ◌+◌, ◌^◌, ◌<◌, List, ◌++◌, length};
 ghost use Rattle.cyc_syntax.specs.Place.{IsBehind};
 
-use crate::Span;
+use cyc_words::Span;
 
 /// The place behind some bytes, from the place before them.
 pub fn place_behind(place: Span, bytes: &[u8]) -> Span

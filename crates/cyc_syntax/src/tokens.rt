@@ -1,11 +1,6 @@
 //! Tokens, and the place of each in its text.
 
-/// A place in a text: line and column from 1. A column counts bytes, and only a line feed ends a line.
-#[derive(Clone, Copy, Debug, PartialEq, Eq)]
-pub struct Span {
-    pub line: u32,
-    pub column: u32,
-}
+use cyc_words::Span;
 
 /// A token. It does not hold its text: it is spelled by the bytes `start..end` of the text that it was read from.
 #[derive(Clone, Copy, Debug)]

@@ -4,7 +4,8 @@
 //! the nesting of its text times the levels of the grammar, whatever the number of its tokens. Brackets are kept. A node
 //! keeps the place of each token that a refusal may name; the place of the first token of an expression is that of its leftmost part.
 
-use crate::{Name, Names, Span};
+use crate::{Name, Names};
+use cyc_words::Span;
 
 /// A name where it stands: an identifier, or a region name without its backquote.
 #[derive(Clone, Copy, Debug, PartialEq, Eq)]

@@ -20,11 +20,12 @@ use Rattle.cyc_machine.specs.Run.{World}
 use Rattle.cyc_machine.specs.Start.{start_world}
 use Rattle.cyc_types.specs.TypedTrees.{Program}
 use Rattle.cyc_meaning.specs.Run.{start}
-use Rattle.cyc_plain.specs.Simulation.{Preserves}
+use Rattle.cyc_words.specs.Simulation.{Preserves}
 use Rattle.cyc_plain.specs.declared.instruction.Instruction.{Instruction}
 use Rattle.cyc_plain.specs.Program.{Routine, Program as PlainProgram, CodePlace, places_from, places_of}
 use Rattle.cyc_plain.specs.WellFormed.{leaves, IsRoutine, IsWellFormed}
-use Rattle.cyc_lower.specs.Lowered.{source_machine, IsLowered}
+use Rattle.cyc_lower.specs.Lowered.{IsLowered}
+use Rattle.cyc_meaning.specs.SourceMachine.{source_machine}
 use Rattle.cyc_select.specs.Labelled.{Labelled}
 use Rattle.cyc_select.specs.Selected.{IsCodeOf}
 use Rattle.cyc_select.specs.declared.code.Line.{Line}
@@ -32,7 +33,8 @@ use Rattle.cyc_select.specs.declared.code.Line.TheVariants as lines
 use Rattle.cyc_asm.specs.Layout.{is_near}
 use Rattle.cyc_asm.specs.Text.{text_of, IsAt, inverse_of, return_register, StandsBranch, Stands, IsTextOf}
 use Rattle.cyc_asm.specs.Machine as assembled
-use Rattle.cyc_asm.specs.Machine.{world_machine, Runs}
+use Rattle.cyc_asm.specs.Machine.{Runs}
+use Rattle.cyc_machine.specs.WorldMachine.{world_machine}
 use Rattle.cyc_system.specs.FullPreservation.{text_words, DoesTheSame, IsImageOf}
 use Rattle.cyc_system.specs.ProgramImage.{program_image}
 use Rattle.cyc_system.proofs.Composition.{chain_preserves}

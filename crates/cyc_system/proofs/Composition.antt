@@ -11,20 +11,22 @@ use Rattle.cyc_types.specs.TypedTrees.{Program}
 use Rattle.cyc_meaning.specs.State as meaning
 use Rattle.cyc_meaning.specs.Run.{start, limited_step}
 use Rattle.cyc_meaning.proofs.RunLaws.{limited_step_goes_on, over_limited}
-use Rattle.cyc_plain.specs.Simulation.{Machine, IsLawful, NeverFails, Follows, Preserves}
-use Rattle.cyc_plain.specs.Simulation as simulation
-use Rattle.cyc_plain.proofs.Simulation.{in_a_row, follows-never_fails, follows-preserves}
+use Rattle.cyc_words.specs.Simulation.{Machine, IsLawful, NeverFails, Follows, Preserves}
+use Rattle.cyc_words.specs.Simulation as simulation
+use Rattle.cyc_words.proofs.Simulation.{in_a_row, follows-never_fails, follows-preserves}
 use Rattle.cyc_plain.proofs.RunLaws.{lawful}
 use Rattle.cyc_plain.specs.Program.{Program as PlainProgram, CodePlace, places_of}
 use Rattle.cyc_plain.specs.Step as plain
-use Rattle.cyc_lower.specs.Lowered.{source_machine, status_in, FollowsSource}
+use Rattle.cyc_lower.specs.Lowered.{FollowsSource}
+use Rattle.cyc_meaning.specs.SourceMachine.{source_machine, status_in}
 use Rattle.cyc_select.specs.Labelled.{Labelled}
 use Rattle.cyc_select.specs.Machine as labelled
 use Rattle.cyc_select.specs.Selected.{IsCodeOf}
 use Rattle.cyc_asm.specs.Text.{IsTextOf, stretch, own}
 use Rattle.cyc_asm.proofs.Stretches.{length-stretch}
 use Rattle.cyc_asm.specs.Machine as words
-use Rattle.cyc_asm.specs.Machine.{world_machine, Runs}
+use Rattle.cyc_asm.specs.Machine.{Runs}
+use Rattle.cyc_machine.specs.WorldMachine.{world_machine}
 
 -- ---- the source as a machine
 

@@ -9,7 +9,7 @@ use Rattle.cyc_syntax.specs.Trees.{Declaration}
 use Rattle.cyc_syntax.specs.Grammar as grammar
 use Rattle.cyc_syntax.specs.declared.tree.Tree.{Tree}
 use Rattle.cyc_lex.specs.Refusals as lexer
-use Rattle.cyc_lex.specs.Refusals.{memory_fault}
+use Rattle.cyc_words.specs.Fault.{memory_fault}
 use Rattle.cyc_parse.specs.Parsing.{Refusal}
 use Rattle.cyc_parse.specs.Acceptance as parser
 use Rattle.cyc_parse.specs.Acceptance.{declarations_of}

@@ -15,11 +15,11 @@ use Rattle.cyc_machine.specs.declared.phase.Phase.TheVariants as phases
 use Rattle.cyc_types.specs.TypedTrees.{Program}
 use Rattle.cyc_meaning.specs.State as meaning
 use Rattle.cyc_meaning.specs.Run.{start, limited_steps}
-use Rattle.cyc_plain.specs.Simulation as simulation
-use Rattle.cyc_plain.specs.Simulation.{NeverFails, Preserves}
-use Rattle.cyc_lower.specs.Lowered.{source_machine, status_in}
+use Rattle.cyc_words.specs.Simulation as simulation
+use Rattle.cyc_words.specs.Simulation.{NeverFails, Preserves}
+use Rattle.cyc_meaning.specs.SourceMachine.{source_machine, status_in}
 use Rattle.cyc_asm.specs.Machine as words
-use Rattle.cyc_asm.specs.Machine.{world_machine, status_at}
+use Rattle.cyc_machine.specs.WorldMachine.{world_machine, status_at, status_in}
 use Rattle.cyc_system.specs.FullPreservation.{text_words, limited, NeverGoesWrong, DoesTheSame, IsAhead, IsBehind, AreAlike}
 
 -- ---- the runs
@@ -51,7 +51,7 @@ closed : (found : Option Ending) (ending : Ending) → status_at found ≡ simul
 closed (Some e) ending ended = cc
 closed None ending ended = cc
 
-end_shown : (phase : Phase) (ending : Ending) → words.status_in phase ≡ simulation.Ended ending → (end : End) × (end_in phase ≡ Some end) × (ending_of end ≡ Some ending)
+end_shown : (phase : Phase) (ending : Ending) → status_in phase ≡ simulation.Ended ending → (end : End) × (end_in phase ≡ Some end) × (ending_of end ≡ Some ending)
 end_shown phases.Running ending ended = absurd (let e : simulation.Running ≡ simulation.Ended ending = ended in cc)
 end_shown phases.Waiting ending ended = absurd (let e : simulation.Running ≡ simulation.Ended ending = ended in cc)
 end_shown (phases.Over end) ending ended = (end, refl, closed (ending_of end) ending ended)
@@ -60,14 +60,14 @@ open_or_ended : (found : Option Ending) → (status_at found ≡ simulation.Fail
 open_or_ended (Some ending) fine = (ending, refl, refl)
 open_or_ended None fine = absurd (fine refl)
 
-ending_shown : (phase : Phase) (end : End) → end_in phase ≡ Some end → (words.status_in phase ≡ simulation.Failed → ⊥) → (ending : Ending) × (ending_of end ≡ Some ending) × (words.status_in phase ≡ simulation.Ended ending)
+ending_shown : (phase : Phase) (end : End) → end_in phase ≡ Some end → (status_in phase ≡ simulation.Failed → ⊥) → (ending : Ending) × (ending_of end ≡ Some ending) × (status_in phase ≡ simulation.Ended ending)
 ending_shown phases.Running end over fine = absurd (let e : None ≡ Some end = over in cc)
 ending_shown phases.Waiting end over fine = absurd (let e : None ≡ Some end = over in cc)
 ending_shown (phases.Over last) end over fine =
     let same : last ≡ end = cc in
     subst (λ e. (ending : Ending) × (ending_of e ≡ Some ending) × (status_at (ending_of last) ≡ simulation.Ended ending)) same (open_or_ended (ending_of last) fine)
 
-trap_fails : (phase : Phase) (cause : Cause) → end_in phase ≡ Some (Trap cause) → words.status_in phase ≡ simulation.Failed
+trap_fails : (phase : Phase) (cause : Cause) → end_in phase ≡ Some (Trap cause) → status_in phase ≡ simulation.Failed
 trap_fails phases.Running cause over = absurd (let e : None ≡ Some (Trap cause) = over in cc)
 trap_fails phases.Waiting cause over = absurd (let e : None ≡ Some (Trap cause) = over in cc)
 trap_fails (phases.Over end) cause over = ap (λ (e : End). status_at (ending_of e)) (let same : end ≡ Trap cause = cc in same)
@@ -95,7 +95,7 @@ module _ (p : Program) (image : ImageContents) (limits : Bounds) (input : List �
             (end_shown w.machine.phase ending over, output),
       )
 
-  fine : (m : ℕ) (w : World) → Run m (start_world image limits input) w → words.status_in w.machine.phase ≡ simulation.Failed → ⊥
+  fine : (m : ℕ) (w : World) → Run m (start_world image limits input) w → status_in w.machine.phase ≡ simulation.Failed → ⊥
   fine m w run failed = does.never_fails m w (world_run m (start_world image limits input) w run) failed
 
   behind : (m : ℕ) (w : World) → Run m (start_world image limits input) w → (k : ℕ) × IsBehind w (limited p limits input k)

@@ -1,12 +1,10 @@
 -- What is refused behind the front half, said of the text's program.
-use Rattle.std.proofs.Common.{◌≡◌, ◌⊎◌, inl, inr, ℕ, zero, suc, ◌≤◌, ◌<◌, List, [], ◌∷◌, Some, Result, Ok, Err, refl, arith}
+use Rattle.std.proofs.Common.{◌≡◌, ◌⊎◌, inl, inr, ℕ, zero, suc, ◌≤◌, ◌<◌, List, [], ◌∷◌, Some, Result, Ok, Err, refl, arith, length, slice_get}
 use Rattle.std.specs.Prelude.{IfOk, MatchResult}
 use Rattle.std.proofs.lemmas.Bool.{cases_lt}
 use Rattle.cyc_words.specs.declared.fault.Fault.{Fault}
-use Rattle.cyc_lex.specs.Refusals.{memory_fault}
+use Rattle.cyc_words.specs.Fault.{memory_fault}
 use Rattle.cyc_types.specs.TypedTrees.{Function, Program}
-use Rattle.cyc_types.specs.TypingRules.{count}
-use Rattle.cyc_types.specs.Numbered.{numbered}
 use Rattle.cyc_plain.specs.Program.{Program as PlainProgram}
 use Rattle.cyc_lower.specs.Lowered.{most_functions, HasTooMany, IsLowered}
 use Rattle.cyc_frame.specs.Layout as frames
@@ -14,14 +12,14 @@ use Rattle.cyc_system.specs.Front.{IsAcceptedText, IsRefusedText, HasFault}
 use Rattle.cyc_system.specs.Compiled.{IsTooLarge, Refuses, HasFaultAtLast}
 use Rattle.cyc_system.proofs.Sizes.{large_above, large_below}
 
-numbered_within : {X : Type 0} (xs : List X) (n : ℕ) → n < count xs → (x : X) × (numbered xs n ≡ Some x)
+numbered_within : {X : Type 0} (xs : List X) (n : ℕ) → n < length xs → (x : X) × (slice_get xs n ≡ Some x)
 numbered_within [] n below = absurd (omega arith)
 numbered_within (x ∷ xs) zero below = (x, refl)
 numbered_within (x ∷ xs) (suc n) below = numbered_within xs n (omega arith)
 
 -- where no function is one too many there are not too many
-pub few_functions : (p : Program) → ((f : Fault) → HasTooMany p f → ⊥) → count p.functions ≤ most_functions
-few_functions p none = elim (cases_lt most_functions (count p.functions)) [
+pub few_functions : (p : Program) → ((f : Fault) → HasTooMany p f → ⊥) → length p.functions ≤ most_functions
+few_functions p none = elim (cases_lt most_functions (length p.functions)) [
   | inl more ↦ let (h, there) = numbered_within p.functions most_functions more in absurd (none _ (h, there, refl))
   | inr few ↦ few
 ]

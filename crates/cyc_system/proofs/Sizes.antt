@@ -1,13 +1,11 @@
 -- A program is too large exactly where its plain program has a frame that is, function by function.
-use Rattle.std.proofs.Common.{◌≡◌, ◌⊎◌, inl, inr, ℕ, zero, suc, ◌+◌, ◌*◌, ◌≤◌, ◌<◌, List, [], ◌∷◌, length, None, Some, refl, sym, ap, subst, ◌∙◌, arith}
+use Rattle.std.proofs.Common.{◌≡◌, ◌⊎◌, inl, inr, ℕ, zero, suc, ◌+◌, ◌*◌, ◌≤◌, ◌<◌, List, [], ◌∷◌, length, None, Some, refl, sym, ap, subst, ◌∙◌, arith, slice_get}
 use Rattle.std.specs.Prelude.{slice_index_or}
 use Rattle.cyc_words.specs.declared.fault.Fault.{Fault}
 use Rattle.cyc_words.specs.declared.fault.Code.TheVariants.{FrameTooLarge}
 use Rattle.cyc_types.specs.TypedTrees.{Function, Program}
-use Rattle.cyc_types.specs.TypingRules.{count}
-use Rattle.cyc_types.specs.Numbered.{numbered}
 use Rattle.cyc_plain.specs.Program.{Routine, Program as PlainProgram, no_routine, routine_at}
-use Rattle.cyc_lower.specs.FrameCount.{frame_count}
+use Rattle.cyc_meaning.specs.FrameCount.{frame_count}
 use Rattle.cyc_lower.specs.Lowered.{most_functions, IsLoweredFunction, AreLoweredFunctions, IsLowered}
 use Rattle.cyc_frame.specs.Layout.{most_words, AreSmall}
 use Rattle.cyc_frame.specs.Layout as frames
@@ -15,14 +13,14 @@ use Rattle.cyc_system.specs.Compiled.{HasLargeFrame, IsTooLarge, IsSmallEnough}
 
 -- each function of the source has its own below, and the other way round
 source_at : (hs : List Function) (rs : List Routine) (k : ℕ) → AreLoweredFunctions hs rs → k < length rs
-    → (h : Function) × (numbered hs k ≡ Some h) × IsLoweredFunction h (slice_index_or rs k no_routine)
+    → (h : Function) × (slice_get hs k ≡ Some h) × IsLoweredFunction h (slice_index_or rs k no_routine)
 source_at [] [] k are below = absurd (omega arith)
 source_at [] (r ∷ rs) k are below = absurd are
 source_at (h ∷ hs) [] k are below = absurd are
 source_at (h ∷ hs) (r ∷ rs) zero (is, are) below = (h, refl, is)
 source_at (h ∷ hs) (r ∷ rs) (suc k) (is, are) below = source_at hs rs k are (omega arith)
 
-lowered_at : (hs : List Function) (rs : List Routine) (k : ℕ) (h : Function) → AreLoweredFunctions hs rs → numbered hs k ≡ Some h
+lowered_at : (hs : List Function) (rs : List Routine) (k : ℕ) (h : Function) → AreLoweredFunctions hs rs → slice_get hs k ≡ Some h
     → (k < length rs) × IsLoweredFunction h (slice_index_or rs k no_routine)
 lowered_at [] [] k h are there = absurd (let e : None ≡ Some h = there in cc)
 lowered_at [] (r ∷ rs) k h are there = absurd are

@@ -1,13 +1,11 @@
 -- Which texts are compiled, and why another is refused: the front half of the compiler refuses it, or its program is too
 -- large for what stands behind. The two limits are this project's own choice.
-use Rattle.std.specs.Prelude.{◌≡◌, ◌⊎◌, ℕ, ◌≤◌, ◌<◌, List, Some}
+use Rattle.std.specs.Prelude.{◌≡◌, ◌⊎◌, ℕ, ◌≤◌, ◌<◌, List, Some, length, slice_get}
 use Rattle.cyc_words.specs.declared.fault.Fault.{Fault}
 use Rattle.cyc_words.specs.declared.fault.Code.TheVariants.{FrameTooLarge}
-use Rattle.cyc_lex.specs.Refusals.{memory_fault}
+use Rattle.cyc_words.specs.Fault.{memory_fault}
 use Rattle.cyc_types.specs.TypedTrees.{Function, Program}
-use Rattle.cyc_types.specs.TypingRules.{count}
-use Rattle.cyc_types.specs.Numbered.{numbered}
-use Rattle.cyc_lower.specs.FrameCount.{frame_count}
+use Rattle.cyc_meaning.specs.FrameCount.{frame_count}
 use Rattle.cyc_lower.specs.Lowered.{most_functions, HasTooMany}
 use Rattle.cyc_frame.specs.Layout.{most_words}
 use Rattle.cyc_system.specs.Front.{IsAcceptedText, IsRefusedText, HasFault}
@@ -16,19 +14,19 @@ use Rattle.cyc_system.specs.Front.{IsAcceptedText, IsRefusedText, HasFault}
 pub record HasLargeFrame (p : Program) (f : Fault) : Type 0 where
   pub number : ℕ
   pub function : Function
-  pub is : numbered p.functions number ≡ Some function
+  pub is : slice_get p.functions number ≡ Some function
   pub large : most_words < frame_count function
-  pub first : (k : ℕ) (g : Function) → k < number → numbered p.functions k ≡ Some g → frame_count g ≤ most_words
+  pub first : (k : ℕ) (g : Function) → k < number → slice_get p.functions k ≡ Some g → frame_count g ≤ most_words
   pub fault : f ≡ record { code = FrameTooLarge; line = function.place.line; column = function.place.column }
 
 -- a program is too large, and this is its fault: the number of functions comes before their frames
 abbrev pub IsTooLarge : Program → Fault → Type 0
-IsTooLarge p f = HasTooMany p f ⊎ ((count p.functions ≤ most_functions) × HasLargeFrame p f)
+IsTooLarge p f = HasTooMany p f ⊎ ((length p.functions ≤ most_functions) × HasLargeFrame p f)
 
 -- it is not too large
 pub record IsSmallEnough (p : Program) : Type 0 where
-  pub functions : count p.functions ≤ most_functions
-  pub frames : (k : ℕ) (g : Function) → numbered p.functions k ≡ Some g → frame_count g ≤ most_words
+  pub functions : length p.functions ≤ most_functions
+  pub frames : (k : ℕ) (g : Function) → slice_get p.functions k ≡ Some g → frame_count g ≤ most_words
 
 -- the program of the text is too large
 abbrev pub IsTooLargeText : List ℕ → Fault → Type 0

@@ -19,9 +19,9 @@ use Rattle.cyc_types.specs.TypedTrees.{Program}
 use Rattle.cyc_meaning.specs.State as meaning
 use Rattle.cyc_meaning.specs.State.{State, Status, HasEnded, IsDead, IsWrong}
 use Rattle.cyc_meaning.specs.Run.{start, limited_run}
-use Rattle.cyc_plain.specs.Simulation.{Preserves}
-use Rattle.cyc_lower.specs.Lowered.{source_machine}
-use Rattle.cyc_asm.specs.Machine.{world_machine}
+use Rattle.cyc_words.specs.Simulation.{Preserves}
+use Rattle.cyc_meaning.specs.SourceMachine.{source_machine}
+use Rattle.cyc_machine.specs.WorldMachine.{world_machine}
 
 -- how many words of text an image has
 abbrev pub text_words : ImageContents → ℕ

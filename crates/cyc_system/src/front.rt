@@ -1,6 +1,6 @@
 //! The front half of the compiler: from the bytes of a text to its typed tree, or to its fault.
 ghost use Rattle.std.specs.Prelude.{◌≡◌, ◌⊎◌, IfOk, IfErr, MatchResult};
-ghost use Rattle.cyc_lex.specs.Refusals.{memory_fault};
+ghost use Rattle.cyc_words.specs.Fault.{memory_fault};
 ghost use Rattle.cyc_types.specs.TypedTrees.{Program};
 ghost use Rattle.cyc_types.specs.TypedTreeView.{view_program};
 ghost use Rattle.cyc_system.specs.Front.{IsAcceptedText, IsRefusedText, HasFault};

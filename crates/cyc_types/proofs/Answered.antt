@@ -1,5 +1,5 @@
 -- What is derived, and what is refused, the function that checks answers.
-use Rattle.std.specs.Prelude.{nat_eq}
+use Rattle.std.specs.Prelude.{nat_eq, length}
 use Rattle.std.proofs.Common.{◌≡◌, ◌≢◌, ℕ, suc, Bool, true, false, cond, not, ◌⊎◌, List, [], ◌∷◌, Option, Some, None, Ok, Err, inl, inr, refl, sym, ap, subst, ◌∙◌, eq-eqb}
 use Rattle.std.proofs.lemmas.Bool.{eqb-true}
 use Rattle.cyc_words.specs.declared.fault.Code.TheVariants as codes
@@ -13,7 +13,7 @@ use Rattle.cyc_types.specs.TypedTrees.{Lvalue, Converted, Convert, type_of}
 use Rattle.cyc_types.specs.TypedTrees as typed
 use Rattle.cyc_types.specs.Scopes.{Signature, Meaning, Unknown, Routine, Declared, Scope, meaning_of, is_declared, behind, in_block, in_body, with_local}
 use Rattle.cyc_types.specs.Scopes as scopes
-use Rattle.cyc_types.specs.TypingRules.{type_written, Converts, IsConverted, name_in, IsRead, IsPlace, IsTarget, ArePassed, IsCalled, IsTyped, AreTyped, IsChain, IsInitial, IsReturned, IsTypedStatement, IsTypedBody, AreTypedItems, members_of, AreDistinct, IsHead, with_names, AreHeads, main_text, declared, known_before, count, body_scope, AreFunctions, IsTypedProgram, globals_of, function_number}
+use Rattle.cyc_types.specs.TypingRules.{type_written, Converts, IsConverted, name_in, IsRead, IsPlace, IsTarget, ArePassed, IsCalled, IsTyped, AreTyped, IsChain, IsInitial, IsReturned, IsTypedStatement, IsTypedBody, AreTypedItems, members_of, AreDistinct, IsHead, with_names, AreHeads, main_text, declared, known_before, body_scope, AreFunctions, IsTypedProgram, globals_of, function_number}
 use Rattle.cyc_types.specs.Refusals.{fault_at, IsUnconverted, IsUnreadable, IsNoPlace, IsMispassed, IsMiscalled, IsRefused, AreRefused, IsChainRefused, IsNoCondition, IsMisreturned, IsInitialRefused, IsWalked, IsInitialUnconverted, IsRefusedStatement, IsRefusedBody, AreRefusedItems, IsRepeated, IsRefusedHead, AreRefusedHeads, AreRefusedFunctions, IsRefusedProgram}
 use Rattle.cyc_types.specs.Checking.{Checked, and_then, unless, conversion, convert_by, convert, want_int, read, place_meant, target, pass, call, prefixed, check, check_all, check_chain, check_condition, return_by, return_nothing, check_returned, check_initial, check_statement, check_body, check_items, check_distinct, check_head, check_heads, check_functions, check_of}
 use Rattle.cyc_types.proofs.Judged.{Judges, good, bad, Aligned, typed-aligned, convert_cases, judged_program}
@@ -66,7 +66,7 @@ target_derived : (g : Scope) (o : Option Named) (p : Place) (walked : Checked ty
 target_derived g None p walked l t h = absurd h
 target_derived g (Some x) p walked l t h = place_derived (meaning_of g x) x.place p l t h
 
-passed_count : (as' : List typed.Expression) (ts : List Ty) (cs : typed.Arguments) → ArePassed as' ts cs → count as' ≡ count ts
+passed_count : (as' : List typed.Expression) (ts : List Ty) (cs : typed.Arguments) → ArePassed as' ts cs → length as' ≡ length ts
 passed_count [] [] cs h = refl
 passed_count [] (t ∷ ts) cs h = absurd h
 passed_count (a ∷ as') [] cs h = absurd h
@@ -84,7 +84,7 @@ called_derived : (m : Meaning) (p : Place) (es : Expressions) (as' : List typed.
 called_derived Unknown p es as' a al h = absurd h
 called_derived (scopes.Variable l t) p es as' a al h = absurd h
 called_derived (Routine f s) p es as' a al (cs, h, eq) =
-    by_true _ _ (eq-eqb (count as') (count s.parameters) (passed_count as' s.parameters cs h)) (then_on _ (passed_derived es as' s.parameters cs al h) (ap Ok (sym eq)))
+    by_true _ _ (eq-eqb (length as') (length s.parameters) (passed_count as' s.parameters cs h)) (then_on _ (passed_derived es as' s.parameters cs al h) (ap Ok (sym eq)))
 
 mutual
   pub derived : (g : Scope) (e : Expression) (a : typed.Expression) → IsTyped g e a → check g e ≡ Ok a
@@ -224,8 +224,8 @@ mispassed es as' ts f h = absurd h
 miscalled : (m : Meaning) (p : Place) (es : Expressions) (as' : List typed.Expression) (f : Fault) → IsMiscalled m p es as' f → call m p es as' ≡ Err f
 miscalled Unknown p es as' f h = ap Err (sym h)
 miscalled (scopes.Variable l t) p es as' f h = ap Err (sym h)
-miscalled (Routine r s) p es as' f (inl (n, eq)) = by_false _ _ (not_equal (count as') (count s.parameters) n) (ap Err (sym eq))
-miscalled (Routine r s) p es as' f (inr (c, h)) = by_true _ _ (eq-eqb (count as') (count s.parameters) c) (then_err _ (mispassed es as' s.parameters f h))
+miscalled (Routine r s) p es as' f (inl (n, eq)) = by_false _ _ (not_equal (length as') (length s.parameters) n) (ap Err (sym eq))
+miscalled (Routine r s) p es as' f (inr (c, h)) = by_true _ _ (eq-eqb (length as') (length s.parameters) c) (then_err _ (mispassed es as' s.parameters f h))
 
 mutual
   pub refused : (g : Scope) (e : Expression) (f : Fault) → IsRefused g e f → check g e ≡ Err f

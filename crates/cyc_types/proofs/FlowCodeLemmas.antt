@@ -1,6 +1,6 @@
 -- Typed trees break the flow rules in two ways only: a variable is empty, or a result is missing. No state has a locked local, and a
 -- loop empties none that its head knows of: what is declared in it was vacant there.
-use Rattle.std.proofs.Common.{◌≡◌, ◌≢◌, ℕ, zero, suc, ◌+◌, ◌≤◌, ◌<◌, Bool, true, false, cond, ◌&&◌, ◌⊎◌, List, [], ◌∷◌, ◌++◌, get_or, Option, Some, None, inl, inr, refl, sym, ap, subst, ◌∙◌, arith}
+use Rattle.std.proofs.Common.{◌≡◌, ◌≢◌, ℕ, zero, suc, ◌+◌, ◌≤◌, ◌<◌, Bool, true, false, cond, ◌&&◌, ◌⊎◌, List, [], ◌∷◌, ◌++◌, get_or, Option, Some, None, inl, inr, refl, sym, ap, subst, ◌∙◌, arith, length}
 use Rattle.std.specs.Prelude.{nat_eq, slice_set}
 use Rattle.cyc_words.specs.declared.fault.Fault.{Fault}
 use Rattle.cyc_syntax.specs.declared.tree.BinaryOperator.{BinaryOperator}
@@ -15,7 +15,7 @@ use Rattle.cyc_types.specs.TypedTrees.{Lvalue, Converted, type_of}
 use Rattle.cyc_types.specs.TypedTrees as typed
 use Rattle.cyc_types.specs.Scopes.{Signature, Meaning, Unknown, Routine, Declared, LocalVariable, Scope, meaning_in, meaning_among, meaning_of, locals_in, body_locals, item_locals, behind, in_block, in_body, with_local}
 use Rattle.cyc_types.specs.Scopes as scopes
-use Rattle.cyc_types.specs.TypingRules.{type_written, IsConverted, then_operation, name_in, IsRead, IsPlace, IsTarget, ArePassed, IsCalled, IsTyped, AreTyped, IsChain, IsInitial, IsReturned, IsTypedStatement, IsTypedBody, AreTypedItems, members_of, result_of, types_of, declared_from, putchar_text, getchar_text, declared, count, body_scope, item_types, function_of, AreFunctions, IsTypedProgram}
+use Rattle.cyc_types.specs.TypingRules.{type_written, IsConverted, then_operation, name_in, IsRead, IsPlace, IsTarget, ArePassed, IsCalled, IsTyped, AreTyped, IsChain, IsInitial, IsReturned, IsTypedStatement, IsTypedBody, AreTypedItems, members_of, result_of, types_of, declared_from, putchar_text, getchar_text, declared, body_scope, item_types, function_of, AreFunctions, IsTypedProgram}
 use Rattle.cyc_types.specs.FlowRules.{Fullness, Vacant, Locked, Full, State, Unreached, Reached, lower, lower_each, meet, is_as_full, are_as_full, is_at_least, fullness, with_fullness, IsAllowed, after, after_store, after_converted, after_arguments, after_operations, breaks_of, after_statement, item_breaks, after_items, Loop, each_is, start_of}
 use Rattle.cyc_types.specs.FlowRefusals.{IsMisused, IsMisstored, IsStopped, IsStoppedConverted, AreStoppedArguments, AreStoppedOperations, IsMiscontinued, IsStoppedStatement, AreStoppedItems, IsUnended, IsStoppedFunction, AreStoppedFunctions, IsStoppedProgram}
 use Rattle.cyc_types.specs.Codes.{is_flow_code}
@@ -465,7 +465,7 @@ each_vacant : (us : List Ty) → AreTame 0 (each_is Vacant us) (each_is Vacant u
 each_vacant [] = tt
 each_vacant (u ∷ us) = (refl, refl, each_vacant us)
 
-start_tame : (ts us : List Ty) → AreTame (count ts) (each_is Full ts ++ each_is Vacant us) (each_is Full ts ++ each_is Vacant us)
+start_tame : (ts us : List Ty) → AreTame (length ts) (each_is Full ts ++ each_is Vacant us) (each_is Full ts ++ each_is Vacant us)
 start_tame [] us = each_vacant us
 start_tame (t ∷ ts) us = ((λ e. cc), refl, start_tame ts us)
 
@@ -477,7 +477,7 @@ function_coded : (ds : List Declared) → ((m y : ℕ) → IsMeant m (meaning_in
     → AreTypedItems (body_scope ds r ms) is js → (x : Fault) → IsStoppedFunction (function_of r y ms is q js) x → IsOfFlow x
 function_coded ds means r y ms is q js h x (inl i) =
     let start : State = start_of (function_of r y ms is q js) in
-    (items_safe (body_scope ds r ms) (record { locals = parameters_below (count ms) 0 ms [] (omega arith) tt; program = means }) is js h start start
+    (items_safe (body_scope ds r ms) (record { locals = parameters_below (length ms) 0 ms [] (omega arith) tt; program = means }) is js h start start
     (subst (λ n. IsTame n start start) (types_counted ms) (start_tame (types_of ms) (item_types js)))).2 None tt x i
 function_coded ds means r y ms is q js h x (inr (k, i)) = unended_coded _ _ _ x i
 

@@ -1,5 +1,5 @@
 -- What the function that checks answers holds: a typed tree is derived, a fault is refused.
-use Rattle.std.specs.Prelude.{nat_eq}
+use Rattle.std.specs.Prelude.{nat_eq, length}
 use Rattle.std.proofs.Common.{◌≡◌, ◌≢◌, ℕ, Bool, true, false, cond, not, ◌&&◌, ◌⊎◌, List, [], ◌∷◌, Option, Some, None, Ok, Err, inl, inr, refl, sym, subst, ◌∙◌, arith}
 use Rattle.std.proofs.lemmas.Bool.{eqb-true, eqb-false}
 use Rattle.cyc_words.specs.declared.fault.Code.TheVariants as codes
@@ -17,7 +17,7 @@ use Rattle.cyc_types.specs.TypedTrees as typed
 use Rattle.cyc_types.specs.IntPart.{is_int_program}
 use Rattle.cyc_types.specs.Scopes.{Signature, Meaning, Unknown, Routine, Declared, Scope, meaning_of, is_declared, behind, in_block, in_body, with_local}
 use Rattle.cyc_types.specs.Scopes as scopes
-use Rattle.cyc_types.specs.TypingRules.{type_written, Converts, IsConverted, unary_operator, name_in, IsRead, IsPlace, IsTarget, ArePassed, IsCalled, IsTyped, AreTyped, IsChain, IsInitial, IsReturned, IsTypedStatement, IsTypedBody, AreTypedItems, members_of, is_among, AreDistinct, is_main_head, IsHead, with_names, AreHeads, declares, main_text, declared, known_before, count, body_scope, AreFunctions, IsTypedProgram}
+use Rattle.cyc_types.specs.TypingRules.{type_written, Converts, IsConverted, unary_operator, name_in, IsRead, IsPlace, IsTarget, ArePassed, IsCalled, IsTyped, AreTyped, IsChain, IsInitial, IsReturned, IsTypedStatement, IsTypedBody, AreTypedItems, members_of, is_among, AreDistinct, is_main_head, IsHead, with_names, AreHeads, declares, main_text, declared, known_before, body_scope, AreFunctions, IsTypedProgram}
 use Rattle.cyc_types.specs.Refusals.{fault_at, IsUnconverted, IsUnreadable, IsNoPlace, IsMispassed, IsMiscalled, IsRefused, AreRefused, IsChainRefused, IsNoCondition, IsMisreturned, IsInitialRefused, IsWalked, IsInitialUnconverted, IsRefusedStatement, IsRefusedBody, AreRefusedItems, IsRepeated, IsRefusedHead, AreRefusedHeads, AreRefusedFunctions, IsRefusedProgram}
 use Rattle.cyc_types.specs.Checking.{Checked, and_then, unless, conversion, convert_by, convert, want_int, read, place_meant, target, pass, call, prefixed, check, check_all, check_chain, check_condition, return_by, return_nothing, check_returned, check_initial, check_statement, check_body, check_items, check_distinct, check_head, check_heads, check_functions, check_of}
 
@@ -84,7 +84,7 @@ pub typed-aligned : (g : Scope) (es : Expressions) (as' : List typed.Expression)
 typed-aligned g NoExpressions as' e = subst (λ z. Aligned NoExpressions z) (sym e) tt
 typed-aligned g (MoreExpressions e es) as' (a, bs, h, hs, eq) = subst (λ z. Aligned (MoreExpressions e es) z) (sym eq) (typed-aligned g es bs hs)
 
-passed : (es : Expressions) (as' : List typed.Expression) (ts : List Ty) → Aligned es as' → count as' ≡ count ts → Judges (ArePassed as' ts) (IsMispassed es as' ts) (pass es as' ts)
+passed : (es : Expressions) (as' : List typed.Expression) (ts : List Ty) → Aligned es as' → length as' ≡ length ts → Judges (ArePassed as' ts) (IsMispassed es as' ts) (pass es as' ts)
 passed NoExpressions [] [] al eq = good refl
 passed NoExpressions [] (t ∷ ts) al eq = absurd (omega arith)
 passed NoExpressions (a ∷ as') ts al eq = absurd al
@@ -96,9 +96,9 @@ passed (MoreExpressions e es) (a ∷ as') (t ∷ ts) al eq =
 called : (m : Meaning) (p : Place) (es : Expressions) (as' : List typed.Expression) → Aligned es as' → Judges (IsCalled m as') (IsMiscalled m p es as') (call m p es as')
 called Unknown p es as' al = bad refl
 called (scopes.Variable l t) p es as' al = bad refl
-called (Routine r s) p es as' al = counted (nat_eq (count as') (count s.parameters)) refl
+called (Routine r s) p es as' al = counted (nat_eq (length as') (length s.parameters)) refl
   where
-    counted : (b : Bool) → nat_eq (count as') (count s.parameters) ≡ b
+    counted : (b : Bool) → nat_eq (length as') (length s.parameters) ≡ b
         → Judges (IsCalled (Routine r s) as') (IsMiscalled (Routine r s) p es as') (cond b (and_then (pass es as' s.parameters) (λ cs. Ok (typed.Call r cs s.result))) (Err (fault_at codes.TypeMismatch p)))
     counted true e = chained _ (passed es as' s.parameters al (eqb-true _ _ e)) (λ f h. inr (eqb-true _ _ e, h)) (λ cs h. good (cs, h, refl))
     counted false e = bad (inl (eqb-false _ _ e, refl))

@@ -1,5 +1,5 @@
 -- The typed tree of a program keeps its numbers in range.
-use Rattle.std.specs.Prelude.{nat_eq}
+use Rattle.std.specs.Prelude.{nat_eq, length, slice_get}
 use Rattle.std.proofs.Common.{◌≡◌, ℕ, suc, ◌+◌, ◌≤◌, ◌<◌, Bool, true, false, cond, not, ◌&&◌, ◌||◌, List, [], ◌∷◌, ◌++◌, Option, Some, None, refl, sym, ap, subst, ◌∙◌, arith}
 use Rattle.cyc_syntax.specs.declared.tree.BinaryOperator.{BinaryOperator}
 use Rattle.cyc_syntax.specs.declared.tree.BinaryOperator.TheVariants as operators
@@ -12,8 +12,8 @@ use Rattle.cyc_types.specs.TypedTrees as typed
 use Rattle.cyc_types.specs.IntPart.{is_empty}
 use Rattle.cyc_types.specs.Scopes.{Signature, Meaning, Unknown, Routine, Declared, LocalVariable, Scope, meaning_in, meaning_among, meaning_of, locals_in, body_locals, item_locals, blocks_in, body_blocks, item_blocks, behind, in_block, in_body, with_local}
 use Rattle.cyc_types.specs.Scopes as scopes
-use Rattle.cyc_types.specs.TypingRules.{type_written, IsConverted, then_operation, name_in, IsRead, IsPlace, IsTarget, ArePassed, IsCalled, IsTyped, AreTyped, IsChain, IsInitial, IsReturned, IsTypedStatement, IsTypedBody, AreTypedItems, members_of, result_of, types_of, is_main_head, AreHeads, declares, declared_from, putchar_text, getchar_text, main_text, declared, known_before, parameter_locals, count, body_scope, declared_types, item_types, AreFunctions, globals_of, function_number, IsTypedProgram}
-use Rattle.cyc_types.specs.Numbered.{numbered, signatures_of, Bounds, IsSignature, argument_count, IsWithin, IsNumbered, IsNumberedConverted, AreNumberedArguments, AreNumberedOperations, IsNumberedReturn, IsNumberedInitial, IsNumberedStatement, AreNumberedItems, AreNumberedFunctions, IsNumberedProgram}
+use Rattle.cyc_types.specs.TypingRules.{type_written, IsConverted, then_operation, name_in, IsRead, IsPlace, IsTarget, ArePassed, IsCalled, IsTyped, AreTyped, IsChain, IsInitial, IsReturned, IsTypedStatement, IsTypedBody, AreTypedItems, members_of, result_of, types_of, is_main_head, AreHeads, declares, declared_from, putchar_text, getchar_text, main_text, declared, known_before, parameter_locals, body_scope, declared_types, item_types, AreFunctions, globals_of, function_number, IsTypedProgram}
+use Rattle.cyc_types.specs.Numbered.{signatures_of, Bounds, IsSignature, argument_count, IsWithin, IsNumbered, IsNumberedConverted, AreNumberedArguments, AreNumberedOperations, IsNumberedReturn, IsNumberedInitial, IsNumberedStatement, AreNumberedItems, AreNumberedFunctions, IsNumberedProgram}
 
 -- ---- what names mean is in range
 
@@ -60,19 +60,19 @@ module _ (b : Bounds) where
   place_numbered (scopes.Variable m u) l t h (e, k) = subst (IsWithin b) (sym e) h
   place_numbered (Routine f s) l t h k = absurd k
 
-  passed_numbered : (as' : List typed.Expression) (ts : List Ty) (cs : typed.Arguments) → AreNumbered as' → ArePassed as' ts cs → (argument_count cs ≡ count ts) × AreNumberedArguments b cs
+  passed_numbered : (as' : List typed.Expression) (ts : List Ty) (cs : typed.Arguments) → AreNumbered as' → ArePassed as' ts cs → (argument_count cs ≡ length ts) × AreNumberedArguments b cs
   passed_numbered [] [] cs h eq = subst (λ z. (argument_count z ≡ 0) × AreNumberedArguments b z) (sym eq) (refl, tt)
   passed_numbered [] (t ∷ ts) cs h k = absurd k
   passed_numbered (a ∷ as') [] cs h k = absurd k
   passed_numbered (a ∷ as') (t ∷ ts) cs (h, hs) (c, ds, k, ks, eq) =
-      let more : (argument_count ds ≡ count ts) × AreNumberedArguments b ds = passed_numbered as' ts ds hs ks in
-      subst (λ z. (argument_count z ≡ suc (count ts)) × AreNumberedArguments b z) (sym eq) (ap suc more.0, (converted_numbered a t c h k, more.1))
+      let more : (argument_count ds ≡ length ts) × AreNumberedArguments b ds = passed_numbered as' ts ds hs ks in
+      subst (λ z. (argument_count z ≡ suc (length ts)) × AreNumberedArguments b z) (sym eq) (ap suc more.0, (converted_numbered a t c h k, more.1))
 
   called_numbered : (m : Meaning) (as' : List typed.Expression) (a : typed.Expression) → IsMeant b m → AreNumbered as' → IsCalled m as' a → IsNumbered b a
   called_numbered Unknown as' a h hs k = absurd k
   called_numbered (scopes.Variable l t) as' a h hs k = absurd k
   called_numbered (Routine f s) as' a h hs (cs, ks, eq) =
-      let all : (argument_count cs ≡ count s.parameters) × AreNumberedArguments b cs = passed_numbered as' s.parameters cs hs ks in
+      let all : (argument_count cs ≡ length s.parameters) × AreNumberedArguments b cs = passed_numbered as' s.parameters cs hs ks in
       subst (IsNumbered b) (sym eq) (s, h, all.0, refl, all.1)
 
   operation_numbered : (o : BinaryOperator) (a : typed.Expression) (os : typed.Operations) → IsNumbered b a → AreNumberedOperations b os → AreNumberedOperations b (then_operation o a os)
@@ -166,39 +166,39 @@ module _ (b : Bounds) where
 
 -- ---- how many locals a typed statement declares
 
-count-append : {A : Type 0} (xs ys : List A) → count (xs ++ ys) ≡ count xs + count ys
+count-append : {A : Type 0} (xs ys : List A) → length (xs ++ ys) ≡ length xs + length ys
 count-append [] ys = omega arith
-count-append (x ∷ xs) ys = let e : count (xs ++ ys) ≡ count xs + count ys = count-append xs ys in omega arith
+count-append (x ∷ xs) ys = let e : length (xs ++ ys) ≡ length xs + length ys = count-append xs ys in omega arith
 
 mutual
-  statement_counted : (g : Scope) (s : Statement) (t : typed.Statement) → IsTypedStatement g s t → count (declared_types t) ≡ locals_in s
-  statement_counted g (Block c) t (js, h, eq) = ap (λ z. count (declared_types z)) eq ∙ body_counted (in_block g) c js h
-  statement_counted g (Empty p) t eq = ap (λ z. count (declared_types z)) eq
-  statement_counted g (Evaluate e) t (a, h, eq) = ap (λ z. count (declared_types z)) eq
+  statement_counted : (g : Scope) (s : Statement) (t : typed.Statement) → IsTypedStatement g s t → length (declared_types t) ≡ locals_in s
+  statement_counted g (Block c) t (js, h, eq) = ap (λ z. length (declared_types z)) eq ∙ body_counted (in_block g) c js h
+  statement_counted g (Empty p) t eq = ap (λ z. length (declared_types z)) eq
+  statement_counted g (Evaluate e) t (a, h, eq) = ap (λ z. length (declared_types z)) eq
   statement_counted g (If p e u) t (a, c, h, i, k, eq) =
-      ap (λ z. count (declared_types z)) eq ∙ (count-append (declared_types c) [] ∙ (let e : count (declared_types c) ≡ locals_in u = statement_counted g u c k in omega arith))
+      ap (λ z. length (declared_types z)) eq ∙ (count-append (declared_types c) [] ∙ (let e : length (declared_types c) ≡ locals_in u = statement_counted g u c k in omega arith))
   statement_counted g (IfElse p e u v) t (a, c, d, h, i, k, m, eq) =
-      ap (λ z. count (declared_types z)) eq ∙ (count-append (declared_types c) (declared_types d)
-      ∙ (let e : count (declared_types c) ≡ locals_in u = statement_counted g u c k in let f : count (declared_types d) ≡ locals_in v = statement_counted (behind g u) v d m in omega arith))
-  statement_counted g (While p e u) t (a, c, h, i, k, eq) = ap (λ z. count (declared_types z)) eq ∙ statement_counted (in_body g) u c k
-  statement_counted g (Return p v) t (c, h, eq) = ap (λ z. count (declared_types z)) eq
-  statement_counted g (Break p) t (i, eq) = ap (λ z. count (declared_types z)) eq
-  statement_counted g (Continue p) t (i, eq) = ap (λ z. count (declared_types z)) eq
+      ap (λ z. length (declared_types z)) eq ∙ (count-append (declared_types c) (declared_types d)
+      ∙ (let e : length (declared_types c) ≡ locals_in u = statement_counted g u c k in let f : length (declared_types d) ≡ locals_in v = statement_counted (behind g u) v d m in omega arith))
+  statement_counted g (While p e u) t (a, c, h, i, k, eq) = ap (λ z. length (declared_types z)) eq ∙ statement_counted (in_body g) u c k
+  statement_counted g (Return p v) t (c, h, eq) = ap (λ z. length (declared_types z)) eq
+  statement_counted g (Break p) t (i, eq) = ap (λ z. length (declared_types z)) eq
+  statement_counted g (Continue p) t (i, eq) = ap (λ z. length (declared_types z)) eq
   statement_counted g (Labelled n c) t h = absurd h
   statement_counted g (Swap c d) t h = absurd h
   statement_counted g (Throw p x v) t h = absurd h
   statement_counted g (Try p s cs) t h = absurd h
 
-  body_counted : (g : Scope) (c : Body) (js : typed.Items) → IsTypedBody g c js → count (item_types js) ≡ body_locals c
+  body_counted : (g : Scope) (c : Body) (js : typed.Items) → IsTypedBody g c js → length (item_types js) ≡ body_locals c
   body_counted g (Braces p is q) js h = items_counted g is js h
 
-  pub items_counted : (g : Scope) (is : Items) (js : typed.Items) → AreTypedItems g is js → count (item_types js) ≡ item_locals is
-  items_counted g NoItems js eq = ap (λ z. count (item_types z)) eq
+  pub items_counted : (g : Scope) (is : Items) (js : typed.Items) → AreTypedItems g is js → length (item_types js) ≡ item_locals is
+  items_counted g NoItems js eq = ap (λ z. length (item_types z)) eq
   items_counted g (MoreItems (Execute s) is) js (t, ks, h, hs, eq) =
-      ap (λ z. count (item_types z)) eq ∙ (count-append (declared_types t) (item_types ks)
-      ∙ (let e : count (declared_types t) ≡ locals_in s = statement_counted g s t h in let f : count (item_types ks) ≡ item_locals is = items_counted (behind g s) is ks hs in omega arith))
+      ap (λ z. length (item_types z)) eq ∙ (count-append (declared_types t) (item_types ks)
+      ∙ (let e : length (declared_types t) ≡ locals_in s = statement_counted g s t h in let f : length (item_types ks) ≡ item_locals is = items_counted (behind g s) is ks hs in omega arith))
   items_counted g (MoreItems (Local w x v) is) js (c, ks, h, n, hs, eq) =
-      ap (λ z. count (item_types z)) eq ∙ (let f : count (item_types ks) ≡ item_locals is = items_counted (with_local g x (type_written w)) is ks hs in omega arith)
+      ap (λ z. length (item_types z)) eq ∙ (let f : length (item_types ks) ≡ item_locals is = items_counted (with_local g x (type_written w)) is ks hs in omega arith)
   items_counted g (MoreItems (Region r h k) is) js i = absurd i
   items_counted g (MoreItems (Alias r t x y) is) js i = absurd i
   items_counted g (MoreItems (DynamicRegion r k) is) js i = absurd i
@@ -223,9 +223,9 @@ signatures ds (Function r x ps (Braces p is q) ∷ tree) fs (js, gs, h, hs, eq) 
 
 -- the functions from this number on are these
 abbrev Holds : Bounds → ℕ → List Signature → Type 0
-Holds b m ss = (k j : ℕ) (s : Signature) → j ≡ m + k → numbered ss k ≡ Some s → numbered b.functions j ≡ Some s
+Holds b m ss = (k j : ℕ) (s : Signature) → j ≡ m + k → slice_get ss k ≡ Some s → slice_get b.functions j ≡ Some s
 
-declared_meant : (b : Bounds) (n m : ℕ) (tree : List Declaration) → n + count (globals_of tree) ≤ b.globals → Holds b m (signatures_in tree) → (x : ℕ) → IsMeant b (meaning_in (declared_from n m tree) x)
+declared_meant : (b : Bounds) (n m : ℕ) (tree : List Declaration) → n + length (globals_of tree) ≤ b.globals → Holds b m (signatures_in tree) → (x : ℕ) → IsMeant b (meaning_in (declared_from n m tree) x)
 declared_meant b n m [] l h x = tt
 declared_meant b n m (StructType s rs fs ∷ ds) l h x = declared_meant b n m ds l h x
 declared_meant b n m (Exceptions cs ∷ ds) l h x = declared_meant b n m ds l h x
@@ -234,16 +234,16 @@ declared_meant b n m (Function r y ps c ∷ ds) l h x =
     by_cond b (nat_eq y.name x) (Routine (callees.Function m) (record { parameters = types_of (members_of ps.list); result = result_of r })) _
     (h 0 m _ (omega arith) refl) (declared_meant b n (suc m) ds l (λ k j s e i. h (suc k) j s (omega arith) i) x)
 
-all_meant : (b : Bounds) (texts : List (List ℕ)) (tree : List Declaration) → count (globals_of tree) ≤ b.globals → Holds b 0 (signatures_in tree) → (x : ℕ) → IsMeant b (meaning_in (declared texts tree) x)
+all_meant : (b : Bounds) (texts : List (List ℕ)) (tree : List Declaration) → length (globals_of tree) ≤ b.globals → Holds b 0 (signatures_in tree) → (x : ℕ) → IsMeant b (meaning_in (declared texts tree) x)
 all_meant b texts tree l h x =
     by_cond b (nat_eq (number_of texts putchar_text) x) (Routine callees.Putchar (record { parameters = Int ∷ []; result = Some Int })) _ refl
     (by_cond b (nat_eq (number_of texts getchar_text) x) (Routine callees.Getchar (record { parameters = []; result = Some Int })) _ refl (declared_meant b 0 0 tree (omega arith) h x))
 
-pub parameters_below : (total n : ℕ) (ms : List Member) (vs : List LocalVariable) → n + count ms ≤ total → AreBelow total vs → AreBelow total (parameter_locals ms n vs)
+pub parameters_below : (total n : ℕ) (ms : List Member) (vs : List LocalVariable) → n + length ms ≤ total → AreBelow total vs → AreBelow total (parameter_locals ms n vs)
 parameters_below total n [] vs l h = h
 parameters_below total n (m ∷ ms) vs l h = parameters_below total (suc n) ms _ (omega arith) (omega arith, h)
 
-pub types_counted : (ms : List Member) → count (types_of ms) ≡ count ms
+pub types_counted : (ms : List Member) → length (types_of ms) ≡ length ms
 types_counted [] = refl
 types_counted (m ∷ ms) = ap suc (types_counted ms)
 
@@ -255,11 +255,11 @@ functions_numbered globals functions ds means (Exceptions cs ∷ tree) fs h = ab
 functions_numbered globals functions ds means (Global w x v ∷ tree) fs h = functions_numbered globals functions ds means tree fs h
 functions_numbered globals functions ds means (Function r x ps (Braces p is q) ∷ tree) fs (js, gs, h, hs, eq) =
     let ms : List Member = members_of ps.list in
-    let b : Bounds = record { globals = globals; functions = functions; locals = count (types_of ms) + count (item_types js); regions = suc (item_blocks is); result = result_of r } in
-    let e : count (types_of ms) ≡ count ms = types_counted ms in
-    let f : count (item_types js) ≡ item_locals is = items_counted (body_scope ds r ms) is js h in
+    let b : Bounds = record { globals = globals; functions = functions; locals = length (types_of ms) + length (item_types js); regions = suc (item_blocks is); result = result_of r } in
+    let e : length (types_of ms) ≡ length ms = types_counted ms in
+    let f : length (item_types js) ≡ item_locals is = items_counted (body_scope ds r ms) is js h in
     subst (AreNumberedFunctions globals functions) (sym eq) (
-      items_numbered b (body_scope ds r ms) (record { locals = parameters_below (count (types_of ms) + count (item_types js)) 0 ms [] (omega arith) tt; program = means b refl refl; same = refl }) is js (omega arith) (omega arith) h,
+      items_numbered b (body_scope ds r ms) (record { locals = parameters_below (length (types_of ms) + length (item_types js)) 0 ms [] (omega arith) tt; program = means b refl refl; same = refl }) is js (omega arith) (omega arith) h,
       functions_numbered globals functions ds means tree gs hs,
     )
 
@@ -278,7 +278,7 @@ not_bad true e = refl
 not_bad false e = absurd (cc)
 
 main_numbered : (main : ℕ) (known : List ℕ) (tree : List Declaration) → AreHeads main known tree → declares main tree ≡ true
-    → numbered (signatures_in tree) (function_number main tree) ≡ Some (record { parameters = []; result = Some Int })
+    → slice_get (signatures_in tree) (function_number main tree) ≡ Some (record { parameters = []; result = Some Int })
 main_numbered main known [] h d = absurd (cc)
 main_numbered main known (StructType s rs fs ∷ ds) h d = absurd h.0
 main_numbered main known (Exceptions cs ∷ ds) h d = absurd h.0
@@ -286,8 +286,8 @@ main_numbered main known (Global w x v ∷ ds) ((n, m), hs) d = main_numbered ma
 main_numbered main known (Function r x ps b ∷ ds) ((n, m, h), hs) d = go (nat_eq x.name main) m d (λ e. main_numbered main (x.name ∷ known) ds hs e)
   where
     go : (c : Bool) → c && not (is_main_head r ps) ≡ false → c || declares main ds ≡ true
-        → (declares main ds ≡ true → numbered (signatures_in ds) (function_number main ds) ≡ Some (record { parameters = []; result = Some Int }))
-        → numbered (signatures_in (Function r x ps b ∷ ds)) (cond c 0 (suc (function_number main ds))) ≡ Some (record { parameters = []; result = Some Int })
+        → (declares main ds ≡ true → slice_get (signatures_in ds) (function_number main ds) ≡ Some (record { parameters = []; result = Some Int }))
+        → slice_get (signatures_in (Function r x ps b ∷ ds)) (cond c 0 (suc (function_number main ds))) ≡ Some (record { parameters = []; result = Some Int })
     go true e i rest = ap Some (main_signature r ps (not_bad (is_main_head r ps) e))
     go false e i rest = rest i
 
@@ -295,11 +295,11 @@ pub program_numbered : (texts : List (List ℕ)) (tree : List Declaration) (p : 
 program_numbered texts tree p h =
     let same : signatures_of p.functions ≡ signatures_in tree = signatures (declared texts tree) tree p.functions h.functions in
     record {
-      functions = functions_numbered (count p.globals) (signatures_of p.functions) (declared texts tree)
-          (λ b g f. all_meant b texts tree (subst (λ gs. count gs ≤ b.globals) h.globals (subst (λ z. count p.globals ≤ z) (sym g) (omega arith)))
-          (λ k j s e i. subst (λ ss. numbered ss j ≡ Some s) (sym f) (subst (λ ss. numbered ss j ≡ Some s) (sym same) (subst (λ z. numbered (signatures_in tree) z ≡ Some s) (let c : k ≡ j = omega arith in c) i))))
+      functions = functions_numbered (length p.globals) (signatures_of p.functions) (declared texts tree)
+          (λ b g f. all_meant b texts tree (subst (λ gs. length gs ≤ b.globals) h.globals (subst (λ z. length p.globals ≤ z) (sym g) (omega arith)))
+          (λ k j s e i. subst (λ ss. slice_get ss j ≡ Some s) (sym f) (subst (λ ss. slice_get ss j ≡ Some s) (sym same) (subst (λ z. slice_get (signatures_in tree) z ≡ Some s) (let c : k ≡ j = omega arith in c) i))))
           tree p.functions h.functions;
-      main = subst (λ ss. numbered ss p.main ≡ Some (record { parameters = []; result = Some Int })) (sym same)
-          (subst (λ n. numbered (signatures_in tree) n ≡ Some (record { parameters = []; result = Some Int })) (sym h.main)
+      main = subst (λ ss. slice_get ss p.main ≡ Some (record { parameters = []; result = Some Int })) (sym same)
+          (subst (λ n. slice_get (signatures_in tree) n ≡ Some (record { parameters = []; result = Some Int })) (sym h.main)
           (main_numbered (number_of texts main_text) (known_before texts) tree h.heads h.has_main));
     }

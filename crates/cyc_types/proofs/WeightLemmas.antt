@@ -1,5 +1,5 @@
 -- A typed tree weighs no more than the tree that it is of.
-use Rattle.std.proofs.Common.{◌≡◌, ℕ, zero, suc, ◌+◌, ◌*◌, ◌≤◌, List, [], ◌∷◌, Option, Some, None, refl, sym, ap, subst, ◌∙◌, arith}
+use Rattle.std.proofs.Common.{◌≡◌, ℕ, zero, suc, ◌+◌, ◌*◌, ◌≤◌, List, [], ◌∷◌, Option, Some, None, refl, sym, ap, subst, ◌∙◌, arith, length, slice_get}
 use Rattle.cyc_syntax.specs.declared.tree.BinaryOperator.{BinaryOperator}
 use Rattle.cyc_syntax.specs.declared.tree.BinaryOperator.TheVariants as operators
 use Rattle.cyc_syntax.specs.Symbols.{Place}
@@ -12,8 +12,7 @@ use Rattle.cyc_types.specs.TypedTrees.{Lvalue, Converted}
 use Rattle.cyc_types.specs.TypedTrees as typed
 use Rattle.cyc_types.specs.Scopes.{Meaning, Unknown, Routine, Declared, Scope, meaning_of, locals_in, body_locals, item_locals, blocks_in, body_blocks, item_blocks, behind, in_block, in_body, with_local}
 use Rattle.cyc_types.specs.Scopes as scopes
-use Rattle.cyc_types.specs.TypingRules.{type_written, IsConverted, then_operation, name_in, IsRead, IsTarget, ArePassed, IsCalled, IsTyped, AreTyped, IsChain, IsInitial, IsReturned, IsTypedStatement, IsTypedBody, AreTypedItems, members_of, types_of, declared, count, body_scope, item_types, function_of, AreFunctions, constant_of, globals_of, IsTypedProgram}
-use Rattle.cyc_types.specs.Numbered.{numbered}
+use Rattle.cyc_types.specs.TypingRules.{type_written, IsConverted, then_operation, name_in, IsRead, IsTarget, ArePassed, IsCalled, IsTyped, AreTyped, IsChain, IsInitial, IsReturned, IsTypedStatement, IsTypedBody, AreTypedItems, members_of, types_of, declared, body_scope, item_types, function_of, AreFunctions, constant_of, globals_of, IsTypedProgram}
 use Rattle.cyc_types.specs.Weight.{expression_weight, converted_weight, arguments_weight, more_arguments_weight, operations_weight, else_weight, statement_weight, items_weight, constant_weight, global_weight, function_weight, program_weight}
 use Rattle.cyc_types.proofs.NumberedLemmas.{items_counted}
 
@@ -242,26 +241,26 @@ program_lighter texts tree p h =
 
 -- ---- what a program and a function have no more of than tokens
 
-globals_counted : (gs : List typed.GlobalVariable) → 3 * count gs ≤ sum_of global_weight gs
+globals_counted : (gs : List typed.GlobalVariable) → 3 * length gs ≤ sum_of global_weight gs
 globals_counted [] = omega arith
-globals_counted (g ∷ gs) = let rest : 3 * count gs ≤ sum_of global_weight gs = globals_counted gs in omega arith
+globals_counted (g ∷ gs) = let rest : 3 * length gs ≤ sum_of global_weight gs = globals_counted gs in omega arith
 
-functions_counted : (hs : List typed.Function) → 6 * count hs ≤ sum_of function_weight hs
+functions_counted : (hs : List typed.Function) → 6 * length hs ≤ sum_of function_weight hs
 functions_counted [] = omega arith
-functions_counted (h ∷ hs) = let rest : 6 * count hs ≤ sum_of function_weight hs = functions_counted hs in omega arith
+functions_counted (h ∷ hs) = let rest : 6 * length hs ≤ sum_of function_weight hs = functions_counted hs in omega arith
 
-pub declarations_counted : (p : typed.Program) → 3 * count p.globals + 6 * count p.functions ≤ program_weight p
+pub declarations_counted : (p : typed.Program) → 3 * length p.globals + 6 * length p.functions ≤ program_weight p
 declarations_counted p =
-    let globals : 3 * count p.globals ≤ sum_of global_weight p.globals = globals_counted p.globals in
-    let functions : 6 * count p.functions ≤ sum_of function_weight p.functions = functions_counted p.functions in
+    let globals : 3 * length p.globals ≤ sum_of global_weight p.globals = globals_counted p.globals in
+    let functions : 6 * length p.functions ≤ sum_of function_weight p.functions = functions_counted p.functions in
     omega arith
 
-function_within : (hs : List typed.Function) (n : ℕ) (h : typed.Function) → numbered hs n ≡ Some h → function_weight h ≤ sum_of function_weight hs
+function_within : (hs : List typed.Function) (n : ℕ) (h : typed.Function) → slice_get hs n ≡ Some h → function_weight h ≤ sum_of function_weight hs
 function_within [] n h e = absurd (cc)
 function_within (k ∷ hs) zero h e = let same : function_weight k ≡ function_weight h = ap (optional_weight function_weight) e in omega arith
 function_within (k ∷ hs) (suc n) h e = let rest : function_weight h ≤ sum_of function_weight hs = function_within hs n h e in omega arith
 
-pub function_of_program : (p : typed.Program) (n : ℕ) (h : typed.Function) → numbered p.functions n ≡ Some h → function_weight h ≤ program_weight p
+pub function_of_program : (p : typed.Program) (n : ℕ) (h : typed.Function) → slice_get p.functions n ≡ Some h → function_weight h ≤ program_weight p
 function_of_program p n h e = let part : function_weight h ≤ sum_of function_weight p.functions = function_within p.functions n h e in omega arith
 
 mutual
@@ -300,31 +299,31 @@ mutual
   items_declare g (MoreItems (Alias r t x y) is) js i = absurd i
   items_declare g (MoreItems (DynamicRegion r k) is) js i = absurd i
 
-parameters_counted : (ts : List Ty) → (2 * count ts ≤ separated_weight (λ t. 2) ts) × (2 * count ts ≤ sum_of (λ t. 1 + 2) ts)
+parameters_counted : (ts : List Ty) → (2 * length ts ≤ separated_weight (λ t. 2) ts) × (2 * length ts ≤ sum_of (λ t. 1 + 2) ts)
 parameters_counted [] = (omega arith, omega arith)
-parameters_counted (t ∷ ts) = let rest : 2 * count ts ≤ sum_of (λ t. 1 + 2) ts = (parameters_counted ts).1 in (omega arith, omega arith)
+parameters_counted (t ∷ ts) = let rest : 2 * length ts ≤ sum_of (λ t. 1 + 2) ts = (parameters_counted ts).1 in (omega arith, omega arith)
 
 -- of a function, if there is one
 abbrev Outweighs : Option typed.Function → Type 0
 Outweighs None = Unit {0}
-Outweighs (Some h) = 2 * count h.parameters + 3 * count h.locals + 2 * h.regions + 4 ≤ function_weight h
+Outweighs (Some h) = 2 * length h.parameters + 3 * length h.locals + 2 * h.regions + 4 ≤ function_weight h
 
 body_outweighs : (ds : List Declared) (r : Option WrittenType) (x : Named) (ms : List Member) (is : Items) (q : Place) (js : typed.Items) → AreTypedItems (body_scope ds r ms) is js
     → Outweighs (Some (function_of r x ms is q js))
 body_outweighs ds r x ms is q js h =
-    let parameters : 2 * count (types_of ms) ≤ separated_weight (λ t. 2) (types_of ms) = (parameters_counted (types_of ms)).0 in
-    let locals : count (item_types js) ≡ item_locals is = items_counted (body_scope ds r ms) is js h in
+    let parameters : 2 * length (types_of ms) ≤ separated_weight (λ t. 2) (types_of ms) = (parameters_counted (types_of ms)).0 in
+    let locals : length (item_types js) ≡ item_locals is = items_counted (body_scope ds r ms) is js h in
     let inside : 3 * item_locals is + 2 * item_blocks is ≤ items_weight js = items_declare (body_scope ds r ms) is js h in
     omega arith
 
-functions_outweigh : (ds : List Declared) (tree : List Declaration) (fs : List typed.Function) → AreFunctions ds tree fs → (n : ℕ) → Outweighs (numbered fs n)
-functions_outweigh ds [] fs eq n = subst (λ hs. Outweighs (numbered hs n)) (sym eq) tt
+functions_outweigh : (ds : List Declared) (tree : List Declaration) (fs : List typed.Function) → AreFunctions ds tree fs → (n : ℕ) → Outweighs (slice_get fs n)
+functions_outweigh ds [] fs eq n = subst (λ hs. Outweighs (slice_get hs n)) (sym eq) tt
 functions_outweigh ds (StructType s rs ms ∷ tree) fs h n = absurd h
 functions_outweigh ds (Exceptions cs ∷ tree) fs h n = absurd h
 functions_outweigh ds (Global w x v ∷ tree) fs h n = functions_outweigh ds tree fs h n
-functions_outweigh ds (Function r x ps (Braces p is q) ∷ tree) fs (js, gs, h, hs, eq) zero = subst (λ ks. Outweighs (numbered ks 0)) (sym eq) (body_outweighs ds r x (members_of ps.list) is q js h)
-functions_outweigh ds (Function r x ps (Braces p is q) ∷ tree) fs (js, gs, h, hs, eq) (suc n) = subst (λ ks. Outweighs (numbered ks (suc n))) (sym eq) (functions_outweigh ds tree gs hs n)
+functions_outweigh ds (Function r x ps (Braces p is q) ∷ tree) fs (js, gs, h, hs, eq) zero = subst (λ ks. Outweighs (slice_get ks 0)) (sym eq) (body_outweighs ds r x (members_of ps.list) is q js h)
+functions_outweigh ds (Function r x ps (Braces p is q) ∷ tree) fs (js, gs, h, hs, eq) (suc n) = subst (λ ks. Outweighs (slice_get ks (suc n))) (sym eq) (functions_outweigh ds tree gs hs n)
 
-pub function_outweighs : (texts : List (List ℕ)) (tree : List Declaration) (p : typed.Program) (n : ℕ) (h : typed.Function) → IsTypedProgram texts tree p → numbered p.functions n ≡ Some h
-    → 2 * count h.parameters + 3 * count h.locals + 2 * h.regions + 4 ≤ function_weight h
+pub function_outweighs : (texts : List (List ℕ)) (tree : List Declaration) (p : typed.Program) (n : ℕ) (h : typed.Function) → IsTypedProgram texts tree p → slice_get p.functions n ≡ Some h
+    → 2 * length h.parameters + 3 * length h.locals + 2 * h.regions + 4 ≤ function_weight h
 function_outweighs texts tree p n h k e = subst Outweighs e (functions_outweigh (declared texts tree) tree p.functions k.functions n)

@@ -1,6 +1,6 @@
 -- The typing rules as a function: the typed tree, or the fault. `proofs/` shows that it answers exactly what the rules derive and
 -- exactly what they refuse; the checker's code computes it.
-use Rattle.std.specs.Prelude.{ℕ, Bool, true, false, not, nat_eq, ◌&&◌, if◌then◌else◌, List, [], ◌∷◌, Option, Some, None, Result, Ok, Err}
+use Rattle.std.specs.Prelude.{ℕ, Bool, true, false, not, nat_eq, ◌&&◌, if◌then◌else◌, List, [], ◌∷◌, Option, Some, None, Result, Ok, Err, length}
 use Rattle.cyc_words.specs.declared.fault.Code.TheVariants as codes
 use Rattle.cyc_words.specs.declared.fault.Fault.{Fault}
 use Rattle.cyc_syntax.specs.Names.{number_of}
@@ -15,7 +15,7 @@ use Rattle.cyc_types.specs.TypedTrees as typed
 use Rattle.cyc_types.specs.IntPart.{is_int_program}
 use Rattle.cyc_types.specs.Scopes.{Signature, Meaning, Unknown, Routine, Declared, Scope, meaning_of, is_declared, behind, in_block, in_body, with_local}
 use Rattle.cyc_types.specs.Scopes as scopes
-use Rattle.cyc_types.specs.TypingRules.{type_written, unary_operator, then_operation, name_in, members_of, is_among, is_main_head, with_names, declares, main_text, declared, known_before, count, body_scope, function_of, globals_of, function_number}
+use Rattle.cyc_types.specs.TypingRules.{type_written, unary_operator, then_operation, name_in, members_of, is_among, is_main_head, with_names, declares, main_text, declared, known_before, body_scope, function_of, globals_of, function_number}
 use Rattle.cyc_types.specs.Refusals.{fault_at, not_built, no_main}
 
 abbrev pub Checked : Type 0 → Type 0
@@ -74,7 +74,7 @@ pass es as' ts = Ok typed.NoArguments
 abbrev pub call : Meaning → Place → Expressions → List typed.Expression → Checked typed.Expression
 call Unknown p es as' = Err (fault_at codes.UnknownName p)
 call (scopes.Variable l t) p es as' = Err (fault_at codes.TypeMismatch p)
-call (Routine f s) p es as' = if nat_eq (count as') (count s.parameters) then and_then (pass es as' s.parameters) (λ cs. Ok (typed.Call f cs s.result)) else Err (fault_at codes.TypeMismatch p)
+call (Routine f s) p es as' = if nat_eq (length as') (length s.parameters) then and_then (pass es as' s.parameters) (λ cs. Ok (typed.Call f cs s.result)) else Err (fault_at codes.TypeMismatch p)
 
 abbrev pub prefixed : Option UnaryOperator → typed.Expression → Place → Checked typed.Expression
 prefixed None a p = Err not_built

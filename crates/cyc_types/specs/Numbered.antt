@@ -1,18 +1,11 @@
 -- What a typed tree keeps of its own accord, and later phases rely on: each number that it has names something that is there, each
 -- call passes as many arguments as its function has parameters, and a break or a continue stands in a loop.
-use Rattle.std.specs.Prelude.{◌≡◌, ℕ, zero, suc, ◌+◌, ◌<◌, Bool, true, false, List, [], ◌∷◌, Option, Some, None}
+use Rattle.std.specs.Prelude.{◌≡◌, ℕ, zero, suc, ◌+◌, ◌<◌, Bool, true, false, List, [], ◌∷◌, Option, Some, None, length, slice_get}
 use Rattle.cyc_types.specs.declared.typed.Callee.{Callee}
 use Rattle.cyc_types.specs.declared.typed.Callee.TheVariants as callees
 use Rattle.cyc_types.specs.Types.{Ty, Int}
 use Rattle.cyc_types.specs.TypedTrees.{Lvalue, Local, Global, Expression, Number, Copy, Call, Unary, Binary, Assign, Converted, Convert, Arguments, NoArguments, MoreArguments, Operations, NoOperations, ThenCompute, ThenTest, Statement, Block, Empty, Evaluate, If, While, Return, Break, Continue, Items, NoItems, MoreItems, Execute, Declare, Function, Program}
 use Rattle.cyc_types.specs.Scopes.{Signature}
-use Rattle.cyc_types.specs.TypingRules.{count}
-
--- the element with this number
-abbrev pub numbered : {A : Type 0} → List A → ℕ → Option A
-numbered [] n = None
-numbered (x ∷ xs) zero = Some x
-numbered (x ∷ xs) (suc n) = numbered xs n
 
 abbrev pub signature_of : Function → Signature
 signature_of h = record { parameters = h.parameters; result = h.result }
@@ -34,7 +27,7 @@ pub record Bounds : Type 0 where
 abbrev pub IsSignature : Bounds → Callee → Signature → Type 0
 IsSignature b callees.Putchar s = s ≡ record { parameters = Int ∷ []; result = Some Int }
 IsSignature b callees.Getchar s = s ≡ record { parameters = []; result = Some Int }
-IsSignature b (callees.Function n) s = numbered b.functions n ≡ Some s
+IsSignature b (callees.Function n) s = slice_get b.functions n ≡ Some s
 
 abbrev pub argument_count : Arguments → ℕ
 argument_count NoArguments = 0
@@ -48,7 +41,7 @@ abbrev mutual
   pub IsNumbered : Bounds → Expression → Type 0
   IsNumbered b (Number n) = Unit {0}
   IsNumbered b (Copy l t) = IsWithin b l
-  IsNumbered b (Call f cs t) = (s : Signature) × IsSignature b f s × (argument_count cs ≡ count s.parameters) × (t ≡ s.result) × AreNumberedArguments b cs
+  IsNumbered b (Call f cs t) = (s : Signature) × IsSignature b f s × (argument_count cs ≡ length s.parameters) × (t ≡ s.result) × AreNumberedArguments b cs
   IsNumbered b (Unary o a) = IsNumbered b a
   IsNumbered b (Binary a os t) = IsNumbered b a × AreNumberedOperations b os
   IsNumbered b (Assign l c t) = IsWithin b l × IsNumberedConverted b c
@@ -93,7 +86,7 @@ abbrev mutual
   AreNumberedItems b l (MoreItems (Declare n t v) js) = (n < b.locals) × IsNumberedInitial b v × AreNumberedItems b l js
 
 abbrev pub bounds_of : ℕ → List Signature → Function → Bounds
-bounds_of globals functions h = record { globals = globals; functions = functions; locals = count h.parameters + count h.locals; regions = h.regions; result = h.result }
+bounds_of globals functions h = record { globals = globals; functions = functions; locals = length h.parameters + length h.locals; regions = h.regions; result = h.result }
 
 abbrev pub AreNumberedFunctions : ℕ → List Signature → List Function → Type 0
 AreNumberedFunctions globals functions [] = Unit {0}
@@ -101,5 +94,5 @@ AreNumberedFunctions globals functions (h ∷ hs) = AreNumberedItems (bounds_of 
 
 -- `main` is a function without parameters, whose result is an int
 pub record IsNumberedProgram (p : Program) : Type 0 where
-  pub functions : AreNumberedFunctions (count p.globals) (signatures_of p.functions) p.functions
-  pub main : numbered (signatures_of p.functions) p.main ≡ Some (record { parameters = []; result = Some Int })
+  pub functions : AreNumberedFunctions (length p.globals) (signatures_of p.functions) p.functions
+  pub main : slice_get (signatures_of p.functions) p.main ≡ Some (record { parameters = []; result = Some Int })

@@ -2,7 +2,7 @@
 -- there, and all that comes before it is derived. What comes before: the heads of all declarations in order, then the bodies of the
 -- functions in order; statements in order; operands in order of evaluation, and before the expression that they are operands of.
 -- Where one construct breaks several rules, the lowest code counts, and of these the first. (The order is this project's own choice.)
-use Rattle.std.specs.Prelude.{◌≡◌, ◌≢◌, ℕ, true, false, not, nat_eq, ◌&&◌, ◌⊎◌, List, [], ◌∷◌, Option, Some, None}
+use Rattle.std.specs.Prelude.{◌≡◌, ◌≢◌, ℕ, true, false, not, nat_eq, ◌&&◌, ◌⊎◌, List, [], ◌∷◌, Option, Some, None, length}
 use Rattle.cyc_words.specs.declared.fault.Code.{Code}
 use Rattle.cyc_words.specs.declared.fault.Code.TheVariants as codes
 use Rattle.cyc_words.specs.declared.fault.Fault.{Fault}
@@ -16,7 +16,7 @@ use Rattle.cyc_types.specs.TypedTrees as typed
 use Rattle.cyc_types.specs.IntPart.{is_int_program}
 use Rattle.cyc_types.specs.Scopes.{Signature, Meaning, Unknown, Routine, Declared, Scope, meaning_of, is_declared, behind, in_block, in_body, with_local}
 use Rattle.cyc_types.specs.Scopes as scopes
-use Rattle.cyc_types.specs.TypingRules.{type_written, IsConverted, unary_operator, name_in, IsTyped, AreTyped, IsInitial, IsTypedStatement, AreTypedItems, members_of, is_among, is_main_head, IsHead, with_names, AreHeads, declares, main_text, declared, known_before, count, body_scope, IsTarget}
+use Rattle.cyc_types.specs.TypingRules.{type_written, IsConverted, unary_operator, name_in, IsTyped, AreTyped, IsInitial, IsTypedStatement, AreTypedItems, members_of, is_among, is_main_head, IsHead, with_names, AreHeads, declares, main_text, declared, known_before, body_scope, IsTarget}
 
 abbrev pub fault_at : Code → Place → Fault
 fault_at c p = record { code = c; line = p.line; column = p.column }
@@ -55,8 +55,8 @@ abbrev pub IsMiscalled : Meaning → Place → Expressions → List typed.Expres
 IsMiscalled Unknown p es as' f = f ≡ fault_at codes.UnknownName p
 IsMiscalled (scopes.Variable l t) p es as' f = f ≡ fault_at codes.TypeMismatch p
 IsMiscalled (Routine c s) p es as' f =
-    ((count as' ≢ count s.parameters) × (f ≡ fault_at codes.TypeMismatch p))
-    ⊎ ((count as' ≡ count s.parameters) × IsMispassed es as' s.parameters f)
+    ((length as' ≢ length s.parameters) × (f ≡ fault_at codes.TypeMismatch p))
+    ⊎ ((length as' ≡ length s.parameters) × IsMispassed es as' s.parameters f)
 
 abbrev mutual
   pub IsRefused : Scope → Expression → Fault → Type 0

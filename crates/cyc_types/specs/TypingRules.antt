@@ -2,7 +2,7 @@
 -- front of its premises. A form of the language that no rule speaks of has no typed tree yet.
 -- (Names, scopes and types are those of the Cyclone manual, sections on declarations and expressions; the numbers that locals and
 -- regions get are this project's own choice.)
-use Rattle.std.specs.Prelude.{◌≡◌, ℕ, suc, ◌-◌, ◌%◌, ◌^◌, Bool, true, false, not, nat_eq, ◌&&◌, ◌||◌, if◌then◌else◌, List, [], ◌∷◌, ◌++◌, Option, Some, None, codes}
+use Rattle.std.specs.Prelude.{◌≡◌, ℕ, suc, ◌-◌, ◌%◌, ◌^◌, Bool, true, false, not, nat_eq, ◌&&◌, ◌||◌, if◌then◌else◌, List, [], ◌∷◌, ◌++◌, Option, Some, None, codes, length}
 use Rattle.cyc_syntax.specs.declared.tree.PrefixOperator.{PrefixOperator}
 use Rattle.cyc_syntax.specs.declared.tree.PrefixOperator.TheVariants as prefixes
 use Rattle.cyc_syntax.specs.declared.tree.BinaryOperator.{BinaryOperator}
@@ -273,16 +273,12 @@ abbrev pub parameter_locals : List Member → ℕ → List LocalVariable → Lis
 parameter_locals [] n vs = vs
 parameter_locals (m ∷ ms) n vs = parameter_locals ms (suc n) (record { name = m.name.name; number = n; of_type = type_written m.of_type; region = 0 } ∷ vs)
 
-abbrev pub count : {A : Type 0} → List A → ℕ
-count [] = 0
-count (x ∷ xs) = suc (count xs)
-
 -- the scope of a function's body, which is one with that of its parameters
 abbrev pub body_scope : List Declared → Option WrittenType → List Member → Scope
 body_scope ds r ms = record {
   program = ds;
   locals = parameter_locals ms 0 [];
-  next_local = count ms;
+  next_local = length ms;
   next_region = 1;
   region = 0;
   in_loop = false;

@@ -1,16 +1,16 @@
 //! Laws of the definitions in `specs/`. Each function does nothing: what it ensures is the law.
-ghost use Rattle.std.specs.Prelude.{◌≡◌, ◌↔◌, ℕ, ◌+◌, ◌*◌, ◌≤◌, true, List, Some, Ok, Err};
+ghost use Rattle.std.specs.Prelude.{◌≡◌, ◌↔◌, ℕ, ◌+◌, ◌*◌, ◌≤◌, true, List, Some, Ok, Err, length, slice_get};
 ghost use Rattle.cyc_words.specs.declared.fault.Fault.{Fault};
 ghost use Rattle.cyc_syntax.specs.Trees.{Declaration};
 ghost use Rattle.cyc_syntax.specs.Weight.{tree_weight};
 ghost use Rattle.cyc_types.specs.TypedTrees.{Statement, Function, Program};
-ghost use Rattle.cyc_types.specs.TypingRules.{count, IsTypedProgram};
+ghost use Rattle.cyc_types.specs.TypingRules.{IsTypedProgram};
 ghost use Rattle.cyc_types.specs.Refusals.{IsRefusedProgram};
 ghost use Rattle.cyc_types.specs.Checking.{check_of};
 ghost use Rattle.cyc_types.specs.FlowRules.{IsAllowedProgram};
 ghost use Rattle.cyc_types.specs.FlowRefusals.{IsStoppedProgram};
 ghost use Rattle.cyc_types.specs.FlowChecking.{flow_of};
-ghost use Rattle.cyc_types.specs.Numbered.{numbered, IsNumberedProgram};
+ghost use Rattle.cyc_types.specs.Numbered.{IsNumberedProgram};
 ghost use Rattle.cyc_types.specs.Weight.{else_weight, statement_weight, function_weight, program_weight};
 ghost use Rattle.cyc_types.specs.Codes.{is_typing_code, is_flow_code};
 
@@ -68,13 +68,13 @@ pub fn an_else_weighs_its_statement()
 
 /// A program weighs at least what each of its functions does, and three tokens for each global and six for each function.
 pub fn programs_outweigh_their_parts()
-    ensures function { (p : Program) (n : ℕ) (h : Function) → numbered p.functions n ≡ Some h → function_weight h ≤ program_weight p }
-    ensures declarations { (p : Program) → 3 * count p.globals + 6 * count p.functions ≤ program_weight p }
+    ensures function { (p : Program) (n : ℕ) (h : Function) → slice_get p.functions n ≡ Some h → function_weight h ≤ program_weight p }
+    ensures declarations { (p : Program) → 3 * length p.globals + 6 * length p.functions ≤ program_weight p }
 {}
 
 /// A function weighs at least two tokens for each parameter, three for each local that it declares, and two for each region.
 pub fn functions_outweigh_their_locals()
-    ensures { (texts : List (List ℕ)) (tree : List Declaration) (p : Program) (n : ℕ) (h : Function) → IsTypedProgram texts tree p → numbered p.functions n ≡ Some h → 2 * count h.parameters + 3 * count h.locals + 2 * h.regions + 4 ≤ function_weight h }
+    ensures { (texts : List (List ℕ)) (tree : List Declaration) (p : Program) (n : ℕ) (h : Function) → IsTypedProgram texts tree p → slice_get p.functions n ≡ Some h → 2 * length h.parameters + 3 * length h.locals + 2 * h.regions + 4 ≤ function_weight h }
 {}
 
 /// The typing rules refuse for an unknown name, one declared twice, a type, a left side that is no place, `main`, a `break` or `continue` outside a loop, or what is not built.

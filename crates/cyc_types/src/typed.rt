@@ -6,7 +6,8 @@
 //! operand to say what a tree does. Chains of operators are lists, so that a tree is no deeper than the one that it was made of.
 
 use crate::Ty;
-use cyc_syntax::{Name, Span};
+use cyc_syntax::Name;
+use cyc_words::Span;
 
 /// What a cell holds, and so what a conversion converts from and to.
 #[derive(Clone, Copy)]

@@ -1,5 +1,9 @@
 pub mod BytesLemmas
+pub mod Decisions
 pub mod DeviceLemmas
 pub mod EndingLemmas
+pub mod Matching
 pub mod PrefixLemmas
+pub mod Prices
+pub mod Simulation
 pub mod WordLemmas

@@ -1,6 +1,7 @@
--- The numbers of the refusal codes: this project's own choice.
+-- The refusals of a source text, and the numbers of their codes: this project's own choice.
 use Rattle.std.specs.Prelude.{ℕ}
 use Rattle.cyc_words.specs.declared.fault.Code.{Code}
+use Rattle.cyc_words.specs.declared.fault.Fault.{Fault}
 use Rattle.cyc_words.specs.declared.fault.Code.TheVariants.{UnknownByte, UnclosedComment, NumberTooLarge, TextTooLong, Memory, TooManyTokens, UnexpectedToken, UnexpectedEnd, NestingTooDeep, ListTooLong, UnknownName, DeclaredTwice, TypeMismatch, NullForNonNull, RegionNotLive, NotOutlived, EffectNotCovered, UniqueShared, NotAPlace, RegionOrKeyMisused, BadMain, OutsideLoop, EmptyVariable, LockedVariable, LoopEmptiesVariable, MissingReturn, TooManyFunctions, FrameTooLarge, NotBuiltYet}
 
 -- the number of a code
@@ -34,3 +35,7 @@ number_of MissingReturn = 43
 number_of TooManyFunctions = 50
 number_of FrameTooLarge = 51
 number_of NotBuiltYet = 60
+
+-- want of memory, which has no place
+abbrev pub memory_fault : Fault
+memory_fault = record { code = Memory; line = 0; column = 0 }

@@ -1,8 +1,11 @@
 pub mod Bytes
+pub mod Decision
+pub mod Demand
 pub mod Device
 pub mod Ending
 pub mod Fault
 pub mod Prefix
 pub mod Reader
+pub mod Simulation
 pub mod Word
 pub mod Writer

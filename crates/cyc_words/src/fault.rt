@@ -1,7 +1,9 @@
 //! Why a source text was refused, and where.
 
 ghost use Rattle.std.specs.Prelude.{◌≡◌, ℕ};
-ghost use Rattle.cyc_words.specs.Fault.{number_of};
+ghost use Rattle.cyc_words.specs.Fault.{number_of, memory_fault};
+
+use std::alloc::{AllocError, AllocFailed};
 
 /// Why a text was refused. Each variant says where its place points.
 ///
@@ -112,5 +114,21 @@ impl Fault {
         ensures column { result.column ≡ 0 }
     {
         Fault::new(Code::Memory, 0, 0)
+    }
+}
+
+impl From<AllocError> for Fault {
+    ghost from_gives = { λ _ f. f ≡ memory_fault };
+
+    fn from(_e: AllocError) -> Fault {
+        Fault::memory()
+    }
+}
+
+impl<T: Drop> From<AllocFailed<T>> for Fault {
+    ghost from_gives = { λ _ f. f ≡ memory_fault };
+
+    fn from(_e: AllocFailed<T>) -> Fault {
+        Fault::memory()
     }
 }

@@ -8,6 +8,7 @@ mod device;
 mod fault;
 pub mod laws;
 mod reader;
+mod span;
 #[cfg(test)]
 mod tests;
 mod writer;
@@ -17,4 +18,5 @@ pub use bytes::{bytes_of, word_at};
 pub use device::{ByteIn, ByteOut, Failed};
 pub use fault::{Code, Fault};
 pub use reader::Reader;
+pub use span::Span;
 pub use writer::Writer;

@@ -1,7 +1,7 @@
 -- What the program answers to a check, a run and a listing, by what the layers below it answered.
 use Rattle.std.specs.Prelude.{◌≡◌, ◌⊎◌, ℕ, List, Option, Result, Ok, Err}
 use Rattle.cyc_words.specs.declared.fault.Fault.{Fault}
-use Rattle.cyc_lex.specs.Refusals.{memory_fault}
+use Rattle.cyc_words.specs.Fault.{memory_fault}
 use Rattle.cyc_types.specs.TypedTrees.{Program}
 use Rattle.cyc_elf.specs.Reading.{reading}
 use Rattle.cyc_machine.specs.Bounds.{Bounds}

@@ -1,7 +1,7 @@
 //! The works of the program, over bytes, a reader and a writer.
 ghost use Rattle.std.specs.Prelude.{◌≡◌, ◌⊎◌, IfOk, IfSome, MatchResult, take};
 ghost use Rattle.std.specs.Io.KnownBytes.{Keeps};
-ghost use Rattle.cyc_lex.specs.Refusals.{memory_fault};
+ghost use Rattle.cyc_words.specs.Fault.{memory_fault};
 ghost use Rattle.cyc_system.specs.Front.{HasFault};
 ghost use Rattle.cyclone.specs.Work.{AnswersCheck, AnswersListing, AnswersRun};
 

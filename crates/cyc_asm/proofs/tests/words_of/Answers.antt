@@ -1,5 +1,5 @@
 use Rattle.std.proofs.Common.{◌≤◌, length, arith}
-use Rattle.cyc_plain.proofs.Places.{sum_by-at_most}
+use Rattle.cyc_words.proofs.Prices.{sum_by-at_most}
 use Rattle.cyc_select.specs.declared.code.Line.{Line}
 use Rattle.cyc_select.specs.declared.code.Line.TheVariants as lines
 use Rattle.cyc_select.specs.Labelled.{words_of}

@@ -5,7 +5,7 @@ use Rattle.cyc_types.specs.declared.typed.Expr.TheFolds as expressions
 use Rattle.cyc_types.specs.declared.typed.Expr.{Expr}
 use Rattle.cyc_types.specs.TypeView.{view_ty}
 use Rattle.cyc_types.specs.TypedTreeView.{view_expression, operations_of}
-use Rattle.cyc_lower.specs.FrameCount.{expression_need, operations_need}
+use Rattle.cyc_meaning.specs.FrameCount.{expression_need, operations_need}
 use Rattle.cyc_lower.proofs.NeedsFound.{call_needs, binary_needs}
 use Rattle.cyc_lower.proofs.frame_count.+need.Goals as goal
 

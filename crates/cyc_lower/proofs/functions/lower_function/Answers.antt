@@ -1,7 +1,7 @@
 use Rattle.std.proofs.Common.{◌+◌, ◌≤◌, List, ap, arith}
 use Rattle.cyc_types.specs.declared.typed.Item.{Item}
 use Rattle.cyc_types.specs.TypedTreeView.{items_of}
-use Rattle.cyc_lower.specs.FrameCount.{items_need}
+use Rattle.cyc_meaning.specs.FrameCount.{items_need}
 use Rattle.cyc_lower.proofs.Routines.{few_locals}
 use Rattle.cyc_lower.proofs.functions.lower_function.Goals as goal
 

@@ -1,6 +1,6 @@
 use Rattle.std.proofs.Common.{◌≡◌, ◌⊎◌, map, sym, subst}
 use Rattle.std.proofs.lemmas.Result.{err_from_is_err_and}
-use Rattle.cyc_lex.specs.Refusals.{memory_fault}
+use Rattle.cyc_words.specs.Fault.{memory_fault}
 use Rattle.cyc_syntax.specs.Tokens.{token_of}
 use Rattle.cyc_parse.specs.Acceptance.{declarations_of}
 use Rattle.cyc_types.specs.TypedTreeView.{view_program}

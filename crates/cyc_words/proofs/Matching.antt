@@ -3,7 +3,7 @@ use Rattle.std.proofs.Common.{◌≡◌, ◌≢◌, ℕ, ◌<◌, List, [], ◌�
 use Rattle.std.specs.Prelude.{Contains}
 use Rattle.cyc_words.specs.Prefix.{IsPrefix}
 use Rattle.cyc_words.proofs.PrefixLemmas.{IsPrefix-refl}
-use Rattle.cyc_plain.specs.Simulation.{Running, Machine, Matching, IsOnTheWay, IsMatchedStep, IsStepped}
+use Rattle.cyc_words.specs.Simulation.{Running, Machine, Matching, IsOnTheWay, IsMatchedStep, IsStepped}
 
 module _ (above below : Machine) (m : Matching above below) where
   -- on the way before anything of the step is seen, and after all of it is

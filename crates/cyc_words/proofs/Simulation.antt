@@ -7,8 +7,8 @@ use Rattle.std.proofs.lemmas.List.Sums.{sum_by-append, sum_by-cons}
 use Rattle.cyc_words.specs.Ending.{Ending}
 use Rattle.cyc_words.specs.Prefix.{IsPrefix}
 use Rattle.cyc_words.proofs.PrefixLemmas.{IsPrefix-refl, IsPrefix-trans}
-use Rattle.cyc_plain.specs.Simulation.{Status, Running, Ended, Failed, Machine, Run, Path, IsLawful, NeverFails, MayPrint, IsUnderWay, IsOver, Follows, Preserves, Comes, IsOnTheWay, Matching, IsMatchedStep, Steps}
-use Rattle.cyc_plain.proofs.Places.{sum_by-distinct, sum_by-flat_map, sum_by-one, sum_by-at_most}
+use Rattle.cyc_words.specs.Simulation.{Status, Running, Ended, Failed, Machine, Run, Path, IsLawful, NeverFails, MayPrint, IsUnderWay, IsOver, Follows, Preserves, Comes, IsOnTheWay, Matching, IsMatchedStep, Steps}
+use Rattle.cyc_words.proofs.Prices.{sum_by-distinct, sum_by-flat_map, sum_by-one, sum_by-at_most}
 
 -- ---- runs and paths of one machine
 

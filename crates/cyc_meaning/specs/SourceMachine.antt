@@ -1,0 +1,25 @@
+-- The source as a machine, for what is said of any machine: with given limits a program has one run for each input.
+use Rattle.std.specs.Prelude.{◌≡◌, ℕ}
+use Rattle.cyc_words.specs.Simulation.{Machine, Status, Running, Ended, Failed}
+use Rattle.cyc_types.specs.TypedTrees.{Program}
+use Rattle.cyc_meaning.specs.State.{State, output_of, status_of}
+use Rattle.cyc_meaning.specs.State as meaning
+use Rattle.cyc_meaning.specs.Run.{limited_step}
+
+-- a dead access is no end of a program, nor is a state where no case applies
+abbrev pub status_in : meaning.Status → Status
+status_in meaning.GoesOn = Running
+status_in (meaning.HasEnded ending) = Ended ending
+status_in meaning.IsDead = Failed
+status_in meaning.IsWrong = Failed
+
+-- A source program with limits. It has no code, so all its states are in one place.
+abbrev pub source_machine : Program → (pages calls : ℕ) → Machine
+source_machine source pages calls = record {
+  State = State;
+  Place = Unit {0};
+  Step = λ old new. new ≡ limited_step source pages calls old;
+  place = λ s. tt;
+  output = output_of;
+  status = λ s. status_in (status_of s);
+}

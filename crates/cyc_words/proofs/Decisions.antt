@@ -1,0 +1,29 @@
+-- Where what is accepted and what is refused leave no choice, an answer that is right decides.
+use Rattle.std.proofs.Common.{◌≡◌, ◌⊎◌, inl, inr, ⊎_elim, subst, Result, Ok, Err}
+use Rattle.std.specs.Prelude.{IfOk, IfErr, MatchResult}
+use Rattle.cyc_words.specs.declared.fault.Fault.{Fault}
+use Rattle.cyc_words.specs.Fault.{memory_fault}
+use Rattle.cyc_words.specs.Decision.{Decides}
+
+-- there is one answer at most: one thing accepted, or one fault
+pub record IsDecided {A : Type 0} (Accepted : A → Type 0) (Refused Faulty : Fault → Type 0) : Type 0 where
+  pub one : (a b : A) → Accepted a → Accepted b → a ≡ b
+  pub same : (f g : Fault) → Refused f → Faulty g → f ≡ g
+  pub never_refused : (a : A) (f : Fault) → Accepted a → Refused f → ⊥
+  pub never_faulty : (a : A) (f : Fault) → Accepted a → Faulty f → ⊥
+
+module _ {X A : Type 0} (Accepted : A → Type 0) (Gives : A → X → Type 0) (Refused Faulty : Fault → Type 0) (laws : IsDecided Accepted Refused Faulty) where
+  accepts : (result : Result X Fault) → IfOk result (λ x. (a : A) × Accepted a × Gives a x) → IfErr result (λ f. (f ≡ memory_fault) ⊎ Refused f)
+      → (a : A) → Accepted a → MatchResult result (Gives a) (λ f. f ≡ memory_fault)
+  accepts (Ok x) (b, is, gives) refused a has = subst (λ c. Gives c x) (laws.one b a is has) gives
+  accepts (Err f) accepted refused a has = ⊎_elim (λ memory. memory) (λ fault. absurd (laws.never_refused a f has fault)) refused
+
+  refuses : (result : Result X Fault) → IfOk result (λ x. (a : A) × Accepted a × Gives a x) → IfErr result (λ f. (f ≡ memory_fault) ⊎ Refused f)
+      → (fault : Fault) → Faulty fault → MatchResult result (λ _. ⊥) (λ f. (f ≡ memory_fault) ⊎ (f ≡ fault))
+  refuses (Ok x) (b, is, gives) refused fault has = laws.never_faulty b fault is has
+  refuses (Err f) accepted refused fault has = ⊎_elim (λ memory. inl memory) (λ other. inr (laws.same f fault other has)) refused
+
+  pub decides : (result : Result X Fault) → IfOk result (λ x. (a : A) × Accepted a × Gives a x) → IfErr result (λ f. (f ≡ memory_fault) ⊎ Refused f)
+      → Decides Accepted Gives Refused Faulty result
+  decides result accepted refused =
+      record { accepted = accepted; refused = refused; accepts = accepts result accepted refused; refuses = refuses result accepted refused }
