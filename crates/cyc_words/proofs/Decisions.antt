@@ -1,5 +1,5 @@
 -- Where what is accepted and what is refused leave no choice, an answer that is right decides.
-use Rattle.std.proofs.Common.{◌≡◌, ◌⊎◌, inl, inr, ⊎_elim, subst, Result, Ok, Err}
+use Rattle.std.proofs.Common.{◌≡◌, ◌⊎◌, inl, inr, ⊎_elim, subst, refl, Result, Ok, Err}
 use Rattle.std.specs.Prelude.{IfOk, IfErr, MatchResult}
 use Rattle.cyc_words.specs.declared.fault.Fault.{Fault}
 use Rattle.cyc_words.specs.Fault.{memory_fault}
@@ -27,3 +27,10 @@ module _ {X A : Type 0} (Accepted : A → Type 0) (Gives : A → X → Type 0) (
       → Decides Accepted Gives Refused Faulty result
   decides result accepted refused =
       record { accepted = accepted; refused = refused; accepts = accepts result accepted refused; refuses = refuses result accepted refused }
+
+-- where what was accepted is read off the answer
+pub decides_by_view : {X A : Type 0} (view : X → A) (Accepted : A → Type 0) (Refused Faulty : Fault → Type 0) → IsDecided Accepted Refused Faulty
+    → (result : Result X Fault) → IfOk result (λ x. Accepted (view x)) → IfErr result (λ f. (f ≡ memory_fault) ⊎ Refused f)
+    → Decides Accepted (λ a x. view x ≡ a) Refused Faulty result
+decides_by_view view Accepted Refused Faulty laws (Ok x) accepted refused = decides Accepted (λ a x. view x ≡ a) Refused Faulty laws (Ok x) (view x, accepted, refl) refused
+decides_by_view view Accepted Refused Faulty laws (Err f) accepted refused = decides Accepted (λ a x. view x ≡ a) Refused Faulty laws (Err f) accepted refused

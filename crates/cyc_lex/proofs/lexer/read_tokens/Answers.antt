@@ -10,7 +10,7 @@ use Rattle.cyc_lex.specs.Refusals.{FailsHere, IsFirstFault}
 use Rattle.cyc_lex.proofs.FaultLemmas.{fails_first, too_many_first}
 use Rattle.cyc_lex.proofs.LexLemmas.{IsReadUpTo, token_at, tokens_within, found_some, blank_read, token_read}
 use Rattle.cyc_lex.proofs.lexer.read_tokens.Goals as goal
-use Rattle.cyc_lex.proofs.lexer.read_tokens.Goals.{in-Some+else-len-eq-MAX_TOKENS+else-is_err, in_default, In-Ok}
+use Rattle.cyc_lex.proofs.lexer.read_tokens.Goals.{in-Some+else-len-eq-MAX_TOKENS+in_ok-push, in_default, In-Ok}
 
 -- what was found of the text from `start` on
 found : (c : In-Ok) → IsFound (drop c.loop-start.start c.args.text.now) c.in-Ok.found.kind c.in-Ok.found.len
@@ -54,11 +54,11 @@ loop-start-preserved c =
     let next : IsBehind c.place_behind-place.result (take start text ++ take len (drop start text)) =
     subst (λ n. IsBehind c.place_behind-place.result (take start text ++ take n (drop start text))) count (c.place_behind-place.ensures (take start text) done.behind) in
     elim c.match-found.branch [
-      | in-Some+else-len-eq-MAX_TOKENS+else-is_err w ↦
+      | in-Some+else-len-eq-MAX_TOKENS+in_ok-push w ↦
           let piece : IsReadAs (Some w.in-Some.kind) (take len (drop start text)) (drop len (drop start text)) =
           subst (λ k. IsReadAs k (take len (drop start text)) (drop len (drop start text))) w.in-Some.is here.piece in
           let pushed : c.match-found.tokens.items ≡ tokens ++ token_at w.in-Some.kind c.loop-start.place start (start + len) ∷ [] =
-          ap (λ (v : Vec CodeToken Global). v.items) w.tokens-is ∙ w.push.ensures.items ∙ cond-true _ _ _ (w.is_err.ensures.negation ∙ ap not w.if-is_err.false) in
+          ap (λ (v : Vec CodeToken Global). v.items) w.tokens-is ∙ w.in_ok-push.ensures.items in
           let most = tokens_within text tokens start c.loop-start.place done in
           let room : length tokens < max_tokens = omega (arith, c.loop-start.tokens.ok.0) in
           subst (λ ts. IsReadUpTo text ts (start + len) c.place_behind-place.result) (sym pushed)
