@@ -1,6 +1,7 @@
 //! A MIPS32 machine for user programs: loading an image, and executing its instructions one at a time.
 #![tactic(auto)]
 
+pub mod constants;
 mod event;
 mod fault;
 pub mod laws;
