@@ -42,7 +42,7 @@ pub enum Code {
     /// Two types differ that have to agree, or a type is not well formed. Place: the first token of the
     /// expression or type, unless the rule that is broken names another.
     TypeMismatch = 22,
-    /// NULL stands where a pointer is never null (`@`). Place: as for `TypeMismatch`.
+    /// NULL stands where a pointer is never null (`@`). Place: as for 22.
     NullForNonNull = 23,
     /// A region is used that is not live there. Place: the first token of the pointer, region handle or operand.
     RegionNotLive = 24,
