@@ -12,16 +12,13 @@ gives the same programs. The last line is `N passed, M failed`, of programs.
 --check only asks whether `check` takes the programs. --texts writes them to a folder, and each in C beside it. As
 `--program tests/in_c.py` answers like the program itself, the expectations can be held against gcc too.
 """
-import argparse
 import os
 import random
-import subprocess
-import sys
 import tempfile
 
 import in_c
 import reference
-import run
+import suite
 
 # A program whose evaluation takes more calls and passes of loops than this is not used.
 STEPS_AT_MOST = 10_000
@@ -314,12 +311,6 @@ class Wanted:
         self.runs.append((given, calls, (bytes(done.output), done.line, done.status)))
 
 
-def answer(words, given=b""):
-    """The standard output, the last line on standard error, and the exit status."""
-    done = subprocess.run(words, input=given, capture_output=True, timeout=run.SECONDS)
-    return done.stdout, run.last_line(done.stderr), done.returncode
-
-
 class Tried:
     """A program's answers, of which the first that is otherwise than wanted is kept."""
 
@@ -330,7 +321,7 @@ class Tried:
 
     def want(self, what, expected, got):
         if self.fault is None and got != expected:
-            self.fault = f"{what}\n  wanted {run.shown(expected)}\n  got    {run.shown(got)}"
+            self.fault = suite.difference(what, expected, got)
 
     def given(self, text):
         with open(self.source, "w", encoding="ascii") as file:
@@ -338,19 +329,19 @@ class Tried:
 
     def check(self, text):
         self.given(text)
-        self.want("check", (b"", "done", 0), answer([self.program, "check", self.source]))
+        self.want("check", (b"", "done", 0), suite.answer([self.program, "check", self.source]))
 
     def compile(self, text, line="done", status=0):
         self.given(text)
-        self.want("compile", (b"", line, status), answer([self.program, "compile", self.source, "-o", self.image]))
+        self.want("compile", (b"", line, status), suite.answer([self.program, "compile", self.source, "-o", self.image]))
 
     def run(self, given, calls, expected):
-        got = answer([self.program, "run", self.image, "--calls", str(calls)], given)
+        got = suite.answer([self.program, "run", self.image, "--calls", str(calls)], given)
         self.want(f"run --calls {calls} on {given}", expected, got)
 
     def run_some(self, given, steps, expected):
         """A run with a budget of steps, which ends as the whole run does or has printed a prefix of what that prints."""
-        got = answer([self.program, "run", self.image, "--steps", str(steps)], given)
+        got = suite.answer([self.program, "run", self.image, "--steps", str(steps)], given)
         if got[1:] == ("budget spent", 7) and expected[0].startswith(got[0]):
             return
         self.want(f"run --steps {steps} on {given}", expected, got)
@@ -401,23 +392,16 @@ def try_all(options, program):
 
 
 def main():
-    parser = argparse.ArgumentParser(description=__doc__.split("\n")[0])
-    parser.add_argument("--program", default=run.PROGRAM)
+    parser = suite.command_line(__doc__)
     parser.add_argument("--count", type=int, default=200)
     parser.add_argument("--seed", type=int, default=1)
     parser.add_argument("--check", action="store_true")
     parser.add_argument("--texts")
     options = parser.parse_args()
-    program = os.path.abspath(options.program)
+    program = suite.program_of(options, options.count)
     if options.texts:
         os.makedirs(options.texts, exist_ok=True)
-    if os.access(program, os.X_OK):
-        passed, failed = reference.with_room(lambda: try_all(options, program))
-    else:
-        print(f"there is no program {program}: `make build` proves and builds it")
-        passed, failed = 0, options.count
-    print(f"{passed} passed, {failed} failed")
-    sys.exit(1 if failed else 0)
+    suite.end(*reference.with_room(lambda: try_all(options, program)))
 
 
 if __name__ == "__main__":

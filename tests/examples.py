@@ -7,15 +7,12 @@
 standard output, and behind it the last line on standard error, which also tells the exit status. `check` has to take the
 program too. The last line is `N passed, M failed`.
 """
-import argparse
 import os
-import subprocess
-import sys
 import tempfile
 
-import run
+import suite
 
-FOLDER = os.path.join(run.HERE, "..", "examples")
+FOLDER = os.path.join(suite.ROOT, "examples")
 PARTS = ("standard output", "last line on standard error", "exit status")
 
 
@@ -24,12 +21,6 @@ def status_of(line):
     if line.startswith("returned "):
         return int(line.split()[1]) & 0xFF
     return {"full": 5, "uncaught": 4}[line.split()[0]]
-
-
-def answer(words, given=b""):
-    """The standard output, the last line on standard error, and the exit status."""
-    done = subprocess.run(words, input=given, capture_output=True, timeout=run.SECONDS)
-    return done.stdout, run.last_line(done.stderr), done.returncode
 
 
 def content(name):
@@ -53,33 +44,19 @@ def faults_of(program, name, folder):
         ("run", [program, "run", image], (output + b"\n", last, status_of(last))),
     )
     for step, words, wanted in steps:
-        got = answer(words, given)
+        got = suite.answer(words, given)
         differing = [part for part in zip(PARTS, wanted, got) if part[1] != part[2]]
         if differing:
-            return [f"{step}: {what}\n  wanted {run.shown(one)}\n  got    {run.shown(other)}" for what, one, other in differing]
+            return [suite.difference(f"{step}: {what}", one, other) for what, one, other in differing]
     return []
 
 
 def main():
-    parser = argparse.ArgumentParser(description=__doc__.split("\n")[0])
-    parser.add_argument("--program", default=run.PROGRAM)
-    program = os.path.abspath(parser.parse_args().program)
+    options = suite.command_line(__doc__).parse_args()
     names = sorted(name[: -len(".out")] for name in os.listdir(FOLDER) if name.endswith(".out"))
-    failed = 0
-    if not os.access(program, os.X_OK):
-        print(f"there is no program {program}: `make build` proves and builds it")
-        failed = len(names)
-        names = []
-    passed = len(names)
+    program = suite.program_of(options, len(names))
     with tempfile.TemporaryDirectory(prefix="cyclone-example-") as folder:
-        for name in names:
-            faults = faults_of(program, name, folder)
-            if faults:
-                passed, failed = passed - 1, failed + 1
-                print(f"FAILED examples/{name}.cyc")
-                print("\n".join("  " + line for fault in faults for line in fault.split("\n")))
-    print(f"{passed} passed, {failed} failed")
-    sys.exit(1 if failed else 0)
+        suite.try_each(names, lambda name: f"examples/{name}.cyc", lambda name: faults_of(program, name, folder))
 
 
 if __name__ == "__main__":

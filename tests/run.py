@@ -5,22 +5,18 @@
 
 The last line is `N passed, M failed`. A case is a few lines; tests/README.md has the format.
 """
-import argparse
 import os
 import re
 import shlex
 import struct
 import subprocess
-import sys
 import tempfile
 
-HERE = os.path.dirname(os.path.abspath(__file__))
-PROGRAM = os.path.join(HERE, "..", "crates", "cyclone", "out", "cyclone")
-SECONDS = 60
+import suite
+
+CASES = os.path.join(suite.HERE, "cases")
 # The file that holds the text of a line `? LINE | TEXT`.
 TEXT_FILE = "text.cyc"
-# A long value is shown by its two ends.
-SHOWN = 400
 
 
 class BadCase(Exception):
@@ -247,7 +243,7 @@ def look_holds(reader, rest):
         except OSError as error:
             return f"the file {path} cannot be read: {error}"
         if content != wanted:
-            return f"the file {path}\n  wanted {shown(wanted)}\n  is     {shown(content)}"
+            return f"the file {path}\n  wanted {suite.shown(wanted)}\n  is     {suite.shown(content)}"
 
     return act
 
@@ -264,18 +260,6 @@ FILES = {
     "absent": look_absent,
     "holds": look_holds,
 }
-
-
-def shown(value):
-    text = repr(value)
-    return text if len(text) <= SHOWN else text[: SHOWN // 2] + " .. " + text[-SHOWN // 2:]
-
-
-def last_line(error):
-    """The last line on standard error, without its line feed; empty where nothing was written."""
-    if error and not error.endswith(b"\n"):
-        return error.decode("latin-1") + " (and no line feed)"
-    return error[:-1].split(b"\n")[-1].decode("latin-1")
 
 
 def run_step(step, folder, program):
@@ -296,8 +280,9 @@ def run_step(step, folder, program):
             input=step.input,
             stdout=output,
             stderr=subprocess.PIPE,
-            timeout=SECONDS,
-            env={**os.environ, "LC_ALL": "C"},
+            timeout=suite.SECONDS,
+            # another program may run this one, and find the files of the repository
+            env={**os.environ, "LC_ALL": "C", "CYCLONE": program, "ROOT": suite.ROOT},
         )
     finally:
         if step.broken:
@@ -309,25 +294,25 @@ def faults_of_step(step, folder, program):
     try:
         done = run_step(step, folder, program)
     except subprocess.TimeoutExpired:
-        return [f"took longer than {SECONDS} seconds"]
+        return [f"took longer than {suite.SECONDS} seconds"]
     faults = []
 
     def want(what, wanted, got):
         if wanted != got:
-            faults.append(f"{what}\n  wanted {shown(wanted)}\n  got    {shown(got)}")
+            faults.append(suite.difference(what, wanted, got))
 
     if step.status is not None:
         wanted = f"{step.status} {step.last}".strip()
-        last = "" if "err" in step.closed else last_line(done.stderr)
+        last = "" if "err" in step.closed else suite.last_line(done.stderr)
         want("exit status and last line on standard error", wanted, f"{done.returncode} {last}".strip())
     if not step.output_has:
         want("standard output", step.output, done.stdout or b"")
     for text in step.output_has:
         if text not in done.stdout:
-            faults.append(f"standard output lacks {shown(text)}\n  got    {shown(done.stdout)}")
+            faults.append(f"standard output lacks {suite.shown(text)}\n  got    {suite.shown(done.stdout)}")
     for text in step.error_has:
         if text not in done.stderr:
-            faults.append(f"standard error lacks {shown(text)}\n  got    {shown(done.stderr)}")
+            faults.append(f"standard error lacks {suite.shown(text)}\n  got    {suite.shown(done.stderr)}")
     return faults
 
 
@@ -347,27 +332,13 @@ def faults_of(case, program):
 
 
 def main():
-    parser = argparse.ArgumentParser(description=__doc__.split("\n")[0])
-    parser.add_argument("--program", default=PROGRAM)
+    parser = suite.command_line(__doc__)
     parser.add_argument("files", nargs="*")
     options = parser.parse_args()
-    cases_there = os.path.join(HERE, "cases")
-    files = options.files or sorted(os.path.join(cases_there, name) for name in os.listdir(cases_there) if name.endswith(".cases"))
-    program = os.path.abspath(options.program)
+    files = options.files or sorted(os.path.join(CASES, name) for name in os.listdir(CASES) if name.endswith(".cases"))
     cases = [case for path in files for case in Reader(path).read()]
-    if not os.access(program, os.X_OK):
-        print(f"there is no program {program}: `make build` proves and builds it")
-        print(f"0 passed, {len(cases)} failed")
-        sys.exit(1)
-    failed = 0
-    for case in cases:
-        faults = faults_of(case, program)
-        if faults:
-            failed += 1
-            print(f"FAILED {case.place}: {case.name}")
-            print("\n".join("  " + line for fault in faults for line in fault.split("\n")))
-    print(f"{len(cases) - failed} passed, {failed} failed")
-    sys.exit(1 if failed else 0)
+    program = suite.program_of(options, len(cases))
+    suite.try_each(cases, lambda case: f"{case.place}: {case.name}", lambda case: faults_of(case, program))
 
 
 if __name__ == "__main__":

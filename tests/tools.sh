@@ -1,8 +1,12 @@
 #!/bin/sh
-# Installs the tools of the suite that are missing: readelf, which is in Debian's package binutils.
+# Installs the tools of the suite that are missing: readelf and man, which are in Debian's packages binutils and man-db.
 set -eu
-command -v readelf >/dev/null && exit 0
+missing=""
+command -v readelf >/dev/null || missing="$missing binutils"
+command -v man >/dev/null || missing="$missing man-db"
+[ -n "$missing" ] || exit 0
 as_root=""
 [ "$(id -u)" -eq 0 ] || as_root="sudo"
 $as_root apt-get update -qq
-$as_root apt-get install -y -qq binutils >/dev/null
+# shellcheck disable=SC2086
+$as_root apt-get install -y -qq $missing >/dev/null

@@ -36,12 +36,13 @@ pub enum Code {
     ListTooLong = 13,
     /// A name is used that nothing declares. Place: the name.
     UnknownName = 20,
-    /// A name is declared a second time in one scope. Place: the second declaration's name.
+    /// A name is declared a second time in one scope, or a function is named `H` or `U`, which are regions already.
+    /// Place: the second declaration's name, or the function's.
     DeclaredTwice = 21,
     /// Two types differ that have to agree, or a type is not well formed. Place: the first token of the
     /// expression or type, unless the rule that is broken names another.
     TypeMismatch = 22,
-    /// NULL stands where a pointer is never null (`@`). Place: as for `TypeMismatch`.
+    /// NULL stands where a pointer is never null (`@`). Place: as for 22.
     NullForNonNull = 23,
     /// A region is used that is not live there. Place: the first token of the pointer, region handle or operand.
     RegionNotLive = 24,
@@ -76,7 +77,7 @@ pub enum Code {
     TooManyFunctions = 50,
     /// A function's frame needs more than 256 words. Place: the function's name.
     FrameTooLarge = 51,
-    /// The compiler does not build this construct yet. Place: the first token of the construct.
+    /// The text goes beyond ints, which is not supported yet. Place: 1:1.
     NotBuiltYet = 60,
 }
 

@@ -13,22 +13,22 @@ use std::alloc::{AllocError, Global};
 /// What the words of a command line ask for.
 #[derive(Clone, Copy, Debug, PartialEq, Eq)]
 pub enum Request<'a> {
-    /// `check F`: to say what is wrong with the text in the file `source`.
+    /// `check SOURCE`: to say what is wrong with the program in the file `source`.
     Check {
         source: &'a str,
     },
-    /// `compile F -o I`: to make an image of the text in the file `source`, and write it to `image`.
+    /// `compile SOURCE -o IMAGE`: to compile the program in the file `source` to the file `image`.
     Compile {
         source: &'a str,
         image: &'a str,
     },
-    /// `run I`: to run an image with these limits, for at most `budget` instructions.
+    /// `run IMAGE`: to run an image with these limits, for at most `budget` instructions.
     Run {
         image: &'a str,
         limits: Limits,
         budget: u64,
     },
-    /// `disasm I`: to list the instructions of an image.
+    /// `disasm IMAGE`: to list the instructions of an image.
     Disassemble {
         image: &'a str,
     },
@@ -41,35 +41,35 @@ const MOST_CALLS: u64 = 4096;
 const MOST_STEPS: u64 = 1_000_000_000_000;
 
 const ABOUT: &str = "Checks programs in an integer profile of Cyclone, a safe C with regions, \
-     compiles them to MIPS32 images, and runs and lists those images.";
+     compiles them to MIPS32 images, and runs and disassembles those images.";
 
 const EXAMPLES: &str = "Examples:
   cyclone check hello.cyc                   say what is wrong with the program
-  cyclone compile hello.cyc -o hello.elf    make an image of the program
+  cyclone compile hello.cyc -o hello.elf    compile it to an image
   cyclone run hello.elf                     run it: what it returns is the exit status
   cyclone disasm hello.elf                  list its instructions
 
-Exit status: 0 done, or the low 8 bits of what the program returned; 2 the text was refused;
-3 not an image; 4 an exception was not caught; 5 out of pages or calls; 6 the machine
-trapped; 7 out of steps; 8 reading, writing or memory failed; 9 a wrong command line.
-The last line on standard error says which.";
+Exit status: 0 done, or the low 8 bits of what the program returned; 2 the source file was
+refused; 3 not an image; 4 uncaught exception; 5 out of calls or pages; 6 the machine trapped;
+7 out of steps; 8 reading or writing failed, or out of memory; 9 wrong usage. The last line on
+standard error says which.";
 
 const CHECK_HELP: &str = "Example:
   cyclone check hello.cyc
 
-A message says what is wrong first in the text, and where. So far programs over ints are
-checked to their end; a text that uses more of the language ends with fault 60, \"not built
-yet\", once its tokens and its grammar are in order.";
+A message says what is wrong first in the source file, and where. So far programs over ints
+are checked to their end; one that uses more of the language ends with fault 60, not supported
+yet, once its tokens and its grammar are in order.";
 
 const COMPILE_HELP: &str = "Example:
   cyclone compile hello.cyc -o hello.elf
 
-A program that is refused writes no file: a message says what is wrong and where. So far
-programs over ints are compiled; a text that uses more of the language is refused with fault
-60, \"not built yet\".";
+Where the program is refused, no file is written: a message says what is wrong, and where. So
+far programs over ints are compiled; one that uses more of the language is refused with fault
+60, not supported yet.";
 
 const RUN_HELP: &str = "Example:
-  echo hello | cyclone run echo.elf --pages 64 --steps 5000000
+  echo hello | cyclone run echo.elf --calls 64 --steps 5000000
 
 The program's input is the standard input, and its output the standard output. The exit
 status is the low 8 bits of what it returned.";
@@ -96,12 +96,12 @@ fn limit<'a>(alloc: Global, id: &'a str, default: &'a str, help: &'a str) -> Arg
 }
 
 fn source<'a>(alloc: Global) -> Arg<'a> {
-    file(alloc, "source", "The file with the program's text").value_name("F")
+    file(alloc, "source", "The source file").value_name("SOURCE")
 }
 
 fn check_command<'a>(alloc: Global) -> Result<Command<'a>, AllocError> {
     Command::new(alloc, "check")
-        .about("Checks a text, and says what is wrong with it")
+        .about("Checks a program, and says what is wrong with it")
         .after_help(CHECK_HELP)
         .arg(source(alloc))
 }
@@ -109,12 +109,12 @@ fn check_command<'a>(alloc: Global) -> Result<Command<'a>, AllocError> {
 fn compile_command<'a>(alloc: Global) -> Result<Command<'a>, AllocError> {
     let image = Arg::new(alloc, "image")
         .short('o')
-        .value_name("I")
+        .value_name("IMAGE")
         .required(true)
         .action(ArgAction::Set)
-        .help("The file to write the image to");
+        .help("The image file to write");
     Command::new(alloc, "compile")
-        .about("Compiles a text to an image")
+        .about("Compiles a program to an image")
         .after_help(COMPILE_HELP)
         .arg(source(alloc))?
         .arg(image)
@@ -124,32 +124,27 @@ fn run_command<'a>(alloc: Global) -> Result<Command<'a>, AllocError> {
     Command::new(alloc, "run")
         .about("Runs an image")
         .after_help(RUN_HELP)
-        .arg(file(alloc, "image", "The file with the image").value_name("I"))?
+        .arg(file(alloc, "image", "The image file").value_name("IMAGE"))?
         .arg(limit(
             alloc,
             "pages",
             "1024",
-            "Pages of memory for regions, from 3 to 65536",
+            "Memory for regions, in pages of 4096 bytes, from 3 to 65536",
         ))?
-        .arg(limit(
-            alloc,
-            "calls",
-            "4096",
-            "Calls under way at one time, from 1 to 4096",
-        ))?
+        .arg(limit(alloc, "calls", "4096", "Nested calls, from 1 to 4096"))?
         .arg(limit(
             alloc,
             "steps",
             "1000000000",
-            "Instructions, from 1 to 1000000000000",
+            "Instructions executed, from 1 to 1000000000000",
         ))
 }
 
 fn disasm_command<'a>(alloc: Global) -> Result<Command<'a>, AllocError> {
     Command::new(alloc, "disasm")
-        .about("Lists the instructions of an image")
+        .about("Disassembles an image")
         .after_help(DISASM_HELP)
-        .arg(file(alloc, "image", "The file with the image").value_name("I"))
+        .arg(file(alloc, "image", "The image file").value_name("IMAGE"))
 }
 
 fn program<'a>(alloc: Global) -> Result<Command<'a>, AllocError> {

@@ -7,13 +7,13 @@ use std::io::Write;
 use std::rt::Files;
 use std::{fs, io};
 
-/// One byte more of a text is read than a program may have, which tells a text that is too long.
+/// One byte more of a source file is read than a program may have, which tells one that is too large.
 const MOST_TEXT: u64 = 1_048_577;
 
 const MOST_IMAGE: u64 = 33_554_432;
 
 /// The answer where something could not be read, with its reason on standard error.
-fn read_failed<R: Eprint>(rt: &R, name: &str, error: &io::Error) -> Answer {
+fn report_read_failure<R: Eprint>(rt: &R, name: &str, error: &io::Error) -> Answer {
     if error.kind() == io::ErrorKind::OutOfMemory {
         return Answer::NoMemory;
     }
@@ -24,7 +24,8 @@ fn read_failed<R: Eprint>(rt: &R, name: &str, error: &io::Error) -> Answer {
     Answer::ReadFault
 }
 
-fn write_failed<R: Eprint>(rt: &R, name: &str, error: &io::Error) -> Answer {
+/// The answer where something could not be written, with its reason on standard error.
+fn report_write_failure<R: Eprint>(rt: &R, name: &str, error: &io::Error) -> Answer {
     let _ = eprintln!(rt;
         "cyclone: {} cannot be written: {error}",
         Shown(name.as_bytes())
@@ -40,15 +41,15 @@ fn read_file<R: Files + AllocGlobal + Eprint>(
 ) -> Result<Vec<u8>, Answer> {
     let file = match fs::open(rt, path) {
         Ok(file) => file,
-        Err(error) => return Err(read_failed(rt, path, &error)),
+        Err(error) => return Err(report_read_failure(rt, path, &error)),
     };
     match read_up_to(rt.alloc(), file, most) {
         Ok(bytes) => Ok(bytes),
-        Err(error) => Err(read_failed(rt, path, &error)),
+        Err(error) => Err(report_read_failure(rt, path, &error)),
     }
 }
 
-/// The text of a program: all of its file, or one byte more than a program may have.
+/// The text of a program: all of its source file, or one byte more than a program may have.
 pub fn read_text<R: Files + AllocGlobal + Eprint>(rt: &R, path: &str) -> Result<Vec<u8>, Answer> {
     read_file(rt, path, MOST_TEXT)
 }
@@ -82,6 +83,6 @@ pub fn write_image<R: Files + Eprint>(rt: &R, path: &str, image: &[u8]) -> Answe
     // have become the file's.
     match write_all(rt, path, image) {
         Ok(()) => Answer::Done,
-        Err(error) => write_failed(rt, path, &error),
+        Err(error) => report_write_failure(rt, path, &error),
     }
 }

@@ -1,4 +1,4 @@
-//! The program `cyclone`: checks a text, compiles one to an image, runs an image, and lists one.
+//! The program `cyclone`: checks a program, compiles one to an image, runs an image, and disassembles one.
 #![tactic(auto)]
 
 mod advice;
@@ -15,7 +15,7 @@ mod work;
 use std::process::ExitCode;
 
 fn main(rt: HostRuntime) -> ExitCode {
-    match session::answer(&rt) {
+    match session::serve(&rt) {
         Some(answer) => {
             let _ = rt.eprintln(answer);
             ExitCode::from(answer.status())

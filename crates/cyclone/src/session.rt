@@ -4,6 +4,7 @@ use crate::answer::Answer;
 use crate::arguments;
 use crate::arguments::Request;
 use crate::console::{Keyboard, Screen};
+use crate::excerpt::Shown;
 use crate::files::{read_image, read_text, write_image};
 use crate::message::Message;
 use crate::work::{check, list_image, run_image};
@@ -12,13 +13,14 @@ use cyc_machine::Limits;
 use cyc_system::compile;
 use cyc_words::Fault;
 use std::cell::RefCell;
+use std::env::{Env, FillError};
 use std::io::{BufReader, BufWriter, IsTerminal, Stdout};
 use std::{env, io};
 
 type Buffer = RefCell<BufWriter<Stdout>>;
 
-/// The answer to a refused text, whose message for a person goes to standard error.
-fn refused(rt: &HostRuntime, name: &str, text: &[u8], fault: Fault) -> Answer {
+/// The answer to a refused program, whose message for a person goes to standard error.
+fn report_refusal(rt: &HostRuntime, name: &str, text: &[u8], fault: Fault) -> Answer {
     let answer = Answer::from(fault);
     if let Answer::Refused(fault) = answer {
         let _ = rt.eprint(Message { name, text, fault });
@@ -26,37 +28,38 @@ fn refused(rt: &HostRuntime, name: &str, text: &[u8], fault: Fault) -> Answer {
     answer
 }
 
-/// `check F`.
+/// `check SOURCE`.
 fn check_file(rt: &HostRuntime, source: &str) -> Result<Answer, Answer> {
     let text = read_text(rt, source)?;
     let text = text.as_slice();
     match check(rt.alloc(), text) {
         Ok(()) => Ok(Answer::Done),
-        Err(fault) => Err(refused(rt, source, text, fault)),
+        Err(fault) => Err(report_refusal(rt, source, text, fault)),
     }
 }
 
-/// `compile F -o I`. The file I is opened only where there is an image to write.
+/// `compile SOURCE -o IMAGE`. The image's file is opened only where there is an image to write.
 fn compile_file(rt: &HostRuntime, source: &str, image: &str) -> Result<Answer, Answer> {
     let text = read_text(rt, source)?;
     let text = text.as_slice();
     match compile(rt.alloc(), text) {
         Ok(bytes) => Ok(write_image(rt, image, bytes.as_slice())),
-        Err(fault) => Err(refused(rt, source, text, fault)),
+        Err(fault) => Err(report_refusal(rt, source, text, fault)),
     }
 }
 
-fn buffer(rt: &HostRuntime) -> Result<Buffer, Answer> {
+/// A buffer before the standard output.
+fn make_buffer(rt: &HostRuntime) -> Result<Buffer, Answer> {
     match BufWriter::new(rt.alloc(), rt.stdout()) {
         Ok(buffer) => Ok(RefCell::new(buffer)),
         Err(_) => Err(Answer::NoMemory),
     }
 }
 
-/// `run I`, on the standard input.
+/// `run IMAGE`, on the standard input.
 fn run_file(rt: &HostRuntime, image: &str, limits: Limits, budget: u64) -> Result<Answer, Answer> {
     let image = read_image(rt, image)?;
-    let buffer = buffer(rt)?;
+    let buffer = make_buffer(rt)?;
     let keyboard = Keyboard {
         input: rt.stdin(),
         buffer: &buffer,
@@ -84,10 +87,10 @@ fn run_file(rt: &HostRuntime, image: &str, limits: Limits, budget: u64) -> Resul
     Ok(answer)
 }
 
-/// `disasm I`.
+/// `disasm IMAGE`.
 fn list_file(rt: &HostRuntime, image: &str) -> Result<Answer, Answer> {
     let image = read_image(rt, image)?;
-    let buffer = buffer(rt)?;
+    let buffer = make_buffer(rt)?;
     let mut screen = Screen {
         buffer: &buffer,
         by_lines: false,
@@ -96,6 +99,7 @@ fn list_file(rt: &HostRuntime, image: &str) -> Result<Answer, Answer> {
     Ok(list_image(rt.alloc(), image.as_slice(), &mut screen))
 }
 
+/// What came of a request.
 fn carry_out(rt: &HostRuntime, request: Request<'_>) -> Answer {
     let result = match request {
         Request::Check { source } => check_file(rt, source),
@@ -114,7 +118,7 @@ fn carry_out(rt: &HostRuntime, request: Request<'_>) -> Answer {
 
 /// The answer to words that ask for no work: a wrong command line, or help, which has no answer
 /// where its text could be written.
-fn without_request(rt: &HostRuntime, error: &clap::Error) -> Option<Answer> {
+fn print_usage(rt: &HostRuntime, error: &clap::Error) -> Option<Answer> {
     let written = error.print(rt);
     match error.kind() {
         ErrorKind::DisplayHelp if written.is_ok() => None,
@@ -124,12 +128,35 @@ fn without_request(rt: &HostRuntime, error: &clap::Error) -> Option<Answer> {
     }
 }
 
-fn words_of(rt: &HostRuntime) -> Result<Vec<String>, Answer> {
+/// How much of a word is looked at: no file has a longer name.
+const MOST_WORD: usize = 4096;
+
+/// Says which word of the command line is not UTF-8, and how its file is reached all the same: std
+/// opens files by text alone, and the shell by any bytes.
+fn report_word(rt: &HostRuntime) {
+    let mut word = [0; MOST_WORD];
+    for place in 0..usize::MAX {
+        match rt.arg(place, &mut word) {
+            Ok(length) if str::from_utf8(&word[..length]).is_err() => {
+                let _ = eprintln!(rt;
+                    "cyclone: the name {} is not UTF-8: open its file by the shell, as in cyclone check /dev/fd/3 3< FILE",
+                    Shown(&word[..length])
+                );
+                return;
+            }
+            Err(FillError::NotPresent) => return,
+            Ok(_) | Err(FillError::TooLong) => {}
+        }
+    }
+}
+
+/// The words of the command line.
+fn read_words(rt: &HostRuntime) -> Result<Vec<String>, Answer> {
     let words = match env::args(rt) {
         Ok(words) => words,
         Err(error) if error.kind() == io::ErrorKind::OutOfMemory => return Err(Answer::NoMemory),
         Err(_) => {
-            let _ = eprintln!(rt; "cyclone: a word of the command line is not UTF-8");
+            report_word(rt);
             return Err(Answer::Usage);
         }
     };
@@ -139,21 +166,24 @@ fn words_of(rt: &HostRuntime) -> Result<Vec<String>, Answer> {
     }
 }
 
-/// What the program answers, or nothing where help was asked for and given. What there is to say
-/// about the answer to a person stands on standard error.
-pub fn answer(rt: &HostRuntime) -> Option<Answer> {
-    let words = match words_of(rt) {
-        Ok(words) => words,
-        Err(answer) => return Some(answer),
-    };
-    match arguments::read(rt.alloc(), words.as_slice()) {
-        Ok(request) => {
-            let answer = carry_out(rt, request);
-            if let Some(text) = explanation(&answer) {
-                let _ = eprintln!(rt; "cyclone: {text}");
-            }
-            Some(answer)
-        }
-        Err(error) => without_request(rt, &error),
+/// The answer to what the words of the command line ask for. What there is to say about it to a
+/// person stands on standard error.
+fn answer_words(rt: &HostRuntime, words: &[String]) -> Option<Answer> {
+    match arguments::read(rt.alloc(), words) {
+        Ok(request) => Some(carry_out(rt, request)),
+        Err(error) => print_usage(rt, &error),
     }
+}
+
+/// Does what the command line asks for. What the program answers, or nothing where help was asked for
+/// and given.
+pub fn serve(rt: &HostRuntime) -> Option<Answer> {
+    let answer = match read_words(rt) {
+        Ok(words) => answer_words(rt, words.as_slice())?,
+        Err(answer) => answer,
+    };
+    if let Some(text) = explanation(&answer) {
+        let _ = eprintln!(rt; "cyclone: {text}");
+    }
+    Some(answer)
 }

@@ -147,7 +147,7 @@ fn messages_say_what_is_wrong(rt: HostRuntime) -> Result<(), Fail> {
     };
     let text = format!(in rt.alloc(); "{message}")?;
     let wanted =
-        "one\\x1b.cyc:2:11: no token, space or comment begins with this byte\n    \treturn 1 # 2;\n    \t         ^\n    hint: take the byte out, or put it into a comment\n";
+        "one\\x1b.cyc:2:11: unrecognized byte: no token, space or comment begins with it\n    \treturn 1 # 2;\n    \t         ^\n    hint: remove the byte, or put it into a comment\n";
     assert_eq!(rt; text.as_str(), wanted);
     Ok(())
 }

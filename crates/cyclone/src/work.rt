@@ -34,7 +34,7 @@ pub fn check(alloc: Global, text: &[u8]) -> Result<(), Fault>
 }
 
 /// The answer, or a write fault where what was written could not all be passed on.
-fn flushed<W: Write>(output: &mut W, answer: Answer) -> Answer
+fn flush_for<W: Write>(output: &mut W, answer: Answer) -> Answer
     ensures answer { (result ≡ answer) ⊎ (result ≡ Answer.WriteFault) }
     ensures bytes { Keeps (W.contents output.old) (W.contents output.new) }
 {
@@ -75,7 +75,7 @@ pub fn run_image<R: Read, W: Write>(
     let mut reader = Reader::new(input);
     let mut writer = Writer::new(&mut *output);
     let answer = run_between(alloc, image, limits, budget, &mut reader, &mut writer);
-    flushed(output, answer)
+    flush_for(output, answer)
 }
 
 /// Lists the instructions of an image to a device.
@@ -92,5 +92,5 @@ fn list_to<W: ByteOut>(alloc: Global, image: &[u8], writer: &mut W) -> Answer
 pub fn list_image<W: Write>(alloc: Global, image: &[u8], output: &mut W) -> Answer {
     let mut writer = Writer::new(&mut *output);
     let answer = list_to(alloc, image, &mut writer);
-    flushed(output, answer)
+    flush_for(output, answer)
 }
