@@ -297,7 +297,7 @@ def run_step(step, folder, program):
             stdout=output,
             stderr=subprocess.PIPE,
             timeout=SECONDS,
-            env={**os.environ, "LC_ALL": "C"},
+            env={**os.environ, "LC_ALL": "C", "CYCLONE": program},
         )
     finally:
         if step.broken:
