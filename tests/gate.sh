@@ -38,6 +38,8 @@ sh tests/tools.sh || echo "tests/tools.sh: a tool of the suite could not be inst
 add "proofs" rt ci
 add "self tests" python3 tests/self_test.py
 add "command line" python3 tests/run.py
+add "codes" python3 tests/codes.py
+add "documents" python3 tests/documents.py
 add "examples" python3 tests/examples.py
 add "random programs" python3 tests/differential.py
 echo "== costs"
