@@ -11,8 +11,6 @@ mod phase;
 mod registers;
 mod results;
 mod start;
-#[cfg(test)]
-mod tests;
 mod text;
 
 pub use event::{Cause, End, Event};

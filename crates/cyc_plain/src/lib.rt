@@ -6,8 +6,6 @@ mod checking;
 pub mod instruction;
 pub mod laws;
 pub mod program;
-#[cfg(test)]
-mod tests;
 
 pub use checking::{GREATEST_VALUE, LAYOUT_WORDS, MOST_GLOBALS, well_formed};
 pub use instruction::{BinaryOperator, Instruction, UnaryOperator};
