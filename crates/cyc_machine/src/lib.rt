@@ -12,8 +12,6 @@ mod phase;
 mod registers;
 mod results;
 mod start;
-#[cfg(test)]
-mod tests;
 mod text;
 
 pub use event::{Cause, End, Event};

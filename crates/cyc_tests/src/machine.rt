@@ -1,18 +1,16 @@
-//! Runs of small programs, with ends, counts and registers from outside: those of the longer programs were seen
-//! under `qemu-mips`, the others follow from the architecture manual.
-//!
-//! The rows are text, which costs the check nothing: each value of a table in code has to be proved.
+//! Runs of small programs, with ends, counts and registers from outside: those of the longer programs were seen under
+//! `qemu-mips`, the others follow from the architecture manual.
 
-use super::*;
+use crate::hexadecimal::put_words;
 use cyc_elf::read_image;
-use cyc_words::bytes_of;
+use cyc_machine::{Event, Limits, Machine};
 use std::alloc::Global;
 use std::process::Abort;
 use std::test::Fail;
 
-/// Programs that run to their ends, but for the one that has none. A line has, between bars: a name, the words of the
-/// text, the input, the last event and after how many instructions it came (a thousand at most), what was printed,
-/// and what registers then hold. Words and what registers hold are hexadecimal.
+/// Programs that run to their ends, but for the one that has none, and below them what is refused, with its cause. A line has,
+/// between bars: a name, the words of the text, the input, the last event and after how many instructions it came (a thousand
+/// at most), what was printed, and what registers then hold. Words and what registers hold are hexadecimal.
 const PROGRAMS: &str = "\
 operations on registers and immediates|3c088765 35084321 2509ffff 240a7fff 290b0005 2d0c0005 2d4dffff 294effff 310fff0f 3910ffff 00088900 00089102 00089903 24140024 0288a804 0288b006 0288b807 0108c021 0008c823 01101024 01101825 01102026 01102827 010a302a 010a382b 25000001 0000000d||Ended(Trap(Break)) after 27||0=0 2=87650000 3=8765ffff 4=ffff 5=789a0000 6=1 7=0 8=87654321 9=87654320 10=7fff 11=1 12=0 13=1 14=0 15=4301 16=8765bcde 17=76543210 18=8765432 19=f8765432 20=24 21=76543210 22=8765432 23=f8765432 24=eca8642 25=789abcdf
 products, quotients, loads and stores|3c088000 2409ffff 240a0007 240bfffd 01090018 00006010 00006812 016a0018 00007010 00007812 016a001a 00008010 00008812 014b001a 00009010 00009812 3c141000 ae8b0000 ae8a0ffc 8e950000 8e960ffc 26940008 8e97fff8 8e980000 0000000d||Ended(Trap(Break)) after 25||12=0 13=80000000 14=ffffffff 15=ffffffeb 16=fffffffd 17=0 18=1 19=fffffffe 20=10000008 21=fffffffd 22=7 23=fffffffd 24=0
@@ -28,10 +26,6 @@ no room|2402000b 0000000c||Ended(Full) after 2||0=0
 an echo|24020001 0000000c 04400005 00402021 24020002 0000000c 1000fff9 00000000 24020003 24040000 0000000c|hi|Ended(Returned(0)) after 23|hi|2=3
 an echo of nothing|24020001 0000000c 04400005 00402021 24020002 0000000c 1000fff9 00000000 24020003 24040000 0000000c||Ended(Returned(0)) after 7||0=0
 the start|0000000d||Ended(Trap(Break)) after 1||0=0 4=1 29=7ffff000 31=0 2=0
-";
-
-/// What is refused, with which cause and after how many instructions, in lines of the same form.
-const REFUSALS: &str = "\
 a branch in a delay slot|10000001 10000001||Ended(Trap(Unpredictable)) after 2||
 a jump in the slot of a branch not taken|14000001 08100000||Ended(Trap(Unpredictable)) after 2||
 division by 0|0000001a||Ended(Trap(Unpredictable)) after 1||
@@ -70,14 +64,6 @@ const ENDS_OF_RANGES: &str = "\
 4096 7fffeffc word
 4096 7ffff000 nothing
 ";
-
-/// Appends words, given in hexadecimal.
-fn put_words(file: &mut Vec<u8>, words: &str) -> Result<(), Fail> {
-    for word in words.split_whitespace() {
-        file.extend_from_slice(&bytes_of(u32::from_str_radix(word, 16)?))?;
-    }
-    Ok(())
-}
 
 /// The file of an image with its entry at 00400000. A line for each segment has the address, how many bytes it has in
 /// memory, and the words that are stored, all in hexadecimal.
@@ -176,14 +162,6 @@ fn expect_line<A: Abort>(rt: &A, alloc: Global, line: &str) -> Result<(), Fail> 
 #[test]
 fn programs(rt: HostRuntime) -> Result<(), Fail> {
     for line in PROGRAMS.lines() {
-        expect_line(&rt, rt.alloc(), line)?;
-    }
-    Ok(())
-}
-
-#[test]
-fn refusals(rt: HostRuntime) -> Result<(), Fail> {
-    for line in REFUSALS.lines() {
         expect_line(&rt, rt.alloc(), line)?;
     }
     Ok(())
@@ -297,19 +275,23 @@ fn segments_outside(rt: HostRuntime) -> Result<(), Fail> {
 
 /// Which limits there are.
 #[test]
-fn limits(rt: HostRuntime) {
-    for (pages, calls, allowed) in [
-        (3, 1, true),
-        (65_536, 4096, true),
-        (2, 1, false),
-        (65_537, 1, false),
-        (3, 0, false),
-        (3, 4097, false),
+fn limits(rt: HostRuntime) -> Result<(), Fail> {
+    for line in [
+        "3 1 yes",
+        "65536 4096 yes",
+        "2 1 no",
+        "65537 1 no",
+        "3 0 no",
+        "3 4097 no",
     ] {
+        let (pages, rest) = line.split_once(' ').ok_or("no calls")?;
+        let (calls, allowed) = rest.split_once(' ').ok_or("no answer")?;
+        let (pages, calls) = (pages.parse::<u32>()?, calls.parse::<u32>()?);
         let limits = Limits::new(pages, calls);
-        assert_eq!(rt; limits.is_some(), allowed, "{pages} {calls}");
+        assert_eq!(rt; limits.is_some(), allowed == "yes", "{line}");
         if let Some(limits) = limits {
             assert_eq!(rt; (limits.pages(), limits.calls()), (pages, calls));
         }
     }
+    Ok(())
 }
