@@ -1,9 +1,12 @@
 #!/usr/bin/env python3
-"""Runs the suite's runner on a stand-in for the program, and sees that it passes and fails what it should."""
+"""Tries the tests' own tools: the suite's runner, on a stand-in for the program, passes and fails what it should; and the table of
+what the gate costs, on looks at processes that are written here, has the sums worked by hand."""
 import os
 import subprocess
 import sys
 import tempfile
+
+import gate_table
 
 HERE = os.path.dirname(os.path.abspath(__file__))
 
@@ -133,20 +136,71 @@ def last_line_of_run(cases, folder):
     return done.stdout.rstrip().split("\n")[-1], done.returncode, done.stdout + done.stderr
 
 
+# Three looks at a gate, a second apart: two checks of a crate side by side, with a helper; an edit; a proof that ends, and
+# another whose parent has ended; and a check of somebody else.
+LOOKS = """\
+100 1 5 0.2 python3 /usr/local/bin/rt ci
+101 100 10 3.0 /opt/bin/rattle build --crate-name low src/lib.rt -o /x/low.rlib
+102 101 11 1.0 /opt/bin/rattle build --crate-name low src/lib.rt -o /x/low.rlib
+103 100 12 2.0 /opt/bin/rattle build --crate-name low src/lib.rt --test -o out/low_tests.o
+900 1 13 50.0 /opt/bin/rattle check --crate-name low src/lib.rt
+
+100 1 5 0.2 python3 /usr/local/bin/rt ci
+103 100 12 4.0 /opt/bin/rattle build --crate-name low src/lib.rt --test -o out/low_tests.o
+104 100 20 1.0 /opt/bin/rattle check --crate-name low src/lib.rt --incremental /tmp/kept
+105 100 21 0.1 setpriv --reuid=65534 true
+106 105 22 7.0 /opt/bin/rattle check --crate-name top src/main.rt -o /x/checked
+
+100 1 5 0.2 python3 /usr/local/bin/rt ci
+101 100 30 1.0 /opt/bin/rattle check --crate-name low src/lib.rt --incremental /tmp/kept
+106 1 22 9.0 /opt/bin/rattle check --crate-name top src/main.rt -o /x/checked"""
+
+COSTS = """\
+| | Proof | Tests | Edits | All |
+|---|---|---|---|---|
+| `low` | 4 (1) | 4 (2) | 2 (2) | 10 |
+| `top` | 9 (2) | - | - | 9 |
+| all crates | 13 (3) | 4 (2) | 2 (2) | 19 |
+| proofs, the rest | - | - | - | 1 |
+| suite | - | - | - | 40 |
+
+Seconds of processors, and in brackets those on the clock while such a check ran.
+The whole gate: 1.0 processor minutes in 0.5 minutes, on 4 processors, 2026-01-01."""
+
+
+def is_table_right():
+    account = gate_table.Account(100)
+    for look in LOOKS.split("\n\n"):
+        account.take([gate_table.process_of(line) for line in look.split("\n")], 1.0)
+    wholes = [
+        {"name": "proofs", "processors": 20.0, "clock": 20.0, "checks": account.rows()},
+        {"name": "suite", "processors": 40.0, "clock": 10.0, "checks": []},
+    ]
+    lines = "\n".join(gate_table.table(wholes, 4, "2026-01-01"))
+    if lines != COSTS:
+        print(f"the table of costs is\n{lines}\nand should be\n{COSTS}")
+    return lines == COSTS
+
+
+def is_runner_right(folder):
+    program = os.path.join(folder, "stand_in")
+    with open(program, "w", encoding="utf-8") as file:
+        file.write(STAND_IN)
+    os.chmod(program, 0o755)
+    is_right = True
+    for cases, wanted in ((GOOD, ("6 passed, 0 failed", 0)), (BAD, ("0 passed, 10 failed", 1))):
+        line, status, all_of_it = last_line_of_run(cases, folder)
+        if (line, status) != wanted:
+            print(f"the runner said {line!r} with status {status} and should have said {wanted}:\n{all_of_it}")
+            is_right = False
+    return is_right
+
+
 def main():
     with tempfile.TemporaryDirectory() as folder:
-        program = os.path.join(folder, "stand_in")
-        with open(program, "w", encoding="utf-8") as file:
-            file.write(STAND_IN)
-        os.chmod(program, 0o755)
-        failed = False
-        for cases, wanted in ((GOOD, ("6 passed, 0 failed", 0)), (BAD, ("0 passed, 10 failed", 1))):
-            line, status, all_of_it = last_line_of_run(cases, folder)
-            if (line, status) != wanted:
-                print(f"the runner said {line!r} with status {status} and should have said {wanted}:\n{all_of_it}")
-                failed = True
-    print("1 passed, 0 failed" if not failed else "0 passed, 1 failed")
-    sys.exit(1 if failed else 0)
+        right = [is_runner_right(folder), is_table_right()]
+    print(f"{right.count(True)} passed, {right.count(False)} failed")
+    sys.exit(0 if all(right) else 1)
 
 
 if __name__ == "__main__":

@@ -8,7 +8,5 @@ mod assembler;
 mod emission;
 pub mod laws;
 mod layout;
-#[cfg(test)]
-mod tests;
 
 pub use assembler::assemble;

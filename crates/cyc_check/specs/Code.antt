@@ -1,7 +1,6 @@
 -- What the code has to do with the checking function: what its functions give, and what its tables of names hold.
 use Rattle.std.specs.Prelude.{◌≡◌, ℕ, zero, suc, Bool, true, false, if◌then◌else◌, List, [], ◌∷◌, Option, Some, None, Result, Ok, Err}
 use Rattle.cyc_words.specs.declared.fault.Code.TheVariants as codes
-use Rattle.cyc_words.specs.declared.fault.Fault.{Fault}
 use Rattle.cyc_syntax.specs.declared.tree.Expr.{Expr}
 use Rattle.cyc_syntax.specs.declared.tree.BinaryOperator.{BinaryOperator}
 use Rattle.cyc_syntax.specs.Symbols.{Place}

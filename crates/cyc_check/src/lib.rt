@@ -13,6 +13,4 @@ mod locals;
 mod program;
 mod statements;
 mod stop;
-#[cfg(test)]
-mod tests;
 mod tree;

@@ -19,6 +19,3 @@ pub use fault::ElfFault;
 pub use image::{Image, Segment};
 pub use reading::read_image;
 pub use writing::write_image;
-
-#[cfg(test)]
-mod tests;

@@ -1,7 +1,5 @@
 -- What the code has to do with the flow rules: the states that it holds, and what its functions answer.
 use Rattle.std.specs.Prelude.{◌≡◌, map, Result, Ok, Err}
-use Rattle.cyc_words.specs.declared.fault.Code.TheVariants as faults
-use Rattle.cyc_words.specs.declared.fault.Fault.{Fault}
 use Rattle.cyc_flow.specs.declared.state.Fullness.{Fullness as FullnessCode}
 use Rattle.cyc_flow.specs.declared.state.Fullness.TheVariants as code
 use Rattle.cyc_flow.specs.declared.state.State.{State as StateCode}

@@ -8,5 +8,3 @@ mod expressions;
 mod state;
 mod statements;
 mod stop;
-#[cfg(test)]
-mod tests;

@@ -3,8 +3,6 @@
 
 mod frame;
 mod layouts;
-#[cfg(test)]
-mod tests;
 
 pub use frame::{Frame, Frames};
 pub use layouts::layout;

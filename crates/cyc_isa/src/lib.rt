@@ -7,8 +7,6 @@ pub mod instr;
 pub mod laws;
 pub mod operand;
 mod table;
-#[cfg(test)]
-mod tests;
 mod text;
 
 pub use decoding::decode;

@@ -1,10 +1,12 @@
+-- what the answers of `lex` and of the laws cite
 pub mod AnswerLemmas
-pub mod CommentLemmas
 pub mod FaultLemmas
 pub mod LexLemmas
+pub mod ShapeLemmas
+-- the piece that is read is the longest
+pub mod CommentLemmas
 pub mod NameReading
 pub mod NumberLemmas
 pub mod NumberReading
-pub mod ShapeLemmas
 pub mod SlashReading
 pub mod SpellingLemmas

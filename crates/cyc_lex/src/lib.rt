@@ -7,7 +7,5 @@ mod lexer;
 mod pieces;
 mod runs;
 mod spellings;
-#[cfg(test)]
-mod tests;
 
 pub use lexer::lex;

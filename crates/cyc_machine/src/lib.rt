@@ -1,6 +1,7 @@
 //! A MIPS32 machine for user programs: loading an image, and executing its instructions one at a time.
 #![tactic(auto)]
 
+pub mod constants;
 mod event;
 mod fault;
 pub mod laws;
@@ -11,8 +12,6 @@ mod phase;
 mod registers;
 mod results;
 mod start;
-#[cfg(test)]
-mod tests;
 mod text;
 
 pub use event::{Cause, End, Event};

@@ -3,6 +3,7 @@
 ghost use Rattle.std.specs.Prelude.{◌≡◌, ◌≤◌, ◌↔◌, IsSome, IfSome};
 ghost use Rattle.cyc_machine.specs.Bounds.{AreAllowed};
 
+use crate::constants::{MAX_CALLS, MAX_PAGES, MIN_CALLS, MIN_PAGES};
 use std::marker::Model;
 
 /// The limits of a run: pages of the store, from 3 to 65,536, and calls under way at once, from 1 to 4,096.
@@ -31,7 +32,7 @@ impl Limits {
         ensures allowed { IsSome result ↔ AreAllowed pages calls }
         ensures values { IfSome result (λ l. l ≡ record { pages = pages; calls = calls }) }
     {
-        if 3 <= pages && pages <= 65_536 && 1 <= calls && calls <= 4096 {
+        if MIN_PAGES <= pages && pages <= MAX_PAGES && MIN_CALLS <= calls && calls <= MAX_CALLS {
             Some(Limits { pages, calls })
         } else {
             None

@@ -1,18 +1,21 @@
 -- What the parser answers, in the grammar's words.
-use Rattle.std.proofs.Common.{◌≡◌, ◌⊎◌, ℕ, List, [], ◌∷◌, inl, inr, Result, Ok, Err, refl, sym, ap, subst, ◌∙◌}
+use Rattle.std.proofs.Common.{◌≡◌, ◌⊎◌, ℕ, List, [], ◌∷◌, length, inl, inr, Result, Ok, Err, refl, sym, ap, subst, ◌∙◌}
 use Rattle.std.specs.Prelude.{IfOk, IfErr, MatchResult}
 use Rattle.std.proofs.lemmas.List.{length-map}
 use Rattle.cyc_words.specs.Fault.{memory_fault}
+use Rattle.cyc_words.specs.Decision.{Decides}
 use Rattle.cyc_words.specs.declared.fault.Fault.{Fault}
+use Rattle.cyc_syntax.specs.Names.{distinct_texts}
 use Rattle.cyc_syntax.specs.Tokens.{Token}
-use Rattle.cyc_syntax.specs.Symbols.{Symbol, symbols_of}
+use Rattle.cyc_syntax.specs.Symbols.{Symbol, texts_in, symbols_of}
 use Rattle.cyc_syntax.specs.Trees.{Declaration}
 use Rattle.cyc_syntax.specs.Grammar.{HasTree, IsWithinLimits}
+use Rattle.cyc_syntax.specs.Weight.{tree_weight}
 use Rattle.cyc_syntax.specs.declared.tree.Tree.{Tree}
 use Rattle.cyc_parse.specs.Parsing.{Outcome, Refusal, and_then, bind}
 use Rattle.cyc_parse.specs.Declarations.{program_of}
 use Rattle.cyc_parse.specs.Answers.{at_end, whole_program, end_of, fault_of, IsAnswer}
-use Rattle.cyc_parse.specs.Acceptance.{declarations_of, IsAccepted, IsRefused, BreaksLimit}
+use Rattle.cyc_parse.specs.Acceptance.{declarations_of, IsAccepted, IsRefused, BreaksLimit, IsFaulty}
 use Rattle.cyc_parse.proofs.Soundness.{program_of-sound, answered_weight}
 use Rattle.cyc_parse.proofs.Refused.{program_of-refused, within_limits_answered, first_limit_refused}
 
@@ -50,19 +53,25 @@ whole_refused ts refusal e = whole_err ts (program_of ts) refusal refl e
 
 -- ---- the clauses of the contract
 
-pub accepted : (text : List ℕ) (tokens : List Token) (result : Result Tree Fault) → IsAnswer text tokens result → IfOk result (λ tree. IsAccepted tokens tree)
-accepted text tokens (Ok tree) h =
-    let read = whole_read (symbols_of tokens) (declarations_of tree) h.declarations in
-    let parsed = program_of-sound (symbols_of tokens) [] (declarations_of tree) read in
-    record {
-      has = parsed.has;
-      within = parsed.within;
-      names = h.names;
-      weight = answered_weight (symbols_of tokens) [] (declarations_of tree) read ∙ length-map tokens _;
-    }
+accepted : (text : List ℕ) (tokens : List Token) (result : Result Tree Fault) → IsAnswer text tokens result
+    → IfOk result (λ t. (tree : List Declaration) × IsAccepted tokens tree × (declarations_of t ≡ tree))
+accepted text tokens (Ok t) h =
+    let parsed = program_of-sound (symbols_of tokens) [] (declarations_of t) (whole_read (symbols_of tokens) (declarations_of t) h.declarations) in
+    (declarations_of t, record { has = parsed.has; within = parsed.within }, refl)
 accepted text tokens (Err fault) h = tt
 
-pub refused : (text : List ℕ) (tokens : List Token) (result : Result Tree Fault) → IsAnswer text tokens result → IfErr result (λ f. (f ≡ memory_fault) ⊎ IsRefused text tokens f)
+pub named : (text : List ℕ) (tokens : List Token) (result : Result Tree Fault) → IsAnswer text tokens result
+    → IfOk result (λ t. t.names ≡ distinct_texts (texts_in tokens))
+named text tokens (Ok t) h = h.names
+named text tokens (Err fault) h = tt
+
+pub weighed : (text : List ℕ) (tokens : List Token) (result : Result Tree Fault) → IsAnswer text tokens result
+    → IfOk result (λ t. tree_weight (declarations_of t) ≡ length tokens)
+weighed text tokens (Ok t) h =
+    answered_weight (symbols_of tokens) [] (declarations_of t) (whole_read (symbols_of tokens) (declarations_of t) h.declarations) ∙ length-map tokens _
+weighed text tokens (Err fault) h = tt
+
+refused : (text : List ℕ) (tokens : List Token) (result : Result Tree Fault) → IsAnswer text tokens result → IfErr result (λ f. (f ≡ memory_fault) ⊎ IsRefused text tokens f)
 refused text tokens (Ok tree) h = tt
 refused text tokens (Err fault) (inl memory) = inl memory
 refused text tokens (Err fault) (inr h) =
@@ -87,7 +96,7 @@ same_refusal a b e = cc
 differ : (ds : List Declaration) (refusal : Refusal) → answered ds ≡ refusing refusal → ⊥
 differ ds refusal e = cc
 
-pub accepts : (text : List ℕ) (tokens : List Token) (result : Result Tree Fault) → IsAnswer text tokens result
+accepts : (text : List ℕ) (tokens : List Token) (result : Result Tree Fault) → IsAnswer text tokens result
     → (tree : List Declaration) → HasTree (symbols_of tokens) tree → IsWithinLimits tree → MatchResult result (λ t. declarations_of t ≡ tree) (λ f. f ≡ memory_fault)
 accepts text tokens (Ok t) h tree has within =
     same_declarations (declarations_of t) tree (sym h.declarations ∙ whole_of (symbols_of tokens) tree (within_limits_answered (symbols_of tokens) tree has within))
@@ -99,9 +108,19 @@ limit_refused tokens refusal b = whole_refuses (symbols_of tokens) refusal
     (ap program_of b.are ∙ first_limit_refused b.front b.behind b.symbol b.tree refusal.reason (subst (λ (ts : List Symbol). HasTree ts b.tree) b.are b.has) b.breaks
     ∙ ap (λ (left : List Symbol). Err (record { reason = refusal.reason; left = left })) (sym b.left))
 
-pub limits : (text : List ℕ) (tokens : List Token) (result : Result Tree Fault) → IsAnswer text tokens result
+limits : (text : List ℕ) (tokens : List Token) (result : Result Tree Fault) → IsAnswer text tokens result
     → (refusal : Refusal) → BreaksLimit tokens refusal → MatchResult result (λ _. ⊥) (λ f. (f ≡ memory_fault) ⊎ (f ≡ fault_of (end_of text) refusal))
 limits text tokens (Ok t) h refusal b = absurd (differ (declarations_of t) refusal (sym h.declarations ∙ limit_refused tokens refusal b))
 limits text tokens (Err fault) (inl memory) refusal b = inl memory
 limits text tokens (Err fault) (inr h) refusal b =
     inr (h.is ∙ ap (fault_of (end_of text)) (same_refusal h.refusal refusal (sym h.refused ∙ limit_refused tokens refusal b)))
+
+pub decides : (text : List ℕ) (tokens : List Token) (result : Result Tree Fault) → IsAnswer text tokens result
+    → Decides (IsAccepted tokens) (λ tree t. declarations_of t ≡ tree) (IsRefused text tokens) (IsFaulty text tokens) result
+decides text tokens result h =
+    record {
+      accepted = accepted text tokens result h;
+      refused = refused text tokens result h;
+      accepts = λ tree is. accepts text tokens result h tree is.has is.within;
+      refuses = λ fault is. subst (λ (g : Fault). MatchResult result (λ _. ⊥) (λ f. (f ≡ memory_fault) ⊎ (f ≡ g))) (sym is.is) (limits text tokens result h is.refusal is.breaks);
+    }

@@ -1,6 +1,7 @@
--- What a parser that answers has read: symbols that a yield spells and whose leaves keep the limits; and the rules by which this
--- follows for parsers made of parsers.
-use Rattle.std.proofs.Common.{◌≡◌, ℕ, zero, suc, ◌≤◌, Bool, true, false, cond, List, [], ◌∷◌, ◌++◌, Option, Some, None, Ok, Err, refl, sym, ap, subst, ◌∙◌, arith, rules}
+-- What a parser that answers has read: symbols that a yield spells and whose leaves keep the limits. And what one has read that
+-- refuses for a limit: the first symbols of a yield, up to the one refused. Here are the rules by which both follow for parsers made
+-- of parsers.
+use Rattle.std.proofs.Common.{◌≡◌, ℕ, zero, suc, ◌≤◌, Bool, true, false, cond, List, [], ◌∷◌, ◌++◌, Option, Some, None, is_some, Ok, Err, refl, sym, ap, subst, ◌∙◌, arith, rules, append_assoc}
 use Rattle.std.specs.Option.{IfSome}
 use Rattle.std.specs.List.{AllByRecursion}
 use Rattle.std.specs.Prelude.{if◌then◌else◌}
@@ -13,7 +14,7 @@ use Rattle.cyc_syntax.specs.Symbols.{Place, Terminal, Identifier, RegionName, Nu
 use Rattle.cyc_syntax.specs.Trees.{Named}
 use Rattle.cyc_syntax.specs.Yields.{Leaf, Yield, item_number}
 use Rattle.cyc_syntax.specs.Grammar.{IsWithin, max_nesting, max_items}
-use Rattle.cyc_parse.specs.Parsing.{Parser, Outcome, Refusal, Reason, Unexpected, and_then, bind, choose, next, take, same_keyword, same_sign, is_sign, is_word, identifier_name, region_of_terminal, named, only_place, sign, word, identifier, region_name, accept_if, advance, if_sees, sees, refuse, refuse_item, starts, if_starts, on_some, if_is, pure}
+use Rattle.cyc_parse.specs.Parsing.{Parser, Outcome, Refusal, Reason, Unexpected, TooDeep, TooLong, and_then, bind, choose, next, take, same_keyword, same_sign, is_sign, is_word, identifier_name, region_of_terminal, named, only_place, sign, word, identifier, region_name, accept_if, advance, if_sees, sees, sees_terminal, refuse, refuse_item, reason_by, starts, if_starts, on_some, if_is, pure}
 use Rattle.cyc_parse.proofs.Rules.{Front, Fits, leaf_of, leaf_at}
 use Rattle.cyc_parse.proofs.Locality.{left_of}
 use Rattle.cyc_parse.proofs.LocalExpressions.{WasRead, was_read}
@@ -25,9 +26,53 @@ pub record Derived (ts rest : List Symbol) (Post : Yield → Type 0) : Type 0 wh
   pub within : AllByRecursion IsWithin leaves
   pub post : Post leaves
 
--- What holds of each answer on these symbols: of what is answered, of what it was read from, and of the symbols that are left.
+-- The yield begins with the symbols, up to the first of those that are left.
+pub record Begins (leaves : Yield) (ts left : List Symbol) : Type 0 where
+  pub done : Yield
+  pub more : Yield
+  pub symbol : Symbol
+  pub back : List Symbol
+  pub are : leaves ≡ done ++ more
+  pub left_are : left ≡ symbol ∷ back
+  pub front : Front done ts back
+
+-- something of which it holds, where no symbol follows
+pub record Possible {A : Type 0} (Post : A → Yield → List Symbol → Type 0) : Type 0 where
+  pub value : A
+  pub leaves : Yield
+  pub post : Post value leaves []
+
+pub possibly : {A : Type 0} {Post : A → Yield → List Symbol → Type 0} (x : A) (ls : Yield) → Post x ls [] → Possible Post
+possibly x ls post = record { value = x; leaves = ls; post = post }
+
+-- the same, beginning with a symbol that has this terminal and this place
+pub record Opened {A : Type 0} (Post : A → Yield → List Symbol → Type 0) (u : Terminal) (p : Place) : Type 0 where
+  pub value : A
+  pub leaf : Leaf
+  pub behind : Yield
+  pub terminal : u ≡ leaf.terminal
+  pub place : IfSome leaf.place (λ q. p ≡ q)
+  pub post : Post value (leaf ∷ behind) []
+
+-- the same, beginning with these symbols up to one that is refused
+pub record Completed {A : Type 0} (Post : A → Yield → List Symbol → Type 0) (ts left : List Symbol) : Type 0 where
+  pub value : A
+  pub leaves : Yield
+  pub begins : Begins leaves ts left
+  pub post : Post value leaves []
+
+abbrev pub IsLimit : Reason → Type 0
+IsLimit Unexpected = ⊥
+IsLimit TooDeep = Unit {0}
+IsLimit TooLong = Unit {0}
+
+-- What holds of each answer on these symbols: of what is answered, of what it was read from, and of the symbols that are left. Where
+-- a limit refuses a symbol, the symbols up to it begin something of which it holds.
 pub record Gives {A : Type 0} (p : Parser A) (Post : A → Yield → List Symbol → Type 0) (ts : List Symbol) : Type 0 where
   pub gives : (rest : List Symbol) (x : A) → p ts ≡ Ok (x, rest) → Derived ts rest (λ ls. Post x ls rest)
+  pub goes : (e : Refusal) → p ts ≡ Err e → IsLimit e.reason → Completed Post ts e.left
+  -- where no symbols are left, there is something of which it holds
+  pub ending : ts ≡ [] → Possible Post
 
 -- behind leaves that were read before, the yield of what is answered, and what is asked of it
 abbrev pub Follows : {A : Type 0} → Yield → (A → Yield) → (A → List Symbol → Type 0) → A → Yield → List Symbol → Type 0
@@ -49,9 +94,74 @@ pub all-append : (xs ys : Yield) → AllByRecursion IsWithin xs → AllByRecursi
 all-append [] ys f g = g
 all-append (l ∷ xs) ys (one, f) g = (one, all-append xs ys f g)
 
+pub begins_behind : {xs ys : Yield} {ts mid left : List Symbol} → Front xs ts mid → Begins ys mid left → Begins (xs ++ ys) ts left
+begins_behind {xs = xs} {ts = ts} {mid = mid} front b = record {
+  done = xs ++ b.done;
+  more = b.more;
+  symbol = b.symbol;
+  back = b.back;
+  are = ap (λ (zs : Yield). xs ++ zs) b.are ∙ sym (append_assoc xs b.done b.more);
+  left_are = b.left_are;
+  front = front-append xs b.done ts mid b.back front b.front;
+}
+
+begins_before : {xs : Yield} (ys : Yield) {ts left : List Symbol} → Begins xs ts left → Begins (xs ++ ys) ts left
+begins_before ys b = record {
+  done = b.done;
+  more = b.more ++ ys;
+  symbol = b.symbol;
+  back = b.back;
+  are = ap (λ (zs : Yield). zs ++ ys) b.are ∙ append_assoc b.done b.more ys;
+  left_are = b.left_are;
+  front = b.front;
+}
+
+-- the refused symbol is the first
+begins_here : (leaf : Leaf) (behind : Yield) (t : Symbol) (more left : List Symbol) → t.terminal ≡ leaf.terminal → IfSome leaf.place (λ q. t.place ≡ q) → left ≡ t ∷ more
+    → Begins (leaf ∷ behind) (t ∷ more) left
+begins_here leaf behind t more left terminal place same = record {
+  done = leaf ∷ [];
+  more = behind;
+  symbol = t;
+  back = more;
+  are = refl;
+  left_are = same;
+  front = (t, more, refl, record { terminal = terminal; place = place }, refl);
+}
+
+-- ---- refusals
+
+abbrev refusal_of : {A : Type 0} → Refusal → Outcome A → Refusal
+refusal_of e (Ok q) = e
+refusal_of e (Err r) = r
+
+same_refusal : {A : Type 0} (r e : Refusal) → ◌≡◌ {A = Outcome A} (Err r) (Err e) → r ≡ e
+same_refusal r e h = ap (λ (o : Outcome _). refusal_of e o) h
+
+no_limit : {P : Type 0} {A : Type 0} (left : List Symbol) (e : Refusal) → ◌≡◌ {A = Outcome A} (Err (record { reason = Unexpected; left = left })) (Err e) → IsLimit e.reason → P
+no_limit left e h limit = absurd (subst IsLimit (sym (ap (λ (r : Refusal). r.reason) (same_refusal _ e h))) limit)
+
+answers : {P : Type 0} {A : Type 0} {e : Refusal} {r : A × List Symbol} → ◌≡◌ {A = Outcome A} (Ok r) (Err e) → P
+answers h = absurd (cc)
+
+-- either of two parsers refuses
+data WasRefused {A B : Type 0} (p : Parser A) (f : A → Parser B) (ts : List Symbol) (e : Refusal) : Type 0 where
+  in_first : p ts ≡ Err e → WasRefused p f ts e
+  in_second : (x : A) (mid : List Symbol) → p ts ≡ Ok (x, mid) → f x mid ≡ Err e → WasRefused p f ts e
+
+was_refused : {A B : Type 0} (p : Parser A) (f : A → Parser B) (ts : List Symbol) (e : Refusal) → bind p f ts ≡ Err e → WasRefused p f ts e
+unfolding bind
+was_refused {A} {B} p f ts e h = go (p ts) refl h
+  where
+    go : (o : Outcome A) → p ts ≡ o → and_then o f ≡ Err e → WasRefused p f ts e
+    go (Ok q) is k = in_second q.0 q.1 is k
+    go (Err r) is k = in_first (is ∙ ap Err (same_refusal r e k))
+
+-- ---- one part and then another
+
 pub part_then : {A B : Type 0} {p : Parser A} {f : A → Parser B} {P : A → Yield → List Symbol → Type 0} {Q : B → Yield → List Symbol → Type 0} {ts : List Symbol}
     → Gives p P ts → ((x : A) (xs : Yield) (mid : List Symbol) → P x xs mid → Gives (f x) (λ y ys rest. Q y (xs ++ ys) rest) mid) → Gives (bind p f) Q ts
-part_then {p = p} {f = f} {ts = ts} first second = record {
+part_then {p = p} {f = f} {Q = Q} {ts = ts} first second = record {
   gives = λ rest y h.
       let w = was_read p f ts rest y h in
       let a = first.gives w.mid w.value w.first in
@@ -62,7 +172,22 @@ part_then {p = p} {f = f} {ts = ts} first second = record {
         within = all-append a.leaves b.leaves a.within b.within;
         post = b.post;
       };
+  goes = λ e h limit. completed e limit (was_refused p f ts e h);
+  ending = λ none.
+      let a = first.ending none in
+      let b = (second a.value a.leaves [] a.post).ending refl in
+      record { value = b.value; leaves = a.leaves ++ b.leaves; post = b.post };
 }
+  where
+    completed : (e : Refusal) → IsLimit e.reason → WasRefused p f ts e → Completed Q ts e.left
+    completed e limit (in_first h) =
+        let a = first.goes e h limit in
+        let b = (second a.value a.leaves [] a.post).ending refl in
+        record { value = b.value; leaves = a.leaves ++ b.leaves; begins = begins_before b.leaves a.begins; post = b.post }
+    completed e limit (in_second x mid h k) =
+        let a = first.gives mid x h in
+        let b = (second x a.leaves mid a.post).goes e k limit in
+        record { value = b.value; leaves = a.leaves ++ b.leaves; begins = begins_behind a.front b.begins; post = b.post }
 
 -- a part whose yield is known
 pub spelled_then : {A B : Type 0} {p : Parser A} {f : A → Parser B} {yield : A → Yield} {Is : A → List Symbol → Type 0} {Q : B → Yield → List Symbol → Type 0} {ts : List Symbol}
@@ -77,7 +202,7 @@ answer_of other (Err e) = other
 -- a last part, and something made of it
 pub last_then : {A B : Type 0} {p : Parser A} (make : A → B) {yield : A → Yield} {Is : A → List Symbol → Type 0} {Q : B → Yield → List Symbol → Type 0} {ts : List Symbol}
     → Gives p (Spells yield Is) ts → ((x : A) (rest : List Symbol) → Is x rest → Q (make x) (yield x) rest) → Gives (bind p (λ x. pure (make x))) Q ts
-last_then {A} {B} {p = p} make {yield = yield} {Q = Q} {ts = ts} first post = record {
+last_then {A} {B} {p = p} make {yield = yield} {Is = Is} {Q = Q} {ts = ts} first post = record {
   gives = λ rest y h.
       let w = was_read p (λ x. pure (make x)) ts rest y h in
       let same : w.mid ≡ rest = ap left_of w.second in
@@ -89,7 +214,20 @@ last_then {A} {B} {p = p} make {yield = yield} {Q = Q} {ts = ts} first post = re
         within = a.within;
         post = subst (λ (x : B). Q x a.leaves rest) value (subst (λ (s : List Symbol). Q (make w.value) a.leaves s) same (subst (λ (zs : Yield). Q (make w.value) zs w.mid) (sym a.post.0) (post w.value w.mid a.post.1)));
       };
+  goes = λ e h limit. completed e limit (was_refused p (λ x. pure (make x)) ts e h);
+  ending = λ none.
+      let a = first.ending none in
+      record { value = make a.value; leaves = a.leaves; post = made a.value a.leaves a.post };
 }
+  where
+    made : (x : A) (ls : Yield) → Spells yield Is x ls [] → Q (make x) ls []
+    made x ls (e, is) = subst (λ (zs : Yield). Q (make x) zs []) (sym e) (post x [] is)
+
+    completed : (e : Refusal) → IsLimit e.reason → WasRefused p (λ x. pure (make x)) ts e → Completed Q ts e.left
+    completed e limit (in_first h) =
+        let a = first.goes e h limit in
+        record { value = make a.value; leaves = a.leaves; begins = a.begins; post = made a.value a.leaves a.post }
+    completed e limit (in_second x mid h k) = answers k
 
 pub pure_gives : {A : Type 0} {Q : A → Yield → List Symbol → Type 0} {ts : List Symbol} {x : A} → Q x [] ts → Gives (pure x) Q ts
 pure_gives {A} {Q = Q} {ts = ts} {x = x} post = record {
@@ -97,22 +235,90 @@ pure_gives {A} {Q = Q} {ts = ts} {x = x} post = record {
       let same : ts ≡ rest = ap left_of h in
       let value : x ≡ y = ap (answer_of y) h in
       record { leaves = []; front = same; within = tt; post = subst (λ (z : A). Q z [] rest) value (subst (λ (s : List Symbol). Q x [] s) same post) };
+  goes = λ e h limit. answers h;
+  ending = λ none. record { value = x; leaves = []; post = subst (λ (s : List Symbol). Q x [] s) none post };
 }
 
-pub refuse_gives : {A : Type 0} {Q : A → Yield → List Symbol → Type 0} {ts : List Symbol} (why : Reason) → Gives (refuse {A = A} why) Q ts
-refuse_gives why = record { gives = λ rest y h. absurd (cc) }
+-- ---- parsers that refuse
 
-pub item_refusal_gives : {A : Type 0} {Q : A → Yield → List Symbol → Type 0} {ts : List Symbol} (begins : Terminal → Bool) (why : Reason) → Gives (refuse_item {A = A} begins why) Q ts
+-- what comes is unexpected
+pub unexpected_gives : {A : Type 0} {Q : A → Yield → List Symbol → Type 0} {ts : List Symbol} → Possible Q → Gives (refuse {A = A} Unexpected) Q ts
+unexpected_gives {ts = ts} possible = record { gives = λ rest y h. absurd (cc); goes = λ e h limit. no_limit ts e h limit; ending = λ none. possible }
+
+pub then_unexpected : {A : Type 0} {Q : A → Yield → List Symbol → Type 0} {ts : List Symbol} → Possible Q → Gives (bind advance (λ _. refuse {A = A} Unexpected)) Q ts
+then_unexpected {A} {Q = Q} {ts = ts} possible = record {
+  gives = λ rest y h. let w = was_read advance (λ _. refuse Unexpected) ts rest y h in absurd (no w.second);
+  goes = λ e h limit. refused ts e limit (was_refused advance (λ _. refuse Unexpected) ts e h);
+  ending = λ none. possible;
+}
+  where
+    no : {e : Refusal} {r : A × List Symbol} → ◌≡◌ {A = Outcome A} (Err e) (Ok r) → ⊥
+    no e = cc
+
+    refused : (ts : List Symbol) (e : Refusal) → IsLimit e.reason → WasRefused advance (λ _. refuse {A = A} Unexpected) ts e → Completed Q ts e.left
+    refused [] e limit (in_first h) = no_limit [] e h limit
+    refused (t ∷ ts) e limit (in_first h) = answers h
+    refused ts e limit (in_second x mid h k) = no_limit mid e k limit
+
+completed_here : {A : Type 0} {Q : A → Yield → List Symbol → Type 0} (t : Symbol) (more left : List Symbol) → left ≡ t ∷ more → Opened Q t.terminal t.place → Completed Q (t ∷ more) left
+completed_here t more left same o =
+    record { value = o.value; leaves = o.leaf ∷ o.behind; begins = begins_here o.leaf o.behind t more left o.terminal o.place same; post = o.post }
+
+-- a limit refuses this symbol
+pub limit_gives : {A : Type 0} {Q : A → Yield → List Symbol → Type 0} {ts : List Symbol} (why : Reason) (u : Terminal) → next ts ≡ Some u → ((p : Place) → Opened Q u p) → Gives (refuse {A = A} why) Q ts
+limit_gives {A} {Q = Q} {ts = ts} why u comes opened = record {
+  gives = λ rest y h. absurd (cc);
+  goes = λ e h limit. start ts e comes (ap (λ (r : Refusal). r.left) (same_refusal _ e h));
+  ending = λ none. absurd (nothing (ap next (sym none) ∙ comes));
+}
+  where
+    nothing : ◌≡◌ {A = Option Terminal} None (Some u) → ⊥
+    nothing e = cc
+
+    start : (ts : List Symbol) (e : Refusal) → next ts ≡ Some u → ts ≡ e.left → Completed Q ts e.left
+    start [] e is same = absurd (nothing is)
+    start (t ∷ more) e is same = let terminal : t.terminal ≡ u = cc in completed_here t more e.left (sym same) (subst (λ (w : Terminal). Opened Q w t.place) (sym terminal) (opened t.place))
+
+-- of the symbols that may begin an item, each begins one
+pub begun_gives : {A : Type 0} {Q : A → Yield → List Symbol → Type 0} {ts : List Symbol} (begins : Terminal → Bool) (why : Reason) → starts begins (next ts) ≡ true
+    → ((u : Terminal) (p : Place) → begins u ≡ true → Opened Q u p) → Gives (refuse {A = A} why) Q ts
+begun_gives {A} {Q = Q} {ts = ts} begins why comes opened = go (next ts) refl comes
+  where
+    go : (o : Option Terminal) → next ts ≡ o → starts begins o ≡ true → Gives (refuse {A = A} why) Q ts
+    go None e h = absurd (cc)
+    go (Some u) e h = limit_gives why u e (λ p. opened u p h)
+
+pub item_refusal_gives : {A : Type 0} {Q : A → Yield → List Symbol → Type 0} {ts : List Symbol} (begins : Terminal → Bool) (why : Reason) → Possible Q
+    → ((u : Terminal) (p : Place) → begins u ≡ true → Opened Q u p) → Gives (refuse_item {A = A} begins why) Q ts
 unfolding refuse_item
-item_refusal_gives begins why = record { gives = λ rest y h. absurd (cc) }
+item_refusal_gives {A} {Q = Q} {ts = ts} begins why possible opened = record {
+  gives = λ rest y h. absurd (cc);
+  goes = λ e h limit. start ts e h limit;
+  ending = λ none. possible;
+}
+  where
+    by_begin : (b : Bool) (t : Symbol) (more : List Symbol) (e : Refusal) → begins t.terminal ≡ b
+        → ◌≡◌ {A = Outcome A} (Err (record { reason = if b then why else Unexpected; left = t ∷ more })) (Err e) → IsLimit e.reason → Completed Q (t ∷ more) e.left
+    by_begin true t more e is h limit = completed_here t more e.left (sym (ap (λ (r : Refusal). r.left) (same_refusal _ e h))) (opened t.terminal t.place is)
+    by_begin false t more e is h limit = no_limit (t ∷ more) e h limit
+
+    start : (ts : List Symbol) (e : Refusal) → ◌≡◌ {A = Outcome A} (Err (record { reason = reason_by begins why (next ts); left = ts })) (Err e) → IsLimit e.reason → Completed Q ts e.left
+    start [] e h limit = no_limit [] e h limit
+    start (t ∷ more) e h limit = by_begin (begins t.terminal) t more e refl h limit
+
+-- ---- said otherwise
 
 -- what holds may be said otherwise
 pub gives_as : {A : Type 0} {p : Parser A} {P Q : A → Yield → List Symbol → Type 0} {ts : List Symbol} → ((x : A) (ls : Yield) (rest : List Symbol) → P x ls rest → Q x ls rest) → Gives p P ts → Gives p Q ts
-gives_as weaker h = record { gives = λ rest x e. let a = h.gives rest x e in record { leaves = a.leaves; front = a.front; within = a.within; post = weaker x a.leaves rest a.post } }
+gives_as weaker h = record {
+  gives = λ rest x e. let a = h.gives rest x e in record { leaves = a.leaves; front = a.front; within = a.within; post = weaker x a.leaves rest a.post };
+  goes = λ e is limit. let a = h.goes e is limit in record { value = a.value; leaves = a.leaves; begins = a.begins; post = weaker a.value a.leaves [] a.post };
+  ending = λ none. let a = h.ending none in record { value = a.value; leaves = a.leaves; post = weaker a.value a.leaves [] a.post };
+}
 
 -- the parser does here what another does
 pub gives_same : {A : Type 0} {p : Parser A} (q : Parser A) {Q : A → Yield → List Symbol → Type 0} {ts : List Symbol} → p ts ≡ q ts → Gives q Q ts → Gives p Q ts
-gives_same q same h = record { gives = λ rest x e. h.gives rest x (sym same ∙ e) }
+gives_same q same h = record { gives = λ rest x e. h.gives rest x (sym same ∙ e); goes = λ e is limit. h.goes e (sym same ∙ is) limit; ending = h.ending }
 
 -- ---- items, whose first leaves have their numbers
 
@@ -124,11 +330,22 @@ all-number : (i : ℕ) (ls : Yield) → i ≤ max_items → AllByRecursion IsWit
 all-number i [] few all = tt
 all-number i (l ∷ ls) few (one, all) = (record { nesting = one.nesting; item = few }, all)
 
+begins_number : (i : ℕ) {ls : Yield} {ts left : List Symbol} → Begins ls ts left → Begins (item_number i ls) ts left
+begins_number i {ls = ls} {ts = ts} {left = left} b = go b.done b.are b.front
+  where
+    go : (done : Yield) → ls ≡ done ++ b.more → Front done ts b.back → Begins (item_number i ls) ts left
+    go [] are front = record { done = []; more = item_number i b.more; symbol = b.symbol; back = b.back; are = ap (item_number i) are; left_are = b.left_are; front = front }
+    go (l ∷ done) are front = record { done = item_number i (l ∷ done); more = b.more; symbol = b.symbol; back = b.back; are = ap (item_number i) are; left_are = b.left_are; front = front-number i (l ∷ done) ts b.back front }
+
 pub item_gives : {A : Type 0} {p : Parser A} {yield : A → Yield} {Is : A → List Symbol → Type 0} {ts : List Symbol} (i : ℕ) → i ≤ max_items → Gives p (Spells yield Is) ts → Gives p (Spells (λ x. item_number i (yield x)) Is) ts
 item_gives {yield = yield} i few h = record {
   gives = λ rest x e.
       let a = h.gives rest x e in
       record { leaves = item_number i a.leaves; front = front-number i a.leaves _ rest a.front; within = all-number i a.leaves few a.within; post = (ap (item_number i) a.post.0, a.post.1) };
+  goes = λ e is limit.
+      let a = h.goes e is limit in
+      record { value = a.value; leaves = item_number i a.leaves; begins = begins_number i a.begins; post = (ap (item_number i) a.post.0, a.post.1) };
+  ending = λ none. let a = h.ending none in record { value = a.value; leaves = item_number i a.leaves; post = (ap (item_number i) a.post.0, a.post.1) };
 }
 
 -- ---- one symbol
@@ -139,13 +356,29 @@ taken room None give t ts rest y h = absurd (cc)
 taken zero (Some a) give t ts rest y h = absurd (cc)
 taken (suc r) (Some a) give t ts rest y h = (r, a, refl, refl, ap (answer_of y) h, ap left_of h)
 
+-- what is refused for a limit stands too deep
+too_deep : {A B : Type 0} (room : ℕ) (o : Option A) (give : A → Place → B) (t : Symbol) (ts : List Symbol) (e : Refusal) → accept_if room o give t ts ≡ Err e → IsLimit e.reason
+    → (a : A) × (o ≡ Some a) × (e.left ≡ t ∷ ts)
+too_deep room None give t ts e h limit = no_limit (t ∷ ts) e h limit
+too_deep zero (Some a) give t ts e h limit = (a, refl, sym (ap (λ (r : Refusal). r.left) (same_refusal _ e h)))
+too_deep (suc r) (Some a) give t ts e h limit = answers h
+
+pub some_place : Place
+some_place = record { line = 1; column = 1 }
+
 -- the leaf that is read, of what the symbol gives
-pub take_then : {A B C : Type 0} (room : ℕ) (reads : Terminal → Option A) (give : A → Place → B) (f : B → Parser C) {Q : C → Yield → List Symbol → Type 0} {ts : List Symbol} (leaf : A → Place → Leaf)
+pub take_then : {A B C : Type 0} (room : ℕ) (reads : Terminal → Option A) (give : A → Place → B) (f : B → Parser C) {Q : C → Yield → List Symbol → Type 0} {ts : List Symbol} (some : A) (leaf : A → Place → Leaf)
     → ((a : A) (q : Place) → Fits room (leaf a q).nesting) → ((a : A) (q : Place) → (leaf a q).item ≤ max_items)
     → ((a : A) (u : Terminal) (q : Place) → reads u ≡ Some a → u ≡ (leaf a q).terminal) → ((a : A) (q : Place) → IfSome (leaf a q).place (λ p. q ≡ p))
     → ((a : A) (q : Place) (mid : List Symbol) → Gives (f (give a q)) (λ y ys rest. Q y (leaf a q ∷ ys) rest) mid) → Gives (bind (take room reads give) f) Q ts
 unfolding take
-take_then {A} {B} {C} room reads give f {Q = Q} {ts = ts} leaf fits few is place second = record { gives = λ rest y h. start ts rest y h }
+take_then {A} {B} {C} room reads give f {Q = Q} {ts = ts} some leaf fits few is place second = record {
+  gives = λ rest y h. start ts rest y h;
+  goes = λ e h limit. refused ts e limit (was_refused (take room reads give) f ts e h);
+  ending = λ none.
+      let b = (second some some_place []).ending refl in
+      record { value = b.value; leaves = leaf some some_place ∷ b.leaves; post = b.post };
+}
   where
     go : (t : Symbol) (more rest : List Symbol) (y : C) → (w : WasRead (take room reads give) f (t ∷ more) rest y) → accept_if room (reads t.terminal) give t more ≡ Ok (w.value, w.mid) → Derived (t ∷ more) rest (λ ls. Q y ls rest)
     go t more rest y w e =
@@ -165,10 +398,31 @@ take_then {A} {B} {C} room reads give f {Q = Q} {ts = ts} leaf fits few is place
         no e = cc
     start (t ∷ more) rest y h = let w = was_read (take room reads give) f (t ∷ more) rest y h in go t more rest y w w.first
 
+    refused : (ts : List Symbol) (e : Refusal) → IsLimit e.reason → WasRefused (take room reads give) f ts e → Completed Q ts e.left
+    refused [] e limit (in_first h) = no_limit [] e h limit
+    refused [] e limit (in_second x mid h k) = absurd (no h)
+      where
+        no : {b : B} {m : List Symbol} → ◌≡◌ {A = Outcome B} (Err (record { reason = Unexpected; left = [] })) (Ok (b, m)) → ⊥
+        no e = cc
+    refused (t ∷ more) e limit (in_first h) =
+        let (a, reading, same) = too_deep room (reads t.terminal) give t more e h limit in
+        let b = (second a t.place []).ending refl in
+        record { value = b.value; leaves = leaf a t.place ∷ b.leaves; begins = begins_here (leaf a t.place) b.leaves t more e.left (is a t.terminal t.place reading) (place a t.place) same; post = b.post }
+    refused (t ∷ more) e limit (in_second x mid h k) =
+        let (r, a, roomy, reading, value, same) = taken room (reads t.terminal) give t more mid x h in
+        let d = (second a t.place mid).goes e (ap (λ (b : B). f b mid) value ∙ k) limit in
+        let front = (t, more, refl, record { terminal = is a t.terminal t.place reading; place = place a t.place }, same) in
+        record { value = d.value; leaves = leaf a t.place ∷ d.leaves; begins = begins_behind {xs = leaf a t.place ∷ []} front d.begins; post = d.post }
+
 -- with no room left nothing is read
-pub stuck_then : {A B C : Type 0} (reads : Terminal → Option A) (give : A → Place → B) (f : B → Parser C) {Q : C → Yield → List Symbol → Type 0} {ts : List Symbol} → Gives (bind (take zero reads give) f) Q ts
+pub stuck_then : {A B C : Type 0} (reads : Terminal → Option A) (give : A → Place → B) (f : B → Parser C) {Q : C → Yield → List Symbol → Type 0} {ts : List Symbol} (leaf : Leaf) (possible : Possible (λ y ys rest. Q y (leaf ∷ ys) rest))
+    → ((a : A) (u : Terminal) → reads u ≡ Some a → u ≡ leaf.terminal) → ((q : Place) → IfSome leaf.place (λ p. q ≡ p)) → Gives (bind (take zero reads give) f) Q ts
 unfolding take
-stuck_then {A} {B} {C} reads give f {Q = Q} {ts = ts} = record { gives = λ rest y h. start ts rest y h }
+stuck_then {A} {B} {C} reads give f {Q = Q} {ts = ts} leaf possible is place = record {
+  gives = λ rest y h. start ts rest y h;
+  goes = λ e h limit. refused ts e limit (was_refused (take zero reads give) f ts e h);
+  ending = λ none. record { value = possible.value; leaves = leaf ∷ possible.leaves; post = possible.post };
+}
   where
     no : {b : B} {m : List Symbol} {e : Refusal} → ◌≡◌ {A = Outcome B} (Err e) (Ok (b, m)) → ⊥
     no e = cc
@@ -180,6 +434,14 @@ stuck_then {A} {B} {C} reads give f {Q = Q} {ts = ts} = record { gives = λ rest
     start : (ts rest : List Symbol) (y : C) → bind (take zero reads give) f ts ≡ Ok (y, rest) → Derived ts rest (λ ls. Q y ls rest)
     start [] rest y h = let w = was_read (take zero reads give) f [] rest y h in absurd (no w.first)
     start (t ∷ more) rest y h = let w = was_read (take zero reads give) f (t ∷ more) rest y h in absurd (go (reads t.terminal) t more w.value w.mid w.first)
+
+    refused : (ts : List Symbol) (e : Refusal) → IsLimit e.reason → WasRefused (take zero reads give) f ts e → Completed Q ts e.left
+    refused [] e limit (in_first h) = no_limit [] e h limit
+    refused [] e limit (in_second x mid h k) = absurd (no h)
+    refused (t ∷ more) e limit (in_first h) =
+        let (a, reading, same) = too_deep zero (reads t.terminal) give t more e h limit in
+        record { value = possible.value; leaves = leaf ∷ possible.leaves; begins = begins_here leaf possible.leaves t more e.left (is a t.terminal reading) (place t.place) same; post = possible.post }
+    refused (t ∷ more) e limit (in_second x mid h k) = absurd (go (reads t.terminal) t more x mid h)
 
 sign_is : (s : Sign) (u : Terminal) (a : Unit {0}) → is_sign s u ≡ Some a → u ≡ Mark s
 sign_is s (Mark other) a h = ap Mark (same (same_sign other s) refl h)
@@ -225,25 +487,33 @@ module _ {C : Type 0} {Q : C → Yield → List Symbol → Type 0} {ts : List Sy
   -- a sign that is the item of this number of its chain, or no item
   pub sign_item_then : (i : ℕ) (s : Sign) {f : Place → Parser C} → Fits room d → i ≤ max_items
       → ((q : Place) (mid : List Symbol) → Gives (f q) (λ y ys rest. Q y (record { terminal = Mark s; place = None; nesting = d; item = i } ∷ ys) rest) mid) → Gives (bind (sign room s) f) Q ts
-  sign_item_then i s fits few second = take_then room (is_sign s) only_place _ (λ _ _. record { terminal = Mark s; place = None; nesting = d; item = i }) (λ _ _. fits) (λ _ _. few) (λ a u _ e. sign_is s u a e) (λ _ _. tt) (λ _ q mid. second q mid)
+  sign_item_then i s fits few second = take_then room (is_sign s) only_place _ tt (λ _ _. record { terminal = Mark s; place = None; nesting = d; item = i }) (λ _ _. fits) (λ _ _. few) (λ a u _ e. sign_is s u a e) (λ _ _. tt) (λ _ q mid. second q mid)
 
   pub sign_then : (s : Sign) {f : Place → Parser C} → Fits room d → ((q : Place) (mid : List Symbol) → Gives (f q) (λ y ys rest. Q y (leaf_of d (Mark s) ∷ ys) rest) mid) → Gives (bind (sign room s) f) Q ts
-  sign_then s fits second = take_then room (is_sign s) only_place _ (λ _ _. leaf_of d (Mark s)) (λ _ _. fits) (λ _ _. omega arith) (λ a u _ e. sign_is s u a e) (λ _ _. tt) (λ _ q mid. second q mid)
+  sign_then s fits second = take_then room (is_sign s) only_place _ tt (λ _ _. leaf_of d (Mark s)) (λ _ _. fits) (λ _ _. omega arith) (λ a u _ e. sign_is s u a e) (λ _ _. tt) (λ _ q mid. second q mid)
 
   pub sign_then_at : (s : Sign) {f : Place → Parser C} → Fits room d → ((q : Place) (mid : List Symbol) → Gives (f q) (λ y ys rest. Q y (leaf_at d (Mark s) q ∷ ys) rest) mid) → Gives (bind (sign room s) f) Q ts
-  sign_then_at s fits second = take_then room (is_sign s) only_place _ (λ _ q. leaf_at d (Mark s) q) (λ _ _. fits) (λ _ _. omega arith) (λ a u _ e. sign_is s u a e) (λ _ _. refl) (λ _ q mid. second q mid)
+  sign_then_at s fits second = take_then room (is_sign s) only_place _ tt (λ _ q. leaf_at d (Mark s) q) (λ _ _. fits) (λ _ _. omega arith) (λ a u _ e. sign_is s u a e) (λ _ _. refl) (λ _ q mid. second q mid)
 
   pub word_then : (k : Keyword) {f : Place → Parser C} → Fits room d → ((q : Place) (mid : List Symbol) → Gives (f q) (λ y ys rest. Q y (leaf_of d (Word k) ∷ ys) rest) mid) → Gives (bind (word room k) f) Q ts
-  word_then k fits second = take_then room (is_word k) only_place _ (λ _ _. leaf_of d (Word k)) (λ _ _. fits) (λ _ _. omega arith) (λ a u _ e. word_is k u a e) (λ _ _. tt) (λ _ q mid. second q mid)
+  word_then k fits second = take_then room (is_word k) only_place _ tt (λ _ _. leaf_of d (Word k)) (λ _ _. fits) (λ _ _. omega arith) (λ a u _ e. word_is k u a e) (λ _ _. tt) (λ _ q mid. second q mid)
 
   pub word_then_at : (k : Keyword) {f : Place → Parser C} → Fits room d → ((q : Place) (mid : List Symbol) → Gives (f q) (λ y ys rest. Q y (leaf_at d (Word k) q ∷ ys) rest) mid) → Gives (bind (word room k) f) Q ts
-  word_then_at k fits second = take_then room (is_word k) only_place _ (λ _ q. leaf_at d (Word k) q) (λ _ _. fits) (λ _ _. omega arith) (λ a u _ e. word_is k u a e) (λ _ _. refl) (λ _ q mid. second q mid)
+  word_then_at k fits second = take_then room (is_word k) only_place _ tt (λ _ q. leaf_at d (Word k) q) (λ _ _. fits) (λ _ _. omega arith) (λ a u _ e. word_is k u a e) (λ _ _. refl) (λ _ q mid. second q mid)
 
   pub identifier_then : {f : Named → Parser C} → Fits room d → ((x : Named) (mid : List Symbol) → Gives (f x) (λ y ys rest. Q y (leaf_at d (Identifier x.name) x.place ∷ ys) rest) mid) → Gives (bind (identifier room) f) Q ts
-  identifier_then fits second = take_then room identifier_name named _ (λ a q. leaf_at d (Identifier a) q) (λ _ _. fits) (λ _ _. omega arith) (λ a u _ e. identifier_is u a e) (λ _ _. refl) (λ a q mid. second (named a q) mid)
+  identifier_then fits second = take_then room identifier_name named _ 0 (λ a q. leaf_at d (Identifier a) q) (λ _ _. fits) (λ _ _. omega arith) (λ a u _ e. identifier_is u a e) (λ _ _. refl) (λ a q mid. second (named a q) mid)
 
   pub region_then : {f : Named → Parser C} → Fits room d → ((x : Named) (mid : List Symbol) → Gives (f x) (λ y ys rest. Q y (leaf_at d (RegionName x.name) x.place ∷ ys) rest) mid) → Gives (bind (region_name room) f) Q ts
-  region_then fits second = take_then room region_of_terminal named _ (λ a q. leaf_at d (RegionName a) q) (λ _ _. fits) (λ _ _. omega arith) (λ a u _ e. region_is u a e) (λ _ _. refl) (λ a q mid. second (named a q) mid)
+  region_then fits second = take_then room region_of_terminal named _ 0 (λ a q. leaf_at d (RegionName a) q) (λ _ _. fits) (λ _ _. omega arith) (λ a u _ e. region_is u a e) (λ _ _. refl) (λ a q mid. second (named a q) mid)
+
+pub stuck_sign : {C : Type 0} {Q : C → Yield → List Symbol → Type 0} {ts : List Symbol} (d : ℕ) (s : Sign) {f : Place → Parser C}
+    → Possible (λ y ys rest. Q y (leaf_of d (Mark s) ∷ ys) rest) → Gives (bind (sign zero s) f) Q ts
+stuck_sign d s possible = stuck_then (is_sign s) only_place _ (leaf_of d (Mark s)) possible (λ a u e. sign_is s u a e) (λ _. tt)
+
+pub stuck_word : {C : Type 0} {Q : C → Yield → List Symbol → Type 0} {ts : List Symbol} (d : ℕ) (k : Keyword) {f : Place → Parser C}
+    → Possible (λ y ys rest. Q y (leaf_of d (Word k) ∷ ys) rest) → Gives (bind (word zero k) f) Q ts
+stuck_word d k possible = stuck_then (is_word k) only_place _ (leaf_of d (Word k)) possible (λ a u e. word_is k u a e) (λ _. tt)
 
 -- ---- by the next symbol
 
@@ -252,8 +522,23 @@ pub advance_leaf_then : {C : Type 0} {f : Place → Parser C} {Q : C → Yield �
     → ((q : Place) → (leaf q).terminal ≡ u) → ((q : Place) → (leaf q).nesting ≤ max_nesting) → ((q : Place) → (leaf q).item ≤ max_items) → ((q : Place) → IfSome (leaf q).place (λ p. q ≡ p))
     → ((q : Place) (mid : List Symbol) → Gives (f q) (λ y ys rest. Q y (leaf q ∷ ys) rest) mid) → Gives (bind advance f) Q ts
 unfolding bind
-advance_leaf_then {C} {f = f} {Q = Q} {ts = ts} leaf u comes is shallow few place second = record { gives = λ rest y h. start ts rest y comes h }
+advance_leaf_then {C} {f = f} {Q = Q} {ts = ts} leaf u comes is shallow few place second = record {
+  gives = λ rest y h. start ts rest y comes h;
+  goes = λ e h limit. refused ts e comes h limit;
+  ending = λ none. absurd (nothing (ap next (sym none) ∙ comes));
+}
   where
+    nothing : ◌≡◌ {A = Option Terminal} None (Some u) → ⊥
+    nothing e = cc
+
+    refused : (ts : List Symbol) (e : Refusal) → next ts ≡ Some u → bind advance f ts ≡ Err e → IsLimit e.reason → Completed Q ts e.left
+    refused [] e comes h limit = absurd (nothing comes)
+    refused (t ∷ more) e comes h limit =
+        let same : t.terminal ≡ u = cc in
+        let d = (second t.place more).goes e h limit in
+        let front = (t, more, refl, record { terminal = same ∙ sym (is t.place); place = place t.place }, refl) in
+        record { value = d.value; leaves = leaf t.place ∷ d.leaves; begins = begins_behind {xs = leaf t.place ∷ []} front d.begins; post = d.post }
+
     start : (ts rest : List Symbol) (y : C) → next ts ≡ Some u → bind advance f ts ≡ Ok (y, rest) → Derived ts rest (λ ls. Q y ls rest)
     start [] rest y e h = absurd (cc)
     start (t ∷ more) rest y e h =
@@ -311,9 +596,40 @@ bare_gives {A} {p = p} {ts = ts} h = gives_same (bind p (λ x. pure x)) (same (p
     same (Ok q) = refl
     same (Err e) = refl
 
--- what refuses in the end gives nothing
-pub then_refused : {A B : Type 0} (p : Parser A) {Q : B → Yield → List Symbol → Type 0} {ts : List Symbol} (why : Reason) → Gives (bind p (λ _. refuse {A = B} why)) Q ts
-then_refused {A} {B} p {ts = ts} why = record { gives = λ rest y h. let w = was_read p (λ _. refuse why) ts rest y h in absurd (no w.second) }
+-- a sign that a limit refuses where it comes
+pub sees_limit_gives : {A : Type 0} (s : Sign) (why : Reason) {q : Parser A} {Q : A → Yield → List Symbol → Type 0} {ts : List Symbol} → ((p : Place) → Opened Q (Mark s) p) → Gives q Q ts → Gives (if_sees s (refuse why) q) Q ts
+unfolding if_sees
+sees_limit_gives s why {ts = ts} opened k = test_gives (sees s) (λ e. limit_gives why (Mark s) (seen (next ts) e) opened) (λ _. k)
   where
-    no : {e : Refusal} {r : B × List Symbol} → ◌≡◌ {A = Outcome B} (Err e) (Ok r) → ⊥
-    no e = cc
+    found : (u : Terminal) (o : Option (Unit {0})) → is_sign s u ≡ o → is_some o ≡ true → ◌≡◌ {A = Option Terminal} (Some u) (Some (Mark s))
+    found u (Some a) e h = ap Some (sign_is s u a e)
+    found u None e h = absurd (cc)
+
+    seen : (o : Option Terminal) → sees_terminal s o ≡ true → o ≡ Some (Mark s)
+    seen None h = absurd (cc)
+    seen (Some u) h = found u (is_sign s u) refl h
+
+-- ---- what begins with a symbol
+
+pub possible_of : {A : Type 0} {Q : A → Yield → List Symbol → Type 0} {u : Terminal} {p : Place} → Opened Q u p → Possible Q
+possible_of o = record { value = o.value; leaves = o.leaf ∷ o.behind; post = o.post }
+
+pub opened_at : {A : Type 0} {Q : A → Yield → List Symbol → Type 0} (d : ℕ) (u : Terminal) (p : Place) (x : A) (behind : Yield) → Q x (leaf_at d u p ∷ behind) [] → Opened Q u p
+opened_at d u p x behind post = record { value = x; leaf = leaf_at d u p; behind = behind; terminal = refl; place = refl; post = post }
+
+-- whose place is not kept, and which is the item of this number
+pub opened_item : {A : Type 0} {Q : A → Yield → List Symbol → Type 0} (d i : ℕ) (u : Terminal) (p : Place) (x : A) (behind : Yield) → Q x (record { terminal = u; place = None; nesting = d; item = i } ∷ behind) [] → Opened Q u p
+opened_item d i u p x behind post = record { value = x; leaf = record { terminal = u; place = None; nesting = d; item = i }; behind = behind; terminal = refl; place = tt; post = post }
+
+pub numbered : {A : Type 0} {yield : A → Yield} {Is : A → List Symbol → Type 0} {u : Terminal} {p : Place} (i : ℕ) → Opened (Spells yield Is) u p → Opened (Spells (λ x. item_number i (yield x)) Is) u p
+numbered i o = record { value = o.value; leaf = record o.leaf { item = i }; behind = o.behind; terminal = o.terminal; place = o.place; post = (ap (item_number i) o.post.0, o.post.1) }
+
+-- a part that begins so, and what stands behind it
+pub opened_then : {A B : Type 0} {yield : A → Yield} {Is : A → List Symbol → Type 0} {Q : B → Yield → List Symbol → Type 0} {u : Terminal} {p : Place}
+    → Opened (Spells yield Is) u p → ((x : A) → Is x [] → Possible (λ y ys rest. Q y (yield x ++ ys) rest)) → Opened Q u p
+opened_then {Q = Q} o more =
+    let b = more o.value o.post.1 in
+    record { value = b.value; leaf = o.leaf; behind = o.behind ++ b.leaves; terminal = o.terminal; place = o.place; post = subst (λ (zs : Yield). Q b.value (zs ++ b.leaves) []) (sym o.post.0) b.post }
+
+pub opened_as : {A : Type 0} {P Q : A → Yield → List Symbol → Type 0} {u : Terminal} {p : Place} → ((x : A) (ls : Yield) → P x ls [] → Q x ls []) → Opened P u p → Opened Q u p
+opened_as weaker o = record { value = o.value; leaf = o.leaf; behind = o.behind; terminal = o.terminal; place = o.place; post = weaker o.value (o.leaf ∷ o.behind) o.post }

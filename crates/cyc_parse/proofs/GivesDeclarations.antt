@@ -1,29 +1,31 @@
 -- What the parsers of declarations answer is what the symbols spell, formed as the grammar asks.
-use Rattle.std.proofs.Common.{◌≡◌, ℕ, zero, suc, ◌+◌, ◌≤◌, Bool, true, List, [], ◌∷◌, ◌++◌, ◌⊎◌, inl, inr, Option, Some, None, Ok, refl, sym, ap, ◌∙◌, arith, append-nil, append_assoc}
+use Rattle.std.proofs.Common.{◌≡◌, ℕ, zero, suc, ◌+◌, ◌≤◌, Bool, true, List, [], ◌∷◌, ◌++◌, ◌⊎◌, inl, inr, Option, Some, None, Ok, Err, refl, sym, ap, ◌∙◌, arith, append-nil, append_assoc}
 use Rattle.std.specs.List.{AllByRecursion}
 use Rattle.cyc_syntax.specs.declared.tokens.Keyword.TheVariants as words
 use Rattle.cyc_syntax.specs.declared.tokens.Sign.TheVariants as signs
 use Rattle.cyc_syntax.specs.Symbols.{Place, Terminal, Identifier, RegionName, Word, Mark, Symbol}
 use Rattle.cyc_syntax.specs.Symbols as terminals
-use Rattle.cyc_syntax.specs.Trees.{Named, WrittenType, Struct, Negative, Constraint, Listed, Function}
+use Rattle.cyc_syntax.specs.Trees.{Named, WrittenType, Struct, Positive, Negative, Constraint, Listed, Function}
 use Rattle.cyc_syntax.specs.Yields.{Leaf, Yield}
 use Rattle.cyc_syntax.specs.Yields as yields
 use Rattle.cyc_syntax.specs.Grammar.{IsNonempty, IsDeclaration, IsWithin, max_nesting, max_items}
-use Rattle.cyc_parse.specs.Parsing.{Parser, Unexpected, TooLong, next, bind, pure, advance, inside, starts, sign, word, take, is_sign, only_place, begins_region}
+use Rattle.cyc_parse.specs.Parsing.{Parser, Refusal, TooLong, next, bind, pure, advance, inside, starts, sign, word, take, begins_region}
 use Rattle.cyc_parse.specs.Types.{begins_type}
 use Rattle.cyc_parse.specs.Statements.{nested_statements}
 use Rattle.cyc_parse.specs.Declarations.{begins_void, begins_constructor, number_value, member, field, has_int, constructor, more_of, some_of, parameter_list, effect_regions, effect, constraint, constraints, parameters, value_by, value, global_value, global, function, typed, struct_fields, struct_or_typed, exceptions, declaration_by, declaration}
 use Rattle.cyc_parse.proofs.Rules.{Front, Fits, leaf_of, leaf_at}
-use Rattle.cyc_parse.proofs.Gives.{Derived, Gives, Follows, Spells, Any, part_then, spelled_then, last_then, pure_gives, refuse_gives, gives_as, item_gives, take_then, sign_then, word_then, identifier_then, region_then, advance_then, advance_bare_then, choose_gives, sees_gives, starts_gives, stuck_then}
+use Rattle.cyc_parse.proofs.Gives.{Derived, Gives, Follows, Spells, Any, part_then, spelled_then, last_then, pure_gives, Begins, Completed, IsLimit, Opened, possibly, unexpected_gives, begun_gives, begins_behind, gives_as, item_gives, take_then, sign_then, word_then, identifier_then, region_then, advance_then, advance_bare_then, choose_gives, sees_gives, starts_gives, stuck_sign, some_place, numbered, opened_then}
+use Rattle.cyc_parse.proofs.Openings.{member_opened, field_opened, constructor_opened, constraint_opened}
 use Rattle.cyc_parse.proofs.GivesTypes.{separated_gives, regions_give, optional_regions_give, with_pointers_give, written_type_gives}
 use Rattle.cyc_parse.proofs.GivesStatements.{body_gives, nested_statements_give}
 
 -- ---- lists without commas
 
-module _ {A : Type 0} (begins : Terminal → Bool) (item : Parser A) (yield : A → Yield) (h : (ts : List Symbol) → Gives item (Spells yield Any) ts) where
+module _ {A : Type 0} (begins : Terminal → Bool) (item : Parser A) (yield : A → Yield) (h : (ts : List Symbol) → Gives item (Spells yield Any) ts)
+    (opened : (u : Terminal) (p : Place) → begins u ≡ true → Opened (Spells yield Any) u p) where
   more_of_give : (left i : ℕ) → left + i ≡ suc max_items → (ts : List Symbol) → Gives (more_of begins item left) (Spells (yields.each yield i) Any) ts
   unfolding more_of
-  more_of_give zero i count ts = starts_gives begins (λ _. refuse_gives TooLong) (λ _. pure_gives (refl, tt))
+  more_of_give zero i count ts = starts_gives begins (λ comes. begun_gives begins TooLong comes (λ u p b. opened_then (numbered i (opened u p b)) (λ x _. possibly (x ∷ []) [] (refl, tt)))) (λ _. pure_gives (refl, tt))
   more_of_give (suc left) i count ts = starts_gives begins (λ _. spelled_then (item_gives i (omega arith) (h ts)) (λ x mid _. last_then (λ xs. x ∷ xs) (more_of_give left (suc i) (omega arith) mid) (λ xs rest _. (refl, tt)))) (λ _. pure_gives (refl, tt))
 
   some_of_gives : (ts : List Symbol) → Gives (some_of begins item) (Spells (yields.each yield 1) (λ xs _. IsNonempty xs)) ts
@@ -33,7 +35,7 @@ module _ {A : Type 0} (begins : Terminal → Bool) (item : Parser A) (yield : A 
 -- ---- parts with brackets of their own, where one level of room may be left
 
 int_rest : (room d : ℕ) → Fits room d → (ts : List Symbol) → Gives (bind (sign room signs.LeftParen) (λ _. bind (word (inside room) words.Int) (λ _. bind (sign (inside room) signs.RightParen) (λ _. pure true)))) (Spells (yields.has_int d) Any) ts
-int_rest zero d fits ts = stuck_then (is_sign signs.LeftParen) only_place _
+int_rest zero d fits ts = stuck_sign d signs.LeftParen (possibly true _ (refl, tt))
 int_rest (suc room) d fits ts = sign_then (suc room) d signs.LeftParen fits (λ _ mid. word_then room (suc d) words.Int (omega arith) (λ _ mid. sign_then room (suc d) signs.RightParen (omega arith) (λ _ mid. pure_gives (refl, tt))))
 
 has_int_gives : (room d : ℕ) → Fits room d → (ts : List Symbol) → Gives (has_int room) (Spells (yields.has_int d) Any) ts
@@ -47,7 +49,7 @@ effect_regions_give room d fits ts = starts_gives begins_region (λ _. gives_as 
 effect_rest : (room d : ℕ) → Fits room d → (ts : List Symbol)
     → Gives (bind (sign room signs.Semicolon) (λ _. bind (sign room signs.LeftBrace) (λ _. bind (effect_regions (inside room)) (λ rs. bind (sign (inside room) signs.RightBrace) (λ _. pure (Some rs))))))
     (Spells (yields.optional (yields.effect d)) Any) ts
-effect_rest zero d fits ts = stuck_then (is_sign signs.Semicolon) only_place _
+effect_rest zero d fits ts = stuck_sign d signs.Semicolon (possibly (Some []) _ (refl, tt))
 effect_rest (suc room) d fits ts = sign_then (suc room) d signs.Semicolon fits (λ _ mid. sign_then (suc room) d signs.LeftBrace fits (λ _ mid. spelled_then (effect_regions_give room (suc d) (omega arith) mid) (λ rs mid _.
     sign_then room (suc d) signs.RightBrace (omega arith) (λ _ mid. pure_gives (refl, tt)))))
 
@@ -69,7 +71,7 @@ module _ (room d : ℕ) (fits : Fits room d) (shallow : d ≤ max_nesting) where
   parameter_list_gives : (ts : List Symbol) → Gives (parameter_list room) (Spells (yields.parameter_list d) Any) ts
   unfolding parameter_list
   parameter_list_gives ts = starts_gives begins_void (λ comes. advance_bare_then d (Word words.Void) (is_void (next ts) comes) shallow (λ _ mid. pure_gives (refl, tt)))
-      (λ _. starts_gives begins_type (λ _. last_then Listed (separated_gives room d fits begins_type (member room) (yields.member d) (λ _. Unit {0}) member_gives ts) (λ ms rest _. (refl, tt))) (λ _. pure_gives (refl, tt)))
+      (λ _. starts_gives begins_type (λ _. last_then Listed (separated_gives room d fits begins_type (member room) (yields.member d) (λ _. Unit {0}) member_gives (member_opened d) ts) (λ ms rest _. (refl, tt))) (λ _. pure_gives (refl, tt)))
     where
       is_void : (o : Option Terminal) → starts begins_void o ≡ true → o ≡ Some (Word words.Void)
       is_void (Some (Word words.Void)) h = refl
@@ -87,7 +89,7 @@ module _ (room d : ℕ) (fits : Fits room d) (shallow : d ≤ max_nesting) where
   constraints_give : (ts : List Symbol) → Gives (constraints room) (Spells (yields.constraints d) Any) ts
   unfolding constraints
   constraints_give ts = sees_gives signs.Colon (sign_then room d signs.Colon fits (λ _ mid. gives_as (λ cs ls rest (e, (some, _)). (ap (λ (ys : Yield). leaf_of d (Mark signs.Colon) ∷ ys) e ∙ with_colon cs some, tt))
-      (separated_gives room d fits begins_region (constraint room) (yields.constraint d) (λ _. Unit {0}) constraint_gives mid))) (pure_gives (refl, tt))
+      (separated_gives room d fits begins_region (constraint room) (yields.constraint d) (λ _. Unit {0}) constraint_gives (constraint_opened d) mid))) (pure_gives (refl, tt))
     where
       with_colon : (cs : List Constraint) → IsNonempty cs → leaf_of d (Mark signs.Colon) ∷ yields.separated (yields.constraint d) d cs ≡ yields.constraints d cs
       with_colon [] some = absurd some
@@ -114,8 +116,8 @@ value_gives room d fits shallow (Some (Mark signs.Minus)) ts e = advance_then (s
     number_then : (room : ℕ) → Fits (suc room) d → (p : Place) (mid : List Symbol) → Gives (bind (take (inside room) number_value (λ n q. n)) (λ n. pure (Negative p n)))
         (λ y ys rest. Follows (leaf_of d (Mark signs.Assign) ∷ []) (yields.global_value d) Any y (leaf_at (suc d) (Mark signs.Minus) p ∷ ys) rest) mid
     number_then zero fits p mid = absurd (omega (arith, shallow))
-    number_then (suc r) fits p mid = take_then r number_value (λ n q. n) _ (λ n q. leaf_of (suc (suc d)) (terminals.Number n)) (λ _ _. omega arith) (λ _ _. omega arith) (λ n u _ e. number_is u n e) (λ _ _. tt) (λ n q mid. pure_gives (refl, tt))
-value_gives room d fits shallow _ ts e = refuse_gives Unexpected
+    number_then (suc r) fits p mid = take_then r number_value (λ n q. n) _ 0 (λ n q. leaf_of (suc (suc d)) (terminals.Number n)) (λ _ _. omega arith) (λ _ _. omega arith) (λ n u _ e. number_is u n e) (λ _ _. tt) (λ n q mid. pure_gives (refl, tt))
+value_gives room d fits shallow _ ts e = unexpected_gives (possibly (Positive some_place 0) _ (refl, tt))
 
 any_value_gives : (room d : ℕ) → Fits (suc room) d → suc d ≤ max_nesting → (ts : List Symbol) → Gives (value room) (Follows (leaf_of d (Mark signs.Assign) ∷ []) (yields.global_value d) Any) ts
 unfolding value
@@ -148,15 +150,44 @@ module _ (room d : ℕ) (fits : Fits (suc room) d) (shallow : suc d ≤ max_nest
   struct_fields_give : (s : Named) (rs : List Named) (ts : List Symbol) → Gives (struct_fields room s rs)
       (λ y ys rest. (leaf_of d (Word words.Struct) ∷ leaf_at d (Identifier s.name) s.place ∷ (yields.region_list d rs ++ ys) ≡ yields.declaration d y) × IsDeclaration y) ts
   unfolding struct_fields
-  struct_fields_give s rs ts = sign_then (suc room) d signs.LeftBrace fits (λ _ mid. spelled_then (some_of_gives begins_type (field room) (yields.field (suc d)) (field_gives room (suc d) deeper shallow) mid) (λ fs mid some.
+  struct_fields_give s rs ts = sign_then (suc room) d signs.LeftBrace fits (λ _ mid. spelled_then (some_of_gives begins_type (field room) (yields.field (suc d)) (field_gives room (suc d) deeper shallow) (field_opened (suc d)) mid) (λ fs mid some.
       sign_then room (suc d) signs.RightBrace deeper (λ _ mid. sign_then (suc room) d signs.Semicolon fits (λ _ mid. pure_gives (refl, some)))))
 
   -- `struct`, whose place a type keeps and a declared struct does not
   struct_then : {C : Type 0} {f : Place → Parser C} {Q : C → Yield → List Symbol → Type 0} {ts : List Symbol} → next ts ≡ Some (Word words.Struct)
       → ((q : Place) (mid : List Symbol) → Gives (f q) (λ y ys rest. Q y (leaf_at d (Word words.Struct) q ∷ ys) rest ⊎ Q y (leaf_of d (Word words.Struct) ∷ ys) rest) mid) → Gives (bind advance f) Q ts
   unfolding bind
-  struct_then {C} {f = f} {Q = Q} {ts = ts} comes second = record { gives = λ rest y h. start ts rest y comes h }
+  struct_then {C} {f = f} {Q = Q} {ts = ts} comes second = record {
+    gives = λ rest y h. start ts rest y comes h;
+    goes = λ e h limit. refused ts e comes h limit;
+    ending = λ none. absurd (nothing (ap next (sym none) ∙ comes));
+  }
     where
+      nothing : ◌≡◌ {A = Option Terminal} None (Some (Word words.Struct)) → ⊥
+      nothing e = cc
+
+      completed : (t : Symbol) (more left : List Symbol) (y : C) → t.terminal ≡ Word words.Struct → (ls : Yield) → Begins ls more left
+          → (Q y (leaf_at d (Word words.Struct) t.place ∷ ls) [] ⊎ Q y (leaf_of d (Word words.Struct) ∷ ls) []) → Completed Q (t ∷ more) left
+      completed t more left y same ls begins (inl post) = record {
+        value = y;
+        leaves = leaf_at d (Word words.Struct) t.place ∷ ls;
+        begins = begins_behind {xs = leaf_at d (Word words.Struct) t.place ∷ []} (t, more, refl, record { terminal = same; place = refl }, refl) begins;
+        post = post;
+      }
+      completed t more left y same ls begins (inr post) = record {
+        value = y;
+        leaves = leaf_of d (Word words.Struct) ∷ ls;
+        begins = begins_behind {xs = leaf_of d (Word words.Struct) ∷ []} (t, more, refl, record { terminal = same; place = tt }, refl) begins;
+        post = post;
+      }
+
+      refused : (ts : List Symbol) (e : Refusal) → next ts ≡ Some (Word words.Struct) → bind advance f ts ≡ Err e → IsLimit e.reason → Completed Q ts e.left
+      refused [] e comes h limit = absurd (nothing comes)
+      refused (t ∷ more) e comes h limit =
+          let same : t.terminal ≡ Word words.Struct = cc in
+          let a = (second t.place more).goes e h limit in
+          completed t more e.left a.value same a.leaves a.begins a.post
+
       kept : (t : Symbol) (more rest : List Symbol) (y : C) → t.terminal ≡ Word words.Struct → (ls : Yield) → Front ls more rest → AllByRecursion IsWithin ls
           → (Q y (leaf_at d (Word words.Struct) t.place ∷ ls) rest ⊎ Q y (leaf_of d (Word words.Struct) ∷ ls) rest) → Derived (t ∷ more) rest (λ ls. Q y ls rest)
       kept t more rest y same ls front within (inl post) = record {
@@ -190,7 +221,7 @@ module _ (room d : ℕ) (fits : Fits (suc room) d) (shallow : suc d ≤ max_nest
   exceptions_give : (ts : List Symbol) → Gives (exceptions room) (Spells (yields.declaration d) (λ x _. IsDeclaration x)) ts
   unfolding exceptions
   exceptions_give ts = word_then (suc room) d words.Datatype fits (λ _ mid. word_then (suc room) d words.Exn fits (λ _ mid. sign_then (suc room) d signs.LeftBrace fits (λ _ mid.
-      spelled_then (some_of_gives begins_constructor (constructor room) (yields.constructor (suc d)) (constructor_gives room (suc d) deeper shallow) mid) (λ cs mid some.
+      spelled_then (some_of_gives begins_constructor (constructor room) (yields.constructor (suc d)) (constructor_gives room (suc d) deeper shallow) (constructor_opened (suc d)) mid) (λ cs mid some.
       sign_then room (suc d) signs.RightBrace deeper (λ _ mid. sign_then (suc room) d signs.Semicolon fits (λ _ mid. pure_gives (refl, some)))))))
 
   declaration_by_gives : (o : Option Terminal) (ts : List Symbol) → next ts ≡ o → Gives (declaration_by room o) (Spells (yields.declaration d) (λ x _. IsDeclaration x)) ts

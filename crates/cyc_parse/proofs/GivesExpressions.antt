@@ -14,35 +14,17 @@ use Rattle.cyc_syntax.specs.Trees.{Named, Expression, Number, Character, Null, H
 use Rattle.cyc_syntax.specs.Yields.{Leaf, Yield, operator_sign}
 use Rattle.cyc_syntax.specs.Yields as yields
 use Rattle.cyc_syntax.specs.Grammar.{level, is_primary, IsExpression, IsInitial, AreExpressions, ArePostfixes, AreOperations, IsSomeExpression, max_nesting, max_items}
-use Rattle.cyc_parse.specs.Parsing.{Parser, Unexpected, TooDeep, TooLong, next, bind, opens_regions}
+use Rattle.cyc_parse.specs.Parsing.{Parser, TooDeep, TooLong, next, bind, refuse_item, opens_regions}
 use Rattle.cyc_parse.specs.Expressions.{begins_expression, begins_initial, binary_operator, of_level, operator_at, chain_of, chained, binary_of, operations, climb, Nested, group, arguments, from_name, primary_by, primary, postfixes, with_postfixes, unary_by, unary, assignment, binary, expression, more_values, values, fields, initial_from_name, array, initial_by, initial, nested}
 use Rattle.cyc_parse.proofs.Rules.{Fits, leaf_of, leaf_at}
-use Rattle.cyc_parse.proofs.Gives.{Gives, Follows, Spells, part_then, spelled_then, last_then, pure_gives, refuse_gives, item_refusal_gives, gives_as, sign_then, sign_item_then, word_then_at, identifier_then, advance_then, advance_leaf_then, choose_gives, test_gives, sees_gives, is_gives}
+use Rattle.cyc_parse.proofs.Gives.{Gives, Follows, Spells, part_then, spelled_then, last_then, pure_gives, possibly, unexpected_gives, limit_gives, item_refusal_gives, gives_as, gives_same, some_place, sign_then, sign_item_then, word_then_at, identifier_then, advance_then, advance_leaf_then, choose_gives, test_gives, sees_gives, sees_limit_gives, is_gives, opened_item, opened_as}
+use Rattle.cyc_parse.proofs.Openings.{named_at, zero_at, looser, expression_opened, group_opened, initial_opened}
 use Rattle.cyc_parse.proofs.GivesTypes.{separated_gives, region_list_gives}
 
 -- ---- levels
 
 abbrev pub Level : ℕ → Expression → List Symbol → Type 0
 Level k e rest = IsExpression k e
-
-pub looser : (j k : ℕ) → j ≤ k → (e : Expression) → IsExpression j e → IsExpression k e
-looser j k le (Number p n) is = tt
-looser j k le (Character p c) is = tt
-looser j k le (Null p) is = tt
-looser j k le (HeapRegion p) is = tt
-looser j k le (UniqueRegion p) is = tt
-looser j k le (Variable x) is = tt
-looser j k le (Call f es) is = is
-looser j k le (Bracketed p e) is = is
-looser j k le (NumberOfElements p e) is = is
-looser j k le (FreeUnique p e) is = is
-looser j k le (FreeKey p x) is = tt
-looser j k le (Chained e ps) is = is
-looser j k le (Prefixed p o e) is = is
-looser j k le (New p i) is = is
-looser j k le (RegionNew p h i) is = is
-looser j k le (Binary e os) (below, less, few, parts, some, are) = (below, omega (arith, less, le), few, parts, some, are)
-looser j k le (Assign a b) (high, left, right) = (omega (arith, high, le), left, right)
 
 -- ---- operators
 
@@ -87,7 +69,14 @@ module _ (d : ℕ) (shallow : d ≤ max_nesting) where
   operations_give : (operand : Parser Expression) (k : ℕ) → ((ts : List Symbol) → Gives operand (Spells (yields.expression d) (Level k)) ts)
       → (left i : ℕ) → left + i ≡ suc max_items → (ts : List Symbol) → Gives (operations operand (suc k) left) (Spells (yields.operations d i) (λ os _. AreOperations k os)) ts
   unfolding operations
-  operations_give operand k h zero i count ts = is_gives (operator_at (suc k)) (λ o e. refuse_gives TooLong) (pure_gives (refl, tt))
+  operations_give operand k h zero i count ts = is_gives (operator_at (suc k)) (λ o e. let (comes, same) = operator_comes (suc k) (next ts) o e in limit_gives TooLong (Mark (operator_sign o)) comes (λ p. record {
+    value = ThenOperation o p (zero_at p) NoOperations;
+    leaf = record { terminal = Mark (operator_sign o); place = Some p; nesting = d; item = i };
+    behind = leaf_at d (terminals.Number 0) p ∷ [];
+    terminal = refl;
+    place = refl;
+    post = (refl, (same, tt, tt));
+  })) (pure_gives (refl, tt))
   operations_give operand k h (suc left) i count ts = is_gives (operator_at (suc k)) (λ o e. advance_leaf_then (λ p. record { terminal = Mark (operator_sign o); place = Some p; nesting = d; item = i }) (Mark (operator_sign o))
       ((operator_comes (suc k) (next ts) o e).0) (λ _. refl) (λ _. shallow) (λ _. omega arith) (λ _. refl)
       (λ p mid. spelled_then (h mid) (λ r mid is. last_then (λ os. ThenOperation o p r os) (operations_give operand k h left (suc i) (omega arith) mid) (λ os rest are. (refl, ((operator_comes (suc k) (next ts) o e).1, is, are))))))
@@ -149,7 +138,8 @@ module _ (room d : ℕ) (inner : Nested) (fits : Fits (suc room) d) (h : NestedG
   arguments_give : (ts : List Symbol) → Gives (arguments room inner) (Spells (yields.arguments (suc d)) (λ es _. AreExpressions es)) ts
   unfolding arguments
   arguments_give ts = sees_gives signs.RightParen (pure_gives (refl, tt))
-      (last_then chain_of (separated_gives room (suc d) deeper begins_expression inner.expression (yields.expression (suc d)) (λ e. IsExpression 11 e) h.expression ts) (λ es rest all. (chain_yield (suc d) es, chain_are es all.1)))
+      (last_then chain_of (separated_gives room (suc d) deeper begins_expression inner.expression (yields.expression (suc d)) (λ e. IsExpression 11 e) h.expression
+      (λ u p begins. opened_as (λ e ls (eq, is). (eq, looser 0 11 (omega arith) e is)) (expression_opened (suc d) u p begins)) ts) (λ es rest all. (chain_yield (suc d) es, chain_are es all.1)))
 
   from_name_gives : (x : Named) (ts : List Symbol) → Gives (from_name room inner x) (Follows (leaf_at d (Identifier x.name) x.place ∷ []) (yields.expression d) IsOperand) ts
   unfolding from_name
@@ -167,7 +157,7 @@ module _ (room d : ℕ) (inner : Nested) (fits : Fits (suc room) d) (h : NestedG
   primary_by_gives (Some (Word words.FreeUnique)) ts e = advance_then d (Word words.FreeUnique) e shallow (λ p mid. last_then (FreeUnique p) (group_gives mid) (λ x rest is. (refl, (refl, is))))
   primary_by_gives (Some (Word words.FreeKey)) ts e = advance_then d (Word words.FreeKey) e shallow (λ p mid. sign_then (suc room) d signs.LeftParen fits (λ _ mid. identifier_then room (suc d) deeper (λ k mid. sign_then room (suc d) signs.RightParen deeper (λ _ mid. pure_gives (refl, (refl, tt))))))
   primary_by_gives (Some (Mark signs.LeftParen)) ts e = advance_then d (Mark signs.LeftParen) e shallow (λ p mid. spelled_then (h.expression mid) (λ x mid is. sign_then room (suc d) signs.RightParen deeper (λ _ mid. pure_gives (refl, (refl, is)))))
-  primary_by_gives _ ts e = refuse_gives Unexpected
+  primary_by_gives _ ts e = unexpected_gives (possibly (zero_at some_place) _ (refl, (refl, tt)))
 
   primary_gives : (ts : List Symbol) → Gives (primary room inner) (Spells (yields.expression d) IsOperand) ts
   unfolding primary
@@ -175,7 +165,8 @@ module _ (room d : ℕ) (inner : Nested) (fits : Fits (suc room) d) (h : NestedG
 
   postfixes_give : (left i : ℕ) → left + i ≡ suc max_items → (ts : List Symbol) → Gives (postfixes room inner left) (Spells (yields.postfixes d i) (λ ps _. ArePostfixes ps)) ts
   unfolding postfixes
-  postfixes_give zero i count ts = sees_gives signs.LeftBracket (refuse_gives TooLong) (sees_gives signs.Arrow (refuse_gives TooLong) (pure_gives (refl, tt)))
+  postfixes_give zero i count ts = sees_limit_gives signs.LeftBracket TooLong (λ p. opened_item d i (Mark signs.LeftBracket) p (ThenIndex (zero_at p) NoPostfixes) _ (refl, (tt, tt)))
+      (sees_limit_gives signs.Arrow TooLong (λ p. opened_item d i (Mark signs.Arrow) p (ThenField (named_at p) NoPostfixes) _ (refl, tt)) (pure_gives (refl, tt)))
   postfixes_give (suc left) i count ts =
       sees_gives signs.LeftBracket (sign_item_then (suc room) d i signs.LeftBracket fits (omega arith) (λ _ mid. spelled_then (h.expression mid) (λ e mid is. sign_then room (suc d) signs.RightBracket deeper
       (λ _ mid. last_then (ThenIndex e) (postfixes_give left (suc i) (omega arith) mid) (λ ps rest are. (refl, (is, are)))))))
@@ -247,7 +238,7 @@ module _ (room d : ℕ) (inner : Nested) (fits : Fits (suc room) d) (h : NestedG
 
   values_give : (ts : List Symbol) → Gives (values room inner) (Spells (yields.values (suc d)) (λ es _. IsSomeExpression es × AreExpressions es)) ts
   unfolding values
-  values_give ts = spelled_then (h.expression ts) (λ e mid is. last_then (MoreExpressions e) (record { gives = (more_values_give (length mid) mid).gives }) (λ es rest are. (refl, (tt, (is, are)))))
+  values_give ts = spelled_then (h.expression ts) (λ e mid is. last_then (MoreExpressions e) (gives_same (more_values room inner (length mid)) refl (more_values_give (length mid) mid)) (λ es rest are. (refl, (tt, (is, are)))))
 
   fields_give : (s : Named) (rs : List Named) (ts : List Symbol) → Gives (fields room inner s rs) (Follows (leaf_at d (Identifier s.name) s.place ∷ yields.region_list d rs) (yields.initial d) (λ i _. IsInitial i)) ts
   unfolding fields
@@ -276,12 +267,15 @@ module _ (room d : ℕ) (inner : Nested) (fits : Fits (suc room) d) (h : NestedG
 pub nested_give : (room d : ℕ) → Fits room d → NestedGive d (nested room)
 unfolding nested
 nested_give zero d fits = record {
-  unary = λ ts. item_refusal_gives begins_expression TooDeep;
-  binary = λ ts. item_refusal_gives begins_expression TooDeep;
-  expression = λ ts. item_refusal_gives begins_expression TooDeep;
-  group = λ ts. item_refusal_gives _ TooDeep;
-  initial = λ ts. item_refusal_gives begins_initial TooDeep;
+  unary = λ ts. stuck;
+  binary = λ ts. gives_as (λ e ls rest (eq, is). (eq, looser 0 10 (omega arith) e is)) stuck;
+  expression = λ ts. gives_as (λ e ls rest (eq, is). (eq, looser 0 11 (omega arith) e is)) stuck;
+  group = λ ts. item_refusal_gives _ TooDeep (possibly (zero_at some_place) _ (refl, tt)) (group_opened d);
+  initial = λ ts. item_refusal_gives begins_initial TooDeep (possibly (Plain (zero_at some_place)) _ (refl, tt)) (initial_opened d);
 }
+  where
+    stuck : {ts : List Symbol} → Gives (refuse_item begins_expression TooDeep) (Spells (yields.expression d) (Level 0)) ts
+    stuck = item_refusal_gives begins_expression TooDeep (possibly (zero_at some_place) _ (refl, tt)) (expression_opened d)
 nested_give (suc room) d fits = let h = nested_give room (suc d) (omega arith) in record {
   unary = unary_gives room d (nested room) fits h;
   binary = binary_gives room d (nested room) fits h;

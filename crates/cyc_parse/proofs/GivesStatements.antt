@@ -3,21 +3,18 @@ use Rattle.std.proofs.Common.{◌≡◌, ℕ, zero, suc, ◌≤◌, ◌<◌, Boo
 use Rattle.cyc_syntax.specs.declared.tokens.Keyword.TheVariants as words
 use Rattle.cyc_syntax.specs.declared.tokens.Sign.TheVariants as signs
 use Rattle.cyc_syntax.specs.Symbols.{Place, Terminal, Identifier, Word, Mark, Symbol}
-use Rattle.cyc_syntax.specs.Trees.{Named, Expression, Number, Character, Null, HeapRegion, UniqueRegion, Variable, Call, Bracketed, NumberOfElements, FreeUnique, FreeKey, Chained, Prefixed, New, RegionNew, Binary, Assign, Statement, Block, Labelled, IfElse, While, MoreItems, Execute, Default, Case}
+use Rattle.cyc_syntax.specs.Trees.{Named, Expression, Number, Character, Null, HeapRegion, UniqueRegion, Variable, Call, Bracketed, NumberOfElements, FreeUnique, FreeKey, Chained, Prefixed, New, RegionNew, Binary, Assign, Statement, Block, Labelled, Empty, IfElse, While, NoItems, MoreItems, Execute, DynamicRegion, Default, Case}
 use Rattle.cyc_syntax.specs.Yields.{Leaf, Yield}
 use Rattle.cyc_syntax.specs.Yields as yields
 use Rattle.cyc_syntax.specs.Grammar.{IsExpression, IsExpressionOrNone, wants_else, IsStatement, IsBody, AreItems, IsItem, AreClauses, IsSomeClause, max_nesting}
-use Rattle.cyc_parse.specs.Parsing.{Unexpected, TooDeep, next, bind, pure, advance, inside, sees, starts, sign, word, identifier, is_sign, only_place, is_word}
+use Rattle.cyc_parse.specs.Parsing.{TooDeep, next, bind, pure, inside, sees, starts, sign, word, identifier}
 use Rattle.cyc_parse.specs.Expressions.{nested}
 use Rattle.cyc_parse.specs.Statements.{begins_statement, begins_item, begins_clause, is_case, is_default, is_else, is_unary, ends_in_new, end_of_swap, Nested, body, expression, expression_from, swap, behind, statement_from_name, else_part, return_value, thrown, caught, clauses_in, clauses, if_statement, while_statement, throw_statement, try_statement, statement_by, statement, local_value, local, opened_key, region, alias, new_key, dynamic_region, let_by, item_by, item, items_in, items, nested_statements}
 use Rattle.cyc_parse.proofs.Rules.{Fits, leaf_of, leaf_at}
-use Rattle.cyc_parse.proofs.Gives.{Gives, Follows, Spells, Any, part_then, spelled_then, last_then, pure_gives, refuse_gives, item_refusal_gives, gives_as, sign_then, sign_then_at, word_then, identifier_then, advance_then, advance_bare_then, choose_gives, test_gives, sees_gives, starts_gives, bare_gives, then_refused, stuck_then}
+use Rattle.cyc_parse.proofs.Gives.{Gives, Follows, Spells, Any, part_then, spelled_then, last_then, pure_gives, possibly, unexpected_gives, then_unexpected, begun_gives, item_refusal_gives, gives_as, gives_same, some_place, sign_then, sign_then_at, word_then, identifier_then, advance_then, advance_bare_then, choose_gives, test_gives, sees_gives, starts_gives, bare_gives, stuck_sign, stuck_word}
+use Rattle.cyc_parse.proofs.Openings.{named_at, IsStatementBefore, statement_opened, items_opened}
 use Rattle.cyc_parse.proofs.GivesTypes.{region_of_gives, written_type_gives}
 use Rattle.cyc_parse.proofs.GivesExpressions.{Level, NestedGive, nested_give, named_climb_gives, assignment_gives}
-
--- A statement, and what may follow it: one that ends in an `if` without `else` takes an `else` that comes.
-abbrev pub IsStatementBefore : Statement → List Symbol → Type 0
-IsStatementBefore s rest = IsStatement s × (wants_else s ≡ true → starts is_else (next rest) ≡ false)
 
 no_else : {P : Type 0} → false ≡ true → P
 no_else e = absurd (true≢false (sym e))
@@ -49,13 +46,13 @@ and_right false b h = absurd (cc)
 
 closed_name : (room d : ℕ) → Fits room d → (ts : List Symbol)
     → Gives (bind (sign room signs.LeftParen) (λ _. bind (identifier (inside room)) (λ v. bind (sign (inside room) signs.RightParen) (λ _. pure (Some v))))) (Spells (yields.optional (yields.caught d)) Any) ts
-closed_name zero d fits ts = stuck_then (is_sign signs.LeftParen) only_place _
+closed_name zero d fits ts = stuck_sign d signs.LeftParen (possibly (Some (named_at some_place)) _ (refl, tt))
 closed_name (suc room) d fits ts = sign_then (suc room) d signs.LeftParen fits (λ _ mid. identifier_then room (suc d) (omega arith) (λ v mid. sign_then room (suc d) signs.RightParen (omega arith) (λ _ mid. pure_gives (refl, tt))))
 
 opened_rest : (room d : ℕ) → Fits room (suc d) → (ts : List Symbol)
     → Gives (bind (word room words.Open) (λ _. bind (sign room signs.LeftParen) (λ _. bind (identifier (inside room)) (λ k. bind (sign (inside room) signs.RightParen) (λ _. pure (Some k))))))
     (Follows (leaf_of d (Mark signs.Assign) ∷ []) (yields.optional (yields.opened d)) Any) ts
-opened_rest zero d fits ts = stuck_then (is_word words.Open) only_place _
+opened_rest zero d fits ts = stuck_word (suc d) words.Open (possibly (Some (named_at some_place)) _ (refl, tt))
 opened_rest (suc room) d fits ts = word_then (suc room) (suc d) words.Open fits (λ _ mid. sign_then (suc room) (suc d) signs.LeftParen fits (λ _ mid. identifier_then room (suc (suc d)) (omega arith) (λ k mid. sign_then room (suc (suc d)) signs.RightParen (omega arith) (λ _ mid. pure_gives (refl, tt)))))
 
 abbrev key_leaves : ℕ → Yield
@@ -64,14 +61,14 @@ key_leaves d = leaf_of d (Mark signs.Assign) ∷ leaf_of (suc d) (Word words.New
 new_key_rest : (room d : ℕ) → Fits (suc room) d → (ts : List Symbol)
     → Gives (bind (sign (suc room) signs.Assign) (λ _. bind (word room words.NewKey) (λ _. bind (sign room signs.LeftParen) (λ _. bind (sign (inside room) signs.RightParen) (λ _. bind (sign (suc room) signs.Semicolon) (λ _. pure {A = Unit {0}} tt))))))
     (Spells (λ _. key_leaves d) Any) ts
-new_key_rest zero d fits ts = sign_then 1 d signs.Assign fits (λ _ mid. stuck_then (is_word words.NewKey) only_place _)
+new_key_rest zero d fits ts = sign_then 1 d signs.Assign fits (λ _ mid. stuck_word (suc d) words.NewKey (possibly tt _ (refl, tt)))
 new_key_rest (suc room) d fits ts = sign_then (suc (suc room)) d signs.Assign fits (λ _ mid. word_then (suc room) (suc d) words.NewKey (omega arith) (λ _ mid. sign_then (suc room) (suc d) signs.LeftParen (omega arith)
     (λ _ mid. sign_then room (suc (suc d)) signs.RightParen (omega arith) (λ _ mid. sign_then (suc (suc room)) d signs.Semicolon fits (λ _ mid. pure_gives (refl, tt))))))
 
 end_of_swap_gives : (room d : ℕ) → Fits room d → (e : Expression) (ts : List Symbol) → Gives (end_of_swap room e) (Spells (λ _. leaf_of d (Mark signs.Semicolon) ∷ []) Any) ts
 unfolding end_of_swap
 end_of_swap_gives room d fits e ts = sees_gives signs.Semicolon (bare_gives (sign_then room d signs.Semicolon fits (λ _ mid. pure_gives (refl, tt))))
-    (test_gives (λ s. sees signs.Less s && ends_in_new e) (λ _. then_refused advance Unexpected) (λ _. refuse_gives Unexpected))
+    (test_gives (λ s. sees signs.Less s && ends_in_new e) (λ _. then_unexpected (possibly some_place _ (refl, tt))) (λ _. unexpected_gives (possibly some_place _ (refl, tt))))
 
 -- ---- at one depth
 
@@ -184,7 +181,7 @@ module _ (room d : ℕ) (inner : Nested) (fits : Fits (suc room) d) (h : Stateme
 
   clauses_give : (ts : List Symbol) → Gives (clauses room inner) (Spells (yields.clauses (suc d)) (λ cs _. IsSomeClause cs × AreClauses cs)) ts
   unfolding clauses
-  clauses_give ts = starts_gives begins_clause (λ begins. gives_as (λ cs ls rest (e, (are, some)). (e, (some (positive ts begins) begins, are))) (record { gives = (clauses_in_give (length ts) ts).gives })) (λ _. refuse_gives Unexpected)
+  clauses_give ts = starts_gives begins_clause (λ begins. gives_as (λ cs ls rest (e, (are, some)). (e, (some (positive ts begins) begins, are))) (gives_same (clauses_in room inner (length ts)) refl (clauses_in_give (length ts) ts))) (λ _. unexpected_gives (possibly (Default NoItems) _ (refl, (tt, tt))))
     where
       positive : (ts : List Symbol) → starts begins_clause (next ts) ≡ true → 0 < length ts
       positive [] begins = absurd (true≢false (sym begins))
@@ -248,7 +245,7 @@ module _ (room d : ℕ) (inner : Nested) (fits : Fits (suc room) d) (h : Stateme
   let_by_gives : (o : Option Terminal) (ts : List Symbol) → Gives (let_by room inner o) (Follows (leaf_of d (Word words.Let) ∷ []) (yields.item d) (λ i _. IsItem i)) ts
   let_by_gives (Some (Word words.Alias)) ts = alias_gives ts
   let_by_gives (Some (Word words.NewDynamicRegion)) ts = dynamic_region_gives ts
-  let_by_gives _ ts = refuse_gives Unexpected
+  let_by_gives _ ts = unexpected_gives (possibly (DynamicRegion (named_at some_place) (named_at some_place)) _ (refl, tt))
 
   item_by_gives : (o : Option Terminal) (ts : List Symbol) → next ts ≡ o → Gives (item_by room inner o) (Spells (yields.item d) (λ i _. IsItem i)) ts
   item_by_gives (Some (Word words.Int)) ts e = local_gives ts
@@ -270,13 +267,13 @@ module _ (room d : ℕ) (inner : Nested) (fits : Fits (suc room) d) (h : Stateme
 
   pub items_give : (ts : List Symbol) → Gives (items room inner) (Spells (yields.items d) (λ is _. AreItems is)) ts
   unfolding items
-  items_give ts = record { gives = (items_in_give (length ts) ts).gives }
+  items_give ts = gives_same (items_in room inner (length ts)) refl (items_in_give (length ts) ts)
 
 pub nested_statements_give : (room d : ℕ) → Fits room d → StatementsGive d (nested_statements room)
 unfolding nested_statements
 nested_statements_give zero d fits = record {
-  statement = λ ts. item_refusal_gives begins_statement TooDeep;
-  items = λ ts. starts_gives begins_item (λ _. refuse_gives TooDeep) (λ _. pure_gives (refl, tt));
+  statement = λ ts. item_refusal_gives begins_statement TooDeep (possibly (Empty some_place) _ (refl, (tt, no_else))) (statement_opened d);
+  items = λ ts. starts_gives begins_item (λ comes. begun_gives begins_item TooDeep comes (items_opened d)) (λ _. pure_gives (refl, tt));
 }
 nested_statements_give (suc room) d fits = let h = nested_statements_give room (suc d) (omega arith) in record {
   statement = statement_gives room d (nested_statements room) fits h;

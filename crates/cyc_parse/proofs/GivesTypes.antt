@@ -1,5 +1,5 @@
 -- What the parsers of lists, regions and types answer is what the symbols spell.
-use Rattle.std.proofs.Common.{◌≡◌, ℕ, zero, suc, ◌+◌, ◌≤◌, Bool, List, [], ◌∷◌, ◌++◌, Option, Some, None, refl, ap, arith}
+use Rattle.std.proofs.Common.{◌≡◌, ℕ, zero, suc, ◌+◌, ◌≤◌, Bool, true, List, [], ◌∷◌, ◌++◌, Option, Some, None, refl, ap, arith}
 use Rattle.std.specs.List.{AllByRecursion}
 use Rattle.cyc_syntax.specs.declared.tokens.Keyword.TheVariants as words
 use Rattle.cyc_syntax.specs.declared.tokens.Sign.TheVariants as signs
@@ -7,21 +7,25 @@ use Rattle.cyc_syntax.specs.declared.tree.PointerKind.{PointerKind}
 use Rattle.cyc_syntax.specs.declared.tree.PointerKind.TheVariants as pointers
 use Rattle.cyc_syntax.specs.Symbols.{Place, Terminal, RegionName, Word, Mark, Symbol}
 use Rattle.cyc_syntax.specs.Trees.{Named, BaseType, Int, Struct, Handle, Key}
-use Rattle.cyc_syntax.specs.Yields.{Leaf, Yield, mark_sign}
+use Rattle.cyc_syntax.specs.Yields.{Leaf, Yield, item_number, mark_sign}
 use Rattle.cyc_syntax.specs.Yields as yields
 use Rattle.cyc_syntax.specs.Grammar.{IsNonempty, max_nesting, max_items}
-use Rattle.cyc_parse.specs.Parsing.{Parser, Unexpected, TooLong, next, begins_region, region_name, region_list, more_items, separated, regions}
+use Rattle.cyc_parse.specs.Parsing.{Parser, TooLong, next, begins_region, region_name, region_list, more_items, separated, regions}
 use Rattle.cyc_parse.specs.Types.{mark_at, optional_region, pointers_of, with_pointers, optional_regions, region_of, base_by, written_type}
 use Rattle.cyc_parse.proofs.Rules.{Fits, leaf_of, leaf_at}
-use Rattle.cyc_parse.proofs.Gives.{Gives, Follows, Spells, Any, spelled_then, last_then, pure_gives, refuse_gives, item_refusal_gives, gives_as, item_gives, sign_then, region_then, identifier_then, advance_then, advance_leaf_then, choose_gives, sees_gives, starts_gives, is_gives, bare_gives}
+use Rattle.cyc_parse.proofs.Gives.{Gives, Follows, Spells, Any, spelled_then, last_then, pure_gives, Possible, Opened, possibly, unexpected_gives, limit_gives, item_refusal_gives, gives_as, item_gives, some_place, sign_then, region_then, identifier_then, advance_then, advance_leaf_then, choose_gives, sees_gives, starts_gives, is_gives, bare_gives, numbered, opened_item, opened_then}
+use Rattle.cyc_parse.proofs.Openings.{region_opened}
 
 -- ---- lists with commas between
 
 module _ {A : Type 0} (room d : ℕ) (fits : Fits room d) (begins : Terminal → Bool) (item : Parser A) (yield : A → Yield) (Is : A → Type 0)
-    (h : (ts : List Symbol) → Gives item (Spells yield (λ x _. Is x)) ts) where
+    (h : (ts : List Symbol) → Gives item (Spells yield (λ x _. Is x)) ts) (opened : (u : Terminal) (p : Place) → begins u ≡ true → Opened (Spells yield (λ x _. Is x)) u p) where
   pub more_items_give : (left i : ℕ) → left + i ≡ suc max_items → (ts : List Symbol) → Gives (more_items room begins item left) (Spells (yields.more yield d i) (λ xs _. AllByRecursion Is xs)) ts
   unfolding more_items
-  more_items_give zero i count ts = sees_gives signs.Comma (sign_then room d signs.Comma fits (λ _ mid. item_refusal_gives begins TooLong)) (pure_gives (refl, tt))
+  more_items_give zero i count ts = sees_gives signs.Comma (sign_then room d signs.Comma fits (λ _ mid. item_refusal_gives begins TooLong one_more (λ u p b. opened_then (numbered i (opened u p b)) (λ x is. possibly (x ∷ []) [] (refl, (is, tt)))))) (pure_gives (refl, tt))
+    where
+      one_more : Possible (λ xs ls rest. (leaf_of d (Mark signs.Comma) ∷ ls ≡ yields.more yield d i xs) × AllByRecursion Is xs)
+      one_more = let a = (h []).ending refl in possibly (a.value ∷ []) (item_number i (yield a.value) ++ []) (refl, (a.post.1, tt))
   more_items_give (suc left) i count ts = sees_gives signs.Comma (sign_then room d signs.Comma fits (λ _ mid. spelled_then (item_gives i (omega arith) (h mid)) (λ x mid is.
       last_then (λ xs. x ∷ xs) (more_items_give left (suc i) (omega arith) mid) (λ xs rest all. (refl, (is, all)))))) (pure_gives (refl, tt))
 
@@ -43,7 +47,7 @@ mark_comes _ k e = absurd (cc)
 module _ (room d : ℕ) (fits : Fits room d) where
   pub regions_give : (ts : List Symbol) → Gives (regions room) (Spells (yields.regions d) (λ rs _. IsNonempty rs)) ts
   unfolding regions
-  regions_give ts = gives_as (λ rs ls rest h. (h.0, h.1.0)) (separated_gives room d fits begins_region (region_name room) (yields.region_name d) (λ _. Unit {0}) (λ s. region_name_gives room d fits s) ts)
+  regions_give ts = gives_as (λ rs ls rest h. (h.0, h.1.0)) (separated_gives room d fits begins_region (region_name room) (yields.region_name d) (λ _. Unit {0}) (λ s. region_name_gives room d fits s) (region_opened d) ts)
 
   pub region_list_gives : (ts : List Symbol) → Gives (region_list room) (Spells (yields.region_list d) Any) ts
   unfolding region_list
@@ -70,7 +74,7 @@ module _ (room d : ℕ) (fits : Fits room d) where
   module _ (shallow : d ≤ max_nesting) where
     pointers_give : (left i : ℕ) → left + i ≡ suc max_items → (ts : List Symbol) → Gives (pointers_of room left) (Spells (yields.each (yields.mark d) i) Any) ts
     unfolding pointers_of
-    pointers_give zero i count ts = is_gives mark_at (λ k e. refuse_gives TooLong) (pure_gives (refl, tt))
+    pointers_give zero i count ts = is_gives mark_at (λ k e. limit_gives TooLong (Mark (mark_sign k)) (mark_comes (next ts) k e) (λ p. opened_item d i (Mark (mark_sign k)) p (record { kind = k; region = None } ∷ []) _ (refl, tt))) (pure_gives (refl, tt))
     pointers_give (suc left) i count ts = is_gives mark_at (λ k e. advance_leaf_then (λ _. record { terminal = Mark (mark_sign k); place = None; nesting = d; item = i }) (Mark (mark_sign k)) (mark_comes (next ts) k e)
         (λ _. refl) (λ _. shallow) (λ _. omega arith) (λ _. tt)
         (λ _ mid. spelled_then (optional_region_gives mid) (λ r mid _. last_then (λ ms. record { kind = k; region = r } ∷ ms) (pointers_give left (suc i) (omega arith) mid) (λ ms rest _. (refl, tt)))))
@@ -85,7 +89,7 @@ module _ (room d : ℕ) (fits : Fits room d) where
     base_gives (Some (Word words.Struct)) ts e = advance_then d (Word words.Struct) e shallow (λ p mid. identifier_then room d fits (λ s mid. spelled_then (optional_regions_give mid) (λ rs mid _. with_pointers_give p (Struct s rs) mid)))
     base_gives (Some (Word words.RegionType)) ts e = advance_then d (Word words.RegionType) e shallow (λ p mid. spelled_then (region_of_gives mid) (λ r mid _. with_pointers_give p (Handle r) mid))
     base_gives (Some (Word words.KeyType)) ts e = advance_then d (Word words.KeyType) e shallow (λ p mid. spelled_then (region_of_gives mid) (λ r mid _. with_pointers_give p (Key r) mid))
-    base_gives _ ts e = refuse_gives Unexpected
+    base_gives _ ts e = unexpected_gives (possibly (record { place = some_place; base = Int; marks = [] }) _ (refl, tt))
 
     pub written_type_gives : (ts : List Symbol) → Gives (written_type room) (Spells (yields.written_type d) Any) ts
     unfolding written_type

@@ -1,3 +1,10 @@
+-- what the answers of `parse` and of the laws cite
+pub mod Accepted
+pub mod Ends
+pub mod Naming
+pub mod OneTree
+-- completeness: where symbols have a tree, the parser answers it, or refuses the first limit that it breaks
+pub mod Completeness
 pub mod Rules
 pub mod Signs
 pub mod Lists
@@ -13,24 +20,23 @@ pub mod StatementStarts
 pub mod StatementReads
 pub mod ItemReads
 pub mod DeclarationReads
-pub mod Completeness
-pub mod Loops
-pub mod Naming
-pub mod Ends
-pub mod Levels
-pub mod StatementLevels
-pub mod StatementLoops
-pub mod OneTree
+-- soundness: what the parser answers is a tree, and what a limit refuses is begun by a program
+pub mod Soundness
+pub mod Gives
+pub mod Openings
+pub mod GivesTypes
+pub mod GivesExpressions
+pub mod GivesStatements
+pub mod GivesDeclarations
+-- what a refusal means: the parser looks at no symbol behind the one that it refuses
+pub mod Refused
 pub mod Locality
 pub mod LocalTypes
 pub mod LocalExpressions
 pub mod LocalStatements
 pub mod LocalDeclarations
-pub mod Refused
-pub mod Gives
-pub mod GivesTypes
-pub mod GivesExpressions
-pub mod GivesStatements
-pub mod GivesDeclarations
-pub mod Soundness
-pub mod Accepted
+-- what the loops of the code and its levels of nesting cite
+pub mod Loops
+pub mod Levels
+pub mod StatementLevels
+pub mod StatementLoops

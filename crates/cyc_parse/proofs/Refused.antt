@@ -11,6 +11,7 @@ use Rattle.cyc_parse.specs.Parsing.{Outcome, Refusal, Reason, Unexpected, TooDee
 use Rattle.cyc_parse.specs.Declarations.{program, program_of}
 use Rattle.cyc_parse.specs.Refusals.{Breaks, BreaksFirst, IsAlike, Holds, IsRefused}
 use Rattle.cyc_parse.proofs.Rules.{judge, within, beyond}
+use Rattle.cyc_parse.proofs.Soundness.{limit_begun}
 use Rattle.cyc_parse.proofs.Completeness.{program_of-complete}
 use Rattle.cyc_parse.proofs.OneTree.{judge-within}
 use Rattle.cyc_parse.proofs.Locality.{IsSuffix, suffix-length, left_of, IsLess, reads_on, refuses_on, opens, overflows, Agrees, both_read, both_refuse, goes_on, Never}
@@ -126,8 +127,8 @@ goes_wrong front back more s why tree h alike has =
 
 holds : (front left : List Symbol) (why : Reason) → program_of (front ++ left) ≡ Err (record { reason = why; left = left }) → Holds why front left
 holds front (s ∷ back) Unexpected h = λ more tree has. (goes_wrong front back more s Unexpected tree h (λ e. absurd (cc)) has).breaks
-holds front (s ∷ back) TooDeep h = λ more tree has. goes_wrong front back more s TooDeep tree h (λ e. absurd (cc)) has
-holds front (s ∷ back) TooLong h = λ more tree alike has. goes_wrong front back more s TooLong tree h (λ e. alike) has
+holds front (s ∷ back) TooDeep h = (limit_begun front back s TooDeep tt h, (λ more tree has. goes_wrong front back more s TooDeep tree h (λ e. absurd (cc)) has))
+holds front (s ∷ back) TooLong h = (limit_begun front back s TooLong tt h, (λ more tree alike has. goes_wrong front back more s TooLong tree h (λ e. alike) has))
 holds front [] Unexpected h = λ tree has. none tree (judged_refusal (yields.program tree) front (tree, []) (record { reason = Unexpected; left = [] }) has.spelled
     (sym (program_of-complete front tree has) ∙ ap program_of (sym (append-nil front)) ∙ h))
   where
@@ -191,9 +192,9 @@ none_holds : (why : Reason) (front left : List Symbol) (tree : List Declaration)
 none_holds Unexpected front [] tree h has small = h tree (subst (λ (ts : List Symbol). HasTree ts tree) (append-nil front) has)
 none_holds Unexpected front (s ∷ back) tree h has small = h back tree has
 none_holds TooDeep front [] tree h has small = h
-none_holds TooDeep front (s ∷ back) tree h has small = broken_not_within TooDeep (yields.program tree) (length front) (h back tree has) small
+none_holds TooDeep front (s ∷ back) tree h has small = broken_not_within TooDeep (yields.program tree) (length front) (h.1 back tree has) small
 none_holds TooLong front [] tree h has small = h
-none_holds TooLong front (s ∷ back) tree h has small = broken_not_within TooLong (yields.program tree) (length front) (h back tree (λ _. refl) has) small
+none_holds TooLong front (s ∷ back) tree h has small = broken_not_within TooLong (yields.program tree) (length front) (h.1 back tree (λ _. refl) has) small
 
 pub refused_has_none : (ts : List Symbol) (e : Refusal) (tree : List Declaration) → IsRefused ts e → HasTree ts tree → IsWithinLimits tree → ⊥
 refused_has_none ts e tree h has small = none_holds e.reason h.front e.left tree h.holds (subst (λ (ts : List Symbol). HasTree ts tree) h.are has) small

@@ -1,20 +1,23 @@
--- SOUNDNESS: what the parser answers is a tree of all the symbols, and keeps the limits.
-use Rattle.std.proofs.Common.{◌≡◌, ℕ, zero, suc, ◌≤◌, List, [], ◌∷◌, ◌++◌, length, Option, Some, None, Ok, refl, sym, ap, subst, ◌∙◌, arith}
+-- SOUNDNESS: what the parser answers is a tree of all the symbols, and keeps the limits. And where it refuses a symbol for a limit,
+-- some program begins with the symbols up to that one.
+use Rattle.std.proofs.Common.{◌≡◌, ℕ, zero, suc, ◌≤◌, List, [], ◌∷◌, ◌++◌, length, Option, Some, None, Ok, Err, refl, sym, ap, subst, ◌∙◌, arith, append_assoc}
+use Rattle.std.proofs.lemmas.List.{append_cancel_right}
+use Rattle.std.specs.Option.{IfSome}
 use Rattle.std.specs.List.{AllByRecursion}
-use Rattle.cyc_syntax.specs.Symbols.{Terminal, Symbol}
+use Rattle.cyc_syntax.specs.Symbols.{Place, Terminal, Symbol}
 use Rattle.cyc_syntax.specs.Trees.{Declaration}
 use Rattle.cyc_syntax.specs.Yields.{Leaf, Yield}
 use Rattle.cyc_syntax.specs.Yields as yields
-use Rattle.cyc_syntax.specs.Grammar.{IsLeaf, IsSpelled, HasTree, IsDeclaration, AreDeclarations, IsWithin, IsWithinLimits}
+use Rattle.cyc_syntax.specs.Grammar.{IsLeaf, IsSpelled, HasTree, IsNonempty, IsDeclaration, AreDeclarations, IsWithin, IsWithinLimits}
 use Rattle.cyc_syntax.specs.Weight.{tree_weight}
 use Rattle.cyc_syntax.proofs.WeightLemmas.{tree_weight-length}
-use Rattle.cyc_parse.specs.Parsing.{Parser, bind, pure, choose}
+use Rattle.cyc_parse.specs.Parsing.{Parser, Reason, bind, pure, choose}
 use Rattle.cyc_parse.specs.Declarations.{declaration, declarations_in, program, program_of}
 use Rattle.cyc_parse.proofs.Rules.{Front}
 use Rattle.cyc_parse.proofs.Locality.{left_of}
 use Rattle.cyc_parse.proofs.LocalExpressions.{was_read}
 use Rattle.cyc_parse.proofs.LocalDeclarations.{declaration_runs}
-use Rattle.cyc_parse.proofs.Gives.{Derived, answer_of, front-append, all-append, Gives, Spells, spelled_then, last_then, pure_gives, choose_gives}
+use Rattle.cyc_parse.proofs.Gives.{Derived, answer_of, front-append, all-append, IsLimit, Gives, Spells, spelled_then, last_then, pure_gives, gives_same, some_place, choose_gives}
 use Rattle.cyc_parse.proofs.GivesDeclarations.{declaration_gives}
 
 -- ---- all symbols are read
@@ -92,3 +95,63 @@ program_of-sound ts left tree h =
 -- what is answered weighs as much as there are symbols
 pub answered_weight : (ts left : List Symbol) (tree : List Declaration) → program_of ts ≡ Ok (tree, left) → tree_weight tree ≡ length ts
 answered_weight ts left tree h = tree_weight-length ts tree (program_of-sound ts left tree h).has
+
+-- ---- what is refused for a limit
+
+program_gives : (ts : List Symbol) → Gives (program 200) (Spells yields.program (λ ds _. IsNonempty ds × AreDeclarations ds)) ts
+unfolding program
+program_gives ts = spelled_then (one_gives ts) (λ d mid is. last_then (λ ds. d ∷ ds) (gives_same (declarations_in 200 (length mid)) refl (declarations_give (length mid) mid)) (λ ds rest are. (refl, (tt, (is, are)))))
+
+-- symbols that leaves stand for
+place_or : Option Place → Place
+place_or None = some_place
+place_or (Some p) = p
+
+symbol_for : Leaf → Symbol
+symbol_for leaf = record { terminal = leaf.terminal; place = place_or leaf.place }
+
+symbols_for : Yield → List Symbol
+symbols_for [] = []
+symbols_for (leaf ∷ leaves) = symbol_for leaf ∷ symbols_for leaves
+
+place_kept : (o : Option Place) → IfSome o (λ p. place_or o ≡ p)
+place_kept None = tt
+place_kept (Some p) = refl
+
+for_spelled : (leaves : Yield) → IsSpelled leaves (symbols_for leaves)
+for_spelled [] = tt
+for_spelled (leaf ∷ leaves) = (record { terminal = refl; place = place_kept leaf.place }, for_spelled leaves)
+
+spelled-append : (xs ys : Yield) (ts us : List Symbol) → IsSpelled xs ts → IsSpelled ys us → IsSpelled (xs ++ ys) (ts ++ us)
+spelled-append [] ys [] us first second = second
+spelled-append [] ys (t ∷ ts) us first second = absurd first
+spelled-append (x ∷ xs) ys [] us first second = absurd first
+spelled-append (x ∷ xs) ys (t ∷ ts) us (is, first) second = (is, spelled-append xs ys ts us first second)
+
+-- the symbols before those that follow a yield
+before_rest : (leaves : Yield) (ts rest : List Symbol) → Front leaves ts rest → (before : List Symbol) × (ts ≡ before ++ rest) × IsSpelled leaves before
+before_rest [] ts rest same = ([], same, tt)
+before_rest (leaf ∷ leaves) ts rest (t, more, e, is, front) =
+    let (before, are, spelled) = before_rest leaves more rest front in
+    (t ∷ before, e ∙ ap (λ (us : List Symbol). t ∷ us) are, (is, spelled))
+
+pub limit_begun : (front back : List Symbol) (s : Symbol) (why : Reason) → IsLimit why → program_of (front ++ s ∷ back) ≡ Err (record { reason = why; left = s ∷ back })
+    → (more : List Symbol) × (tree : List Declaration) × HasTree (front ++ s ∷ more) tree
+unfolding program_of
+limit_begun front back s why limit h =
+    let c = (program_gives (front ++ s ∷ back)).goes (record { reason = why; left = s ∷ back }) h limit in
+    let b = c.begins in
+    let (before, are, spelled) = before_rest b.done (front ++ s ∷ back) b.back b.front in
+    let behind : back ≡ b.back = rest_same back b.back s b.symbol b.left_are in
+    let same : before ≡ front ++ s ∷ [] =
+        append_cancel_right before (front ++ s ∷ []) back (ap (λ (us : List Symbol). before ++ us) behind ∙ sym are ∙ sym (append_assoc front (s ∷ []) back)) in
+    let whole : IsSpelled (b.done ++ b.more) (before ++ symbols_for b.more) = spelled-append b.done b.more before (symbols_for b.more) spelled (for_spelled b.more) in
+    let symbols : before ++ symbols_for b.more ≡ front ++ s ∷ symbols_for b.more = ap (λ (us : List Symbol). us ++ symbols_for b.more) same ∙ append_assoc front (s ∷ []) (symbols_for b.more) in
+    (symbols_for b.more, c.value, record {
+      nonempty = c.post.1.0;
+      formed = c.post.1.1;
+      spelled = subst (λ (ys : Yield). IsSpelled ys (front ++ s ∷ symbols_for b.more)) (sym b.are ∙ c.post.0) (subst (IsSpelled (b.done ++ b.more)) symbols whole);
+    })
+  where
+    rest_same : (xs ys : List Symbol) (s t : Symbol) → s ∷ xs ≡ t ∷ ys → xs ≡ ys
+    rest_same xs ys s t e = cc

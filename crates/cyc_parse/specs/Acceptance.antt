@@ -1,12 +1,10 @@
 -- Which tokens the parser accepts, and what it refuses where.
 use Rattle.std.specs.Prelude.{◌≡◌, ℕ, List, ◌∷◌, ◌++◌, length, map}
 use Rattle.cyc_words.specs.declared.fault.Fault.{Fault}
-use Rattle.cyc_syntax.specs.Names.{distinct_texts}
 use Rattle.cyc_syntax.specs.Tokens.{Token}
-use Rattle.cyc_syntax.specs.Symbols.{Symbol, texts_in, symbols_of}
+use Rattle.cyc_syntax.specs.Symbols.{Symbol, symbols_of}
 use Rattle.cyc_syntax.specs.Trees.{Declaration}
 use Rattle.cyc_syntax.specs.Grammar.{HasTree, IsWithinLimits}
-use Rattle.cyc_syntax.specs.Weight.{tree_weight}
 use Rattle.cyc_syntax.specs.Yields.{program}
 use Rattle.cyc_syntax.specs.declared.tree.Tree.{Tree}
 use Rattle.cyc_syntax.specs.TreeView.{view_declaration}
@@ -18,13 +16,10 @@ use Rattle.cyc_parse.specs.Answers.{end_of, fault_of}
 abbrev pub declarations_of : Tree → List Declaration
 declarations_of tree = map view_declaration tree.declarations.items
 
--- The tokens are accepted with this tree: it is theirs by the grammar, and all is within the limits. Names have the numbers of their
--- texts, in the order in which they first come; each place is that of a token. It weighs as much as there are tokens.
-pub record IsAccepted (tokens : List Token) (tree : Tree) : Type 0 where
-  pub has : HasTree (symbols_of tokens) (declarations_of tree)
-  pub within : IsWithinLimits (declarations_of tree)
-  pub names : tree.names ≡ distinct_texts (texts_in tokens)
-  pub weight : tree_weight (declarations_of tree) ≡ length tokens
+-- The tokens are accepted with these declarations: they are a tree of the tokens by the grammar, and all is within the limits.
+pub record IsAccepted (tokens : List Token) (tree : List Declaration) : Type 0 where
+  pub has : HasTree (symbols_of tokens) tree
+  pub within : IsWithinLimits tree
 
 -- The tokens of the text are refused with this fault: what its code says holds at its place.
 pub record IsRefused (text : List ℕ) (tokens : List Token) (fault : Fault) : Type 0 where
@@ -42,3 +37,9 @@ pub record BreaksLimit (tokens : List Token) (refusal : Refusal) : Type 0 where
   pub tree : List Declaration
   pub has : HasTree (symbols_of tokens) tree
   pub breaks : BreaksFirst refusal.reason (program tree) (length front)
+
+-- The fault of such a limit.
+pub record IsFaulty (text : List ℕ) (tokens : List Token) (fault : Fault) : Type 0 where
+  pub refusal : Refusal
+  pub breaks : BreaksLimit tokens refusal
+  pub is : fault ≡ fault_of (end_of text) refusal

@@ -1,11 +1,14 @@
+-- what the contract of `parse` and the laws rest on
+pub mod Acceptance
+pub mod Refusals
+-- what the functions inside the crate promise each other: the parser as functions on lists of symbols
 pub mod Parsing
-pub mod Code
-pub mod Steps
-pub mod Expressions
 pub mod Types
+pub mod Expressions
 pub mod Statements
-pub mod StatementSteps
 pub mod Declarations
 pub mod Answers
-pub mod Refusals
-pub mod Acceptance
+-- and what the code has to do with them
+pub mod Code
+pub mod Steps
+pub mod StatementSteps

@@ -34,6 +34,10 @@ region_next symbols = starts begins_region (next symbols)
 abbrev pub IsAlike : Symbol → List Symbol → List Symbol → Type 0
 IsAlike symbol back more = symbol.terminal ≡ Mark signs.Less → region_next more ≡ region_next back
 
+-- Some program begins with these symbols and this one.
+abbrev pub IsBegun : List Symbol → Symbol → Type 0
+IsBegun front symbol = (more : List Symbol) × (tree : List Declaration) × HasTree (front ++ symbol ∷ more) tree
+
 -- What a reason says of the symbols up to a place, and of those that are left there.
 abbrev pub Holds : Reason → List Symbol → List Symbol → Type 0
 -- no program ends here
@@ -42,11 +46,11 @@ Holds Unexpected front [] = (tree : List Declaration) → HasTree front tree →
 Holds Unexpected front (symbol ∷ back) = (more : List Symbol) (tree : List Declaration) → HasTree (front ++ symbol ∷ more) tree → ⊥
 -- no limit is broken at the end
 Holds TooDeep front [] = ⊥
--- in each program that begins with the symbols up to this one, this one is the first to break a limit: it stands too deep
-Holds TooDeep front (symbol ∷ back) = (more : List Symbol) (tree : List Declaration) → HasTree (front ++ symbol ∷ more) tree → BreaksFirst TooDeep (program tree) (length front)
+-- programs begin with the symbols up to this one, and in each of them this one is the first to break a limit: it stands too deep
+Holds TooDeep front (symbol ∷ back) = IsBegun front symbol × ((more : List Symbol) (tree : List Declaration) → HasTree (front ++ symbol ∷ more) tree → BreaksFirst TooDeep (program tree) (length front))
 Holds TooLong front [] = ⊥
 -- the same, and it is an item too many
-Holds TooLong front (symbol ∷ back) = (more : List Symbol) (tree : List Declaration) → IsAlike symbol back more → HasTree (front ++ symbol ∷ more) tree → BreaksFirst TooLong (program tree) (length front)
+Holds TooLong front (symbol ∷ back) = IsBegun front symbol × ((more : List Symbol) (tree : List Declaration) → IsAlike symbol back more → HasTree (front ++ symbol ∷ more) tree → BreaksFirst TooLong (program tree) (length front))
 
 -- The symbols are refused at the first of those that are left, or at their end.
 pub record IsRefused (symbols : List Symbol) (refusal : Refusal) : Type 0 where

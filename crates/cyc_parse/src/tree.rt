@@ -1,18 +1,17 @@
 //! From the tokens of a text to its tree, or to its fault.
-ghost use Rattle.std.specs.Prelude.{◌≡◌, ◌≤◌, ◌⊎◌, List, [], ◌∷◌, length, map, fold, All, Ok, IfOk, IfErr, OnOk, MatchResult};
+ghost use Rattle.std.specs.Prelude.{◌≡◌, ◌≤◌, ◌⊎◌, [], ◌∷◌, length, map, fold, All, Ok, IfOk, IfErr, OnOk};
+ghost use Rattle.cyc_words.specs.Decision.{Decides};
 ghost use Rattle.cyc_words.specs.Fault.{memory_fault};
-ghost use Rattle.cyc_syntax.specs.Names.{with_text};
+ghost use Rattle.cyc_syntax.specs.Names.{with_text, distinct_texts};
 ghost use Rattle.cyc_syntax.specs.Tokens.{token_of};
 ghost use Rattle.cyc_syntax.specs.TokenRule.{LiesIn, AreTokensOf, max_bytes};
-ghost use Rattle.cyc_syntax.specs.Symbols.{texts_in, symbol_of, symbols_of};
-ghost use Rattle.cyc_syntax.specs.Grammar.{HasTree, IsWithinLimits};
-ghost use Rattle.cyc_syntax.specs.Trees as pure;
+ghost use Rattle.cyc_syntax.specs.Symbols.{texts_in, symbol_of};
 ghost use Rattle.cyc_syntax.specs.TreeView.{place_of_span, view_declaration};
+ghost use Rattle.cyc_syntax.specs.Weight.{tree_weight};
 ghost use Rattle.cyc_parse.specs.Code.{Gives, view_reason, view_symbol};
-ghost use Rattle.cyc_parse.specs.Parsing.{Refusal};
-ghost use Rattle.cyc_parse.specs.Answers.{whole_program, code_of, end_of, fault_of, IsAnswer};
+ghost use Rattle.cyc_parse.specs.Answers.{whole_program, code_of, fault_of, IsAnswer};
 ghost use Rattle.cyc_parse.specs.Answers as answers;
-ghost use Rattle.cyc_parse.specs.Acceptance.{declarations_of, IsAccepted, IsRefused, BreaksLimit};
+ghost use Rattle.cyc_parse.specs.Acceptance.{declarations_of, IsAccepted, IsRefused, IsFaulty};
 
 use crate::cursor::Parser;
 use crate::stop::{Reason, Stop};
@@ -28,15 +27,14 @@ use std::alloc::{AllocError, Global};
 pub fn parse(alloc: Global, tokens: &[Token], text: &[u8]) -> Result<Tree, Fault>
     requires short { length text.now ≤ max_bytes }
     requires tokens { AreTokensOf text.now tokens.now }
-    // What is accepted has this tree. What is refused is so for what its code says at its place.
-    ensures accepted { IfOk result (λ tree. IsAccepted (map (token_of text.now) tokens.now) tree) }
-    ensures refused { IfErr result (λ f. (f ≡ memory_fault) ⊎ IsRefused text.now (map (token_of text.now) tokens.now) f) }
-
-    // And the other way round, want of memory aside.
-    ensures accepts { (tree : List pure.Declaration) → HasTree (symbols_of (map (token_of text.now) tokens.now)) tree → IsWithinLimits tree
-        → MatchResult result (λ t. declarations_of t ≡ tree) (λ f. f ≡ memory_fault) }
-    ensures limits { (refusal : Refusal) → BreaksLimit (map (token_of text.now) tokens.now) refusal
-        → MatchResult result (λ _. ⊥) (λ f. (f ≡ memory_fault) ⊎ (f ≡ fault_of (end_of text.now) refusal)) }
+    // What is accepted has a tree, and this is answered; what is refused is so for what its code says at its place, and a program
+    // that breaks a limit is refused for the first that it breaks.
+    ensures decides { Decides (IsAccepted (map (token_of text.now) tokens.now)) (λ tree t. declarations_of t ≡ tree)
+        (IsRefused text.now (map (token_of text.now) tokens.now)) (IsFaulty text.now (map (token_of text.now) tokens.now)) result }
+    // Names have the numbers of their texts, in the order in which they first come.
+    ensures names { IfOk result (λ t. t.names ≡ distinct_texts (texts_in (map (token_of text.now) tokens.now))) }
+    // A tree weighs as much as there are tokens.
+    ensures weight { IfOk result (λ t. tree_weight (declarations_of t) ≡ length tokens.now) }
 {
     answer(alloc, tokens, text)
 }
@@ -47,12 +45,8 @@ fn answer(alloc: Global, tokens: &[Token], text: &[u8]) -> Result<Tree, Fault>
     requires tokens { AreTokensOf text.now tokens.now }
     ensures { IsAnswer text.now (map (token_of text.now) tokens.now) result }
 {
-    let Ok(mut names) = Names::new(alloc) else {
-        return Err(Fault::memory());
-    };
-    let Ok(symbols) = symbols_of_tokens(alloc, tokens, text, &mut names) else {
-        return Err(Fault::memory());
-    };
+    let mut names = Names::new(alloc)?;
+    let symbols = symbols_of_tokens(alloc, tokens, text, &mut names)?;
     let end = place_behind(Span { line: 1, column: 1 }, text);
     let declarations = declarations_of(alloc, &symbols, end)?;
     Ok(Tree {

@@ -28,12 +28,13 @@ use Rattle.cyc_select.specs.Labelled.{Labelled, IsFormed, AreAddresses}
 use Rattle.cyc_select.specs.Machine as labelled
 use Rattle.cyc_select.specs.Machine.{State, Running, Ended}
 use Rattle.cyc_select.specs.Selection.{slot_offset, small, minus, store, add_immediate, push_frame, copies, ordinary, syscall, call_code, function_line, instruction_line}
+use Rattle.cyc_select.specs.Emission.{AreFrames}
 use Rattle.cyc_select.proofs.Cells.{IsCell}
 use Rattle.cyc_select.proofs.Lines.{line_first}
 use Rattle.cyc_select.proofs.Operations.{add_small, take_small}
 use Rattle.cyc_select.proofs.Walks.{Stands, stands_front, stands_back, after_r, after_w, Walk, Now, now_at, walk_end, walk_few, walk_from, walk_block, walk_branch, walk_call, walk_full}
 use Rattle.cyc_select.proofs.Copies.{Copied, copied_all}
-use Rattle.cyc_select.proofs.Standing.{AreFrames, Holds, Chain, Standing, behind_line, lies, chain_kept, word_cell, slot_cell, return_cell, return_address, standing_return}
+use Rattle.cyc_select.proofs.Standing.{Holds, Chain, Standing, behind_line, lies, chain_kept, word_cell, slot_cell, return_cell, return_address, standing_return}
 use Rattle.cyc_select.proofs.Matches.{At, Matches, Reached, reached, within}
 
 pub length_ordinary : (is : List Instr) → length (ordinary is) ≡ length is

@@ -29,7 +29,7 @@ use Rattle.cyc_select.specs.Selection.{slot_offset, ordinary, copies, load_all, 
 use Rattle.cyc_select.proofs.Calls.{length-copies}
 use Rattle.cyc_select.proofs.Lines.{line_first}
 use Rattle.cyc_select.proofs.Returns.{loaded, length_loaded, length_stores, length_registers}
-use Rattle.cyc_select.proofs.Standing.{AreFrames}
+use Rattle.cyc_select.specs.Emission.{AreFrames}
 use Rattle.cyc_select.proofs.Structure.{length_body, length_behind, stand, starts}
 use Rattle.cyc_select.proofs.Walks.{Stands}
 

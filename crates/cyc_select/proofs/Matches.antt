@@ -20,9 +20,10 @@ use Rattle.cyc_select.specs.Labelled.{Labelled, IsFormed, AreAddresses}
 use Rattle.cyc_select.specs.Machine as labelled
 use Rattle.cyc_select.specs.Machine.{State, Running, Ended}
 use Rattle.cyc_select.specs.Selection.{slot_offset, instruction_line, count_of}
+use Rattle.cyc_select.specs.Emission.{AreFrames}
 use Rattle.cyc_select.proofs.Lines.{line_next}
 use Rattle.cyc_select.proofs.Walks.{Now, now_at}
-use Rattle.cyc_select.proofs.Standing.{AreFrames, behind_line, Standing, slot_address, standing_registers, standing_at, standing_slot}
+use Rattle.cyc_select.proofs.Standing.{behind_line, Standing, slot_address, standing_registers, standing_at, standing_slot}
 
 -- the registers of what a function returns
 abbrev pub result_register : ℕ → ℕ

@@ -1,5 +1,5 @@
 -- Numbers of lines: sums over what stands before.
-use Rattle.std.proofs.Common.{◌≡◌, ℕ, zero, suc, ◌+◌, ◌*◌, ◌<◌, ◌≤◌, Bool, true, false, List, [], ◌∷◌, ◌++◌, length, get_or, drop, take, map, refl, sym, ap, subst, ◌∙◌, append_assoc, append-nil, arith}
+use Rattle.std.proofs.Common.{◌≡◌, ℕ, zero, suc, ◌+◌, ◌*◌, ◌<◌, ◌≤◌, Bool, true, false, List, [], ◌∷◌, ◌++◌, length, get_or, drop, take, map, refl, sym, ap, subst, ◌∙◌, append_assoc, append-nil, inl, inr, arith}
 use Rattle.std.specs.Prelude.{sum_by, slice_index_or, if◌then◌else◌, All}
 use Rattle.std.proofs.lemmas.List.{drop_more, drop_all}
 use Rattle.std.proofs.lemmas.List.Sums.{sum_by-cons, sum_by-drop_more, sum_by-take-drop, sum_by-take-le}
@@ -7,13 +7,13 @@ use Rattle.cyc_plain.specs.declared.instruction.Instruction.{Instruction}
 use Rattle.cyc_plain.specs.declared.instruction.Instruction.TheVariants as plain
 use Rattle.cyc_plain.specs.declared.instruction.BinaryOperator.{BinaryOperator}
 use Rattle.cyc_plain.specs.declared.instruction.BinaryOperator.TheVariants as binary
-use Rattle.cyc_plain.specs.Program.{Program, Routine, no_routine, routine_of, routine_at, instruction_size, size, layout_words, greatest_value}
+use Rattle.cyc_plain.specs.Program.{Program, Routine, no_routine, routine_of, routine_at, instruction_size, size, greatest_value}
 use Rattle.cyc_plain.specs.declared.program.Function.{Function}
 use Rattle.cyc_plain.specs.WellFormed.{IsRoutine, IsWellFormed, IsInRange}
-use Rattle.cyc_frame.specs.Layout.{AreSmall, frame_of, frames_of, frame_at, most_words}
+use Rattle.cyc_frame.specs.Layout.{IsFrame, frame_at, most_words}
 use Rattle.cyc_frame.specs.declared.frame.Frame.{Frame}
 use Rattle.cyc_select.specs.Selection.{operator_count, ending_count, body_count, behind_count, count_of, function_count, functions_count, start_count, function_line, instruction_line, code_lines, function_lines}
-use Rattle.cyc_select.specs.Emission.{AreFew, lines_for_each, most_size, most_lines, instruction_lines, function_starts, AreReady, AreTables}
+use Rattle.cyc_select.specs.Emission.{AreReached, AreFew, lines_for_each, most_size, most_lines, instruction_lines, function_starts, AreReady, AreTables}
 
 -- ---- an instruction has few lines for each unit of its size
 
@@ -103,18 +103,24 @@ are_few program well = routines_few program.functions (λ k below. (routine_stan
 pub code_in_range : (program : Program) → IsWellFormed program → (k : ℕ) → k < length program.functions → All (IsInRange program (routine_at program k)) (routine_at program k).code
 code_in_range program well k below = (routine_stands program well k below).instructions
 
--- ---- frames as they are laid out
+-- ---- frames
 
-frame_at-frames : (routines : List Routine) (k : ℕ) → k < length routines → frame_at (map frame_of routines) k ≡ frame_of (slice_index_or routines k no_routine)
-frame_at-frames [] k below = absurd (omega arith)
-frame_at-frames (r ∷ routines) zero below = refl
-frame_at-frames (r ∷ routines) (suc k) below = frame_at-frames routines k (omega arith)
+-- one that has a word is among them
+frame_inside : (frames : List Frame) (k : ℕ) → 0 < (frame_at frames k).words → k < length frames
+frame_inside [] zero some = absurd (omega arith)
+frame_inside [] (suc k) some = absurd (omega arith)
+frame_inside (f ∷ frames) zero some = omega arith
+frame_inside (f ∷ frames) (suc k) some = omega (arith, frame_inside frames k some)
 
-pub frame_is : (program : Program) (frames : List Frame) → frames ≡ frames_of program → (k : ℕ) → k < length program.functions → frame_at frames k ≡ frame_of (routine_at program k)
-frame_is program frames are k below = ap (λ (fs : List Frame). frame_at fs k) are ∙ frame_at-frames program.functions k below
+slots_below : (r : Routine) (frame : Frame) → IsFrame r frame → (n : ℕ) → n ≡ r.slots → AreReached frame 0 n
+slots_below r frame fit zero is = inl refl
+slots_below r frame fit (suc n) is = inr (omega (arith, fit.inside n (omega arith), fit.within, fit.small))
 
-pub words_small : (program : Program) → IsWellFormed program → AreSmall program → (k : ℕ) → k < length program.functions → layout_words + (routine_at program k).slots ≤ most_words
-words_small program well small k below = omega (arith, (routine_stands program well k below).frame, small k below)
+pub slots_reached : (r : Routine) (frame : Frame) → IsFrame r frame → AreReached frame 0 r.slots
+slots_reached r frame fit = slots_below r frame fit r.slots refl
+
+pub words_small : (r : Routine) (frame : Frame) → IsFrame r frame → frame.words ≤ most_words
+words_small r frame fit = omega (arith, fit.within, fit.small)
 
 -- ---- tables
 
@@ -141,11 +147,8 @@ starts_at program function here (r ∷ routines) (suc k) d below =
     omega (arith, starts_at program (suc function) (here + function_count program function r) routines k d (omega arith))
 
 module _ {program : Program} {frames : List Frame} {starts : List ℕ} (ready : AreReady program frames starts) where
-  pub ready_frame : (k : ℕ) → k < length program.functions → frame_at frames k ≡ frame_of (routine_at program k)
-  ready_frame k below = frame_is program frames ready.frames_are k below
-
-  pub ready_words : (k : ℕ) → k < length program.functions → layout_words + (routine_at program k).slots ≤ most_words
-  ready_words k below = words_small program ready.well_formed ready.small k below
+  pub ready_frames : (k : ℕ) → k < length program.functions → k < length frames
+  ready_frames k below = frame_inside frames k (omega (arith, (ready.fit k below).return_inside))
 
   pub ready_starts : length starts ≡ length program.functions
   ready_starts = ap length ready.starts_are ∙ starts_length program 0 start_count program.functions

@@ -27,12 +27,13 @@ use Rattle.cyc_select.specs.Labelled.{Labelled, IsFormed, AreAddresses}
 use Rattle.cyc_select.specs.Machine as labelled
 use Rattle.cyc_select.specs.Machine.{State, Running, Ended}
 use Rattle.cyc_select.specs.Selection.{slot_offset, load, small, add_immediate, load_slot, load_all, store_all, pop_frame, result_registers, ordinary, syscall, ending_code, ending_count, return_code, behind, instruction_line}
+use Rattle.cyc_select.specs.Emission.{AreFrames}
 use Rattle.cyc_select.proofs.Calls.{length_ordinary}
 use Rattle.cyc_select.proofs.Cells.{IsCell}
 use Rattle.cyc_select.proofs.Lines.{line_next}
 use Rattle.cyc_select.proofs.Operations.{add_small}
 use Rattle.cyc_select.proofs.Walks.{Stands, stands_front, stands_back, after_r, after_w, AreSafe, Walk, Now, now_at, now_is, walk_end, walk_few, walk_from, walk_block, walk_branch, walk_return, walk_returned}
-use Rattle.cyc_select.proofs.Standing.{AreFrames, Holds, Chain, Standing, behind_line, lies, slot_address, slot_cell, slot_word_is, return_cell, return_address, standing_registers, standing_at, standing_slot}
+use Rattle.cyc_select.proofs.Standing.{Holds, Chain, Standing, behind_line, lies, slot_address, slot_cell, slot_word_is, return_cell, return_address, standing_registers, standing_at, standing_slot}
 use Rattle.cyc_select.proofs.Matches.{At, Ready, Back, Matches, Reached, reached, within, result_register}
 
 -- ---- what a function returns, from slots into registers

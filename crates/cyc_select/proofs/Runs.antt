@@ -31,10 +31,11 @@ use Rattle.cyc_select.specs.Labelled.{Labelled, IsFormed, AreAddresses}
 use Rattle.cyc_select.specs.Machine as labelled
 use Rattle.cyc_select.specs.Machine.{State, Running, Ended, machine}
 use Rattle.cyc_select.specs.Selection.{body, behind, body_count, behind_count, count_of, operator_count, instruction_line}
+use Rattle.cyc_select.specs.Emission.{AreFrames}
 use Rattle.cyc_select.proofs.Lines.{line_next}
 use Rattle.cyc_select.proofs.Operations.{negated_quotient, negated_remainder}
 use Rattle.cyc_select.proofs.Walks.{Stands, stands_front, stands_back, Rises, rising_distinct, rising_inside, comes_map, Quiet, Walk, walk_few}
-use Rattle.cyc_select.proofs.Standing.{AreFrames, Standing, behind_line}
+use Rattle.cyc_select.proofs.Standing.{Standing, behind_line}
 use Rattle.cyc_select.proofs.Matches.{At, Ready, Back, Matches, Reached}
 use Rattle.cyc_select.proofs.Simple.{constant_goes, move_goes, unary_goes, add_goes, subtract_goes, multiply_goes, and_goes, or_goes, xor_goes, shift_left_goes, shift_right_goes, equal_goes, not_equal_goes, less_goes, less_or_equal_goes, greater_goes, greater_or_equal_goes, divide_goes, jump_goes, jump_if_zero_goes, jump_if_nonzero_goes, read_goes, write_goes, load_global_goes, store_global_goes, uncaught_goes}
 use Rattle.cyc_select.proofs.Calls.{call_goes}

@@ -41,13 +41,14 @@ use Rattle.cyc_select.specs.Labelled.{Labelled, IsFormed, AreAddresses}
 use Rattle.cyc_select.specs.Machine as labelled
 use Rattle.cyc_select.specs.Machine.{State, Running, Ended}
 use Rattle.cyc_select.specs.Selection.{load_slot, store_slot, slot_offset, constant, small, minus, add_immediate, is_zero, unary_code, binary_code, ordinary, syscall, divide_code, operator_code, body, operator_count, body_count, count_of, instruction_line}
+use Rattle.cyc_select.specs.Emission.{AreFrames}
 use Rattle.cyc_select.proofs.Cells.{IsCell}
 use Rattle.cyc_select.proofs.Effects.{byte_of}
 use Rattle.cyc_select.proofs.Lines.{line_next}
 use Rattle.cyc_select.proofs.Operations.{two_halves, address_at, add_small, zero_test, equal_test, unequal_test, at_most_test, low_product, negated_quotient, negated_remainder}
 use Rattle.cyc_select.proofs.Views.{IsSafe, IsWritable}
 use Rattle.cyc_select.proofs.Walks.{Stands, stands_front, stands_back, after_r, after_w, AreSafe, Walk, Now, now_at, walk_end, walk_few, walk_from, walk_block, walk_branch, walk_jump, walk_get, walk_put, walk_uncaught}
-use Rattle.cyc_select.proofs.Standing.{AreFrames, Standing, slot_address, slot_cell, slot_word_is, global_cell, standing_global, standing_registers, standing_at}
+use Rattle.cyc_select.proofs.Standing.{Standing, slot_address, slot_cell, slot_word_is, global_cell, standing_global, standing_registers, standing_at}
 use Rattle.cyc_select.proofs.Matches.{At, Matches, Reached, reached, reached_gives, reached_at, within}
 
 module _ (program : Program) (well : IsWellFormed program) (frames : List Frame) (fit : AreFrames program frames) (code : Labelled) (formed : IsFormed code) (addresses : ℕ → ℕ) (pages calls : ℕ) (few : calls ≤ 4096)

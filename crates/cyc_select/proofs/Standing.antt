@@ -14,16 +14,13 @@ use Rattle.cyc_plain.specs.Step.{instruction_at}
 use Rattle.cyc_plain.specs.WellFormed.{IsWellFormed}
 use Rattle.cyc_plain.proofs.SlotLaws.{put-same, put-other}
 use Rattle.std.proofs.lemmas.Bool.{cases_eq}
-use Rattle.cyc_frame.specs.Layout.{IsFrame, slot_word, frame_at}
+use Rattle.cyc_frame.specs.Layout.{slot_word, frame_at}
 use Rattle.cyc_frame.specs.declared.frame.Frame.{Frame}
 use Rattle.cyc_select.specs.Labelled.{Labelled, IsFormed, AreAddresses}
 use Rattle.cyc_select.specs.Selection.{slot_offset, instruction_line, body_count, select_of}
+use Rattle.cyc_select.specs.Emission.{AreFrames}
 use Rattle.cyc_select.proofs.Cells.{IsCell}
 use Rattle.cyc_select.proofs.Operations.{address_at}
-
--- each function of the program has a frame
-abbrev pub AreFrames : Program → List Frame → Type 0
-AreFrames program frames = (k : ℕ) → k < length program.functions → IsFrame (routine_at program k) (frame_at frames k)
 
 -- the slots of a function's call whose frame lies at this address
 abbrev pub Holds : Program → List Frame → (function base : ℕ) → (w slots : Words) → Type 0

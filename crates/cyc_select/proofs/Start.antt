@@ -29,13 +29,14 @@ use Rattle.cyc_select.specs.Labelled.{Labelled, IsFormed, AreAddresses}
 use Rattle.cyc_select.specs.Machine as labelled
 use Rattle.cyc_select.specs.Machine.{State, Running, machine, memory_of, word_in, globals_of, start}
 use Rattle.cyc_select.specs.Selection.{slot_offset, body, behind, body_count, add_immediate, minus, push_frame, ordinary, start_lines, function_line, instruction_line}
+use Rattle.cyc_select.specs.Emission.{AreFrames}
 use Rattle.cyc_select.proofs.Cells.{IsCell, cell, place_of-data, place_of-stack}
 use Rattle.cyc_select.proofs.Laws.{lawful}
 use Rattle.cyc_select.proofs.Lines.{line_first}
 use Rattle.cyc_select.proofs.Operations.{take_small}
 use Rattle.cyc_select.proofs.Views.{View}
 use Rattle.cyc_select.proofs.Walks.{Stands, stands_front, stands_back, Rises, comes_map, Quiet, Walk, Now, now_at, walk_end, walk_few, walk_block, walk_jump, after_r}
-use Rattle.cyc_select.proofs.Standing.{AreFrames, Standing}
+use Rattle.cyc_select.proofs.Standing.{Standing}
 use Rattle.cyc_select.proofs.Matches.{At, Ready, Matches}
 use Rattle.cyc_select.proofs.Runs.{own_of, matching, all_steps}
 

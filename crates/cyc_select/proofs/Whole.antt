@@ -16,7 +16,7 @@ use Rattle.cyc_select.proofs.Formed.{few_results, formed}
 use Rattle.cyc_select.proofs.Parts.{place_in, own_function, own_some, parts}
 use Rattle.cyc_select.proofs.Runs.{own_of}
 use Rattle.cyc_select.proofs.Sizes.{words_range, code_words, functions_words}
-use Rattle.cyc_select.proofs.Standing.{AreFrames}
+use Rattle.cyc_select.specs.Emission.{AreFrames}
 use Rattle.cyc_select.proofs.Start.{follows}
 use Rattle.cyc_select.proofs.Structure.{length_body, length_code, stand, stand_function, starts}
 

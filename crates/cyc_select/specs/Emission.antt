@@ -1,6 +1,6 @@
 -- What the code that emits says of itself: what it adds to the lines made so far, and the tables of line numbers that it
 -- looks targets up in. This project's own choice.
-use Rattle.std.specs.Prelude.{◌≡◌, ℕ, suc, ◌+◌, ◌*◌, ◌/◌, ◌%◌, ◌^◌, ◌<◌, ◌≤◌, Bool, if◌then◌else◌, List, [], ◌∷◌, ◌++◌, length, sum_by, Result, OnOk}
+use Rattle.std.specs.Prelude.{◌≡◌, ℕ, suc, ◌+◌, ◌*◌, ◌/◌, ◌%◌, ◌^◌, ◌<◌, ◌≤◌, ◌⊎◌, Bool, if◌then◌else◌, List, [], ◌∷◌, ◌++◌, length, sum_by, Result, OnOk}
 use Rattle.std.specs.declared.alloc.AllocError.{AllocError}
 use Rattle.cyc_isa.specs.Decoding.{register_of}
 use Rattle.cyc_isa.specs.declared.instr.Instr.{Instr}
@@ -20,7 +20,7 @@ use Rattle.cyc_machine.specs.State.{data_base}
 use Rattle.cyc_plain.specs.declared.instruction.Instruction.{Instruction}
 use Rattle.cyc_plain.specs.Program.{Routine, Program, program_of, routine_at, size, greatest_value}
 use Rattle.cyc_plain.specs.WellFormed.{IsWellFormed}
-use Rattle.cyc_frame.specs.Layout.{AreSmall, slot_word, frames_of, most_words}
+use Rattle.cyc_frame.specs.Layout.{IsFrame, slot_word, frame_at, most_words}
 use Rattle.cyc_frame.specs.declared.frame.Frame.{Frame}
 use Rattle.cyc_select.specs.declared.code.Line.{Line}
 use Rattle.cyc_select.specs.declared.code.Line.TheVariants as lines
@@ -143,9 +143,13 @@ start_code frame label =
 abbrev pub Emits : {T : Type 0} → Result T AllocError → (old new : Emitter) → List Line → Type 0
 Emits result old new lines = OnOk result (new.lines.items ≡ old.lines.items ++ lines)
 
--- so many slots from this one on lie where an offset reaches
-abbrev pub Reaches : Frame → (slot count : ℕ) → Type 0
-Reaches frame slot count = slot_word frame slot + count ≤ most_words
+-- a slot lies where an offset reaches
+abbrev pub IsReached : Frame → (slot : ℕ) → Type 0
+IsReached frame slot = slot_word frame slot < most_words
+
+-- and so do so many slots from this one on, where there are any
+abbrev pub AreReached : Frame → (first count : ℕ) → Type 0
+AreReached frame first count = (count ≡ 0) ⊎ (slot_word frame first + count ≤ most_words)
 
 -- the functions of a program have at most this size together, and so line numbers fit
 abbrev pub most_size : ℕ
@@ -174,13 +178,16 @@ function_starts program function here [] = []
 function_starts program function here (r ∷ routines) =
     here ∷ function_starts program (suc function) (here + function_count program function r) routines
 
--- What the lines of a program are made from: its functions are not too large together, their frames are laid out, and these
--- are the numbers of their first lines.
+-- each function of the program has a frame
+abbrev pub AreFrames : Program → List Frame → Type 0
+AreFrames program frames = (k : ℕ) → k < length program.functions → IsFrame (routine_at program k) (frame_at frames k)
+
+-- What the lines of a program are made from: its functions are not too large together, these are their frames, and these the
+-- numbers of their first lines.
 pub record AreReady (program : Program) (frames : List Frame) (starts : List ℕ) : Type 0 where
   pub well_formed : IsWellFormed program
   pub few : sum_by size program.functions ≤ most_size
-  pub small : AreSmall program
-  pub frames_are : frames ≡ frames_of program
+  pub fit : AreFrames program frames
   pub starts_are : starts ≡ function_starts program 0 start_count program.functions
 
 abbrev pub IsReady : Ready → Type 0

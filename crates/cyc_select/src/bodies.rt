@@ -3,7 +3,7 @@ ghost use Rattle.std.specs.Prelude.{◌≡◌, ◌+◌, ◌<◌, ◌≤◌, ◌+
 ghost use Rattle.cyc_plain.specs.Program.{program_of, routine_at};
 ghost use Rattle.cyc_plain.specs.WellFormed.{IsInRange};
 ghost use Rattle.cyc_select.specs.Selection.{body, behind};
-ghost use Rattle.cyc_select.specs.Emission.{Emits, Reaches, IsKnown, most_lines, test_code};
+ghost use Rattle.cyc_select.specs.Emission.{Emits, IsReached, IsKnown, most_lines, test_code};
 
 use crate::code::Line;
 use crate::emitter::Emitter;
@@ -24,7 +24,7 @@ impl Emitter {
         condition: usize,
         label: usize,
     ) -> Result<(), AllocError>
-        requires { Reaches frame condition 1 }
+        requires { IsReached frame condition }
         ensures { Emits result self.old self.new (test_code frame op condition label) }
     {
         self.ordinary(&[load_slot(frame, FIRST, condition)])?;

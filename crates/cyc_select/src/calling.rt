@@ -3,7 +3,7 @@ ghost use Rattle.std.specs.Prelude.{◌≡◌, ◌+◌, ◌*◌, ◌<◌, ◌≤
 ghost use Rattle.cyc_plain.specs.Program.{greatest_value};
 ghost use Rattle.cyc_frame.specs.Layout.{most_words};
 ghost use Rattle.cyc_select.specs.Selection.{load, store_slot, slot_offset, copies, ordinary, load_all, store_all, ending_code};
-ghost use Rattle.cyc_select.specs.Emission.{Emits, Reaches, most_lines, enter_code, calling_code, returned_code, returning_code};
+ghost use Rattle.cyc_select.specs.Emission.{Emits, IsReached, AreReached, most_lines, enter_code, calling_code, returned_code, returning_code};
 
 use crate::code::Line;
 use crate::emitter::Emitter;
@@ -33,8 +33,8 @@ impl Emitter {
         slot: usize,
     ) -> Result<(), AllocError>
         requires words { callee.words ≤ most_words }
-        requires source { Reaches caller source 1 }
-        requires target { Reaches callee slot 1 }
+        requires source { IsReached caller source }
+        requires target { IsReached callee slot }
         ensures { Emits result self.old self.new (ordinary (load 8 (4 * callee.words + slot_offset caller source) ∷ store_slot callee 8 slot ∷ [])) }
     {
         let offset = offset_of(callee.words) + offset_of(caller.first_slot + source);
@@ -50,8 +50,8 @@ impl Emitter {
         count: usize,
     ) -> Result<(), AllocError>
         requires words { callee.words ≤ most_words }
-        requires source { Reaches caller source count }
-        requires target { Reaches callee 0 count }
+        requires source { AreReached caller source count }
+        requires target { AreReached callee 0 count }
         ensures { Emits result self.old self.new (ordinary (copies caller callee source 0 count)) }
     {
         for slot in 0..count {
@@ -89,8 +89,8 @@ impl Emitter {
         requires return_address { frames.0.return_address ≤ most_words }
         requires some { 0 < frames.1.words }
         requires words { frames.1.words ≤ most_words }
-        requires source { Reaches frames.0 arguments count }
-        requires target { Reaches frames.1 0 count }
+        requires source { AreReached frames.0 arguments count }
+        requires target { AreReached frames.1 0 count }
         ensures { Emits result self.old self.new (calling_code frames.0 frames.1 here label arguments count) }
     {
         let (caller, callee) = frames;
@@ -102,7 +102,7 @@ impl Emitter {
 
     /// Registers into the slots from one on.
     fn store_all(&mut self, frame: Frame, slot: usize, sources: &[u8]) -> Result<(), AllocError>
-        requires { Reaches frame slot (length sources.now) }
+        requires { AreReached frame slot (length sources.now) }
         ensures { Emits result self.old self.new (ordinary (store_all frame slot sources.now)) }
     {
         let mut next = slot;
@@ -115,7 +115,7 @@ impl Emitter {
 
     /// The slots from one on into registers.
     fn load_all(&mut self, frame: Frame, slot: usize, targets: &[u8]) -> Result<(), AllocError>
-        requires { Reaches frame slot (length targets.now) }
+        requires { AreReached frame slot (length targets.now) }
         ensures { Emits result self.old self.new (ordinary (load_all frame slot targets.now)) }
     {
         let mut next = slot;
@@ -135,7 +135,7 @@ impl Emitter {
     ) -> Result<(), AllocError>
         requires return_address { frame.return_address ≤ most_words }
         requires few { results ≤ greatest_value }
-        requires target { Reaches frame slot results }
+        requires target { AreReached frame slot results }
         ensures { Emits result self.old self.new (returned_code frame slot results) }
     {
         self.ordinary(&[
@@ -154,7 +154,7 @@ impl Emitter {
         value: usize,
     ) -> Result<(), AllocError>
         requires fits { here ≤ most_lines }
-        requires source { is_main ≡ true → Reaches frame value 1 }
+        requires source { is_main ≡ true → IsReached frame value }
         ensures { Emits result self.old self.new (ending_code is_main frame here value) }
     {
         if !is_main {
@@ -180,8 +180,8 @@ impl Emitter {
         requires fits { here ≤ most_lines }
         requires words { frame.words ≤ most_words }
         requires few { results ≤ greatest_value }
-        requires main { is_main ≡ true → Reaches frame value 1 }
-        requires source { Reaches frame value results }
+        requires main { is_main ≡ true → IsReached frame value }
+        requires source { AreReached frame value results }
         ensures { Emits result self.old self.new (returning_code is_main frame here value results) }
     {
         self.ending(is_main, frame, here, value)?;

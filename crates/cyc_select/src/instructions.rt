@@ -3,7 +3,7 @@ ghost use Rattle.std.specs.Prelude.{◌≡◌, ◌+◌, ◌*◌, ◌<◌, ◌≤
 ghost use Rattle.cyc_isa.specs.Decoding.{register_of, trap_code_of};
 ghost use Rattle.cyc_frame.specs.Layout.{most_words};
 ghost use Rattle.cyc_select.specs.Selection.{load, store, load_slot, store_slot, add_immediate, small, minus, is_zero, syscall, push_frame, pop_frame};
-ghost use Rattle.cyc_select.specs.Emission.{Reaches, load_upper, or_lower};
+ghost use Rattle.cyc_select.specs.Emission.{IsReached, load_upper, or_lower};
 
 use cyc_frame::Frame;
 use cyc_isa::{ExceptionOp, ImmediateOp, Instr, MemoryOp, Register, TrapCode};
@@ -80,7 +80,7 @@ pub(crate) fn store(source: u8, offset: u16) -> Instr
 
 /// A slot of the current frame into a register.
 pub(crate) fn load_slot(frame: Frame, target: u8, slot: usize) -> Instr
-    requires { Reaches frame slot 1 }
+    requires { IsReached frame slot }
     ensures { result ≡ load_slot frame target slot }
 {
     load(target, offset_of(frame.first_slot + slot))
@@ -88,7 +88,7 @@ pub(crate) fn load_slot(frame: Frame, target: u8, slot: usize) -> Instr
 
 /// A register into a slot of the current frame.
 pub(crate) fn store_slot(frame: Frame, source: u8, slot: usize) -> Instr
-    requires { Reaches frame slot 1 }
+    requires { IsReached frame slot }
     ensures { result ≡ store_slot frame source slot }
 {
     store(source, offset_of(frame.first_slot + slot))

@@ -3,7 +3,7 @@ ghost use Rattle.std.specs.Prelude.{◌≡◌, ◌+◌, ◌*◌, ◌<◌, ◌≤
 ghost use Rattle.cyc_machine.specs.State.{data_base};
 ghost use Rattle.cyc_plain.specs.Program.{most_globals};
 ghost use Rattle.cyc_select.specs.Selection.{load_slot, store_slot, constant, small, syscall, unary_code, binary_code, ordinary, divide_code, operator_code};
-ghost use Rattle.cyc_select.specs.Emission.{Emits, Reaches, most_lines, arithmetic_of, shift_of, multiply_divide_of, move_from_of, at_address, order_code, operands_code, quotient_code, load_global, store_global, uncaught_code};
+ghost use Rattle.cyc_select.specs.Emission.{Emits, IsReached, most_lines, arithmetic_of, shift_of, multiply_divide_of, move_from_of, at_address, order_code, operands_code, quotient_code, load_global, store_global, uncaught_code};
 
 use crate::emitter::Emitter;
 use crate::instructions::{
@@ -105,7 +105,7 @@ impl Emitter {
         destination: usize,
         word: u32,
     ) -> Result<(), AllocError>
-        requires { Reaches frame destination 1 }
+        requires { IsReached frame destination }
         ensures { Emits result self.old self.new (ordinary (constant 8 word ++ store_slot frame 8 destination ∷ [])) }
     {
         self.ordinary(&[
@@ -122,8 +122,8 @@ impl Emitter {
         destination: usize,
         source: usize,
     ) -> Result<(), AllocError>
-        requires target { Reaches frame destination 1 }
-        requires source { Reaches frame source 1 }
+        requires target { IsReached frame destination }
+        requires source { IsReached frame source }
         ensures { Emits result self.old self.new (ordinary (load_slot frame 8 source ∷ store_slot frame 8 destination ∷ [])) }
     {
         self.ordinary(&[
@@ -139,8 +139,8 @@ impl Emitter {
         destination: usize,
         operand: usize,
     ) -> Result<(), AllocError>
-        requires target { Reaches frame destination 1 }
-        requires source { Reaches frame operand 1 }
+        requires target { IsReached frame destination }
+        requires source { IsReached frame operand }
         ensures { Emits result self.old self.new (ordinary (load_slot frame 8 operand ∷ unary_code operator ∷ store_slot frame 8 destination ∷ [])) }
     {
         self.ordinary(&[
@@ -197,8 +197,8 @@ impl Emitter {
 
     /// Both operands come into their registers.
     fn operands(&mut self, frame: Frame, left: usize, right: usize) -> Result<(), AllocError>
-        requires left { Reaches frame left 1 }
-        requires right { Reaches frame right 1 }
+        requires left { IsReached frame left }
+        requires right { IsReached frame right }
         ensures { Emits result self.old self.new (operands_code frame left right) }
     {
         self.ordinary(&[
@@ -214,7 +214,7 @@ impl Emitter {
         which: MoveFromOp,
         destination: usize,
     ) -> Result<(), AllocError>
-        requires { Reaches frame destination 1 }
+        requires { IsReached frame destination }
         ensures { Emits result self.old self.new (quotient_code frame which destination) }
     {
         self.ordinary(&[
@@ -236,9 +236,9 @@ impl Emitter {
         slots: Slots,
     ) -> Result<(), AllocError>
         requires fits { here ≤ most_lines }
-        requires target { Reaches frame slots.destination 1 }
-        requires left { Reaches frame slots.left 1 }
-        requires right { Reaches frame slots.right 1 }
+        requires target { IsReached frame slots.destination }
+        requires left { IsReached frame slots.left }
+        requires right { IsReached frame slots.right }
         ensures { Emits result self.old self.new (divide_code frame here which slots.destination slots.left slots.right) }
     {
         self.operands(frame, slots.left, slots.right)?;
@@ -256,9 +256,9 @@ impl Emitter {
         slots: Slots,
     ) -> Result<(), AllocError>
         requires fits { here ≤ most_lines }
-        requires target { Reaches frame slots.destination 1 }
-        requires left { Reaches frame slots.left 1 }
-        requires right { Reaches frame slots.right 1 }
+        requires target { IsReached frame slots.destination }
+        requires left { IsReached frame slots.left }
+        requires right { IsReached frame slots.right }
         ensures { Emits result self.old self.new (operator_code frame here operator slots.destination slots.left slots.right) }
     {
         match operator {
@@ -273,7 +273,7 @@ impl Emitter {
 
     /// A byte of the input comes into a slot.
     pub(crate) fn read_byte(&mut self, frame: Frame, destination: usize) -> Result<(), AllocError>
-        requires { Reaches frame destination 1 }
+        requires { IsReached frame destination }
         ensures { Emits result self.old self.new (ordinary (small 2 1 ∷ syscall ∷ store_slot frame 2 destination ∷ [])) }
     {
         self.ordinary(&[
@@ -285,7 +285,7 @@ impl Emitter {
 
     /// A slot's low byte is printed.
     pub(crate) fn write_byte(&mut self, frame: Frame, source: usize) -> Result<(), AllocError>
-        requires { Reaches frame source 1 }
+        requires { IsReached frame source }
         ensures { Emits result self.old self.new (ordinary (load_slot frame 4 source ∷ small 2 2 ∷ syscall ∷ [])) }
     {
         self.ordinary(&[
@@ -303,7 +303,7 @@ impl Emitter {
         global: usize,
     ) -> Result<(), AllocError>
         requires global { global < most_globals }
-        requires target { Reaches frame destination 1 }
+        requires target { IsReached frame destination }
         ensures { Emits result self.old self.new (load_global frame destination global) }
     {
         let address = DATA_BASE + 4 * global as u32;
@@ -323,7 +323,7 @@ impl Emitter {
         source: usize,
     ) -> Result<(), AllocError>
         requires global { global < most_globals }
-        requires source { Reaches frame source 1 }
+        requires source { IsReached frame source }
         ensures { Emits result self.old self.new (store_global frame global source) }
     {
         let address = DATA_BASE + 4 * global as u32;
@@ -342,7 +342,7 @@ impl Emitter {
         tag: u32,
         value: usize,
     ) -> Result<(), AllocError>
-        requires { Reaches frame value 1 }
+        requires { IsReached frame value }
         ensures { Emits result self.old self.new (uncaught_code frame tag value) }
     {
         self.ordinary(&[

@@ -2,12 +2,12 @@
 ghost use Rattle.std.specs.Prelude.{◌≡◌, ℕ, ◌+◌, ◌<◌, ◌≤◌, ◌++◌, length, sum_by, IfOk, IfErr, OnOk};
 ghost use Rattle.cyc_plain.specs.Program.{program_of, routine_at, size};
 ghost use Rattle.cyc_plain.specs.WellFormed.{IsWellFormed, HasWords};
-ghost use Rattle.cyc_frame.specs.Layout.{AreSmall, IsFrame, frames_of, frame_at, most_words};
+ghost use Rattle.cyc_frame.specs.Layout.{IsFrame, frame_at, most_words};
 ghost use Rattle.cyc_words.specs.Fault.{memory_fault};
 ghost use Rattle.cyc_select.specs.Labelled.{labelled_of};
 ghost use Rattle.cyc_select.specs.Selected.{IsCodeOf};
 ghost use Rattle.cyc_select.specs.Selection.{code_lines, function_lines, function_line, start_count, select_of};
-ghost use Rattle.cyc_select.specs.Emission.{Emits, IsKnown, IsReady, start_code, most_size};
+ghost use Rattle.cyc_select.specs.Emission.{Emits, AreFrames, IsKnown, IsReady, start_code, most_size};
 
 use crate::code::{Code, Line};
 use crate::counting::{function_starts, instruction_lines};
@@ -86,8 +86,7 @@ impl Emitter {
 fn selected(alloc: Global, plain: &Plain, frames: &[Frame]) -> Result<Code, AllocError>
     requires well_formed { IsWellFormed (program_of plain.now) }
     requires few { sum_by size (program_of plain.now).functions ≤ most_size }
-    requires small { AreSmall (program_of plain.now) }
-    requires laid { frames.now ≡ frames_of (program_of plain.now) }
+    requires fit { AreFrames (program_of plain.now) frames.now }
     ensures { IfOk result (λ code. labelled_of code ≡ select_of (program_of plain.now) frames.now) }
 {
     let starts = function_starts(alloc, plain)?;
@@ -115,18 +114,15 @@ fn selected(alloc: Global, plain: &Plain, frames: &[Frame]) -> Result<Code, Allo
 pub fn select(alloc: Global, plain: &Plain, frames: &Frames) -> Result<Code, Fault>
     requires well_formed { IsWellFormed (program_of plain.now) }
     requires few { sum_by size (program_of plain.now).functions ≤ most_size }
-    requires laid { frames.now.functions.items ≡ frames_of (program_of plain.now) }
     requires frames { (k : ℕ) → k < length plain.now.functions.items
         → IsFrame (routine_at (program_of plain.now) k) (frame_at frames.now.functions.items k) }
     requires words { HasWords (program_of plain.now) }
 
     // Each line belongs to one instruction of the program or to the start, and the code does what the program does.
     ensures selected { IfOk result (λ code. IsCodeOf (program_of plain.now) (labelled_of code)) }
-    ensures exactly { IfOk result (λ code. labelled_of code ≡ select_of (program_of plain.now) frames.now.functions.items) }
+    // The data range begins with the program's globals.
+    ensures globals { IfOk result (λ code. (labelled_of code).globals ≡ (program_of plain.now).globals) }
     ensures refused { IfErr result (λ fault. fault ≡ memory_fault) }
 {
-    match selected(alloc, plain, &frames.functions) {
-        Ok(code) => Ok(code),
-        Err(_) => Err(Fault::memory()),
-    }
+    Ok(selected(alloc, plain, &frames.functions)?)
 }

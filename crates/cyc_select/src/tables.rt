@@ -1,9 +1,9 @@
 //! What the lines of a function are made from.
 ghost use Rattle.std.specs.Prelude.{◌≡◌, ◌+◌, ◌<◌, ◌≤◌, ◌==◌, length};
-ghost use Rattle.cyc_plain.specs.Program.{program_of, routine_at, layout_words, greatest_value};
+ghost use Rattle.cyc_plain.specs.Program.{program_of, routine_at, greatest_value};
 ghost use Rattle.cyc_frame.specs.Layout.{frame_at, most_words};
 ghost use Rattle.cyc_select.specs.Selection.{function_line, instruction_line};
-ghost use Rattle.cyc_select.specs.Emission.{IsKnown};
+ghost use Rattle.cyc_select.specs.Emission.{AreReached, IsKnown};
 
 use crate::counting::results_of;
 use cyc_frame::Frame;
@@ -35,10 +35,9 @@ impl<'a> Tables<'a> {
         requires known { IsKnown self.now }
         requires function { function < length self.now.plain.now.functions.items }
         ensures value { result ≡ frame_at self.now.frames.now function }
-        ensures words { result.words ≡ layout_words + (routine_at (program_of self.now.plain.now) function).slots }
-        ensures small { result.words ≤ most_words }
-        ensures return_address { result.return_address ≡ 0 }
-        ensures first_slot { result.first_slot ≡ layout_words }
+        ensures words { result.words ≤ most_words }
+        ensures return_address { result.return_address < result.words }
+        ensures slots { AreReached result 0 (routine_at (program_of self.now.plain.now) function).slots }
     {
         self.frames[function]
     }

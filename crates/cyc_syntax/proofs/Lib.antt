@@ -1,6 +1,8 @@
-pub mod CutLemmas
-pub mod NameLemmas
+-- texts and their tokens
 pub mod PieceLemmas
+pub mod CutLemmas
 pub mod PlaceLemmas
+-- names and trees
+pub mod NameLemmas
 pub mod WeightLemmas
 pub mod TreeViewLemmas

@@ -1,12 +1,15 @@
-pub mod Names
+-- texts and their tokens
 pub mod Place
 pub mod Spelling
-pub mod TokenExamples
-pub mod TokenRule
 pub mod Tokens
+pub mod TokenRule
+pub mod TokenExamples
+-- symbols and their trees
+pub mod Names
 pub mod Symbols
 pub mod Trees
 pub mod Yields
 pub mod Grammar
 pub mod Weight
+-- the trees of the code, seen as pure ones
 pub mod TreeView

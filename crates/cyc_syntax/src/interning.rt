@@ -81,33 +81,3 @@ impl Names {
         &self.texts[name.number]
     }
 }
-
-#[cfg(test)]
-mod tests {
-    use super::*;
-    use std::test::Fail;
-
-    #[test]
-    fn numbers_texts_in_order(rt: HostRuntime) -> Result<(), Fail> {
-        let mut names = Names::new(rt.alloc())?;
-        let table: [(&[u8], usize); 5] = [(b"a", 0), (b"b", 1), (b"a", 0), (b"", 2), (b"ab", 3)];
-        for (text, number) in table {
-            let name = names.intern(text)?;
-            assert_eq!(rt; name.number, number);
-            assert_eq!(rt; names.text(name), text);
-        }
-        Ok(())
-    }
-
-    #[test]
-    fn finds_known_texts_only(rt: HostRuntime) -> Result<(), Fail> {
-        let mut names = Names::new(rt.alloc())?;
-        assert_eq!(rt; names.find(b"a"), None);
-        names.intern(b"b")?;
-        names.intern(b"a")?;
-        assert_eq!(rt; names.find(b"a"), Some(Name { number: 1 }));
-        assert_eq!(rt; names.find(b"ab"), None);
-        assert_eq!(rt; names.len(), 2);
-        Ok(())
-    }
-}

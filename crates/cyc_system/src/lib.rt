@@ -8,8 +8,6 @@ mod image;
 pub mod laws;
 mod listing;
 mod report;
-#[cfg(test)]
-mod tests;
 
 pub use compiler::compile;
 pub use engine::run;

@@ -12,7 +12,5 @@ pub mod laws;
 mod outlives;
 mod region;
 mod scope;
-#[cfg(test)]
-mod tests;
 mod ty;
 pub mod typed;

@@ -9,8 +9,6 @@ mod fault;
 pub mod laws;
 mod reader;
 mod span;
-#[cfg(test)]
-mod tests;
 mod writer;
 
 pub use arith::{add, div, mul, rem, sar, shl, shr, slt, sltu, sub};

@@ -23,6 +23,3 @@ fn main(rt: HostRuntime) -> ExitCode {
         None => ExitCode::SUCCESS,
     }
 }
-
-#[cfg(test)]
-mod tests;

@@ -1,16 +1,13 @@
-use Rattle.std.proofs.Common.{map}
+use Rattle.std.proofs.Common.{map, sym, ap, ◌∙◌}
 use Rattle.cyc_syntax.specs.Tokens.{token_of}
-use Rattle.cyc_parse.proofs.Accepted.{accepted, refused, accepts, limits}
+use Rattle.cyc_parse.proofs.Accepted.{decides, named, weighed}
 use Rattle.cyc_parse.proofs.tree.parse.Goals as goal
 
-pub returns-clause-accepted : goal.returns-clause-accepted
-returns-clause-accepted c = accepted c.args.text.now (map (token_of c.args.text.now) c.args.tokens.now) c.answer.result c.answer.ensures
+pub returns-clause-decides : goal.returns-clause-decides
+returns-clause-decides c = decides c.args.text.now (map (token_of c.args.text.now) c.args.tokens.now) c.answer.result c.answer.ensures
 
-pub returns-clause-refused : goal.returns-clause-refused
-returns-clause-refused c = refused c.args.text.now (map (token_of c.args.text.now) c.args.tokens.now) c.answer.result c.answer.ensures
+pub returns-clause-names : goal.returns-clause-names
+returns-clause-names c = named c.args.text.now (map (token_of c.args.text.now) c.args.tokens.now) c.answer.result c.answer.ensures
 
-pub returns-clause-accepts : goal.returns-clause-accepts
-returns-clause-accepts c = accepts c.args.text.now (map (token_of c.args.text.now) c.args.tokens.now) c.answer.result c.answer.ensures
-
-pub returns-clause-limits : goal.returns-clause-limits
-returns-clause-limits c = limits c.args.text.now (map (token_of c.args.text.now) c.args.tokens.now) c.answer.result c.answer.ensures
+pub returns-clause-weight : goal.returns-clause-weight
+returns-clause-weight c = weighed c.args.text.now (map (token_of c.args.text.now) c.args.tokens.now) c.answer.result c.answer.ensures

@@ -1,4 +1,4 @@
-use Rattle.std.proofs.Common.{◌≡◌, ℕ, ◌+◌, ◌*◌, ◌<◌, ◌≤◌, List, length, ap, sym, subst, ◌∙◌, arith}
+use Rattle.std.proofs.Common.{◌≡◌, ℕ, ◌+◌, ◌*◌, ◌<◌, ◌≤◌, List, length, ap, sym, subst, ◌∙◌, arith, rules}
 use Rattle.std.specs.Prelude.{sum_by, slice_index_or}
 use Rattle.std.proofs.lemmas.List.{length-map}
 use Rattle.cyc_plain.specs.declared.instruction.Instruction.{Instruction}
@@ -7,6 +7,11 @@ use Rattle.cyc_select.specs.Selection.{function_line}
 use Rattle.cyc_select.specs.Emission.{instruction_lines, most_size, most_lines, lines_for_each}
 use Rattle.cyc_select.proofs.Numbering.{ready_starts, ready_start, ready_size, ready_fits, routine_is}
 use Rattle.cyc_select.proofs.emitter.Emitter.function.Goals as goal
+
+pub offset_bounds-program-function : goal.offset_bounds-program-function
+offset_bounds-program-function c =
+    let inside : c.args.function < length c.args.program.now.starts.now = omega (arith, length-map c.args.program.now.plain.now.functions.items routine_of, ready_starts c.requires.ready) in
+    search rules
 
 pub bounds-program-function : goal.bounds-program-function
 bounds-program-function c =

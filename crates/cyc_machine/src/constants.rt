@@ -1,0 +1,68 @@
+//! The numbers of the machine: its memory map, its services, the registers that have a meaning for it, and what a run
+//! may take at most. All of them are this project's own choice but for `RETURN_ADDRESS`, which MIPS32 fixes.
+
+/// The first address of the text range.
+pub const TEXT_BASE: u32 = 0x40_0000;
+
+/// The first address past the text range.
+pub const TEXT_END: u32 = 0x200_0000;
+
+/// How many words the text range has.
+pub const TEXT_WORDS: usize = ((TEXT_END - TEXT_BASE) / 4) as usize;
+
+/// The first address of the data range.
+pub const DATA_BASE: u32 = 0x1000_0000;
+
+/// The first address past the data range.
+pub const DATA_END: u32 = 0x1040_0000;
+
+/// How many words the data range has.
+pub const DATA_WORDS: usize = ((DATA_END - DATA_BASE) / 4) as usize;
+
+/// The address just above the stack.
+pub const STACK_END: u32 = 0x7fff_f000;
+
+/// How many words the stack has for each call that may be under way.
+pub const WORDS_PER_CALL: usize = 256;
+
+/// The fewest pages that the store may be given.
+pub const MIN_PAGES: u32 = 3;
+
+/// The most pages that the store may be given.
+pub const MAX_PAGES: u32 = 65_536;
+
+/// The fewest calls that may be allowed to be under way at once.
+pub const MIN_CALLS: u32 = 1;
+
+/// The most calls that may be allowed to be under way at once.
+pub const MAX_CALLS: u32 = 4096;
+
+/// The service that gets a byte of the input.
+pub const GET_BYTE: u32 = 1;
+
+/// The service that prints a byte.
+pub const PUT_BYTE: u32 = 2;
+
+/// The service that ends a run: the program returned.
+pub const END_RETURNED: u32 = 3;
+
+/// The service that ends a run: an exception was not caught.
+pub const END_UNCAUGHT: u32 = 4;
+
+/// The service that ends a run: there was no room.
+pub const END_FULL: u32 = 11;
+
+/// The register with the number of the service that is asked for, and then with what it answers.
+pub const SERVICE: u8 = 2;
+
+/// The register with the first argument of a service, and at the start of a run with the call limit.
+pub const ARGUMENT: u8 = 4;
+
+/// The register with the second argument of a service.
+pub const SECOND_ARGUMENT: u8 = 5;
+
+/// The register with the stack's lowest address in use: at the start of a run, with its end.
+pub const STACK_POINTER: u8 = 29;
+
+/// The register where `jal` leaves the address to return to.
+pub const RETURN_ADDRESS: u8 = 31;
