@@ -102,7 +102,7 @@ def filled_document(text):
             done.append(line)
             continue
         item = ITEM.match(line)
-        first = item.group() if item else ""
+        first = item.group() if item else line[: len(line) - len(line.lstrip())]
         rest = " " * len(first)
         paragraph = [line[len(first):]]
         while at < len(lines) and lines[at].startswith(rest) and is_text(lines[at][len(rest):]) and not ITEM.match(lines[at]):
