@@ -3,8 +3,8 @@
 
     make bench        or        python3 bench/stack.py [PROGRAM]
 
-For each text the least stack is sought, by halving, with which the program gives the answer that it gives with all of it. The
-greatest figures of the texts that are accepted, and of those that are refused, come last.
+For each text the least stack is sought, by halving, with which the program gives the answer that it gives with plenty. The
+greatest figures of the texts that are accepted, and of those that are refused, come last. A MB is 2^20 bytes.
 """
 import os
 import resource
@@ -34,6 +34,7 @@ def numbered(text, count):
 # Each at its limit: 199 levels in the body of a function, or 60,000 tokens.
 TEXTS = {
     "brackets with all ten levels of operators": function("return " + nested(LEVELS, "1", ")") + ";"),
+    "brackets behind products": function("return " + nested("1*(", "1", ")") + ";"),
     "brackets": function("return " + nested("(", "1", ")") + ";"),
     "prefix operators": function("return " + nested("-", "1", "") + ";"),
     "calls": "int f(int a){ return a; }" + function("return " + nested("f(", "1", ")") + ";"),

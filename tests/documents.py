@@ -10,7 +10,6 @@ characters, so that no code span is broken, and looks for nothing. The last line
 import argparse
 import os
 import re
-import subprocess
 
 import suite
 
@@ -28,8 +27,11 @@ def content(path):
 
 def documents():
     """The documents of the repository, by their paths from its top."""
-    listed = subprocess.run(["git", "ls-files", "-co", "--exclude-standard", "*.md"], cwd=suite.ROOT, capture_output=True, text=True)
-    return sorted(listed.stdout.split())
+    found = []
+    for folder, folders, names in os.walk(suite.ROOT):
+        folders[:] = [name for name in folders if name != "out" and not name.startswith(".")]
+        found += [os.path.relpath(os.path.join(folder, name), suite.ROOT) for name in names if name.endswith(".md")]
+    return sorted(found)
 
 
 def code_spans(line):
@@ -102,7 +104,7 @@ def filled_document(text):
             done.append(line)
             continue
         item = ITEM.match(line)
-        first = item.group() if item else ""
+        first = item.group() if item else line[: len(line) - len(line.lstrip())]
         rest = " " * len(first)
         paragraph = [line[len(first):]]
         while at < len(lines) and lines[at].startswith(rest) and is_text(lines[at][len(rest):]) and not ITEM.match(lines[at]):

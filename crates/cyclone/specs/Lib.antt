@@ -1,4 +1,6 @@
-pub mod Excerpt
+-- what the program answers: its last line, its exit status, and what they stand for
 pub mod Answer
-pub mod Request
 pub mod Work
+-- what the functions inside the program promise each other
+pub mod Request
+pub mod Excerpt
