@@ -1,5 +1,8 @@
 use super::*;
-use cyc_syntax::{BaseType, Block, Declaration, Expr, Ident, Item, Member, Names, ParameterList, Parameters, Stmt, Tree, WrittenType};
+use cyc_syntax::{
+    BaseType, Block, Declaration, Expr, Ident, Item, Member, Names, ParameterList, Parameters,
+    Stmt, Tree, WrittenType,
+};
 use cyc_words::{Code, Fault, Span};
 use std::alloc::{AllocError, Global};
 use std::test::Fail;

@@ -1,8 +1,8 @@
 use super::*;
 use cyc_syntax::Name;
-use cyc_words::{Code, Fault, Span};
 use cyc_types::Ty;
 use cyc_types::typed::{Converted, Expr, Function, Item, Kind, Lvalue, Stmt, TypedTree};
+use cyc_words::{Code, Fault, Span};
 use std::alloc::{AllocError, Global};
 use std::test::Fail;
 

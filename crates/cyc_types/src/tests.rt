@@ -21,7 +21,7 @@ fn heap_outlives_a_lexical_region(rt: HostRuntime) -> Result<(), Fail> {
     let mut outlives = Outlives::new(rt.alloc(), &[(A, B)], &[])?;
     assert!(rt; outlives.outlives(A, B));
     assert!(rt; !outlives.outlives(B, A));
-    outlives.open_scope(C, Kind::Lexical)?;
+    outlives.open_scope(C, ScopeKind::Lexical)?;
     assert!(rt; outlives.outlives(Region::Heap, C));
     assert!(rt; !outlives.outlives(C, Region::Heap));
     Ok(())
@@ -46,9 +46,9 @@ fn assert_table(rt: &impl Abort, outlives: &Outlives, regions: &[Region], wanted
 fn scopes_within_scopes(rt: HostRuntime) -> Result<(), Fail> {
     let mut outlives = Outlives::new(rt.alloc(), &[], &[A, Region::Unique])?;
     let regions = [Region::Heap, Region::Unique, A, B, C, D];
-    outlives.open_scope(B, Kind::Dynamic)?;
-    outlives.open_scope(C, Kind::Lexical)?;
-    outlives.open_scope(D, Kind::Alias)?;
+    outlives.open_scope(B, ScopeKind::Dynamic)?;
+    outlives.open_scope(C, ScopeKind::Lexical)?;
+    outlives.open_scope(D, ScopeKind::Alias)?;
     let open = [
         true, false, true, true, true, true, //
         false, true, false, false, false, false, //
@@ -124,13 +124,13 @@ fn compare(
         state = state.wrapping_mul(1_664_525).wrapping_add(1_013_904_223);
         let region = Region::Variable((state >> 24) as usize % 6);
         let kind = match (state >> 16) % 4 {
-            0 => Kind::Dynamic,
-            1 => Kind::Alias,
-            2 => Kind::Lexical,
-            _ => Kind::Block,
+            0 => ScopeKind::Dynamic,
+            1 => ScopeKind::Alias,
+            2 => ScopeKind::Lexical,
+            _ => ScopeKind::Block,
         };
         outlives.open_scope(region, kind)?;
-        if kind == Kind::Lexical || kind == Kind::Block {
+        if kind == ScopeKind::Lexical || kind == ScopeKind::Block {
             for above in &alive {
                 if *above != Region::Unique {
                     given.push((*above, region))?;
@@ -195,9 +195,9 @@ fn many_constraints_and_scopes(rt: HostRuntime) -> Result<(), Fail> {
     let mut outlives = Outlives::new(rt.alloc(), &written, &[Region::Variable(10)])?;
     for scope in 0..200 {
         let kind = if scope % 4 == 0 {
-            Kind::Dynamic
+            ScopeKind::Dynamic
         } else {
-            Kind::Block
+            ScopeKind::Block
         };
         outlives.open_scope(Region::Variable(100 + scope), kind)?;
     }
