@@ -3,7 +3,7 @@ use Rattle.cyc_syntax.specs.TreeView.{place_of_span}
 use Rattle.cyc_check.specs.Code.{Stops, passed}
 use Rattle.cyc_check.specs.Entries.{view_meaning, meaning_or_unknown}
 use Rattle.cyc_check.proofs.Conversions.{called_well, called_ill}
-use Rattle.cyc_check.proofs.checker.Checker.called.Goals as goal
+use Rattle.cyc_check.proofs.checker.Checker.resolve_call.Goals as goal
 
 pub returns-in-Ok : goal.returns-in-Ok
 returns-in-Ok c =

@@ -1,53 +1,27 @@
--- The view of a node of the typed tree with a list of nodes, by the list that its `Vec` holds.
-use Rattle.std.proofs.Common.{◌≡◌, ℕ, List, Option, option_map, Result, Ok, refl, sym, ap, subst, ◌∙◌}
+-- What is kept of a node of the typed tree with a list of nodes, by the items of that list.
+use Rattle.std.proofs.Common.{◌≡◌, ℕ, List, Option, option_map, Result, Ok, sym, ap, subst, ◌∙◌}
 use Rattle.std.specs.declared.vec.Vec.{Vec}
 use Rattle.std.specs.declared.boxed.Box.{Box}
 use Rattle.std.specs.declared.alloc.Global.{Global as Heap}
 use Rattle.cyc_types.specs.declared.typed.Callee.{Callee}
 use Rattle.cyc_types.specs.declared.typed.Converted.{Converted as ConvertedCode}
 use Rattle.cyc_types.specs.declared.typed.Operation.{Operation}
-use Rattle.cyc_types.specs.declared.typed.Operation.TheVariants as operation
-use Rattle.cyc_types.specs.declared.typed.Expr.{Expr, Row_of-Converted, end_of-Converted, more_of-Converted, items-the_row-Converted, Row_of-Operation, end_of-Operation, more_of-Operation, items-the_row-Operation}
-use Rattle.cyc_types.specs.declared.typed.Expr.TheBlock.{hidden-the_row-Converted-0, items_hidden-the_row-Converted-0, hidden-the_row-Operation-1, items_hidden-the_row-Operation-1}
+use Rattle.cyc_types.specs.declared.typed.Expr.{Expr}
 use Rattle.cyc_types.specs.declared.typed.Expr.TheVariants as expr
-use Rattle.cyc_types.specs.declared.typed.Stmt.{Stmt, Row_of-Item, end_of-Item, more_of-Item, items-the_row-Item}
-use Rattle.cyc_types.specs.declared.typed.Item.TheBlock.{hidden-the_row-Item-0, items_hidden-the_row-Item-0}
+use Rattle.cyc_types.specs.declared.typed.Stmt.{Stmt}
 use Rattle.cyc_types.specs.declared.typed.Stmt.TheVariants as stmt
 use Rattle.cyc_types.specs.declared.typed.Item.{Item as ItemCode}
 use Rattle.cyc_types.specs.declared.ty.Ty.{Ty}
 use Rattle.cyc_types.specs.TypeView.{view_ty}
-use Rattle.cyc_types.specs.TypedTrees.{Expression, Statement, Call, Binary, Block, Convert, MoreArguments, ThenCompute, ThenTest, MoreItems}
-use Rattle.cyc_types.specs.TypedTreeView.{view_expression, view_arguments, view_operations, arguments_of, operations_of, view_statement, view_items, view_item, items_of}
+use Rattle.cyc_types.specs.TypedTrees.{Expression, Statement, Call, Binary, Block}
+use Rattle.cyc_types.specs.TypedTreeView.{view_expression, arguments_of, operations_of, view_statement, items_of}
+use Rattle.cyc_types.proofs.TypedTreeViewLemmas.{view_call, view_binary, view_block}
 use Rattle.cyc_types.specs.Checking.{and_then}
 use Rattle.cyc_types.specs.FlowRules.{State, Loop, meet, after, after_arguments, after_operations, after_statement, after_items, breaks_of, item_breaks}
 use Rattle.cyc_types.specs.FlowChecking.{Kept, keep, keep_arguments, keep_operations, keep_statement, keep_items}
 use Rattle.cyc_flow.specs.declared.state.State.{State as StateCode}
 use Rattle.cyc_flow.specs.declared.stop.Stop.{Stop}
-use Rattle.cyc_flow.specs.Code.{Gives, Goes}
-
-view_arguments-items : {m : _} (row : Row_of-Converted m) → view_arguments row ≡ arguments_of (items-the_row-Converted m row)
-view_arguments-items end_of-Converted = refl
-view_arguments-items (more_of-Converted f t e row) = ap (MoreArguments (Convert f t (view_expression e))) (view_arguments-items row)
-
-view_operations-items : {m : _} (row : Row_of-Operation m) → view_operations row ≡ operations_of (items-the_row-Operation m row)
-view_operations-items end_of-Operation = refl
-view_operations-items (more_of-Operation (operation.Compute o e) row) = ap (ThenCompute o (view_expression e)) (view_operations-items row)
-view_operations-items (more_of-Operation (operation.Test o e) row) = ap (ThenTest o (view_expression e)) (view_operations-items row)
-
-view_items-items : {m : _} (row : Row_of-Item m) → view_items row ≡ items_of (items-the_row-Item m row)
-view_items-items end_of-Item = refl
-view_items-items (more_of-Item i row) = ap (MoreItems (view_item i)) (view_items-items row)
-
-pub view_call : (f : Callee) (v : Vec ConvertedCode Heap) (t : Option Ty) → view_expression (expr.Call f v t) ≡ Call f (arguments_of v.items) (option_map view_ty t)
-view_call f v t = ap (λ as'. Call f as' (option_map view_ty t)) (view_arguments-items (hidden-the_row-Converted-0 v) ∙ ap arguments_of (items_hidden-the_row-Converted-0 v))
-
-pub view_binary : (b : Box Expr Heap) (v : Vec Operation Heap) (t : Ty) → view_expression (expr.Binary b v t) ≡ Binary (view_expression b.value) (operations_of v.items) (view_ty t)
-view_binary b v t = ap (λ os. Binary (view_expression b.value) os (view_ty t)) (view_operations-items (hidden-the_row-Operation-1 v) ∙ ap operations_of (items_hidden-the_row-Operation-1 v))
-
-pub view_block : (r : ℕ) (v : Vec ItemCode Heap) → view_statement (stmt.Block r v) ≡ Block r (items_of v.items)
-view_block r v = ap (Block r) (view_items-items (hidden-the_row-Item-0 v) ∙ ap items_of (items_hidden-the_row-Item-0 v))
-
--- ---- what is kept of each, by the items of its list
+use Rattle.cyc_flow.specs.Code.{Gives, GivesInLoop}
 
 module _ (value : Expr) (f : Callee) (v : Vec ConvertedCode Heap) (t : Option Ty) (is : value ≡ expr.Call f v t) (items : List ConvertedCode) (same : items ≡ v.items) (r : Result StateCode Stop) (s : State) where
   pub kept_call : Gives r (keep_arguments (arguments_of items) s) (after_arguments (arguments_of items) s) → Gives r (keep (view_expression value) s) (after (view_expression value) s)
@@ -69,10 +43,10 @@ module _ (value : Expr) (b : Box Expr Heap) (v : Vec Operation Heap) (t : Ty) (i
       subst P (sym e) (subst R (sym k) (subst Q d h))
 
 module _ (statement : Stmt) (region : ℕ) (v : Vec ItemCode Heap) (is : statement ≡ stmt.Block region v) (items : List ItemCode) (same : items ≡ v.items) (r : Result StateCode Stop) (l : Option Loop) (s before met : State) where
-  pub kept_block : Goes r (keep_items l (items_of items) s) (after_items (items_of items) s) (meet before (item_breaks (items_of items) s)) met
-      → Goes r (keep_statement l (view_statement statement) s) (after_statement (view_statement statement) s) (meet before (breaks_of (view_statement statement) s)) met
+  pub kept_block : GivesInLoop r (keep_items l (items_of items) s) (after_items (items_of items) s) (meet before (item_breaks (items_of items) s)) met
+      → GivesInLoop r (keep_statement l (view_statement statement) s) (after_statement (view_statement statement) s) (meet before (breaks_of (view_statement statement) s)) met
   kept_block h =
       let e : view_statement statement ≡ Block region (items_of items)
       = ap view_statement is ∙ view_block region v ∙ ap (λ (js : List ItemCode). Block region (items_of js)) (sym same) in
-      let P : Statement → Type 0 = λ a. Goes r (keep_statement l a s) (after_statement a s) (meet before (breaks_of a s)) met in
+      let P : Statement → Type 0 = λ a. GivesInLoop r (keep_statement l a s) (after_statement a s) (meet before (breaks_of a s)) met in
       subst P (sym e) h
