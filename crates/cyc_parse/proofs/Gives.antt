@@ -94,7 +94,7 @@ pub all-append : (xs ys : Yield) → AllByRecursion IsWithin xs → AllByRecursi
 all-append [] ys f g = g
 all-append (l ∷ xs) ys (one, f) g = (one, all-append xs ys f g)
 
-pub begins_behind : {xs ys : Yield} {ts mid left : List Symbol} → Front xs ts mid → Begins ys mid left → Begins (xs ++ ys) ts left
+begins_behind : {xs ys : Yield} {ts mid left : List Symbol} → Front xs ts mid → Begins ys mid left → Begins (xs ++ ys) ts left
 begins_behind {xs = xs} {ts = ts} {mid = mid} front b = record {
   done = xs ++ b.done;
   more = b.more;
@@ -104,6 +104,11 @@ begins_behind {xs = xs} {ts = ts} {mid = mid} front b = record {
   left_are = b.left_are;
   front = front-append xs b.done ts mid b.back front b.front;
 }
+
+-- behind one symbol
+pub begins_next : (leaf : Leaf) (t : Symbol) {ys : Yield} {more mid left : List Symbol} → t.terminal ≡ leaf.terminal → IfSome leaf.place (λ q. t.place ≡ q) → more ≡ mid → Begins ys mid left
+    → Begins (leaf ∷ ys) (t ∷ more) left
+begins_next leaf t {more = more} terminal place same b = begins_behind {xs = leaf ∷ []} (t, more, refl, record { terminal = terminal; place = place }, same) b
 
 begins_before : {xs : Yield} (ys : Yield) {ts left : List Symbol} → Begins xs ts left → Begins (xs ++ ys) ts left
 begins_before ys b = record {
@@ -411,8 +416,7 @@ take_then {A} {B} {C} room reads give f {Q = Q} {ts = ts} some leaf fits few is 
     refused (t ∷ more) e limit (in_second x mid h k) =
         let (r, a, roomy, reading, value, same) = taken room (reads t.terminal) give t more mid x h in
         let d = (second a t.place mid).goes e (ap (λ (b : B). f b mid) value ∙ k) limit in
-        let front = (t, more, refl, record { terminal = is a t.terminal t.place reading; place = place a t.place }, same) in
-        record { value = d.value; leaves = leaf a t.place ∷ d.leaves; begins = begins_behind {xs = leaf a t.place ∷ []} front d.begins; post = d.post }
+        record { value = d.value; leaves = leaf a t.place ∷ d.leaves; begins = begins_next (leaf a t.place) t (is a t.terminal t.place reading) (place a t.place) same d.begins; post = d.post }
 
 -- with no room left nothing is read
 pub stuck_then : {A B C : Type 0} (reads : Terminal → Option A) (give : A → Place → B) (f : B → Parser C) {Q : C → Yield → List Symbol → Type 0} {ts : List Symbol} (leaf : Leaf) (possible : Possible (λ y ys rest. Q y (leaf ∷ ys) rest))
@@ -536,8 +540,7 @@ advance_leaf_then {C} {f = f} {Q = Q} {ts = ts} leaf u comes is shallow few plac
     refused (t ∷ more) e comes h limit =
         let same : t.terminal ≡ u = cc in
         let d = (second t.place more).goes e h limit in
-        let front = (t, more, refl, record { terminal = same ∙ sym (is t.place); place = place t.place }, refl) in
-        record { value = d.value; leaves = leaf t.place ∷ d.leaves; begins = begins_behind {xs = leaf t.place ∷ []} front d.begins; post = d.post }
+        record { value = d.value; leaves = leaf t.place ∷ d.leaves; begins = begins_next (leaf t.place) t (same ∙ sym (is t.place)) (place t.place) refl d.begins; post = d.post }
 
     start : (ts rest : List Symbol) (y : C) → next ts ≡ Some u → bind advance f ts ≡ Ok (y, rest) → Derived ts rest (λ ls. Q y ls rest)
     start [] rest y e h = absurd (cc)
