@@ -35,7 +35,7 @@ module _ {A : Type 0} (begins : Terminal → Bool) (item : Parser A) (yield : A 
 -- ---- parts with brackets of their own, where one level of room may be left
 
 int_rest : (room d : ℕ) → Fits room d → (ts : List Symbol) → Gives (bind (sign room signs.LeftParen) (λ _. bind (word (inside room) words.Int) (λ _. bind (sign (inside room) signs.RightParen) (λ _. pure true)))) (Spells (yields.has_int d) Any) ts
-int_rest zero d fits ts = stuck_sign d signs.LeftParen (possibly true _ (refl, tt))
+int_rest zero d fits ts = stuck_sign d signs.LeftParen _ (possibly true _ (refl, tt))
 int_rest (suc room) d fits ts = sign_then (suc room) d signs.LeftParen fits (λ _ mid. word_then room (suc d) words.Int (omega arith) (λ _ mid. sign_then room (suc d) signs.RightParen (omega arith) (λ _ mid. pure_gives (refl, tt))))
 
 has_int_gives : (room d : ℕ) → Fits room d → (ts : List Symbol) → Gives (has_int room) (Spells (yields.has_int d) Any) ts
@@ -49,7 +49,7 @@ effect_regions_give room d fits ts = starts_gives begins_region (λ _. gives_as 
 effect_rest : (room d : ℕ) → Fits room d → (ts : List Symbol)
     → Gives (bind (sign room signs.Semicolon) (λ _. bind (sign room signs.LeftBrace) (λ _. bind (effect_regions (inside room)) (λ rs. bind (sign (inside room) signs.RightBrace) (λ _. pure (Some rs))))))
     (Spells (yields.optional (yields.effect d)) Any) ts
-effect_rest zero d fits ts = stuck_sign d signs.Semicolon (possibly (Some []) _ (refl, tt))
+effect_rest zero d fits ts = stuck_sign d signs.Semicolon _ (possibly (Some []) _ (refl, tt))
 effect_rest (suc room) d fits ts = sign_then (suc room) d signs.Semicolon fits (λ _ mid. sign_then (suc room) d signs.LeftBrace fits (λ _ mid. spelled_then (effect_regions_give room (suc d) (omega arith) mid) (λ rs mid _.
     sign_then room (suc d) signs.RightBrace (omega arith) (λ _ mid. pure_gives (refl, tt)))))
 

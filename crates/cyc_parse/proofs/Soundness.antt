@@ -103,14 +103,14 @@ unfolding program
 program_gives ts = spelled_then (one_gives ts) (λ d mid is. last_then (λ ds. d ∷ ds) (gives_same (declarations_in 200 (length mid)) refl (declarations_give (length mid) mid)) (λ ds rest are. (refl, (tt, (is, are)))))
 
 -- symbols that leaves stand for
-place_or : Option Place → Place
+abbrev place_or : Option Place → Place
 place_or None = some_place
 place_or (Some p) = p
 
-symbol_for : Leaf → Symbol
+abbrev symbol_for : Leaf → Symbol
 symbol_for leaf = record { terminal = leaf.terminal; place = place_or leaf.place }
 
-symbols_for : Yield → List Symbol
+abbrev symbols_for : Yield → List Symbol
 symbols_for [] = []
 symbols_for (leaf ∷ leaves) = symbol_for leaf ∷ symbols_for leaves
 

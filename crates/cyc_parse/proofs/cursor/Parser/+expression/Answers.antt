@@ -23,7 +23,7 @@ parse_argument_list-loop-preserved t c =
 
 pub parse_argument_list-returns : goal.parse_argument_list-returns
 parse_argument_list-returns t c =
-    is_full_as view_expression _ [] (map view_expression) (onto-map view_expression) _ _ (more_items_steps c.args.room begins_expression (nested c.args.room).expression) c.loop.arguments.items 64 c.loop.counter c.loop.self c.end_arguments.new.self _ c.loop-test.false c.in_ok-end_of_arguments.ensures c.loop.invariant
+    is_full_as view_expression _ [] (map view_expression) (onto-map view_expression) _ _ (more_items_steps c.args.room begins_expression (nested c.args.room).expression) c.loop.arguments.items 64 c.loop.counter c.loop.self c.end_arguments.new.self _ c.loop-test.false c.in_ok-end_arguments.ensures c.loop.invariant
 
 pub parse_postfixes-returns-in_err-postfix : goal.parse_postfixes-returns-in_err-postfix
 parse_postfixes-returns-in_err-postfix t c =
@@ -40,7 +40,7 @@ parse_postfixes-loop-preserved t c =
 
 pub parse_postfixes-returns : goal.parse_postfixes-returns
 parse_postfixes-returns t c =
-    is_full_as then_postfix _ NoPostfixes postfixes_of onto-postfixes _ _ (postfixes_steps c.args.room (nested c.args.room)) c.loop.postfixes.items 64 c.loop.counter c.loop.self c.end_postfixes.new.self _ c.loop-test.false c.in_ok-end_of_postfixes.ensures c.loop.invariant
+    is_full_as then_postfix _ NoPostfixes postfixes_of onto-postfixes _ _ (postfixes_steps c.args.room (nested c.args.room)) c.loop.postfixes.items 64 c.loop.counter c.loop.self c.end_postfixes.new.self _ c.loop-test.false c.in_ok-end_postfixes.ensures c.loop.invariant
 
 pub parse_operations-returns-in_err-operation : goal.parse_operations-returns-in_err-operation
 parse_operations-returns-in_err-operation t c =
@@ -57,7 +57,7 @@ parse_operations-loop-preserved t c =
 
 pub parse_operations-returns : goal.parse_operations-returns
 parse_operations-returns t c =
-    is_full_as then_operation _ NoOperations operations_of onto-operations _ _ (operations_steps (operand c.args.room (nested c.args.room) c.args.below) (suc c.args.below)) c.loop.operations.items 64 c.loop.counter c.loop.self c.end_operations.new.self _ c.loop-test.false c.in_ok-end_of_operations.ensures c.loop.invariant
+    is_full_as then_operation _ NoOperations operations_of onto-operations _ _ (operations_steps (operand c.args.room (nested c.args.room) c.args.below) (suc c.args.below)) c.loop.operations.items 64 c.loop.counter c.loop.self c.end_operations.new.self _ c.loop-test.false c.in_ok-end_operations.ensures c.loop.invariant
 
 pub parse_values-returns-in_err-value : goal.parse_values-returns-in_err-value
 parse_values-returns-in_err-value t c =

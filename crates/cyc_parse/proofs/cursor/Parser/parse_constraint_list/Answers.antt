@@ -21,4 +21,4 @@ loop-preserved c = λ room.
 
 pub returns : goal.returns
 returns c = λ room.
-    is_full_as view_constraint _ [] (map view_constraint) (onto-map view_constraint) _ _ (more_items_steps (suc room) begins_region (constraint (suc room))) c.loop.constraints.items 64 c.loop.counter c.loop.self c.end_constraints.new.self _ c.loop-test.false (c.in_ok-end_of_constraints.ensures room) (c.loop.invariant room)
+    is_full_as view_constraint _ [] (map view_constraint) (onto-map view_constraint) _ _ (more_items_steps (suc room) begins_region (constraint (suc room))) c.loop.constraints.items 64 c.loop.counter c.loop.self c.end_constraints.new.self _ c.loop-test.false (c.in_ok-end_constraints.ensures room) (c.loop.invariant room)

@@ -20,4 +20,4 @@ loop-preserved c =
 
 pub returns : goal.returns
 returns c =
-    is_full_as view_constructor _ [] (map view_constructor) (onto-map view_constructor) _ _ (more_of_steps begins_constructor (constructor 200)) c.loop.constructors.items 64 c.loop.counter c.loop.self c.end_constructors.new.self _ c.loop-test.false c.in_ok-end_of_constructors.ensures c.loop.invariant
+    is_full_as view_constructor _ [] (map view_constructor) (onto-map view_constructor) _ _ (more_of_steps begins_constructor (constructor 200)) c.loop.constructors.items 64 c.loop.counter c.loop.self c.end_constructors.new.self _ c.loop-test.false c.in_ok-end_constructors.ensures c.loop.invariant

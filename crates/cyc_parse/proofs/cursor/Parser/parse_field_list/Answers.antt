@@ -21,4 +21,4 @@ loop-preserved c = λ room.
 
 pub returns : goal.returns
 returns c = λ room.
-    is_full_as view_member _ [] (map view_member) (onto-map view_member) _ _ (more_of_steps begins_type (field (suc room))) c.loop.fields.items 64 c.loop.counter c.loop.self c.end_fields.new.self _ c.loop-test.false (c.in_ok-end_of_fields.ensures room) (c.loop.invariant room)
+    is_full_as view_member _ [] (map view_member) (onto-map view_member) _ _ (more_of_steps begins_type (field (suc room))) c.loop.fields.items 64 c.loop.counter c.loop.self c.end_fields.new.self _ c.loop-test.false (c.in_ok-end_fields.ensures room) (c.loop.invariant room)

@@ -21,4 +21,4 @@ loop-preserved c = λ room.
 
 pub returns : goal.returns
 returns c = λ room.
-    is_full_as view_member _ [] (map view_member) (onto-map view_member) _ _ (more_items_steps (suc room) begins_type (member (suc room))) c.loop.members.items 64 c.loop.counter c.loop.self c.end_members.new.self _ c.loop-test.false (c.in_ok-end_of_members.ensures room) (c.loop.invariant room)
+    is_full_as view_member _ [] (map view_member) (onto-map view_member) _ _ (more_items_steps (suc room) begins_type (member (suc room))) c.loop.members.items 64 c.loop.counter c.loop.self c.end_members.new.self _ c.loop-test.false (c.in_ok-end_members.ensures room) (c.loop.invariant room)

@@ -19,4 +19,4 @@ loop-preserved c = λ room.
 
 pub returns : goal.returns
 returns c = λ room.
-    is_full_as view_pointer _ [] (map view_pointer) (onto-map view_pointer) _ _ (pointers_of_steps (suc room)) c.loop.pointers.items 64 c.loop.counter c.loop.self c.end_pointers.new.self _ c.loop-test.false (c.in_ok-end_of_pointers.ensures room) (c.loop.invariant room)
+    is_full_as view_pointer _ [] (map view_pointer) (onto-map view_pointer) _ _ (pointers_of_steps (suc room)) c.loop.pointers.items 64 c.loop.counter c.loop.self c.end_pointers.new.self _ c.loop-test.false (c.in_ok-end_pointers.ensures room) (c.loop.invariant room)

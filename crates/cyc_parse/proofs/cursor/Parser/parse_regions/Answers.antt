@@ -20,4 +20,4 @@ loop-preserved c = λ room.
 
 pub returns : goal.returns
 returns c = λ room.
-    is_full_as view_name _ [] (map view_name) (onto-map view_name) _ _ (more_items_steps (suc room) begins_region (region_name (suc room))) c.loop.regions.items 64 c.loop.counter c.loop.self c.end_regions.new.self _ c.loop-test.false (c.in_ok-end_of_regions.ensures room) (c.loop.invariant room)
+    is_full_as view_name _ [] (map view_name) (onto-map view_name) _ _ (more_items_steps (suc room) begins_region (region_name (suc room))) c.loop.regions.items 64 c.loop.counter c.loop.self c.end_regions.new.self _ c.loop-test.false (c.in_ok-end_regions.ensures room) (c.loop.invariant room)
