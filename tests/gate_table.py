@@ -7,7 +7,7 @@
 `measure` runs a command, ends as it ends, and appends to the file RECORD what it cost: the seconds on the clock, and those of
 processors, of the whole command and of the checks that the prover does in it. `show` prints the table of what was recorded.
 
-The prover's processes are looked at twice a second. Their words say which crate each is of, and which part of the gate: of
+The prover's processes are looked at once a second. Their words say which crate each is of, and which part of the gate: of
 a check that ends between two looks, what it did since the last one is not seen. The sums are of the operating system, exact.
 """
 import datetime
@@ -21,7 +21,7 @@ import time
 from collections import namedtuple
 
 # How often the processes are looked at, in seconds.
-EVERY = 0.5
+EVERY = 1.0
 PARTS = ("proof", "tests", "edits")
 TICK = os.sysconf("SC_CLK_TCK")
 

@@ -12,7 +12,8 @@ use Rattle.cyc_machine.specs.State.{text_base}
 use Rattle.cyc_select.specs.declared.code.Line.{Line}
 use Rattle.cyc_select.specs.declared.code.Line.TheVariants as lines
 use Rattle.cyc_select.specs.Labelled.{Labelled, AreAddresses, words_of, all_words}
-use Rattle.cyc_asm.specs.Layout.{Fits, most_before, most_reach, is_near, width_of, width_in, width_at, position, addresses_of}
+use Rattle.cyc_asm.specs.declared.constants.TheConstants.{MAX_REACH}
+use Rattle.cyc_asm.specs.Layout.{Fits, most_before, is_near, width_of, width_in, width_at, position, addresses_of}
 use Rattle.cyc_asm.specs.Text.{stretch, own}
 use Rattle.cyc_asm.proofs.Stretches.{own-stretch, stretch-append}
 
@@ -117,13 +118,13 @@ and-second false b both = cc
 pub near_below : (code : List Line) (from to : ℕ) → is_near code from to ≡ true → from < length code → to < length code → from ≤ to → position code to ≤ position code from + 32767
 near_below code from to near in_from in_to up =
     let most = (between_lines code from to up (omega (arith, in_to))).most in
-    let first : most_before code to ≤ most_before code from + most_reach = leb-true (most_before code to) (most_before code from + most_reach) (and-first (nat_le (most_before code to) (most_before code from + most_reach)) (nat_le (most_before code from) (most_before code to + most_reach)) near) in
+    let first : most_before code to ≤ most_before code from + MAX_REACH = leb-true (most_before code to) (most_before code from + MAX_REACH) (and-first (nat_le (most_before code to) (most_before code from + MAX_REACH)) (nat_le (most_before code from) (most_before code to + MAX_REACH)) near) in
     omega (arith, most, first)
 
 pub near_above : (code : List Line) (from to : ℕ) → is_near code from to ≡ true → from < length code → to < length code → to ≤ from → position code from ≤ position code to + 32767
 near_above code from to near in_from in_to up =
     let most = (between_lines code to from up (omega (arith, in_from))).most in
-    let second : most_before code from ≤ most_before code to + most_reach = leb-true (most_before code from) (most_before code to + most_reach) (and-second (nat_le (most_before code to) (most_before code from + most_reach)) (nat_le (most_before code from) (most_before code to + most_reach)) near) in
+    let second : most_before code from ≤ most_before code to + MAX_REACH = leb-true (most_before code from) (most_before code to + MAX_REACH) (and-second (nat_le (most_before code to) (most_before code from + MAX_REACH)) (nat_le (most_before code from) (most_before code to + MAX_REACH)) near) in
     omega (arith, most, second)
 
 range_more : (from count : ℕ) → range_with_len from (suc count) ≡ range_with_len from count ++ (from + count) ∷ []

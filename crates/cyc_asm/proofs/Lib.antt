@@ -1,10 +1,12 @@
-pub mod Examples
+-- what the laws and the contract of `assemble` rest on
+pub mod Running
+pub mod Stretches
+pub mod Standing
+-- what those lemmas rest on
 pub mod Fetching
 pub mod Layouts
-pub mod Loading
 pub mod Ordinary
-pub mod Running
-pub mod Standing
 pub mod Steps
-pub mod Stretches
 pub mod Tables
+-- examples by computation
+pub mod Examples

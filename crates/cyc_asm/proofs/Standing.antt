@@ -15,13 +15,15 @@ use Rattle.cyc_isa.specs.declared.instr.Instr.TheVariants.{Branch, Jump, JumpReg
 use Rattle.cyc_isa.specs.declared.instr.BranchOp.{BranchOp}
 use Rattle.cyc_isa.specs.declared.instr.JumpOp.{JumpOp}
 use Rattle.cyc_isa.specs.declared.instr.JumpOp.TheVariants.{Plain, AndLink}
+use Rattle.cyc_machine.specs.declared.constants.TheConstants.{TEXT_WORDS}
 use Rattle.cyc_machine.specs.State.{text_base, text_end, text_at, word_number}
 use Rattle.cyc_select.specs.declared.code.Line.{Line}
 use Rattle.cyc_select.specs.declared.code.Line.TheVariants as lines
 use Rattle.cyc_select.specs.Labelled.{Labelled, IsFormed, IsFormedLine}
+use Rattle.cyc_asm.specs.declared.constants.TheConstants.{ROUND_OFFSET, FIRST_INDEX}
 use Rattle.cyc_asm.specs.Layout.{Fits, is_near, width_of, width_in, position, addresses_of}
 use Rattle.cyc_asm.specs.Text.{text_of, IsAt, nothing, return_register, inverse_of, IsJumpAt, StandsBranch, Stands, stretch, IsTextOf}
-use Rattle.cyc_asm.specs.Words.{offset_of, offset_round, first_index, words_of_branch, words_of_line, words_in, words_before, assembled}
+use Rattle.cyc_asm.specs.Words.{offset_of, words_of_branch, words_of_line, words_in, words_before, assembled}
 use Rattle.cyc_asm.proofs.Layouts.{position-suc, position-most, position-less, addresses_fit, near_below, near_above, own_words}
 
 -- ---- how many words there are
@@ -76,13 +78,13 @@ found_behind (x ∷ front) ws rest j w at =
 -- ---- targets
 
 -- the offset of a branch is from its slot to its target
-target_below : (from to offset : ℕ) → from < to → to ≤ from + 32767 → to ≤ 7340032 → offset ≡ to - (from + 1) → branch_target (text_base + 4 * from) offset ≡ text_base + 4 * to
+target_below : (from to offset : ℕ) → from < to → to ≤ from + 32767 → to ≤ TEXT_WORDS → offset ≡ to - (from + 1) → branch_target (text_base + 4 * from) offset ≡ text_base + 4 * to
 target_below from to offset less near inside is =
     let small : offset < 2 ^ 15 = omega (arith, is, less, near) in
     let extended = sign_extended_low offset small in
     ap (λ (e : ℕ). add_of (add_of (text_base + 4 * from) 4) (mul_of 4 e)) extended ∙ (let e : add_of (add_of (text_base + 4 * from) 4) (mul_of 4 offset) ≡ text_base + 4 * to = omega (arith, is, less, inside, small) in e)
 
-target_above : (from to offset : ℕ) → to ≤ from → from ≤ to + 32767 → from ≤ 7340032 → offset ≡ 65535 - (from - to) → branch_target (text_base + 4 * from) offset ≡ text_base + 4 * to
+target_above : (from to offset : ℕ) → to ≤ from → from ≤ to + 32767 → from ≤ TEXT_WORDS → offset ≡ 65535 - (from - to) → branch_target (text_base + 4 * from) offset ≡ text_base + 4 * to
 target_above from to offset least near inside is =
     let large : 2 ^ 15 ≤ offset = omega (arith, is, least, near) in
     let half : offset < 2 ^ 16 = omega (arith, is) in
@@ -93,8 +95,8 @@ target_above from to offset least near inside is =
 pub record AreNear (from to : ℕ) : Type 0 where
   pub below : from ≤ to → to ≤ from + 32767
   pub above : to ≤ from → from ≤ to + 32767
-  pub low_from : from ≤ 7340032
-  pub low_to : to ≤ 7340032
+  pub low_from : from ≤ TEXT_WORDS
+  pub low_to : to ≤ TEXT_WORDS
 
 -- a branch that is near, and its label
 pub are_near_at : (code : List Line) (number label : ℕ) → Fits code → number < length code → label < length code → is_near code number label ≡ true → AreNear (position code number) (position code label)
@@ -123,12 +125,12 @@ offset_of-target from to near = elim (nat_lt from to) as (λ b. nat_lt from to �
   | false ↦ λ least. let l = ltb-false from to least in target_above from to (65535 - (from - to)) l (near.above l) near.low_from refl
 ] refl
 
-round_target : (from : ℕ) → from ≤ 7340032 → branch_target (text_base + 4 * from) offset_round ≡ text_base + 4 * from + 16
+round_target : (from : ℕ) → from ≤ TEXT_WORDS → branch_target (text_base + 4 * from) ROUND_OFFSET ≡ text_base + 4 * from + 16
 round_target from inside =
-    ap (λ (e : ℕ). add_of (add_of (text_base + 4 * from) 4) (mul_of 4 e)) (sign_extended_low offset_round (omega arith))
+    ap (λ (e : ℕ). add_of (add_of (text_base + 4 * from) 4) (mul_of 4 e)) (sign_extended_low ROUND_OFFSET (omega arith))
     ∙ (let e : add_of (add_of (text_base + 4 * from) 4) (mul_of 4 3) ≡ text_base + 4 * from + 16 = omega (arith, inside) in e)
 
-index_target : (address to : ℕ) → address < text_end → to ≤ 7340032 → jump_target address (jump_index_of (first_index + to)).index ≡ text_base + 4 * to
+index_target : (address to : ℕ) → address < text_end → to ≤ TEXT_WORDS → jump_target address (jump_index_of (FIRST_INDEX + to)).index ≡ text_base + 4 * to
 index_target address to inside low = omega (arith, inside, low)
 
 module _ (code : Labelled) (formed : IsFormed code) (fits : Fits code.lines) where
@@ -163,7 +165,7 @@ module _ (code : Labelled) (formed : IsFormed code) (fits : Fits code.lines) whe
     is_there j i address is encodable has = record { encodable = encodable; word = word_there j (word_of i) address is has }
 
     -- a label's address is in the text range
-    low : (label : ℕ) → label ≤ length code.lines → position code.lines label ≤ 7340032
+    low : (label : ℕ) → label ≤ length code.lines → position code.lines label ≤ TEXT_WORDS
     low label within = let most = position-most code.lines label within in omega (arith, fits, most)
 
     line_formed : IsFormedLine (length code.lines) line
@@ -182,11 +184,11 @@ module _ (code : Labelled) (formed : IsFormed code) (fits : Fits code.lines) whe
 
     -- the words of a jump, from the word j of the line on
     jump_there : (j : ℕ) (op : JumpOp) (label address : ℕ) → label < length code.lines → address ≡ at number + 4 * j → address < text_end
-        → has (words_of_line code.lines number line) j (word_of (Jump op (jump_index_of (first_index + position code.lines label))))
+        → has (words_of_line code.lines number line) j (word_of (Jump op (jump_index_of (FIRST_INDEX + position code.lines label))))
         → has (words_of_line code.lines number line) (j + 1) 0 → IsJumpAt words op address (at label)
     jump_there j op label address is_label is in_text first second = record {
-      index = jump_index_of (first_index + position code.lines label);
-      jump = is_there j (Jump op (jump_index_of (first_index + position code.lines label))) address is tt first;
+      index = jump_index_of (FIRST_INDEX + position code.lines label);
+      jump = is_there j (Jump op (jump_index_of (FIRST_INDEX + position code.lines label))) address is tt first;
       target = index_target address (position code.lines label) in_text (low label (omega (arith, is_label)));
       slot = is_there (j + 1) nothing (address + 4) (omega (arith, is)) (omega arith) second;
     }
@@ -206,8 +208,8 @@ module _ (code : Labelled) (formed : IsFormed code) (fits : Fits code.lines) whe
     )
     branch_there false op left right label is_label far same wide = (
       record {
-        offset = offset_round;
-        branch = is_there 0 (Branch (inverse_of op) left right offset_round) (at number) (omega arith) (omega arith) (ap (λ ws. slice_get ws 0) same);
+        offset = ROUND_OFFSET;
+        branch = is_there 0 (Branch (inverse_of op) left right ROUND_OFFSET) (at number) (omega arith) (omega arith) (ap (λ ws. slice_get ws 0) same);
         target = round_target (position code.lines number) (low number (let b = below in omega (arith, b))) ∙ (let n = next in omega (arith, n, wide));
         slot = is_there 1 nothing (at number + 4) (omega arith) (omega arith) (ap (λ ws. slice_get ws 1) same);
       },

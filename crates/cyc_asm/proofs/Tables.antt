@@ -7,10 +7,12 @@ use Rattle.std.proofs.lemmas.List.FromFn.{length-map-range_with_len, get_or-map-
 use Rattle.std.proofs.lemmas.Option.{slice_get-get_or}
 use Rattle.cyc_isa.specs.declared.operand.Register.{Register}
 use Rattle.cyc_isa.specs.declared.instr.BranchOp.{BranchOp}
+use Rattle.cyc_machine.specs.declared.constants.TheConstants.{TEXT_WORDS}
 use Rattle.cyc_select.specs.declared.code.Line.{Line}
 use Rattle.cyc_select.specs.declared.code.Line.TheVariants as lines
 use Rattle.cyc_select.specs.Labelled.{IsFormedLine, words_of}
-use Rattle.cyc_asm.specs.Layout.{Fits, most_reach, most_before, most_of_each, is_near, width_of, width_in, width_at, position, position_of_each}
+use Rattle.cyc_asm.specs.declared.constants.TheConstants.{MAX_REACH}
+use Rattle.cyc_asm.specs.Layout.{Fits, most_before, most_of_each, is_near, width_of, width_in, width_at, position, position_of_each}
 use Rattle.cyc_asm.specs.Words.{offset_of, branch_words, words_of_branch, words_of_line, words_in}
 use Rattle.cyc_asm.proofs.Layouts.{between_lines, most_before-suc, most_before-all, position-most}
 use Rattle.cyc_asm.proofs.Standing.{are_near_at}
@@ -31,19 +33,19 @@ position_at code positions number is below =
 
 -- all numbers are small
 
-pub most_before-low : (code : List Line) (number : ℕ) → Fits code → number ≤ length code → most_before code number ≤ 7340032
+pub most_before-low : (code : List Line) (number : ℕ) → Fits code → number ≤ length code → most_before code number ≤ TEXT_WORDS
 most_before-low code number fits within =
     let b = between_lines code number (length code) within (omega arith) in
     omega (arith, fits, b.most, b.up, most_before-all code)
 
-pub position-low : (code : List Line) (number : ℕ) → Fits code → number ≤ length code → position code number ≤ 7340032
+pub position-low : (code : List Line) (number : ℕ) → Fits code → number ≤ length code → position code number ≤ TEXT_WORDS
 position-low code number fits within = omega (arith, fits, position-most code number within)
 
-pub most_low : (code : List Line) (most : List ℕ) (number : ℕ) → Fits code → most ≡ most_of_each code → number < length code → get_or most number 0 ≤ 7340032
+pub most_low : (code : List Line) (most : List ℕ) (number : ℕ) → Fits code → most ≡ most_of_each code → number < length code → get_or most number 0 ≤ TEXT_WORDS
 most_low code most number fits is below =
     let at = most_at code most number is below in omega (arith, at, most_before-low code number fits (omega (arith, below)))
 
-pub position_low : (code : List Line) (positions : List ℕ) (number : ℕ) → Fits code → positions ≡ position_of_each code → number < length code → get_or positions number 0 ≤ 7340032
+pub position_low : (code : List Line) (positions : List ℕ) (number : ℕ) → Fits code → positions ≡ position_of_each code → number < length code → get_or positions number 0 ≤ TEXT_WORDS
 position_low code positions number fits is below =
     let at = position_at code positions number is below in omega (arith, at, position-low code number fits (omega (arith, below)))
 
@@ -86,13 +88,13 @@ positions_of_more code number positions before width so_far now is = (
 
 -- whether a branch is near, from the table
 pub near_here : (code : List Line) (most : List ℕ) (number label : ℕ) (near b : Bool) → most ≡ most_of_each code → number < length code → label < length code
-    → near ≡ (nat_le (get_or most label 0) (get_or most number 0 + most_reach) && nat_le (get_or most number 0) (get_or most label 0 + most_reach)) → near ≡ b
+    → near ≡ (nat_le (get_or most label 0) (get_or most number 0 + MAX_REACH) && nat_le (get_or most number 0) (get_or most label 0 + MAX_REACH)) → near ≡ b
     → is_near code number label ≡ b
 near_here code most number label near b is below is_label by_table known =
     let here = most_at code most number is below in
     let there = most_at code most label is is_label in
-    ap (λ (n : ℕ). nat_le (most_before code label) (n + most_reach) && nat_le n (most_before code label + most_reach)) (sym here)
-    ∙ ap (λ (n : ℕ). nat_le n (get_or most number 0 + most_reach) && nat_le (get_or most number 0) (n + most_reach)) (sym there)
+    ap (λ (n : ℕ). nat_le (most_before code label) (n + MAX_REACH) && nat_le n (most_before code label + MAX_REACH)) (sym here)
+    ∙ ap (λ (n : ℕ). nat_le n (get_or most number 0 + MAX_REACH) && nat_le (get_or most number 0) (n + MAX_REACH)) (sym there)
     ∙ sym by_table ∙ known
 
 pub width_of_branch : (code : List Line) (number : ℕ) (d : Line) (op : BranchOp) (left right : Register) (label : ℕ) (b : Bool) → number < length code
@@ -109,7 +111,7 @@ words_of_branch_here code number d op left right label b below here near =
 -- a near branch and its label, from the table
 pub reach_here : (code : List Line) (positions : List ℕ) (number label : ℕ) → Fits code → positions ≡ position_of_each code → number < length code → label < length code
     → is_near code number label ≡ true
-    → (get_or positions number 0 ≤ get_or positions label 0 + most_reach) × (get_or positions label 0 ≤ get_or positions number 0 + most_reach)
+    → (get_or positions number 0 ≤ get_or positions label 0 + MAX_REACH) × (get_or positions label 0 ≤ get_or positions number 0 + MAX_REACH)
 reach_here code positions number label fits is below is_label near =
     let here = position_at code positions number is below in
     let there = position_at code positions label is is_label in

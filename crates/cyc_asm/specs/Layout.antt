@@ -6,6 +6,7 @@ use Rattle.cyc_machine.specs.State.{text_base, text_end}
 use Rattle.cyc_select.specs.Labelled.{Labelled, all_words}
 use Rattle.cyc_select.specs.declared.code.Line.{Line}
 use Rattle.cyc_select.specs.declared.code.Line.TheVariants as lines
+use Rattle.cyc_asm.specs.declared.constants.TheConstants.{MAX_REACH}
 
 -- the code fits the text range, each line with the words that it takes at most
 abbrev pub Fits : List Line → Type 0
@@ -15,15 +16,10 @@ Fits code = text_base + 4 * all_words code ≤ text_end
 abbrev pub most_before : List Line → ℕ → ℕ
 most_before code line = all_words (take line code)
 
--- A branch is near where its offset of 16 bits reaches the label's line even if each line between takes as many words as
--- it may. So which branches are near does not depend on which others are.
-abbrev pub most_reach : ℕ
-most_reach = 32767
-
 abbrev pub is_near : List Line → (from to : ℕ) → Bool
 is_near code from to =
-    nat_le (most_before code to) (most_before code from + most_reach)
-    && nat_le (most_before code from) (most_before code to + most_reach)
+    nat_le (most_before code to) (most_before code from + MAX_REACH)
+    && nat_le (most_before code from) (most_before code to + MAX_REACH)
 
 -- How many words a line takes. A branch and a jump have a delay slot; a branch that is not near goes round a jump.
 abbrev pub width_of : List Line → (number : ℕ) → Line → ℕ

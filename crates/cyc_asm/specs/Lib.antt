@@ -1,5 +1,6 @@
-pub mod Image
-pub mod Layout
-pub mod Machine
+-- what the contract of `assemble` rests on
 pub mod Text
+pub mod Machine
+pub mod Layout
+-- what the functions inside the crate promise each other
 pub mod Words

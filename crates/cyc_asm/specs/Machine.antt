@@ -1,5 +1,6 @@
 -- What the words of a text do: the machine that runs them follows the labelled machine.
 use Rattle.std.specs.Prelude.{ℕ, ◌*◌, ◌≤◌, List, [], replicate}
+use Rattle.cyc_machine.specs.declared.constants.TheConstants.{MAX_CALLS}
 use Rattle.cyc_machine.specs.Start.{start_core}
 use Rattle.cyc_machine.specs.State.{text_base, words_per_call}
 use Rattle.cyc_words.specs.Simulation.{NeverFails, Follows}
@@ -31,7 +32,7 @@ start code words calls input =
 -- meets for each of its lines only that line's own words, each at most once.
 abbrev pub Runs : Labelled → (addresses : ℕ → ℕ) → (words : List ℕ) → Type 0
 Runs code addresses words =
-    (calls : ℕ) (input : List ℕ) → calls ≤ 4096
+    (calls : ℕ) (input : List ℕ) → calls ≤ MAX_CALLS
     → NeverFails (labelled.machine code addresses) (labelled.start code calls input)
     → Follows (labelled.machine code addresses) world_machine [] (own addresses)
     (labelled.start code calls input) (start code words calls input)

@@ -15,6 +15,7 @@ use Rattle.cyc_isa.specs.declared.instr.BranchOp.TheVariants.{Equal, NotEqual}
 use Rattle.cyc_isa.specs.declared.instr.JumpOp.{JumpOp}
 use Rattle.cyc_isa.specs.declared.instr.JumpOp.TheVariants.{Plain, AndLink}
 use Rattle.cyc_isa.specs.declared.instr.ShiftOp.TheVariants.{Left}
+use Rattle.cyc_machine.specs.declared.constants.TheConstants.{RETURN_ADDRESS}
 use Rattle.cyc_machine.specs.State.{text_base, text_end, text_at}
 use Rattle.cyc_select.specs.Labelled.{Labelled, AreAddresses, all_words}
 use Rattle.cyc_select.specs.declared.code.Line.{Line}
@@ -34,9 +35,9 @@ pub record IsAt (words : List ℕ) (address : ℕ) (i : Instr) : Type 0 where
 abbrev pub nothing : Instr
 nothing = Shift Left (register_of 0) (register_of 0) (shift_amount_of 0)
 
--- register 31, where a call leaves its return address
+-- where a call leaves its return address
 abbrev pub return_register : Register
-return_register = register_of 31
+return_register = register_of RETURN_ADDRESS
 
 -- the branch that is taken where the other is not
 abbrev pub inverse_of : BranchOp → BranchOp

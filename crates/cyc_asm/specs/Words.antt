@@ -10,6 +10,7 @@ use Rattle.cyc_isa.specs.declared.instr.JumpOp.TheVariants.{Plain, AndLink}
 use Rattle.cyc_select.specs.Labelled.{Labelled}
 use Rattle.cyc_select.specs.declared.code.Line.{Line}
 use Rattle.cyc_select.specs.declared.code.Line.TheVariants as lines
+use Rattle.cyc_asm.specs.declared.constants.TheConstants.{ROUND_OFFSET, FIRST_INDEX}
 use Rattle.cyc_asm.specs.Layout.{is_near, position}
 use Rattle.cyc_asm.specs.Text.{inverse_of, return_register}
 
@@ -18,27 +19,19 @@ use Rattle.cyc_asm.specs.Text.{inverse_of, return_register}
 abbrev pub offset_of : (from to : ℕ) → ℕ
 offset_of from to = if nat_lt from to then to - (from + 1) else 65535 - (from - to)
 
--- the offset round a jump: from the branch's delay slot over the jump and its own slot
-abbrev pub offset_round : ℕ
-offset_round = 3
-
--- the words of memory before the text range, from which a jump counts
-abbrev pub first_index : ℕ
-first_index = 0x100000
-
 -- the words of a branch and of a jump, each with its delay slot
 abbrev pub branch_words : BranchOp → (left right : Register) → (offset : ℕ) → List ℕ
 branch_words op left right offset = word_of (Branch op left right offset) ∷ 0 ∷ []
 
 abbrev pub jump_words : JumpOp → (to : ℕ) → List ℕ
-jump_words op to = word_of (Jump op (jump_index_of (first_index + to))) ∷ 0 ∷ []
+jump_words op to = word_of (Jump op (jump_index_of (FIRST_INDEX + to))) ∷ 0 ∷ []
 
 -- the words of a line
 abbrev pub words_of_branch : Bool → List Line → (number : ℕ) → BranchOp → (left right : Register) → (label : ℕ) → List ℕ
 words_of_branch true code number op left right label =
     branch_words op left right (offset_of (position code number) (position code label))
 words_of_branch false code number op left right label =
-    branch_words (inverse_of op) left right offset_round ++ jump_words Plain (position code label)
+    branch_words (inverse_of op) left right ROUND_OFFSET ++ jump_words Plain (position code label)
 
 abbrev pub words_of_line : List Line → (number : ℕ) → Line → List ℕ
 words_of_line code number (lines.Ordinary instruction) = word_of instruction ∷ []

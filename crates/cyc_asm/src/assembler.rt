@@ -5,7 +5,7 @@ ghost use Rattle.cyc_words.specs.Fault.{memory_fault};
 ghost use Rattle.cyc_select.specs.Labelled.{labelled_of, IsFormed, IsFormedLine};
 ghost use Rattle.cyc_asm.specs.Layout.{Fits, addresses_of};
 ghost use Rattle.cyc_asm.specs.Text.{IsTextOf};
-ghost use Rattle.cyc_asm.specs.Words.{assembled, words_before};
+ghost use Rattle.cyc_asm.specs.Words.{words_before};
 ghost use Rattle.cyc_asm.specs.Machine.{Runs};
 
 use crate::{emission, layout};
@@ -36,11 +36,7 @@ pub fn assemble(alloc: Global, code: &Code) -> Result<Vec<u32>, Fault>
     ensures means { IfOk result (λ words. IsTextOf (labelled_of code.now) (addresses_of (labelled_of code.now)) words.items) }
     // And the machine that runs them does what the labelled machine does.
     ensures runs { IfOk result (λ words. Runs (labelled_of code.now) (addresses_of (labelled_of code.now)) words.items) }
-    ensures assembled { IfOk result (λ words. words.items ≡ assembled (labelled_of code.now)) }
     ensures refused { IfErr result (λ e. e ≡ memory_fault) }
 {
-    match words_of(alloc, &code.lines) {
-        Ok(words) => Ok(words),
-        Err(_) => Err(Fault::memory()),
-    }
+    Ok(words_of(alloc, &code.lines)?)
 }

@@ -3,26 +3,19 @@
 ghost use Rattle.std.specs.Prelude.{◌≡◌, ◌∷◌, [], ◌++◌, ◌+◌, ◌<◌, ◌≤◌, length, slice_get, All, OnOk, IfOk};
 ghost use Rattle.cyc_isa.specs.Encoding.{word_of};
 ghost use Rattle.cyc_select.specs.Labelled.{IsFormedLine};
-ghost use Rattle.cyc_asm.specs.Layout.{Fits, most_reach, most_of_each, position_of_each};
+ghost use Rattle.cyc_asm.specs.Layout.{Fits, most_of_each, position_of_each};
 ghost use Rattle.cyc_asm.specs.Text.{inverse_of};
 ghost use Rattle.cyc_asm.specs.Words.{offset_of, jump_words, words_before, words_in};
 
+use crate::constants::{FIRST_INDEX, MAX_REACH, ROUND_OFFSET};
 use crate::layout::is_near;
 use cyc_isa::{BranchOp, Instr, JumpIndex, JumpOp, Register, encode};
+use cyc_machine::constants::{RETURN_ADDRESS, TEXT_WORDS};
 use cyc_select::Line;
 use std::alloc::{AllocError, Global};
 
 /// The word of an empty delay slot, which does nothing.
 const EMPTY_SLOT: u32 = 0;
-
-/// The offset round a jump and two delay slots.
-const ROUND: u16 = 3;
-
-/// A text begins at the word of this number.
-const FIRST_INDEX: u32 = 0x0010_0000;
-
-/// Register 31, where a call leaves its return address.
-const RETURN_ADDRESS: u8 = 31;
 
 /// The branch that is taken where this one is not.
 fn inverse(op: BranchOp) -> BranchOp
@@ -36,7 +29,7 @@ fn inverse(op: BranchOp) -> BranchOp
 
 /// The offset of a near branch with `from` words before it to a line with `to`, in two's complement.
 fn offset(from: u32, to: u32) -> u16
-    requires { (from ≤ to + most_reach) × (to ≤ from + most_reach) }
+    requires { (from ≤ to + MAX_REACH) × (to ≤ from + MAX_REACH) }
     ensures { result ≡ offset_of from to }
 {
     if from < to {
@@ -57,7 +50,7 @@ fn push_with_slot(words: &mut Vec<u32>, instruction: Instr) -> Result<(), AllocE
 
 /// A jump to the line with `to` words before it.
 fn push_jump(words: &mut Vec<u32>, op: JumpOp, to: u32) -> Result<(), AllocError>
-    requires { to ≤ 7340032 }
+    requires { to ≤ TEXT_WORDS }
     ensures { OnOk result (words.new.items ≡ words.old.items ++ jump_words op to) }
 {
     let index = JumpIndex {
@@ -111,7 +104,7 @@ fn push_line(
                     op,
                     left,
                     right,
-                    offset: ROUND,
+                    offset: ROUND_OFFSET,
                 },
             )?;
             push_jump(words, JumpOp::Plain, positions[label])

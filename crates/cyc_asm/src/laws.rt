@@ -9,7 +9,6 @@ ghost use Rattle.cyc_select.specs.Labelled.{Labelled};
 ghost use Rattle.cyc_asm.specs.Text.{IsTextOf, nothing, own};
 ghost use Rattle.cyc_asm.specs.Machine.{Runs};
 ghost use Rattle.cyc_machine.specs.WorldMachine.{world_machine};
-ghost use Rattle.cyc_asm.specs.Image.{AreRoomy, Starts};
 
 /// The word of an empty delay slot is 0.
 pub fn slots_are_empty()
@@ -31,9 +30,4 @@ pub fn worlds_are_lawful()
 /// Words that mean labelled code run as it does, wherever its lines lie.
 pub fn texts_run()
     ensures { (code : Labelled) (addresses : ℕ → ℕ) (words : List ℕ) → IsTextOf code addresses words → Runs code addresses words }
-{}
-
-/// The machine that loads the image of a program starts in the world in which its words run.
-pub fn images_start()
-    ensures { (code : Labelled) (words : List ℕ) → AreRoomy words code.globals → Starts code words }
 {}

@@ -2,16 +2,15 @@
 
 ghost use Rattle.std.specs.Prelude.{◌≡◌, ◌+◌, ◌<◌, ◌≤◌, ◌&&◌, nat_le, length, All, IfOk};
 ghost use Rattle.cyc_select.specs.Labelled.{IsFormedLine, words_of};
-ghost use Rattle.cyc_asm.specs.Layout.{Fits, most_reach, most_of_each, position_of_each, width_at};
+ghost use Rattle.cyc_asm.specs.Layout.{Fits, most_of_each, position_of_each, width_at};
 
+use crate::constants::MAX_REACH;
+use cyc_machine::constants::TEXT_WORDS;
 use cyc_select::Line;
 use std::alloc::{AllocError, Global};
 
-/// A branch is near where it is at most so many words from its label.
-const MOST_REACH: u32 = 32_767;
-
 /// How many words a line takes at most.
-fn most_words(line: &Line) -> u32
+fn max_width(line: &Line) -> u32
     ensures { result ≡ words_of line.now }
 {
     match line {
@@ -30,17 +29,17 @@ pub(crate) fn most_of_each(alloc: Global, lines: &[Line]) -> Result<Vec<u32>, Al
     let mut before: u32 = 0;
     for line in lines {
         most.push(before)?;
-        before += most_words(line);
+        before += max_width(line);
     }
     Ok(most)
 }
 
 /// Whether a branch that has at most `from` words before it is near a label that has at most `to`.
 pub(crate) fn is_near(from: u32, to: u32) -> bool
-    requires { (from ≤ 7340032) × (to ≤ 7340032) }
-    ensures { result ≡ (nat_le to (from + most_reach) && nat_le from (to + most_reach)) }
+    requires { (from ≤ TEXT_WORDS) × (to ≤ TEXT_WORDS) }
+    ensures { result ≡ (nat_le to (from + MAX_REACH) && nat_le from (to + MAX_REACH)) }
 {
-    to <= from + MOST_REACH && from <= to + MOST_REACH
+    to <= from + MAX_REACH && from <= to + MAX_REACH
 }
 
 /// How many words the line of this number takes.

@@ -5,6 +5,7 @@
 #![tactic(auto)]
 
 mod assembler;
+pub mod constants;
 mod emission;
 pub mod laws;
 mod layout;

@@ -27,7 +27,7 @@ use Rattle.cyc_select.specs.declared.code.Line.TheVariants as lines
 use Rattle.cyc_select.specs.Labelled.{Labelled, IsFormed, AreAddresses}
 use Rattle.cyc_select.specs.Machine as labelled
 use Rattle.cyc_select.specs.Machine.{State, Running, Ended}
-use Rattle.cyc_select.specs.Selection.{slot_offset, small, minus, store, add_immediate, push_frame, copies, ordinary, syscall, call_code, function_line, instruction_line}
+use Rattle.cyc_select.specs.Selection.{slot_offset, small, minus, store, add_immediate, push_frame, copies, ordinary, syscall, calling_code, function_line, instruction_line}
 use Rattle.cyc_select.specs.Emission.{AreFrames}
 use Rattle.cyc_select.proofs.Cells.{IsCell}
 use Rattle.cyc_select.proofs.Lines.{line_first}
@@ -55,7 +55,7 @@ module _ (program : Program) (well : IsWellFormed program) (frames : List Frame)
     (callee arguments count result : ℕ) (at_i : instruction_at program (states.place_of (states.Running c)) ≡ Some (plain.Call callee arguments count result))
     (in_range : IsCallInRange program (routine_at program c.active.function) callee arguments count result)
     (inside : behind_line program c.active.function c.active.next callee arguments count result < length code.lines)
-    (stands : Stands code (instruction_line program c.active.function c.active.next) (call_code program frames c.active.function (instruction_line program c.active.function c.active.next) callee arguments count)) where
+    (stands : Stands code (instruction_line program c.active.function c.active.next) (calling_code (frame_at frames c.active.function) (frame_at frames callee) (instruction_line program c.active.function c.active.next) (function_line program callee) arguments count)) where
   abbrev here : ℕ
   here = instruction_line program c.active.function c.active.next
 
@@ -120,9 +120,6 @@ module _ (program : Program) (well : IsWellFormed program) (frames : List Frame)
       (full_step none)))
 
   -- ---- a new frame
-
-  abbrev lying : ℕ
-  lying = 4 * its.words
 
   room : 4 * its.words ≤ 1024
   room = let frame = fit callee in_range.function_in_range in omega (arith, frame.within, frame.small)

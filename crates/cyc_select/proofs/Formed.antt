@@ -21,11 +21,11 @@ use Rattle.cyc_plain.proofs.Placed.{holds_at, routine_in, below_of_get, has_code
 use Rattle.cyc_plain.proofs.Steps.{function_known}
 use Rattle.cyc_frame.specs.Layout.{frame_at, slot_word}
 use Rattle.cyc_frame.specs.declared.frame.Frame.{Frame}
+use Rattle.cyc_select.specs.declared.constants.TheConstants.{START_LINES}
 use Rattle.cyc_select.specs.declared.code.Line.{Line}
 use Rattle.cyc_select.specs.declared.code.Line.TheVariants as lines
 use Rattle.cyc_select.specs.Labelled.{Labelled, IsFormed, IsFormedLine, words_of, all_words}
-use Rattle.cyc_select.specs.Selected.{words_for_each}
-use Rattle.cyc_select.specs.Selection.{slot_offset, ordinary, copies, load_all, store_all, pop_frame, result_registers, ending_code, ending_count, operator_code, operator_count, call_code, return_code, body, behind, body_count, behind_count, count_of, function_count, functions_count, start_count, function_line, instruction_line, code_lines, function_lines, start_lines, select_of}
+use Rattle.cyc_select.specs.Selection.{slot_offset, ordinary, copies, load_all, store_all, pop_frame, result_registers, ending_code, ending_count, operator_code, operator_count, body, behind, body_count, behind_count, count_of, function_count, functions_count, function_line, instruction_line, code_lines, function_lines, start_lines, select_of}
 use Rattle.cyc_select.proofs.Calls.{length-copies}
 use Rattle.cyc_select.proofs.Lines.{line_first}
 use Rattle.cyc_select.proofs.Returns.{loaded, length_loaded, length_stores, length_registers}
@@ -161,9 +161,6 @@ module _ (program : Program) (well : IsWellFormed program) (words : HasWords pro
 
     frame_fits : 4 * frame.words < 2 ^ 16
     frame_fits = let f = fit function known in omega (arith, f.within, f.small)
-
-    push_fits : 2 ^ 16 - 4 * frame.words < 2 ^ 16
-    push_fits = let f = fit function known in omega (arith, f.return_inside)
 
     return_fits : 4 * frame.return_address < 2 ^ 16
     return_fits = let f = fit function known in omega (arith, f.return_inside, f.within, f.small)
@@ -309,18 +306,15 @@ module _ (program : Program) (well : IsWellFormed program) (words : HasWords pro
       (body_formed function known i m in_range has_word (omega (arith, here, line_known function index i at)))
       (behind_formed function known i in_range))
 
-  main_frame : 4 * (frame_at frames program.main).words ≤ 1024
-  main_frame = let f = fit program.main well.main in omega (arith, f.within, f.small)
-
   main_some : 0 < (frame_at frames program.main).words
   main_some = let f = fit program.main well.main in omega (arith, f.return_inside)
 
   pub formed : IsFormed (select_of program frames)
   formed =
-      all_from (IsFormedLine (length (select_of program frames).lines)) (start_lines program frames ++ function_lines program frames 0 start_count program.functions)
-      (all_front (IsFormedLine (length (select_of program frames).lines)) (start_lines program frames) (function_lines program frames 0 start_count program.functions)
+      all_from (IsFormedLine (length (select_of program frames).lines)) (start_lines program frames ++ function_lines program frames 0 START_LINES program.functions)
+      (all_front (IsFormedLine (length (select_of program frames).lines)) (start_lines program frames) (function_lines program frames 0 START_LINES program.functions)
       ((refl, (omega arith)), ((refl, (omega (arith, main_some))), (function_known_line program.main well.main, tt)))
-      (functions_all program frames (IsFormedLine (length (select_of program frames).lines)) 0 start_count program.functions
+      (functions_all program frames (IsFormedLine (length (select_of program frames).lines)) 0 START_LINES program.functions
       (λ k n below is.
       let same : k ≡ 0 + k = omega arith in
       subst (λ (f : ℕ). Formed (code_lines program frames f n (routine_at program k).code)) same (function_formed k n below is))))

@@ -1,22 +1,27 @@
+-- what the contract of `select` rests on
+pub mod Whole
+pub mod Laws
+-- the code is formed, has its places and is small
+pub mod Formed
+pub mod Parts
+pub mod Sizes
+pub mod Structure
+-- a run of the code follows a run of the program
+pub mod Start
+pub mod Runs
+pub mod Simple
 pub mod Calls
+pub mod Returns
+pub mod Matches
+pub mod Standing
+-- what a few lines do
+pub mod Walks
+pub mod Lines
+pub mod Views
 pub mod Cells
 pub mod Copies
 pub mod Effects
-pub mod Formed
-pub mod Laws
-pub mod Lines
-pub mod Matches
 pub mod Operations
-pub mod Parts
-pub mod Returns
-pub mod Runs
-pub mod Simple
-pub mod Sizes
-pub mod Standing
-pub mod Start
-pub mod Structure
-pub mod Views
-pub mod Walks
+-- what the functions inside the crate promise each other
 pub mod Emitting
 pub mod Numbering
-pub mod Whole

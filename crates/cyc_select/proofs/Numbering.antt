@@ -12,8 +12,9 @@ use Rattle.cyc_plain.specs.declared.program.Function.{Function}
 use Rattle.cyc_plain.specs.WellFormed.{IsRoutine, IsWellFormed, IsInRange}
 use Rattle.cyc_frame.specs.Layout.{IsFrame, frame_at, most_words}
 use Rattle.cyc_frame.specs.declared.frame.Frame.{Frame}
-use Rattle.cyc_select.specs.Selection.{operator_count, ending_count, body_count, behind_count, count_of, function_count, functions_count, start_count, function_line, instruction_line, code_lines, function_lines}
-use Rattle.cyc_select.specs.Emission.{AreReached, AreFew, lines_for_each, most_size, most_lines, instruction_lines, function_starts, AreReady, AreTables}
+use Rattle.cyc_select.specs.declared.constants.TheConstants.{MAX_SIZE, LINES_FOR_EACH, START_LINES}
+use Rattle.cyc_select.specs.Selection.{operator_count, ending_count, body_count, behind_count, count_of, function_count, functions_count, function_line, instruction_line, code_lines, function_lines}
+use Rattle.cyc_select.specs.Emission.{AreReached, AreFew, most_lines, instruction_lines, function_starts, AreReady, AreTables}
 
 -- ---- an instruction has few lines for each unit of its size
 
@@ -42,7 +43,7 @@ if_small false = omega arith
 ending_small : (program : Program) (function : ℕ) → ending_count program function ≤ 4
 ending_small program function = if_small _
 
-pub count_small : (program : Program) (function : ℕ) → AreFew program → (i : Instruction) → count_of program function i ≤ lines_for_each * instruction_size i
+pub count_small : (program : Program) (function : ℕ) → AreFew program → (i : Instruction) → count_of program function i ≤ LINES_FOR_EACH * instruction_size i
 count_small program function few (plain.Constant d w) = omega arith
 count_small program function few (plain.Move d s) = omega arith
 count_small program function few (plain.Unary o d s) = omega arith
@@ -58,31 +59,27 @@ count_small program function few (plain.LoadGlobal d g) = omega arith
 count_small program function few (plain.StoreGlobal g s) = omega arith
 count_small program function few (plain.Uncaught t v) = omega arith
 
-code_small : (program : Program) (function : ℕ) → AreFew program → (code : List Instruction) → sum_by (count_of program function) code ≤ lines_for_each * sum_by instruction_size code
+code_small : (program : Program) (function : ℕ) → AreFew program → (code : List Instruction) → sum_by (count_of program function) code ≤ LINES_FOR_EACH * sum_by instruction_size code
 code_small program function few [] = omega arith
 code_small program function few (i ∷ code) =
     omega (arith, sum_by-cons (count_of program function) i code, sum_by-cons instruction_size i code, count_small program function few i, code_small program function few code)
 
-functions_small : (program : Program) (first : ℕ) → AreFew program → (routines : List Routine) → functions_count program first routines ≤ lines_for_each * sum_by size routines
+functions_small : (program : Program) (first : ℕ) → AreFew program → (routines : List Routine) → functions_count program first routines ≤ LINES_FOR_EACH * sum_by size routines
 functions_small program first few [] = omega arith
 functions_small program first few (r ∷ routines) =
     omega (arith, sum_by-cons size r routines, code_small program first few r.code, functions_small program (suc first) few routines)
 
 -- a function begins where it still fits
 pub start_fits : (program : Program) → AreFew program → (k : ℕ) → k < length program.functions
-    → function_line program k + lines_for_each * size (routine_at program k) ≤ start_count + lines_for_each * sum_by size program.functions
+    → function_line program k + LINES_FOR_EACH * size (routine_at program k) ≤ START_LINES + LINES_FOR_EACH * sum_by size program.functions
 start_fits program few k below =
     omega (arith, functions_small program 0 few (take k program.functions), sum_by-drop_more size program.functions k no_routine below, sum_by-take-drop size program.functions k)
 
 -- and so do its instructions
 pub line_fits : (program : Program) → AreFew program → (k : ℕ) → k < length program.functions → (index : ℕ)
-    → instruction_line program k index ≤ start_count + lines_for_each * sum_by size program.functions
+    → instruction_line program k index ≤ START_LINES + LINES_FOR_EACH * sum_by size program.functions
 line_fits program few k below index =
     omega (arith, start_fits program few k below, code_small program k few (routine_at program k).code, sum_by-take-le (count_of program k) (routine_at program k).code index)
-
--- one of the terms of a sum
-pub one_of_sum : {X : Type 0} (f : X → ℕ) (xs : List X) (k : ℕ) (x : X) → k < length xs → x ≡ get_or xs k x → f x ≤ sum_by f xs
-one_of_sum f xs k x below at = omega (arith, sum_by-drop_more f xs k x below, sum_by-take-drop f xs k, ap f at)
 
 -- ---- what a well-formed program says of all its functions
 
@@ -99,9 +96,6 @@ routine_stands program well k below = well.functions k no_routine below
 
 pub are_few : (program : Program) → IsWellFormed program → AreFew program
 are_few program well = routines_few program.functions (λ k below. (routine_stands program well k below).results)
-
-pub code_in_range : (program : Program) → IsWellFormed program → (k : ℕ) → k < length program.functions → All (IsInRange program (routine_at program k)) (routine_at program k).code
-code_in_range program well k below = (routine_stands program well k below).instructions
 
 -- ---- frames
 
@@ -151,16 +145,16 @@ module _ {program : Program} {frames : List Frame} {starts : List ℕ} (ready : 
   ready_frames k below = frame_inside frames k (omega (arith, (ready.fit k below).return_inside))
 
   pub ready_starts : length starts ≡ length program.functions
-  ready_starts = ap length ready.starts_are ∙ starts_length program 0 start_count program.functions
+  ready_starts = ap length ready.starts_are ∙ starts_length program 0 START_LINES program.functions
 
   pub ready_start : (k : ℕ) → k < length program.functions → slice_index_or starts k 0 ≡ function_line program k
-  ready_start k below = ap (λ (s : List ℕ). slice_index_or s k 0) ready.starts_are ∙ starts_at program 0 start_count program.functions k 0 below
+  ready_start k below = ap (λ (s : List ℕ). slice_index_or s k 0) ready.starts_are ∙ starts_at program 0 START_LINES program.functions k 0 below
 
-  pub ready_size : (k : ℕ) → k < length program.functions → size (routine_at program k) ≤ most_size
+  pub ready_size : (k : ℕ) → k < length program.functions → size (routine_at program k) ≤ MAX_SIZE
   ready_size k below =
       omega (arith, ready.few, sum_by-drop_more size program.functions k no_routine below, sum_by-take-drop size program.functions k)
 
-  pub ready_fits : (k : ℕ) → k < length program.functions → function_line program k + lines_for_each * size (routine_at program k) ≤ most_lines
+  pub ready_fits : (k : ℕ) → k < length program.functions → function_line program k + LINES_FOR_EACH * size (routine_at program k) ≤ most_lines
   ready_fits k below = omega (arith, ready.few, start_fits program (are_few program ready.well_formed) k below)
 
 module _ {program : Program} {frames : List Frame} {starts lines : List ℕ} {function : ℕ} (known : AreTables program frames starts lines function) where

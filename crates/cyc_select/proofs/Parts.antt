@@ -13,7 +13,8 @@ use Rattle.cyc_plain.specs.Step.{instruction_at}
 use Rattle.cyc_plain.specs.WellFormed.{IsWellFormed, IsRoutine, leaves}
 use Rattle.cyc_plain.proofs.Placed.{routine_in, has_code}
 use Rattle.cyc_frame.specs.declared.frame.Frame.{Frame}
-use Rattle.cyc_select.specs.Selection.{body_count, behind_count, count_of, function_count, functions_count, start_count, function_line, instruction_line, start_lines, function_lines, select_of}
+use Rattle.cyc_select.specs.declared.constants.TheConstants.{START_LINES}
+use Rattle.cyc_select.specs.Selection.{body_count, behind_count, count_of, function_count, functions_count, function_line, instruction_line, start_lines, function_lines, select_of}
 use Rattle.cyc_select.proofs.Formed.{few_results, get_below, count_some}
 use Rattle.cyc_select.proofs.Lines.{line_next, line_first}
 use Rattle.cyc_select.proofs.Runs.{behind_of, previous_count, body_of, own_of, previous_fits}
@@ -152,8 +153,8 @@ module _ (program : Program) (well : IsWellFormed program) (frames : List Frame)
   pub parts : range_with_len 0 3 ++ flat_map (own_of program) (places_of program) ≡ range_with_len 0 (length (select_of program frames).lines)
   parts =
       let none : function_line program 0 ≡ 3 = omega arith in
-      let total = length-append (start_lines program frames) (function_lines program frames 0 start_count program.functions) in
-      let long = length_functions program frames (few_results program well) 0 start_count program.functions in
+      let total = length-append (start_lines program frames) (function_lines program frames 0 START_LINES program.functions) in
+      let long = length_functions program frames (few_results program well) 0 START_LINES program.functions in
       let all : 3 + functions_count program 0 program.functions ≡ length (select_of program frames).lines = omega (arith, total, long) in
       let same : (k : ℕ) → k < length program.functions → slice_index_or program.functions k no_routine ≡ routine_at program (0 + k) =
       λ k below. let e : k ≡ 0 + k = omega arith in ap (routine_at program) e in

@@ -26,7 +26,7 @@ use Rattle.cyc_select.specs.declared.code.Line.TheVariants as lines
 use Rattle.cyc_select.specs.Labelled.{Labelled, IsFormed, AreAddresses}
 use Rattle.cyc_select.specs.Machine as labelled
 use Rattle.cyc_select.specs.Machine.{State, Running, Ended}
-use Rattle.cyc_select.specs.Selection.{slot_offset, load, small, add_immediate, load_slot, load_all, store_all, pop_frame, result_registers, ordinary, syscall, ending_code, ending_count, return_code, behind, instruction_line}
+use Rattle.cyc_select.specs.Selection.{slot_offset, load, small, add_immediate, load_slot, load_all, store_all, pop_frame, result_registers, ordinary, syscall, ending_code, ending_count, returning_code, behind, instruction_line}
 use Rattle.cyc_select.specs.Emission.{AreFrames}
 use Rattle.cyc_select.proofs.Calls.{length_ordinary}
 use Rattle.cyc_select.proofs.Cells.{IsCell}
@@ -135,7 +135,7 @@ module _ (program : Program) (well : IsWellFormed program) (frames : List Frame)
     (in_range : HasSlots (routine_at program c.active.function) value (routine_at program c.active.function).results)
     (inside : (function index callee arguments count result : ℕ) → instruction_at program (record { function = function; index = index }) ≡ Some (plain.Call callee arguments count result)
     → behind_line program function index callee arguments count result < length code.lines)
-    (stands : Stands code (instruction_line program c.active.function c.active.next) (return_code program frames c.active.function (instruction_line program c.active.function c.active.next) value)) where
+    (stands : Stands code (instruction_line program c.active.function c.active.next) (returning_code (c.active.function == program.main) (frame_at frames c.active.function) (instruction_line program c.active.function c.active.next) value (routine_at program c.active.function).results)) where
   abbrev here : ℕ
   here = instruction_line program c.active.function c.active.next
 

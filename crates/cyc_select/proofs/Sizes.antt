@@ -16,8 +16,8 @@ use Rattle.cyc_frame.specs.declared.frame.Frame.{Frame}
 use Rattle.cyc_select.specs.declared.code.Line.{Line}
 use Rattle.cyc_select.specs.declared.code.Line.TheVariants as lines
 use Rattle.cyc_select.specs.Labelled.{Labelled, words_of, all_words}
-use Rattle.cyc_select.specs.Selected.{words_at, words_for_each}
-use Rattle.cyc_select.specs.Selection.{ordinary, copies, store_all, result_registers, ending_code, operator_code, body, behind, count_of, function_count, start_count, function_line, code_lines, function_lines, start_lines, select_of, small, syscall, store, add_immediate, minus, push_frame, load}
+use Rattle.cyc_select.specs.Selected.{words_at}
+use Rattle.cyc_select.specs.Selection.{ordinary, copies, store_all, result_registers, ending_code, operator_code, body, behind, count_of, function_count, function_line, code_lines, function_lines, start_lines, select_of, small, syscall, store, add_immediate, minus, push_frame, load}
 use Rattle.cyc_isa.specs.Decoding.{register_of}
 use Rattle.cyc_isa.specs.declared.instr.BranchOp.TheVariants as branch
 use Rattle.cyc_select.proofs.Calls.{length-copies}

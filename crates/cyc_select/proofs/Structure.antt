@@ -14,10 +14,11 @@ use Rattle.cyc_plain.specs.Step.{instruction_at}
 use Rattle.cyc_plain.proofs.Steps.{function_known}
 use Rattle.cyc_frame.specs.Layout.{frame_at}
 use Rattle.cyc_frame.specs.declared.frame.Frame.{Frame}
+use Rattle.cyc_select.specs.declared.constants.TheConstants.{START_LINES}
 use Rattle.cyc_select.specs.declared.code.Line.{Line}
 use Rattle.cyc_select.specs.declared.code.Line.TheVariants as lines
 use Rattle.cyc_select.specs.Labelled.{Labelled}
-use Rattle.cyc_select.specs.Selection.{ordinary, copies, load_all, store_all, pop_frame, result_registers, ending_code, ending_count, operator_code, operator_count, call_code, return_code, body, behind, body_count, behind_count, count_of, function_count, functions_count, start_count, function_line, instruction_line, code_lines, function_lines, start_lines, select_of}
+use Rattle.cyc_select.specs.Selection.{ordinary, copies, load_all, store_all, pop_frame, result_registers, ending_code, ending_count, operator_code, operator_count, body, behind, body_count, behind_count, count_of, function_count, functions_count, function_line, instruction_line, code_lines, function_lines, start_lines, select_of}
 use Rattle.cyc_select.proofs.Calls.{length_ordinary, length-copies}
 use Rattle.cyc_select.proofs.Returns.{loaded, length_loaded, length_stores, length_registers}
 use Rattle.cyc_select.proofs.Walks.{Stands, stands_front, stands_back}
@@ -155,16 +156,16 @@ module _ (program : Program) (frames : List Frame) (few_results : (function : �
   )
 
   pub starts : Stands (select_of program frames) 0 (start_lines program frames)
-  starts = stands_front (select_of program frames) 0 (start_lines program frames) (function_lines program frames 0 start_count program.functions) (stands_from [] (start_lines program frames ++ function_lines program frames 0 start_count program.functions) program.globals)
+  starts = stands_front (select_of program frames) 0 (start_lines program frames) (function_lines program frames 0 START_LINES program.functions) (stands_from [] (start_lines program frames ++ function_lines program frames 0 START_LINES program.functions) program.globals)
 
-  pub stand_functions : Stands (select_of program frames) start_count (function_lines program frames 0 start_count program.functions)
-  stand_functions = stands_back (select_of program frames) 0 (start_lines program frames) (function_lines program frames 0 start_count program.functions) (stands_from [] (start_lines program frames ++ function_lines program frames 0 start_count program.functions) program.globals)
+  pub stand_functions : Stands (select_of program frames) START_LINES (function_lines program frames 0 START_LINES program.functions)
+  stand_functions = stands_back (select_of program frames) 0 (start_lines program frames) (function_lines program frames 0 START_LINES program.functions) (stands_from [] (start_lines program frames ++ function_lines program frames 0 START_LINES program.functions) program.globals)
 
   pub stand_function : (function : ℕ) → function < length program.functions → Stands (select_of program frames) (function_line program function) (code_lines program frames function (function_line program function) (routine_at program function).code)
   stand_function function known =
       let same : 0 + function ≡ function = omega arith in
       subst (λ (f : ℕ). Stands (select_of program frames) (function_line program function) (code_lines program frames f (function_line program function) (routine_at program function).code)) same
-      (functions_stand (select_of program frames) 0 start_count program.functions function (function_line program function) known refl stand_functions)
+      (functions_stand (select_of program frames) 0 START_LINES program.functions function (function_line program function) known refl stand_functions)
 
   pub stand : (function index : ℕ) (i : Instruction) → instruction_at program (record { function = function; index = index }) ≡ Some i
       → Stands (select_of program frames) (instruction_line program function index) (body program frames function (instruction_line program function index) i ++ behind program frames function i)

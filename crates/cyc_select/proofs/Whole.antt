@@ -9,9 +9,10 @@ use Rattle.cyc_plain.specs.Program.{Routine, Program, CodePlace, no_routine, rou
 use Rattle.cyc_plain.specs.WellFormed.{IsWellFormed, HasWords}
 use Rattle.cyc_words.proofs.Prices.{sum_by-flat_map}
 use Rattle.cyc_frame.specs.declared.frame.Frame.{Frame}
+use Rattle.cyc_select.specs.declared.constants.TheConstants.{WORDS_FOR_EACH, MAX_START_WORDS, START_LINES}
 use Rattle.cyc_select.specs.Labelled.{Labelled, words_of, all_words}
-use Rattle.cyc_select.specs.Selected.{IsCodeOf, words_at, words_for_each, most_start_words}
-use Rattle.cyc_select.specs.Selection.{count_of, function_count, start_count, function_line, code_lines, function_lines, start_lines, select_of}
+use Rattle.cyc_select.specs.Selected.{IsCodeOf, words_at}
+use Rattle.cyc_select.specs.Selection.{count_of, function_count, function_line, code_lines, function_lines, start_lines, select_of}
 use Rattle.cyc_select.proofs.Formed.{few_results, formed}
 use Rattle.cyc_select.proofs.Parts.{place_in, own_function, own_some, parts}
 use Rattle.cyc_select.proofs.Runs.{own_of}
@@ -28,7 +29,7 @@ sum_by-map price f (x ∷ xs) = omega (arith, sum_by-cons price (f x) (map f xs)
 module _ (program : Program) (well : IsWellFormed program) (words : HasWords program) (frames : List Frame) (fit : AreFrames program frames) where
   few_own : (function : ℕ) → function < length program.functions
       → sum_by (λ (index : ℕ). sum_by (words_at (select_of program frames)) (own_of program (record { function = function; index = index }))) (range_with_len 0 (length (routine_at program function).code))
-      ≤ words_for_each * size (routine_at program function)
+      ≤ WORDS_FOR_EACH * size (routine_at program function)
   few_own function known =
       let indices = range_with_len 0 (length (routine_at program function).code) in
       let price : ℕ → ℕ = words_at (select_of program frames) in
@@ -40,12 +41,12 @@ module _ (program : Program) (well : IsWellFormed program) (words : HasWords pro
       let five = words_range (select_of program frames) (function_line program function) (code_lines program frames function (function_line program function) (routine_at program function).code) (stand_function program frames (few_results program well) function known) in
       omega (arith, one, two, three, four, five, code_words program frames (few_results program well) function (function_line program function) (routine_at program function).code)
 
-  few_before : sum_by (words_at (select_of program frames)) (range_with_len 0 3) ≤ most_start_words
+  few_before : sum_by (words_at (select_of program frames)) (range_with_len 0 3) ≤ MAX_START_WORDS
   few_before = omega (arith, words_range (select_of program frames) 0 (start_lines program frames) (starts program frames (few_results program well)))
 
-  few_words : all_words (select_of program frames).lines ≤ most_start_words + words_for_each * sum_by size program.functions
+  few_words : all_words (select_of program frames).lines ≤ MAX_START_WORDS + WORDS_FOR_EACH * sum_by size program.functions
   few_words =
-      omega (arith, sum_by-append words_of (start_lines program frames) (function_lines program frames 0 start_count program.functions), functions_words program frames (few_results program well) 0 start_count program.functions)
+      omega (arith, sum_by-append words_of (start_lines program frames) (function_lines program frames 0 START_LINES program.functions), functions_words program frames (few_results program well) 0 START_LINES program.functions)
 
   pub is_code_of : IsCodeOf program (select_of program frames)
   is_code_of = record {

@@ -1,5 +1,7 @@
+-- what the contract of `select` rests on
 pub mod Labelled
 pub mod Machine
-pub mod Selection
 pub mod Selected
+-- what the functions inside the crate promise each other
+pub mod Selection
 pub mod Emission

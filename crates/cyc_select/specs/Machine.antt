@@ -6,6 +6,7 @@ use Rattle.cyc_words.specs.Ending.{Ending}
 use Rattle.cyc_isa.specs.Effect.{branch_taken}
 use Rattle.cyc_isa.specs.declared.instr.Instr.{Instr}
 use Rattle.cyc_isa.specs.declared.instr.BranchOp.{BranchOp}
+use Rattle.cyc_machine.specs.declared.constants.TheConstants.{ARGUMENT, RETURN_ADDRESS, STACK_POINTER}
 use Rattle.cyc_machine.specs.State as machines
 use Rattle.cyc_machine.specs.State.{register, with_register, globals_length, words_per_call, stack_end}
 use Rattle.cyc_machine.specs.Step.{Acts, executes}
@@ -96,13 +97,13 @@ at c line = record c { line = line }
 
 -- register 31 has the address of the line behind this one
 abbrev pub linked : (ℕ → ℕ) → Configuration → Configuration
-linked addresses c = record c { registers = (with_register (core_of c) 31 (addresses (c.line + 1))).registers }
+linked addresses c = record c { registers = (with_register (core_of c) RETURN_ADDRESS (addresses (c.line + 1))).registers }
 
 -- a return goes to the line that lies at the address in register 31, and stops the run where there is none
 abbrev pub Returns : Labelled → (ℕ → ℕ) → Configuration → State → Type 0
 Returns code addresses c new =
-    ((line : ℕ) × (line < length code.lines) × (addresses line ≡ word_in c 31) × (new ≡ Running (at c line)))
-    ⊎ (((line : ℕ) → line < length code.lines → addresses line ≢ word_in c 31) × (new ≡ Stopped c.output c.input))
+    ((line : ℕ) × (line < length code.lines) × (addresses line ≡ word_in c RETURN_ADDRESS) × (new ≡ Running (at c line)))
+    ⊎ (((line : ℕ) → line < length code.lines → addresses line ≢ word_in c RETURN_ADDRESS) × (new ≡ Stopped c.output c.input))
 
 -- what a line does
 abbrev pub Executes : Labelled → (ℕ → ℕ) → Configuration → Line → State → Type 0
@@ -156,7 +157,7 @@ machine code addresses = record {
 abbrev pub start_in : (globals stack : List ℕ) → (calls : ℕ) → (input : List ℕ) → State
 start_in globals stack calls input =
     Running (record {
-      registers = slice_set (slice_set (replicate 32 0) 4 calls) 29 stack_end;
+      registers = slice_set (slice_set (replicate 32 0) ARGUMENT calls) STACK_POINTER stack_end;
       high = 0;
       low = 0;
       globals = globals;

@@ -5,18 +5,11 @@ use Rattle.cyc_machine.specs.Bounds.{AreAllowed}
 use Rattle.cyc_words.specs.Simulation.{NeverFails, Follows}
 use Rattle.cyc_plain.specs.Program.{Program, CodePlace, routine_at, places_of, size}
 use Rattle.cyc_plain.specs.Step as plain
+use Rattle.cyc_select.specs.declared.constants.TheConstants.{WORDS_FOR_EACH, MAX_START_WORDS}
 use Rattle.cyc_select.specs.declared.code.Line.{Line}
 use Rattle.cyc_select.specs.declared.code.Line.TheVariants as lines
 use Rattle.cyc_select.specs.Labelled.{Labelled, IsFormed, AreAddresses, words_of, all_words}
 use Rattle.cyc_select.specs.Machine as labelled
-
--- a function's code has at most so many words for each unit of its size
-abbrev pub words_for_each : ℕ
-words_for_each = 20
-
--- and the code before them at most so many
-abbrev pub most_start_words : ℕ
-most_start_words = 4096
 
 -- how many words the line of this number takes at most
 abbrev pub words_at : Labelled → ℕ → ℕ
@@ -30,12 +23,12 @@ pub record IsCodeOf (program : Program) (code : Labelled) : Type 0 where
   pub own : CodePlace → List ℕ
   pub parts : before ++ flat_map own (places_of program) ≡ range_with_len 0 (length code.lines)
   pub some : (place : CodePlace) → Contains (places_of program) place → 0 < length (own place)
-  pub few_before : sum_by (words_at code) before ≤ most_start_words
+  pub few_before : sum_by (words_at code) before ≤ MAX_START_WORDS
   pub few_own : (function : ℕ) → function < length program.functions
       → sum_by (λ (index : ℕ). sum_by (words_at code) (own (record { function = function; index = index })))
       (range_with_len 0 (length (routine_at program function).code))
-      ≤ words_for_each * size (routine_at program function)
-  pub few_words : all_words code.lines ≤ most_start_words + words_for_each * sum_by size program.functions
+      ≤ WORDS_FOR_EACH * size (routine_at program function)
+  pub few_words : all_words code.lines ≤ MAX_START_WORDS + WORDS_FOR_EACH * sum_by size program.functions
   pub follows : (pages calls : ℕ) → AreAllowed pages calls → (input : List ℕ) → AllByRecursion (λ b. b < 256) input
       → (addresses : ℕ → ℕ) → AreAddresses code addresses
       → NeverFails (plain.machine program pages calls) (plain.start program input)

@@ -2,12 +2,13 @@
 ghost use Rattle.std.specs.Prelude.{◌≡◌, ◌+◌, ◌<◌, ◌≤◌, ◌++◌, OnOk, length};
 ghost use Rattle.cyc_plain.specs.Program.{program_of, routine_at};
 ghost use Rattle.cyc_plain.specs.WellFormed.{IsInRange};
-ghost use Rattle.cyc_select.specs.Selection.{body, behind};
-ghost use Rattle.cyc_select.specs.Emission.{Emits, IsReached, IsKnown, most_lines, test_code};
+ghost use Rattle.cyc_select.specs.Selection.{test_code, body, behind};
+ghost use Rattle.cyc_select.specs.Emission.{AddsLines, IsReached, IsKnown, most_lines};
 
 use crate::code::Line;
+use crate::constants::{FIRST, ZERO};
 use crate::emitter::Emitter;
-use crate::instructions::{FIRST, ZERO, load_slot};
+use crate::instructions::load_slot;
 use crate::operators::Slots;
 use crate::tables::Tables;
 use cyc_frame::Frame;
@@ -25,7 +26,7 @@ impl Emitter {
         label: usize,
     ) -> Result<(), AllocError>
         requires { IsReached frame condition }
-        ensures { Emits result self.old self.new (test_code frame op condition label) }
+        ensures { AddsLines result self.old self.new (test_code frame op condition label) }
     {
         self.ordinary(&[load_slot(frame, FIRST, condition)])?;
         self.branch(op, FIRST, ZERO, label)
@@ -41,7 +42,7 @@ impl Emitter {
         requires known { IsKnown tables.now }
         requires in_range { IsInRange (program_of tables.now.plain.now) (routine_at (program_of tables.now.plain.now) tables.now.function) instruction }
         requires fits { here ≤ most_lines }
-        ensures { Emits result self.old self.new (body (program_of tables.now.plain.now) tables.now.frames.now tables.now.function here instruction) }
+        ensures { AddsLines result self.old self.new (body (program_of tables.now.plain.now) tables.now.frames.now tables.now.function here instruction) }
     {
         let frame = tables.frame(tables.function);
         match instruction {
@@ -113,7 +114,7 @@ impl Emitter {
     fn behind(&mut self, tables: &Tables, instruction: Instruction) -> Result<(), AllocError>
         requires known { IsKnown tables.now }
         requires in_range { IsInRange (program_of tables.now.plain.now) (routine_at (program_of tables.now.plain.now) tables.now.function) instruction }
-        ensures { Emits result self.old self.new (behind (program_of tables.now.plain.now) tables.now.frames.now tables.now.function instruction) }
+        ensures { AddsLines result self.old self.new (behind (program_of tables.now.plain.now) tables.now.frames.now tables.now.function instruction) }
     {
         let frame = tables.frame(tables.function);
         match instruction {
@@ -136,7 +137,7 @@ impl Emitter {
         requires known { IsKnown tables.now }
         requires in_range { IsInRange (program_of tables.now.plain.now) (routine_at (program_of tables.now.plain.now) tables.now.function) instruction }
         requires fits { here ≤ most_lines }
-        ensures { Emits result self.old self.new (body (program_of tables.now.plain.now) tables.now.frames.now tables.now.function here instruction ++ behind (program_of tables.now.plain.now) tables.now.frames.now tables.now.function instruction) }
+        ensures { AddsLines result self.old self.new (body (program_of tables.now.plain.now) tables.now.frames.now tables.now.function here instruction ++ behind (program_of tables.now.plain.now) tables.now.frames.now tables.now.function instruction) }
     {
         self.body(tables, here, instruction)?;
         self.behind(tables, instruction)

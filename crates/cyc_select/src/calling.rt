@@ -2,26 +2,23 @@
 ghost use Rattle.std.specs.Prelude.{◌≡◌, ◌+◌, ◌*◌, ◌<◌, ◌≤◌, [], ◌∷◌, ◌++◌, true, length, OnOk};
 ghost use Rattle.cyc_plain.specs.Program.{greatest_value};
 ghost use Rattle.cyc_frame.specs.Layout.{most_words};
-ghost use Rattle.cyc_select.specs.Selection.{load, store_slot, slot_offset, copies, ordinary, load_all, store_all, ending_code};
-ghost use Rattle.cyc_select.specs.Emission.{Emits, IsReached, AreReached, most_lines, enter_code, calling_code, returned_code, returning_code};
+ghost use Rattle.cyc_select.specs.Selection.{load, store_slot, slot_offset, copies, ordinary, load_all, store_all, calling_code, returned_code, ending_code, returning_code};
+ghost use Rattle.cyc_select.specs.Emission.{AddsLines, IsReached, AreReached, most_lines, enter_code};
 
 use crate::code::Line;
+use crate::constants::{CALLS, FIRST, FIRST_RESULT, SECOND_RESULT, THIRD_RESULT, ZERO};
 use crate::emitter::Emitter;
 use crate::instructions::{
-    CALLS, FIRST, RETURN_ADDRESS, SERVICE, SERVICE_FIRST, ZERO, add_immediate, load, load_slot,
-    minus, offset_of, pop_frame, push_frame, small, store, store_slot, syscall,
+    add_immediate, load, load_slot, minus, offset_of, pop_frame, push_frame, small, store,
+    store_slot, syscall,
 };
 use cyc_frame::Frame;
 use cyc_isa::BranchOp;
+use cyc_machine::constants::{ARGUMENT, END_FULL, END_RETURNED, RETURN_ADDRESS, SERVICE};
 use std::alloc::AllocError;
 
-/// The services of the system that end a run.
-const EXIT: u16 = 3;
-
-const TOO_MANY_CALLS: u16 = 11;
-
 /// The registers of what a function returns.
-const RESULTS: [u8; 3] = [2, 3, 5];
+const RESULTS: [u8; 3] = [FIRST_RESULT, SECOND_RESULT, THIRD_RESULT];
 
 impl Emitter {
     /// One argument, from the caller's slot to the callee's, whose frame is the current one already.
@@ -35,7 +32,7 @@ impl Emitter {
         requires words { callee.words ≤ most_words }
         requires source { IsReached caller source }
         requires target { IsReached callee slot }
-        ensures { Emits result self.old self.new (ordinary (load 8 (4 * callee.words + slot_offset caller source) ∷ store_slot callee 8 slot ∷ [])) }
+        ensures { AddsLines result self.old self.new (ordinary (load FIRST (4 * callee.words + slot_offset caller source) ∷ store_slot callee FIRST slot ∷ [])) }
     {
         let offset = offset_of(callee.words) + offset_of(caller.first_slot + source);
         self.ordinary(&[load(FIRST, offset), store_slot(callee, FIRST, slot)])
@@ -52,7 +49,7 @@ impl Emitter {
         requires words { callee.words ≤ most_words }
         requires source { AreReached caller source count }
         requires target { AreReached callee 0 count }
-        ensures { Emits result self.old self.new (ordinary (copies caller callee source 0 count)) }
+        ensures { AddsLines result self.old self.new (ordinary (copies caller callee source 0 count)) }
     {
         for slot in 0..count {
             self.argument(caller, callee, source + slot, slot)?;
@@ -65,10 +62,10 @@ impl Emitter {
         requires return_address { caller.return_address ≤ most_words }
         requires some { 0 < callee.words }
         requires words { callee.words ≤ most_words }
-        ensures { Emits result self.old self.new (enter_code caller callee) }
+        ensures { AddsLines result self.old self.new (enter_code caller callee) }
     {
         self.ordinary(&[
-            small(SERVICE, TOO_MANY_CALLS),
+            small(SERVICE, END_FULL as u16),
             syscall(),
             store(RETURN_ADDRESS, offset_of(caller.return_address)),
             add_immediate(CALLS, CALLS, minus(1)),
@@ -91,7 +88,7 @@ impl Emitter {
         requires words { frames.1.words ≤ most_words }
         requires source { AreReached frames.0 arguments count }
         requires target { AreReached frames.1 0 count }
-        ensures { Emits result self.old self.new (calling_code frames.0 frames.1 here label arguments count) }
+        ensures { AddsLines result self.old self.new (calling_code frames.0 frames.1 here label arguments count) }
     {
         let (caller, callee) = frames;
         self.branch(BranchOp::NotEqual, CALLS, ZERO, here + 3)?;
@@ -103,7 +100,7 @@ impl Emitter {
     /// Registers into the slots from one on.
     fn store_all(&mut self, frame: Frame, slot: usize, sources: &[u8]) -> Result<(), AllocError>
         requires { AreReached frame slot (length sources.now) }
-        ensures { Emits result self.old self.new (ordinary (store_all frame slot sources.now)) }
+        ensures { AddsLines result self.old self.new (ordinary (store_all frame slot sources.now)) }
     {
         let mut next = slot;
         for source in sources {
@@ -116,7 +113,7 @@ impl Emitter {
     /// The slots from one on into registers.
     fn load_all(&mut self, frame: Frame, slot: usize, targets: &[u8]) -> Result<(), AllocError>
         requires { AreReached frame slot (length targets.now) }
-        ensures { Emits result self.old self.new (ordinary (load_all frame slot targets.now)) }
+        ensures { AddsLines result self.old self.new (ordinary (load_all frame slot targets.now)) }
     {
         let mut next = slot;
         for target in targets {
@@ -136,7 +133,7 @@ impl Emitter {
         requires return_address { frame.return_address ≤ most_words }
         requires few { results ≤ greatest_value }
         requires target { AreReached frame slot results }
-        ensures { Emits result self.old self.new (returned_code frame slot results) }
+        ensures { AddsLines result self.old self.new (returned_code frame slot results) }
     {
         self.ordinary(&[
             load(RETURN_ADDRESS, offset_of(frame.return_address)),
@@ -155,15 +152,15 @@ impl Emitter {
     ) -> Result<(), AllocError>
         requires fits { here ≤ most_lines }
         requires source { is_main ≡ true → IsReached frame value }
-        ensures { Emits result self.old self.new (ending_code is_main frame here value) }
+        ensures { AddsLines result self.old self.new (ending_code is_main frame here value) }
     {
         if !is_main {
             return Ok(());
         }
         self.branch(BranchOp::NotEqual, RETURN_ADDRESS, ZERO, here + 4)?;
         self.ordinary(&[
-            load_slot(frame, SERVICE_FIRST, value),
-            small(SERVICE, EXIT),
+            load_slot(frame, ARGUMENT, value),
+            small(SERVICE, END_RETURNED as u16),
             syscall(),
         ])
     }
@@ -182,7 +179,7 @@ impl Emitter {
         requires few { results ≤ greatest_value }
         requires main { is_main ≡ true → IsReached frame value }
         requires source { AreReached frame value results }
-        ensures { Emits result self.old self.new (returning_code is_main frame here value results) }
+        ensures { AddsLines result self.old self.new (returning_code is_main frame here value results) }
     {
         self.ending(is_main, frame, here, value)?;
         self.load_all(frame, value, &RESULTS[..results])?;

@@ -2,14 +2,12 @@
 ghost use Rattle.std.specs.Prelude.{◌≡◌, ◌+◌, ◌*◌, ◌<◌, ◌≤◌, length, map, sum_by, All, IfOk};
 ghost use Rattle.cyc_plain.specs.Program.{program_of, routine_of, routine_at, instruction_size, size, greatest_value};
 ghost use Rattle.cyc_plain.specs.WellFormed.{IsWellFormed, IsInRange};
-ghost use Rattle.cyc_select.specs.Selection.{operator_count, ending_count, body_count, behind_count, count_of, start_count};
-ghost use Rattle.cyc_select.specs.Emission.{AreFew, most_size, most_lines, lines_for_each, instruction_lines, function_starts};
+ghost use Rattle.cyc_select.specs.Selection.{operator_count, ending_count, body_count, behind_count, count_of};
+ghost use Rattle.cyc_select.specs.Emission.{AreFew, most_lines, instruction_lines, function_starts};
 
+use crate::constants::{LINES_FOR_EACH, MAX_SIZE, START_LINES};
 use cyc_plain::{BinaryOperator, Instruction, Plain};
 use std::alloc::{AllocError, Global};
-
-/// The start has so many lines.
-const START: usize = 3;
 
 /// How many words a function returns.
 pub(crate) fn results_of(plain: &Plain, function: usize) -> usize
@@ -47,7 +45,7 @@ fn return_count(plain: &Plain, function: usize) -> usize
 fn body_count(plain: &Plain, function: usize, instruction: Instruction) -> usize
     requires function { function < length plain.now.functions.items }
     requires few { AreFew (program_of plain.now) }
-    requires small { instruction_size instruction ≤ most_size }
+    requires small { instruction_size instruction ≤ MAX_SIZE }
     ensures { result ≡ body_count (program_of plain.now) function instruction }
 {
     match instruction {
@@ -81,7 +79,7 @@ fn count_of(plain: &Plain, function: usize, instruction: Instruction) -> usize
     requires function { function < length plain.now.functions.items }
     requires few { AreFew (program_of plain.now) }
     requires in_range { IsInRange (program_of plain.now) (routine_at (program_of plain.now) function) instruction }
-    requires small { instruction_size instruction ≤ most_size }
+    requires small { instruction_size instruction ≤ MAX_SIZE }
     ensures { result ≡ count_of (program_of plain.now) function instruction }
 {
     body_count(plain, function, instruction) + behind_count(plain, function, instruction)
@@ -92,9 +90,9 @@ fn code_count(plain: &Plain, function: usize, code: &[Instruction]) -> usize
     requires function { function < length plain.now.functions.items }
     requires few { AreFew (program_of plain.now) }
     requires in_range { All (IsInRange (program_of plain.now) (routine_at (program_of plain.now) function)) code.now }
-    requires small { sum_by instruction_size code.now ≤ most_size }
+    requires small { sum_by instruction_size code.now ≤ MAX_SIZE }
     ensures value { result ≡ sum_by (count_of (program_of plain.now) function) code.now }
-    ensures small { result ≤ lines_for_each * sum_by instruction_size code.now }
+    ensures small { result ≤ LINES_FOR_EACH * sum_by instruction_size code.now }
 {
     let mut lines = 0;
     for instruction in code {
@@ -114,8 +112,8 @@ pub(crate) fn instruction_lines(
     requires function { function < length plain.now.functions.items }
     requires few { AreFew (program_of plain.now) }
     requires in_range { All (IsInRange (program_of plain.now) (routine_at (program_of plain.now) function)) code.now }
-    requires small { sum_by instruction_size code.now ≤ most_size }
-    requires fits { first + lines_for_each * sum_by instruction_size code.now ≤ most_lines }
+    requires small { sum_by instruction_size code.now ≤ MAX_SIZE }
+    requires fits { first + LINES_FOR_EACH * sum_by instruction_size code.now ≤ most_lines }
     ensures { IfOk result (λ lines. lines.items ≡ instruction_lines (program_of plain.now) function first code.now) }
 {
     let mut lines = Vec::new(alloc);
@@ -130,11 +128,11 @@ pub(crate) fn instruction_lines(
 /// The number of the first line of each function.
 pub(crate) fn function_starts(alloc: Global, plain: &Plain) -> Result<Vec<usize>, AllocError>
     requires well_formed { IsWellFormed (program_of plain.now) }
-    requires small { sum_by size (program_of plain.now).functions ≤ most_size }
-    ensures { IfOk result (λ starts. starts.items ≡ function_starts (program_of plain.now) 0 start_count (program_of plain.now).functions) }
+    requires small { sum_by size (program_of plain.now).functions ≤ MAX_SIZE }
+    ensures { IfOk result (λ starts. starts.items ≡ function_starts (program_of plain.now) 0 START_LINES (program_of plain.now).functions) }
 {
     let mut starts = Vec::new(alloc);
-    let mut here = START;
+    let mut here = START_LINES;
     for function in &plain.functions {
         let lines = code_count(plain, starts.len(), &function.code);
         starts.push(here)?;

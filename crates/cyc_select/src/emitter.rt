@@ -3,7 +3,7 @@ ghost use Rattle.std.specs.Prelude.{◌≡◌, [], ◌∷◌, OnOk};
 ghost use Rattle.cyc_isa.specs.Decoding.{register_of};
 ghost use Rattle.cyc_select.specs.declared.code.Line.TheVariants as lines;
 ghost use Rattle.cyc_select.specs.Selection.{ordinary};
-ghost use Rattle.cyc_select.specs.Emission.{Emits};
+ghost use Rattle.cyc_select.specs.Emission.{AddsLines};
 
 use crate::code::Line;
 use crate::instructions::register;
@@ -27,7 +27,7 @@ impl Emitter {
 
     /// One line more.
     pub(crate) fn line(&mut self, line: Line) -> Result<(), AllocError>
-        ensures { Emits result self.old self.new (line ∷ []) }
+        ensures { AddsLines result self.old self.new (line ∷ []) }
     {
         self.lines.push(line)?;
         Ok(())
@@ -41,7 +41,7 @@ impl Emitter {
         right: u8,
         label: usize,
     ) -> Result<(), AllocError>
-        ensures { Emits result self.old self.new (lines.Branch op (register_of left) (register_of right) label ∷ []) }
+        ensures { AddsLines result self.old self.new (lines.Branch op (register_of left) (register_of right) label ∷ []) }
     {
         self.line(Line::Branch {
             op,
@@ -53,7 +53,7 @@ impl Emitter {
 
     /// Lines of one instruction each.
     pub(crate) fn ordinary(&mut self, instructions: &[Instr]) -> Result<(), AllocError>
-        ensures { Emits result self.old self.new (ordinary instructions.now) }
+        ensures { AddsLines result self.old self.new (ordinary instructions.now) }
     {
         for instruction in instructions {
             self.line(Line::Ordinary {

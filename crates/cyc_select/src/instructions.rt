@@ -2,32 +2,12 @@
 ghost use Rattle.std.specs.Prelude.{◌≡◌, ◌+◌, ◌*◌, ◌<◌, ◌≤◌};
 ghost use Rattle.cyc_isa.specs.Decoding.{register_of, trap_code_of};
 ghost use Rattle.cyc_frame.specs.Layout.{most_words};
-ghost use Rattle.cyc_select.specs.Selection.{load, store, load_slot, store_slot, add_immediate, small, minus, is_zero, syscall, push_frame, pop_frame};
-ghost use Rattle.cyc_select.specs.Emission.{IsReached, load_upper, or_lower};
+ghost use Rattle.cyc_select.specs.Selection.{load, store, load_slot, store_slot, add_immediate, small, minus, is_zero, syscall, load_upper, or_lower, push_frame, pop_frame};
+ghost use Rattle.cyc_select.specs.Emission.{IsReached};
 
+use crate::constants::{FRAME, ZERO};
 use cyc_frame::Frame;
 use cyc_isa::{ExceptionOp, ImmediateOp, Instr, MemoryOp, Register, TrapCode};
-
-/// Always 0.
-pub(crate) const ZERO: u8 = 0;
-/// The number of a service of the system, and the first register of what a function returns.
-pub(crate) const SERVICE: u8 = 2;
-/// The arguments of a service.
-pub(crate) const SERVICE_FIRST: u8 = 4;
-
-pub(crate) const SERVICE_SECOND: u8 = 5;
-/// Operands inside an instruction.
-pub(crate) const FIRST: u8 = 8;
-
-pub(crate) const SECOND: u8 = 9;
-
-pub(crate) const THIRD: u8 = 10;
-/// The address of the current frame.
-pub(crate) const FRAME: u8 = 29;
-/// How many more calls may be under way.
-pub(crate) const CALLS: u8 = 30;
-/// The return address.
-pub(crate) const RETURN_ADDRESS: u8 = 31;
 
 /// The register of this number, which counts modulo 32.
 pub(crate) fn register(number: u8) -> Register

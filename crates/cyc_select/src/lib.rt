@@ -4,6 +4,7 @@
 mod bodies;
 mod calling;
 mod code;
+pub mod constants;
 mod counting;
 mod emitter;
 mod instructions;

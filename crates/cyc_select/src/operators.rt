@@ -1,29 +1,22 @@
 //! The lines of an operator, and of what else a function does with its own slots.
 ghost use Rattle.std.specs.Prelude.{◌≡◌, ◌+◌, ◌*◌, ◌<◌, ◌≤◌, ◌^◌, [], ◌∷◌, ◌++◌, OnOk};
-ghost use Rattle.cyc_machine.specs.State.{data_base};
 ghost use Rattle.cyc_plain.specs.Program.{most_globals};
-ghost use Rattle.cyc_select.specs.Selection.{load_slot, store_slot, constant, small, syscall, unary_code, binary_code, ordinary, divide_code, operator_code};
-ghost use Rattle.cyc_select.specs.Emission.{Emits, IsReached, most_lines, arithmetic_of, shift_of, multiply_divide_of, move_from_of, at_address, order_code, operands_code, quotient_code, load_global, store_global, uncaught_code};
+ghost use Rattle.cyc_select.specs.Selection.{load_slot, store_slot, constant, small, syscall, arithmetic_of, shift_of, multiply_divide_of, move_from_of, at_address, unary_code, binary_code, ordinary, quotient_code, divide_code, operator_code, load_global, store_global, uncaught_code};
+ghost use Rattle.cyc_select.specs.Emission.{AddsLines, IsReached, most_lines, order_code, operands_code};
 
+use crate::constants::{FIRST, SECOND, THIRD, ZERO};
 use crate::emitter::Emitter;
 use crate::instructions::{
-    FIRST, SECOND, SERVICE, SERVICE_FIRST, SERVICE_SECOND, THIRD, ZERO, add_immediate, is_zero,
-    load_slot, load_upper, minus, or_lower, register, small, store_slot, syscall,
+    add_immediate, is_zero, load_slot, load_upper, minus, or_lower, register, small, store_slot,
+    syscall,
 };
 use cyc_frame::Frame;
 use cyc_isa::{ArithmeticOp, BranchOp, Instr, MemoryOp, MoveFromOp, MultiplyDivideOp, ShiftOp};
+use cyc_machine::constants::{
+    ARGUMENT, DATA_BASE, END_UNCAUGHT, GET_BYTE, PUT_BYTE, SECOND_ARGUMENT, SERVICE,
+};
 use cyc_plain::{BinaryOperator, UnaryOperator};
 use std::alloc::AllocError;
-
-/// Where the machine's data range starts, with the globals.
-const DATA_BASE: u32 = 0x1000_0000;
-
-/// The services of the system that are used.
-const READ_BYTE: u16 = 1;
-
-const WRITE_BYTE: u16 = 2;
-
-const UNCAUGHT: u16 = 4;
 
 /// What a binary operator works on, and where its result goes.
 #[derive(Clone, Copy)]
@@ -106,7 +99,7 @@ impl Emitter {
         word: u32,
     ) -> Result<(), AllocError>
         requires { IsReached frame destination }
-        ensures { Emits result self.old self.new (ordinary (constant 8 word ++ store_slot frame 8 destination ∷ [])) }
+        ensures { AddsLines result self.old self.new (ordinary (constant FIRST word ++ store_slot frame FIRST destination ∷ [])) }
     {
         self.ordinary(&[
             load_upper(FIRST, word),
@@ -124,7 +117,7 @@ impl Emitter {
     ) -> Result<(), AllocError>
         requires target { IsReached frame destination }
         requires source { IsReached frame source }
-        ensures { Emits result self.old self.new (ordinary (load_slot frame 8 source ∷ store_slot frame 8 destination ∷ [])) }
+        ensures { AddsLines result self.old self.new (ordinary (load_slot frame FIRST source ∷ store_slot frame FIRST destination ∷ [])) }
     {
         self.ordinary(&[
             load_slot(frame, FIRST, source),
@@ -141,7 +134,7 @@ impl Emitter {
     ) -> Result<(), AllocError>
         requires target { IsReached frame destination }
         requires source { IsReached frame operand }
-        ensures { Emits result self.old self.new (ordinary (load_slot frame 8 operand ∷ unary_code operator ∷ store_slot frame 8 destination ∷ [])) }
+        ensures { AddsLines result self.old self.new (ordinary (load_slot frame FIRST operand ∷ unary_code operator ∷ store_slot frame FIRST destination ∷ [])) }
     {
         self.ordinary(&[
             load_slot(frame, FIRST, operand),
@@ -152,7 +145,7 @@ impl Emitter {
 
     /// A test of two registers for order: whether the left one is less than the right one, or is not.
     fn order(&mut self, left: u8, right: u8, holds: bool) -> Result<(), AllocError>
-        ensures { Emits result self.old self.new (order_code left right holds) }
+        ensures { AddsLines result self.old self.new (order_code left right holds) }
     {
         self.ordinary(&[arithmetic(ArithmeticOp::SetLess, left, right)])?;
         if holds {
@@ -163,7 +156,7 @@ impl Emitter {
 
     /// An operator on the registers of the operands, into the first. Division has lines of its own.
     fn computed(&mut self, operator: BinaryOperator) -> Result<(), AllocError>
-        ensures { Emits result self.old self.new (ordinary (binary_code operator)) }
+        ensures { AddsLines result self.old self.new (ordinary (binary_code operator)) }
     {
         let difference = arithmetic(ArithmeticOp::SubtractUnsigned, FIRST, SECOND);
         match operator {
@@ -199,7 +192,7 @@ impl Emitter {
     fn operands(&mut self, frame: Frame, left: usize, right: usize) -> Result<(), AllocError>
         requires left { IsReached frame left }
         requires right { IsReached frame right }
-        ensures { Emits result self.old self.new (operands_code frame left right) }
+        ensures { AddsLines result self.old self.new (operands_code frame left right) }
     {
         self.ordinary(&[
             load_slot(frame, FIRST, left),
@@ -215,7 +208,7 @@ impl Emitter {
         destination: usize,
     ) -> Result<(), AllocError>
         requires { IsReached frame destination }
-        ensures { Emits result self.old self.new (quotient_code frame which destination) }
+        ensures { AddsLines result self.old self.new (quotient_code frame which destination) }
     {
         self.ordinary(&[
             arithmetic(ArithmeticOp::SubtractUnsigned, ZERO, FIRST),
@@ -239,7 +232,7 @@ impl Emitter {
         requires target { IsReached frame slots.destination }
         requires left { IsReached frame slots.left }
         requires right { IsReached frame slots.right }
-        ensures { Emits result self.old self.new (divide_code frame here which slots.destination slots.left slots.right) }
+        ensures { AddsLines result self.old self.new (divide_code frame here which slots.destination slots.left slots.right) }
     {
         self.operands(frame, slots.left, slots.right)?;
         self.ordinary(&[add_immediate(THIRD, ZERO, minus(1))])?;
@@ -259,7 +252,7 @@ impl Emitter {
         requires target { IsReached frame slots.destination }
         requires left { IsReached frame slots.left }
         requires right { IsReached frame slots.right }
-        ensures { Emits result self.old self.new (operator_code frame here operator slots.destination slots.left slots.right) }
+        ensures { AddsLines result self.old self.new (operator_code frame here operator slots.destination slots.left slots.right) }
     {
         match operator {
             BinaryOperator::Divide => return self.divide(frame, here, MoveFromOp::Low, slots),
@@ -274,10 +267,10 @@ impl Emitter {
     /// A byte of the input comes into a slot.
     pub(crate) fn read_byte(&mut self, frame: Frame, destination: usize) -> Result<(), AllocError>
         requires { IsReached frame destination }
-        ensures { Emits result self.old self.new (ordinary (small 2 1 ∷ syscall ∷ store_slot frame 2 destination ∷ [])) }
+        ensures { AddsLines result self.old self.new (ordinary (small SERVICE GET_BYTE ∷ syscall ∷ store_slot frame SERVICE destination ∷ [])) }
     {
         self.ordinary(&[
-            small(SERVICE, READ_BYTE),
+            small(SERVICE, GET_BYTE as u16),
             syscall(),
             store_slot(frame, SERVICE, destination),
         ])
@@ -286,11 +279,11 @@ impl Emitter {
     /// A slot's low byte is printed.
     pub(crate) fn write_byte(&mut self, frame: Frame, source: usize) -> Result<(), AllocError>
         requires { IsReached frame source }
-        ensures { Emits result self.old self.new (ordinary (load_slot frame 4 source ∷ small 2 2 ∷ syscall ∷ [])) }
+        ensures { AddsLines result self.old self.new (ordinary (load_slot frame ARGUMENT source ∷ small SERVICE PUT_BYTE ∷ syscall ∷ [])) }
     {
         self.ordinary(&[
-            load_slot(frame, SERVICE_FIRST, source),
-            small(SERVICE, WRITE_BYTE),
+            load_slot(frame, ARGUMENT, source),
+            small(SERVICE, PUT_BYTE as u16),
             syscall(),
         ])
     }
@@ -304,7 +297,7 @@ impl Emitter {
     ) -> Result<(), AllocError>
         requires global { global < most_globals }
         requires target { IsReached frame destination }
-        ensures { Emits result self.old self.new (load_global frame destination global) }
+        ensures { AddsLines result self.old self.new (load_global frame destination global) }
     {
         let address = DATA_BASE + 4 * global as u32;
         self.ordinary(&[
@@ -324,7 +317,7 @@ impl Emitter {
     ) -> Result<(), AllocError>
         requires global { global < most_globals }
         requires source { IsReached frame source }
-        ensures { Emits result self.old self.new (store_global frame global source) }
+        ensures { AddsLines result self.old self.new (store_global frame global source) }
     {
         let address = DATA_BASE + 4 * global as u32;
         self.ordinary(&[
@@ -343,13 +336,13 @@ impl Emitter {
         value: usize,
     ) -> Result<(), AllocError>
         requires { IsReached frame value }
-        ensures { Emits result self.old self.new (uncaught_code frame tag value) }
+        ensures { AddsLines result self.old self.new (uncaught_code frame tag value) }
     {
         self.ordinary(&[
-            load_upper(SERVICE_FIRST, tag),
-            or_lower(SERVICE_FIRST, tag),
-            load_slot(frame, SERVICE_SECOND, value),
-            small(SERVICE, UNCAUGHT),
+            load_upper(ARGUMENT, tag),
+            or_lower(ARGUMENT, tag),
+            load_slot(frame, SECOND_ARGUMENT, value),
+            small(SERVICE, END_UNCAUGHT as u16),
             syscall(),
         ])
     }

@@ -6,15 +6,17 @@ ghost use Rattle.cyc_frame.specs.Layout.{IsFrame, frame_at, most_words};
 ghost use Rattle.cyc_words.specs.Fault.{memory_fault};
 ghost use Rattle.cyc_select.specs.Labelled.{labelled_of};
 ghost use Rattle.cyc_select.specs.Selected.{IsCodeOf};
-ghost use Rattle.cyc_select.specs.Selection.{code_lines, function_lines, function_line, start_count, select_of};
-ghost use Rattle.cyc_select.specs.Emission.{Emits, AreFrames, IsKnown, IsReady, start_code, most_size};
+ghost use Rattle.cyc_select.specs.Selection.{start_code, code_lines, function_lines, function_line, select_of};
+ghost use Rattle.cyc_select.specs.Emission.{AddsLines, AreFrames, IsKnown, IsReady};
 
 use crate::code::{Code, Line};
+use crate::constants::{CALLS, MAX_SIZE, START_LINES};
 use crate::counting::{function_starts, instruction_lines};
 use crate::emitter::Emitter;
-use crate::instructions::{CALLS, SERVICE_FIRST, add_immediate, minus, push_frame};
+use crate::instructions::{add_immediate, minus, push_frame};
 use crate::tables::{Ready, Tables};
 use cyc_frame::{Frame, Frames};
+use cyc_machine::constants::ARGUMENT;
 use cyc_plain::{Instruction, Plain};
 use cyc_words::Fault;
 use std::alloc::{AllocError, Global};
@@ -25,10 +27,10 @@ impl Emitter {
     fn start(&mut self, frame: Frame, label: usize) -> Result<(), AllocError>
         requires some { 0 < frame.words }
         requires words { frame.words ≤ most_words }
-        ensures { Emits result self.old self.new (start_code frame label) }
+        ensures { AddsLines result self.old self.new (start_code frame label) }
     {
         self.ordinary(&[
-            add_immediate(CALLS, SERVICE_FIRST, minus(1)),
+            add_immediate(CALLS, ARGUMENT, minus(1)),
             push_frame(frame),
         ])?;
         self.line(Line::Jump { label })
@@ -38,7 +40,7 @@ impl Emitter {
     fn code(&mut self, tables: &Tables, code: &[Instruction]) -> Result<(), AllocError>
         requires known { IsKnown tables.now }
         requires code { code.now ≡ (routine_at (program_of tables.now.plain.now) tables.now.function).code }
-        ensures { Emits result self.old self.new (code_lines (program_of tables.now.plain.now) tables.now.frames.now tables.now.function (function_line (program_of tables.now.plain.now) tables.now.function) code.now) }
+        ensures { AddsLines result self.old self.new (code_lines (program_of tables.now.plain.now) tables.now.frames.now tables.now.function (function_line (program_of tables.now.plain.now) tables.now.function) code.now) }
     {
         for index in 0..code.len() {
             self.instruction(tables, tables.line(index), code[index])?;
@@ -55,7 +57,7 @@ impl Emitter {
     ) -> Result<(), AllocError>
         requires ready { IsReady program.now }
         requires function { function < length program.now.plain.now.functions.items }
-        ensures { Emits result self.old self.new (code_lines (program_of program.now.plain.now) program.now.frames.now function (function_line (program_of program.now.plain.now) function) (routine_at (program_of program.now.plain.now) function).code) }
+        ensures { AddsLines result self.old self.new (code_lines (program_of program.now.plain.now) program.now.frames.now function (function_line (program_of program.now.plain.now) function) (routine_at (program_of program.now.plain.now) function).code) }
     {
         let code = &program.plain.functions[function].code;
         let first = program.starts[function];
@@ -73,7 +75,7 @@ impl Emitter {
     /// The lines of all functions.
     fn functions(&mut self, alloc: Global, program: &Ready) -> Result<(), AllocError>
         requires { IsReady program.now }
-        ensures { Emits result self.old self.new (function_lines (program_of program.now.plain.now) program.now.frames.now 0 start_count (program_of program.now.plain.now).functions) }
+        ensures { AddsLines result self.old self.new (function_lines (program_of program.now.plain.now) program.now.frames.now 0 START_LINES (program_of program.now.plain.now).functions) }
     {
         for function in 0..program.plain.functions.len() {
             self.function(alloc, program, function)?;
@@ -85,7 +87,7 @@ impl Emitter {
 /// The code, where memory suffices.
 fn selected(alloc: Global, plain: &Plain, frames: &[Frame]) -> Result<Code, AllocError>
     requires well_formed { IsWellFormed (program_of plain.now) }
-    requires few { sum_by size (program_of plain.now).functions ≤ most_size }
+    requires few { sum_by size (program_of plain.now).functions ≤ MAX_SIZE }
     requires fit { AreFrames (program_of plain.now) frames.now }
     ensures { IfOk result (λ code. labelled_of code ≡ select_of (program_of plain.now) frames.now) }
 {
@@ -113,7 +115,7 @@ fn selected(alloc: Global, plain: &Plain, frames: &[Frame]) -> Result<Code, Allo
 /// passes. Nothing is refused but for want of memory.
 pub fn select(alloc: Global, plain: &Plain, frames: &Frames) -> Result<Code, Fault>
     requires well_formed { IsWellFormed (program_of plain.now) }
-    requires few { sum_by size (program_of plain.now).functions ≤ most_size }
+    requires few { sum_by size (program_of plain.now).functions ≤ MAX_SIZE }
     requires frames { (k : ℕ) → k < length plain.now.functions.items
         → IsFrame (routine_at (program_of plain.now) k) (frame_at frames.now.functions.items k) }
     requires words { HasWords (program_of plain.now) }

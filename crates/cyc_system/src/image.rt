@@ -9,20 +9,15 @@ ghost use Rattle.cyc_machine.specs.State.{text_base, text_end, globals_length};
 ghost use Rattle.cyc_system.specs.ProgramImage.{bytes_of_words, segment_of, program_image};
 
 use cyc_elf::{Image, Segment, write_image};
+use cyc_machine::constants::{DATA_BASE, TEXT_BASE};
 use cyc_words::bytes_of;
 use std::alloc::{AllocError, Global};
 
-/// The address of the text's first word, where a run begins.
-const TEXT_BASE: u32 = 0x40_0000;
-
-/// The address of the first global.
-const DATA_BASE: u32 = 0x1000_0000;
-
 /// The flags of a segment that is read (4) and executed (1).
-const READ_AND_EXECUTE: u32 = 5;
+pub const READ_AND_EXECUTE: u32 = 5;
 
 /// The flags of a segment that is read (4) and written (2).
-const READ_AND_WRITE: u32 = 6;
+pub const READ_AND_WRITE: u32 = 6;
 
 /// The bytes of words, one behind the other.
 fn bytes_of_words(alloc: Global, words: &[u32]) -> Result<Vec<u8>, AllocError>

@@ -13,13 +13,9 @@ ghost use Rattle.cyc_system.specs.Listing.{word_text, head_of, line_of, segment_
 use crate::report::RunFault;
 use cyc_elf::{Segment, read_image};
 use cyc_isa::{decode, write_text};
+use cyc_machine::constants::{TEXT_BASE, TEXT_END};
 use cyc_words::{ByteOut, Failed, word_at};
 use std::alloc::Global;
-
-/// The text range: its first address, and the first past it.
-const TEXT_BASE: u32 = 0x40_0000;
-
-const TEXT_END: u32 = 0x200_0000;
 
 fn hex_digit(digit: u32) -> u8
     requires { digit < 16 }

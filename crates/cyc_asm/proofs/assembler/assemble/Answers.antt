@@ -8,17 +8,17 @@ use Rattle.cyc_asm.proofs.Running.{runs}
 use Rattle.cyc_asm.proofs.Standing.{assembled_means}
 use Rattle.cyc_asm.proofs.assembler.assemble.Goals as goal
 
-pub returns-in-Ok-clause-means : goal.returns-in-Ok-clause-means
-returns-in-Ok-clause-means c =
-    let words : c.in-Ok.words.items ≡ assembled (labelled_of c.args.code.now) =
-    c.in-Ok.ensures ∙ ap (λ (lines : List Line). words_before lines (length lines)) c.deref.ensures.value in
+pub returns-clause-means : goal.returns-clause-means
+returns-clause-means c =
+    let words : c.in_ok-words_of.field-0.items ≡ assembled (labelled_of c.args.code.now) =
+    c.in_ok-words_of.ensures ∙ ap (λ (lines : List Line). words_before lines (length lines)) c.deref.ensures.value in
     subst (IsTextOf (labelled_of c.args.code.now) (addresses_of (labelled_of c.args.code.now))) (sym words)
     (assembled_means (labelled_of c.args.code.now) c.requires.formed c.requires.fits)
 
-pub returns-in-Ok-clause-runs : goal.returns-in-Ok-clause-runs
-returns-in-Ok-clause-runs c =
-    let words : c.in-Ok.words.items ≡ assembled (labelled_of c.args.code.now) =
-    c.in-Ok.ensures ∙ ap (λ (lines : List Line). words_before lines (length lines)) c.deref.ensures.value in
-    runs (labelled_of c.args.code.now) (addresses_of (labelled_of c.args.code.now)) c.in-Ok.words.items (
+pub returns-clause-runs : goal.returns-clause-runs
+returns-clause-runs c =
+    let words : c.in_ok-words_of.field-0.items ≡ assembled (labelled_of c.args.code.now) =
+    c.in_ok-words_of.ensures ∙ ap (λ (lines : List Line). words_before lines (length lines)) c.deref.ensures.value in
+    runs (labelled_of c.args.code.now) (addresses_of (labelled_of c.args.code.now)) c.in_ok-words_of.field-0.items (
     subst (IsTextOf (labelled_of c.args.code.now) (addresses_of (labelled_of c.args.code.now))) (sym words)
     (assembled_means (labelled_of c.args.code.now) c.requires.formed c.requires.fits))

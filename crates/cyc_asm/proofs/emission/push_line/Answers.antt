@@ -2,8 +2,9 @@ use Rattle.std.proofs.Common.{◌≡◌, ℕ, List, [], ◌∷◌, ◌++◌, ◌
 use Rattle.std.specs.Prelude.{OnOk}
 use Rattle.cyc_isa.specs.declared.instr.BranchOp.{BranchOp}
 use Rattle.cyc_isa.specs.declared.instr.JumpOp.TheVariants.{Plain, AndLink}
+use Rattle.cyc_asm.specs.declared.constants.TheConstants.{ROUND_OFFSET}
 use Rattle.cyc_asm.specs.Text.{inverse_of}
-use Rattle.cyc_asm.specs.Words.{jump_words, branch_words, offset_round}
+use Rattle.cyc_asm.specs.Words.{jump_words, branch_words}
 use Rattle.cyc_asm.proofs.Tables.{length-most_of_each, length-position_of_each, most_low, position_low, position_at, formed_here, words_here, near_here, words_of_branch_here, reach_here, offset_words_here}
 use Rattle.cyc_asm.proofs.emission.push_line.Goals as goal
 
@@ -110,8 +111,8 @@ returns-in_ok-push_with_slot-in-Branch c =
     let place = position_at c.args.lines.now c.args.positions.now c.in-Branch.label c.requires.positions label in
     subst (λ (ws : List ℕ). OnOk c.push_jump.result (c.push_jump.new.words.items ≡ ws))
     (ap (λ (ws : List ℕ). ws ++ jump_words Plain (get_or c.args.positions.now c.in-Branch.label 0)) c.in_ok-push_with_slot-in-Branch.ensures
-    ∙ append_assoc c.args.words.now.items (branch_words c.inverse-op.result c.in-Branch.left c.in-Branch.right offset_round) (jump_words Plain (get_or c.args.positions.now c.in-Branch.label 0))
-    ∙ ap (λ (op : BranchOp). c.args.words.now.items ++ (branch_words op c.in-Branch.left c.in-Branch.right offset_round ++ jump_words Plain (get_or c.args.positions.now c.in-Branch.label 0))) c.inverse-op.ensures
-    ∙ ap (λ (to : ℕ). c.args.words.now.items ++ (branch_words (inverse_of c.in-Branch.op) c.in-Branch.left c.in-Branch.right offset_round ++ jump_words Plain to)) place
+    ∙ append_assoc c.args.words.now.items (branch_words c.inverse-op.result c.in-Branch.left c.in-Branch.right ROUND_OFFSET) (jump_words Plain (get_or c.args.positions.now c.in-Branch.label 0))
+    ∙ ap (λ (op : BranchOp). c.args.words.now.items ++ (branch_words op c.in-Branch.left c.in-Branch.right ROUND_OFFSET ++ jump_words Plain (get_or c.args.positions.now c.in-Branch.label 0))) c.inverse-op.ensures
+    ∙ ap (λ (to : ℕ). c.args.words.now.items ++ (branch_words (inverse_of c.in-Branch.op) c.in-Branch.left c.in-Branch.right ROUND_OFFSET ++ jump_words Plain to)) place
     ∙ ap (λ (ws : List ℕ). c.args.words.now.items ++ ws) (sym (words_of_branch_here c.args.lines.now c.args.number _ _ _ _ _ false c.requires.within c.in-Branch.is far)))
     c.push_jump.ensures

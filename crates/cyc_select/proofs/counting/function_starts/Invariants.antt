@@ -1,8 +1,8 @@
 use Rattle.std.proofs.Common.{◌≡◌, ◌+◌, ◌*◌, ◌≤◌, ◌++◌, drop, length, map}
 use Rattle.std.specs.Prelude.{sum_by}
 use Rattle.cyc_plain.specs.Program.{program_of, routine_of, size}
-use Rattle.cyc_select.specs.Selection.{start_count}
-use Rattle.cyc_select.specs.Emission.{function_starts, lines_for_each, most_lines}
+use Rattle.cyc_select.specs.declared.constants.TheConstants.{LINES_FOR_EACH, START_LINES}
+use Rattle.cyc_select.specs.Emission.{function_starts, most_lines}
 use Rattle.cyc_select.proofs.counting.function_starts.Given as goal
 
 -- the numbers so far, with those of the other functions, are all of them
@@ -10,6 +10,6 @@ abbrev pub invariant-loop-function : goal.invariant-loop-function
 invariant-loop-function l =
     (length l.starts.items ≡ l.function-index)
     × (l.starts.items ++ function_starts (program_of l.plain) l.function-index l.here (map routine_of (drop l.function-index l.function-items))
-    ≡ function_starts (program_of l.plain) 0 start_count (map routine_of l.plain.functions.items))
-    × (l.here + lines_for_each * sum_by size (map routine_of (drop l.function-index l.function-items)) ≤ most_lines)
+    ≡ function_starts (program_of l.plain) 0 START_LINES (map routine_of l.plain.functions.items))
+    × (l.here + LINES_FOR_EACH * sum_by size (map routine_of (drop l.function-index l.function-items)) ≤ most_lines)
     × (l.function-items ≡ l.plain.functions.items)

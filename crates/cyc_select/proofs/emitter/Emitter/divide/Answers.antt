@@ -4,8 +4,8 @@ use Rattle.cyc_isa.specs.Decoding.{register_of}
 use Rattle.cyc_isa.specs.declared.instr.Instr.{Instr}
 use Rattle.cyc_isa.specs.declared.instr.BranchOp.TheVariants as branch
 use Rattle.cyc_select.specs.declared.code.Line.TheVariants as lines
-use Rattle.cyc_select.specs.Selection.{add_immediate, minus, ordinary}
-use Rattle.cyc_select.specs.Emission.{operands_code, quotient_code}
+use Rattle.cyc_select.specs.Selection.{add_immediate, minus, ordinary, quotient_code}
+use Rattle.cyc_select.specs.Emission.{operands_code}
 use Rattle.cyc_select.proofs.Emitting.{in_four}
 use Rattle.cyc_select.proofs.emitter.Emitter.divide.Goals as goal
 

@@ -3,8 +3,9 @@ use Rattle.std.specs.Prelude.{sum_by, slice_index_or}
 use Rattle.std.proofs.lemmas.List.{length-map}
 use Rattle.cyc_plain.specs.declared.instruction.Instruction.{Instruction}
 use Rattle.cyc_plain.specs.Program.{Routine, program_of, routine_of, routine_at, instruction_size, size}
+use Rattle.cyc_select.specs.declared.constants.TheConstants.{MAX_SIZE, LINES_FOR_EACH}
 use Rattle.cyc_select.specs.Selection.{function_line}
-use Rattle.cyc_select.specs.Emission.{instruction_lines, most_size, most_lines, lines_for_each}
+use Rattle.cyc_select.specs.Emission.{instruction_lines, most_lines}
 use Rattle.cyc_select.proofs.Numbering.{ready_starts, ready_start, ready_size, ready_fits, routine_is}
 use Rattle.cyc_select.proofs.emitter.Emitter.function.Goals as goal
 
@@ -22,15 +23,15 @@ instruction_lines-requires-clause-small c =
     let program = program_of c.args.program.now.plain.now in
     let below : c.args.function < length program.functions = omega (arith, length-map c.args.program.now.plain.now.functions.items routine_of) in
     let same : c.deref.result.now ≡ (routine_at program c.args.function).code = c.deref.ensures.value ∙ ap (λ (r : Routine). r.code) (routine_is c.args.program.now.plain.now.functions.items c.args.function c.index.result.now c.requires.function c.index.ensures) in
-    subst (λ (code : List Instruction). sum_by instruction_size code ≤ most_size) (sym same) (ready_size c.requires.ready c.args.function below)
+    subst (λ (code : List Instruction). sum_by instruction_size code ≤ MAX_SIZE) (sym same) (ready_size c.requires.ready c.args.function below)
 
 pub instruction_lines-requires-clause-fits : goal.instruction_lines-requires-clause-fits
 instruction_lines-requires-clause-fits c =
     let program = program_of c.args.program.now.plain.now in
     let below : c.args.function < length program.functions = omega (arith, length-map c.args.program.now.plain.now.functions.items routine_of) in
     let same : c.deref.result.now ≡ (routine_at program c.args.function).code = c.deref.ensures.value ∙ ap (λ (r : Routine). r.code) (routine_is c.args.program.now.plain.now.functions.items c.args.function c.index.result.now c.requires.function c.index.ensures) in
-    subst (λ (code : List Instruction). slice_index_or c.args.program.now.starts.now c.args.function 0 + lines_for_each * sum_by instruction_size code ≤ most_lines) (sym same)
-    (subst (λ (n : ℕ). n + lines_for_each * size (routine_at program c.args.function) ≤ most_lines) (sym (ready_start c.requires.ready c.args.function below))
+    subst (λ (code : List Instruction). slice_index_or c.args.program.now.starts.now c.args.function 0 + LINES_FOR_EACH * sum_by instruction_size code ≤ most_lines) (sym same)
+    (subst (λ (n : ℕ). n + LINES_FOR_EACH * size (routine_at program c.args.function) ≤ most_lines) (sym (ready_start c.requires.ready c.args.function below))
     (ready_fits c.requires.ready c.args.function below))
 
 pub code-requires-clause-known : goal.code-requires-clause-known

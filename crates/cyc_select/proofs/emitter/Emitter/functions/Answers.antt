@@ -1,7 +1,8 @@
 use Rattle.std.proofs.Common.{◌+◌, ◌<◌, ◌++◌, length, drop, arith}
 use Rattle.std.proofs.lemmas.List.{length-map}
 use Rattle.cyc_plain.specs.Program.{program_of, routine_of, routine_at}
-use Rattle.cyc_select.specs.Selection.{code_lines, function_lines, function_line, start_count}
+use Rattle.cyc_select.specs.declared.constants.TheConstants.{START_LINES}
+use Rattle.cyc_select.specs.Selection.{code_lines, function_lines, function_line}
 use Rattle.cyc_select.proofs.Emitting.{goes_on}
 use Rattle.cyc_select.proofs.Numbering.{functions_next}
 use Rattle.cyc_select.proofs.emitter.Emitter.functions.Goals as goal
@@ -12,7 +13,7 @@ loop-function-preserved c =
     let frames = c.args.program.now.frames.now in
     let k = c.loop-function.function in
     let below : k < length program.functions = omega (arith, length-map c.args.program.now.plain.now.functions.items routine_of, c.len-function-end.ensures, c.loop-function-test.true) in
-    goes_on (c.args.self.now.lines.items ++ function_lines program frames 0 start_count program.functions)
+    goes_on (c.args.self.now.lines.items ++ function_lines program frames 0 START_LINES program.functions)
     c.loop-function.self.lines.items c.function.new.self.lines.items
     (code_lines program frames k (function_line program k) (routine_at program k).code)
     (function_lines program frames (k + 1) (function_line program (k + 1)) (drop (k + 1) program.functions))

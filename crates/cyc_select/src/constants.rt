@@ -1,0 +1,46 @@
+//! The numbers of the code that is selected: the registers that it uses, besides those that have a meaning for the machine,
+//! and how large it may be. All of them are this project's own choice but for `ZERO`, which MIPS32 fixes.
+
+use cyc_machine::constants::STACK_POINTER;
+
+/// The register that is always 0.
+pub const ZERO: u8 = 0;
+
+/// The register of the first word that a function returns.
+pub const FIRST_RESULT: u8 = 2;
+
+/// The register of the second word that a function returns.
+pub const SECOND_RESULT: u8 = 3;
+
+/// The register of the third word that a function returns.
+pub const THIRD_RESULT: u8 = 5;
+
+/// The register of an instruction's first operand, and of its result.
+pub const FIRST: u8 = 8;
+
+/// The register of an instruction's second operand.
+pub const SECOND: u8 = 9;
+
+/// The register of what else an instruction needs.
+pub const THIRD: u8 = 10;
+
+/// The register with the address of the current frame.
+pub const FRAME: u8 = STACK_POINTER;
+
+/// The register with how many more calls may be under way.
+pub const CALLS: u8 = 30;
+
+/// How many lines the start has.
+pub const START_LINES: usize = 3;
+
+/// The functions of a program have at most this size together, and so line numbers fit.
+pub const MAX_SIZE: usize = 360_000;
+
+/// How many lines an instruction has at most for each unit of its size.
+pub const LINES_FOR_EACH: usize = 12;
+
+/// How many words a function's code has at most for each unit of its size.
+pub const WORDS_FOR_EACH: usize = 20;
+
+/// How many words the start has at most.
+pub const MAX_START_WORDS: usize = 4096;

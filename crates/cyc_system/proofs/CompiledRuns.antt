@@ -1,0 +1,131 @@
+-- A run of a file that does what a program means, between a reader and a writer, against the program's limited run.
+use Rattle.std.proofs.Common.{◌≡◌, ℕ, suc, ◌+◌, ◌-◌, ◌*◌, ◌≤◌, ◌<◌, List, [], Bool, true, false, Option, Some, None, Result, Ok, Err, refl, sym, ap, subst, ◌∙◌, arith, inl, inr}
+use Rattle.std.specs.Prelude.{MatchBool}
+use Rattle.std.specs.List.{AllByRecursion}
+use Rattle.std.specs.Io.KnownBytes.{Appends}
+use Rattle.cyc_words.specs.Ending.{Ending}
+use Rattle.cyc_words.specs.Prefix.{IsPrefix}
+use Rattle.cyc_words.proofs.DeviceLemmas.{Appends-nil}
+use Rattle.cyc_words.proofs.PrefixLemmas.{IsPrefix-nil, IsPrefix-trans}
+use Rattle.cyc_elf.specs.declared.fault.ElfFault.{ElfFault}
+use Rattle.cyc_elf.specs.Image.{ImageContents}
+use Rattle.cyc_elf.specs.Reading.{reading}
+use Rattle.cyc_machine.specs.declared.event.End.{End}
+use Rattle.cyc_machine.specs.declared.fault.LoadFault.TheVariants as load
+use Rattle.cyc_machine.specs.Bounds.{Bounds, AreAllowed}
+use Rattle.cyc_machine.specs.Run.{World, Run, end_of, ending_of}
+use Rattle.cyc_machine.specs.Start.{has_outside, start_world}
+use Rattle.cyc_machine.proofs.RunLaws.{world_after, Run-world_after, Run-over, Run-output, Run-append, Run-split, over-end_of}
+use Rattle.cyc_types.specs.TypedTrees.{Program}
+use Rattle.cyc_meaning.specs.State.{HasEnded, status_of, output_of}
+use Rattle.cyc_system.specs.declared.report.Report.{Report}
+use Rattle.cyc_system.specs.declared.report.RunFault.{RunFault}
+use Rattle.cyc_system.specs.declared.report.RunFault.TheVariants.{Elf, Load, Read, Write, Memory}
+use Rattle.cyc_system.specs.declared.report.Stop.{Stop}
+use Rattle.cyc_system.specs.declared.report.Stop.TheVariants as stops
+use Rattle.cyc_system.specs.Engine.{Devices, Rests, Tells, Executes, Stops, Runs, Refuses, Starts, Answers}
+use Rattle.cyc_system.specs.FullPreservation.{text_words, limited, NeverGoesWrong, AreAlike, IsImageOf}
+use Rattle.cyc_system.specs.CompiledRuns.{IsEndOf, IsAsFar, AnswersAs, RunsAs}
+use Rattle.cyc_system.proofs.Engines.{counted_run}
+use Rattle.cyc_system.proofs.Preservation.{are_alike}
+
+-- ---- the machine, whatever it runs
+
+-- an ended run can go on for any number of instructions
+ended_rests : (count : ℕ) (w : World) (end : End) → end_of w ≡ Some end → Run count w w
+ended_rests count w end ended =
+    subst (Run count w) (Run-over count w (world_after count w) end (over-end_of w end ended) (Run-world_after count w)) (Run-world_after count w)
+
+-- a run that has stopped is one of the whole budget
+whole_run : (stop : Stop) (budget count : ℕ) (u w : World) → Run count u w → count ≤ budget → Stops stop budget count w → Run budget u w
+whole_run (stops.End end) budget count u w run few ended =
+    subst (λ (k : ℕ). Run k u w) (let all : count + (budget - count) ≡ budget = omega (arith, few) in all)
+    (Run-append count (budget - count) u w w run (ended_rests (budget - count) w end ended))
+whole_run stops.Spent budget count u w run few (none, all) = subst (λ (k : ℕ). Run k u w) all run
+
+-- where the world has an end, that is how the run has stopped
+stopped_at : (stop : Stop) (budget count : ℕ) (w : World) (end : End) → Stops stop budget count w → end_of w ≡ Some end → stop ≡ stops.End end
+stopped_at (stops.End e) budget count w end ended over = let same : Some e ≡ Some end = sym ended ∙ over in cc
+stopped_at stops.Spent budget count w end (none, all) over = absurd (let same : None ≡ Some end = sym none ∙ over in cc)
+
+-- a reader that tells its bytes was given just these
+input_told : (told : Option (List ℕ)) (input bytes : List ℕ) → told ≡ Some input → Tells told bytes → bytes ≡ input
+input_told told input bytes is tells = sym (let same : input ≡ bytes = subst (λ (o : Option (List ℕ)). Tells o bytes) is tells in same)
+
+-- ---- against the program
+
+module _ (p : Program) (image : ImageContents) (limits : Bounds) (input : List ℕ) (alike : AreAlike p image limits input) (budget : ℕ) (old new : Devices) where
+  started : World
+  started = start_world image limits input
+
+  -- what is answered before anything is read or written
+  kept : (result : Result Report RunFault) → result ≡ Err Memory → Rests old new → RunsAs p limits input (text_words image) budget old new result
+  kept result is (read, silent) =
+      subst (RunsAs p limits input (text_words image) budget old new) (sym is) (record {
+        output = [];
+        written = Appends-nil old.written new.written silent;
+        steps = 0;
+        printed = IsPrefix-nil (output_of (limited p limits input 0));
+        answers = tt;
+      })
+
+  module _ (tells : old.remaining ≡ Some input) (count : ℕ) (w : World) (x : Executes (start_world image limits) old new count w) where
+    run : Run count started w
+    unfolding started
+    run = subst (λ (bytes : List ℕ). Run count (start_world image limits bytes) w) (input_told old.remaining input x.input tells x.told) (counted_run count (start_world image limits x.input) w x.counted)
+
+    -- what was written, whatever is answered
+    so_far : (result : Result Report RunFault) → AnswersAs p limits input (text_words image) budget w.output result → RunsAs p limits input (text_words image) budget old new result
+    unfolding started
+    so_far result answers =
+        let (steps, printed, ends) = alike.behind count w run in
+        record { output = w.output; written = x.written; steps = steps; printed = printed; answers = answers }
+
+    is_end : (stop : Stop) → Stops stop budget count w → IsEndOf p limits input w.output stop
+    unfolding started
+    is_end (stops.End end) ended =
+        let (steps, printed, ends) = alike.behind count w run in
+        let ((ending, shown, has), same) = ends end ended in
+        (steps, ending, shown, has, sym same)
+    is_end stops.Spent spent = tt
+
+    is_as_far : (stop : Stop) → count ≤ budget → Stops stop budget count w → (n : ℕ) → (n + 1) * text_words image ≤ budget → IsAsFar (limited p limits input n) w.output stop
+    unfolding started
+    is_as_far stop few stopped n enough =
+        let here = (n + 1) * text_words image in
+        let whole : Run (here + (budget - here)) started w =
+        subst (λ (k : ℕ). Run k started w) (let all : budget ≡ here + (budget - here) = omega (arith, enough) in all) (whole_run stop budget count started w run few stopped) in
+        let (v, first, rest) = Run-split here (budget - here) started w whole in
+        let (printed, ends) = alike.ahead n v first in (
+          IsPrefix-trans (output_of (limited p limits input n)) v.output w.output printed (Run-output (budget - here) v w rest),
+          λ ending has.
+              let ((end, over, shown), same) = ends ending has in
+              let rests : w ≡ v = Run-over (budget - here) v w end (over-end_of v end over) rest in
+              (end, stopped_at stop budget count w end stopped (ap end_of rests ∙ over), shown),
+        )
+
+  runs_as : old.remaining ≡ Some input → (result : Result Report RunFault) → Runs (start_world image limits) budget old new result → RunsAs p limits input (text_words image) budget old new result
+  runs_as tells (Ok report) (w, x, few, stopped) =
+      so_far tells report.count w x (Ok report) (is_end tells report.count w x report.stop stopped, is_as_far tells report.count w x report.stop few stopped)
+  runs_as tells (Err Read) (count, w, x, below, open, wants) = so_far tells count w x (Err Read) tt
+  runs_as tells (Err Write) (count, w, x, below, open, prints) = so_far tells count w x (Err Write) tt
+  runs_as tells (Err (Elf f)) none = absurd none
+  runs_as tells (Err (Load f)) none = absurd none
+  runs_as tells (Err Memory) none = absurd none
+
+  starts_as : old.remaining ≡ Some input → (result : Result Report RunFault) → Starts (start_world image limits) budget old new result → RunsAs p limits input (text_words image) budget old new result
+  starts_as tells result (inl (memory, rests)) = kept result memory rests
+  starts_as tells result (inr runs) = runs_as tells result runs
+
+  pub answers_as : old.remaining ≡ Some input → has_outside image ≡ false → (result : Result Report RunFault) → Answers (Ok image) limits budget old new result
+      → RunsAs p limits input (text_words image) budget old new result
+  answers_as tells loads result answers =
+      starts_as tells result
+      (subst (λ (b : Bool). MatchBool b (Refuses (Load load.Outside) old new result) (Starts (start_world image limits) budget old new result)) loads answers)
+
+pub compiled_runs : (p : Program) (file : List ℕ) (is : IsImageOf p file) (limits : Bounds) (input : List ℕ) → AreAllowed limits.pages limits.calls → AllByRecursion (λ b. b < 256) input
+    → NeverGoesWrong p limits input → (budget : ℕ) (old new : Devices) (result : Result Report RunFault) → old.remaining ≡ Some input
+    → Answers (reading file) limits budget old new result → RunsAs p limits input (text_words is.image) budget old new result
+compiled_runs p file is limits input allowed bytes never budget old new result tells answers =
+    answers_as p is.image limits input (are_alike p is.image is.does limits input allowed bytes never) budget old new tells is.loads result
+    (subst (λ (read : Result ImageContents ElfFault). Answers read limits budget old new result) is.read answers)
