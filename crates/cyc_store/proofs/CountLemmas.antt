@@ -1,7 +1,7 @@
 -- Counted blocks, the pages of classes, and demand.
-use Rattle.std.proofs.Common.{◌≡◌, ℕ, zero, suc, ◌+◌, ◌-◌, ◌*◌, ◌/◌, ◌^◌, ◌<◌, ◌≤◌, max, Bool, true, false, List, [], ◌∷◌, ◌++◌, length, get_or, set, refl, sym, ap, subst, ◌∙◌, inl, inr, arith, get_or-set_same, get_or-set_other, length-set, zero-add}
-use Rattle.std.specs.Prelude.{◌==◌, ◌⊎◌, nat_le, if◌then◌else◌, slice_index}
-use Rattle.std.proofs.Math.Nat.{div-mul-le_self, pow-le-pow_right, le-max_left, le-max_right, max-le}
+use Rattle.std.proofs.Common.{◌≡◌, ℕ, zero, suc, ◌+◌, ◌-◌, ◌*◌, ◌/◌, ◌^◌, ◌<◌, ◌≤◌, max, List, [], ◌∷◌, ◌++◌, length, refl, sym, ap, subst, ◌∙◌, inl, inr, arith, get_or-set_same, get_or-set_other, length-set, zero-add}
+use Rattle.std.specs.Prelude.{nat_le, slice_index}
+use Rattle.std.proofs.Math.Nat.{div-mul-le_self, pow-le-pow_right, le-max_left, le-max_right}
 use Rattle.std.proofs.lemmas.Nat.{le-div, pow_pos}
 use Rattle.std.proofs.lemmas.Bool.{cases_eq, cond_both, leb-true}
 use Rattle.cyc_words.specs.Demand.{page_words, greatest_class, class_from, class_of, blocks_in_page, pages_for, region_pages, demand_of}

@@ -1,5 +1,5 @@
 -- Worked examples of the services, each proved by computation, on a store of three pages.
-use Rattle.std.proofs.Common.{◌≡◌, ℕ, ◌+◌, ◌*◌, List, [], ◌∷◌, Option, Some, None, refl}
+use Rattle.std.proofs.Common.{◌≡◌, ℕ, ◌+◌, ◌*◌, Some, None, refl}
 use Rattle.cyc_store.specs.State.{StoreState, start, demand}
 use Rattle.cyc_store.specs.Services.{Call, OpenLexical, CloseTo, OpenDynamic, CloseDynamic, Allocate, Free, BadMark, BadHandle, BadSize, NotABlock, Full, Choice, served, refusal}
 use Rattle.cyc_store.specs.declared.range.TheConstants.{HEAP, STORE_BASE, UNIQUE}

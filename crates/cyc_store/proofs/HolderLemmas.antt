@@ -1,12 +1,12 @@
 -- Which block an address is in, after regions and blocks came or went.
-use Rattle.std.proofs.Common.{◌≡◌, ℕ, zero, suc, ◌+◌, ◌*◌, ◌<◌, ◌≤◌, Bool, true, false, List, [], ◌∷◌, ◌++◌, Option, None, Some, refl, sym, ap, subst, ◌∙◌, inl, inr, arith}
-use Rattle.std.specs.Prelude.{◌==◌, ◌⊎◌, ◌&&◌, nat_le, nat_lt, if◌then◌else◌}
+use Rattle.std.proofs.Common.{◌≡◌, ℕ, zero, suc, ◌+◌, ◌*◌, ◌<◌, ◌≤◌, true, false, List, [], ◌∷◌, ◌++◌, Option, None, Some, refl, sym, ap, subst, ◌∙◌, inl, inr, arith}
+use Rattle.std.specs.Prelude.{◌⊎◌, nat_le, nat_lt}
 use Rattle.std.proofs.lemmas.Bool.{cases_eq, cases_Bool, cond-true, cond-false, le-leb, lt-ltb, and_from}
 use Rattle.cyc_store.specs.Lookup.{lookup, without, changed, AreDistinct}
-use Rattle.cyc_store.specs.State.{Block, address_of, Sort, Lexical, Home, handle_of, empty_home, Holder, covers, holder_in, or_else, holder, block_in, block_at, with_block, is_lexical, down_to}
+use Rattle.cyc_store.specs.State.{Block, address_of, Sort, Home, handle_of, empty_home, Holder, covers, holder_in, or_else, holder, block_in, block_at, with_block, is_lexical, down_to}
 use Rattle.cyc_store.specs.Services.{IsPlaced, IsApart}
 use Rattle.cyc_store.specs.Soundness.{AreSound}
-use Rattle.cyc_store.proofs.LookupLemmas.{when_equal, when_other, cases_option, not_both, same_some, IsPart, is_empty, is_left, is_kept, lookup-here, lookup-there, lookup-none, lookup-key, lookup-append, lookup-append_cases, AreDistinct-append, lookup-part_none, lookup-part, AreDistinct-part, IsPart-without, lookup-without, lookup-changed_same, lookup-changed_other, AreDistinct-changed}
+use Rattle.cyc_store.proofs.LookupLemmas.{when_equal, when_other, not_both, same_some, IsPart, is_empty, is_left, is_kept, lookup-here, lookup-there, lookup-none, lookup-key, lookup-append_cases, AreDistinct-append, lookup-part_none, lookup-part, AreDistinct-part, IsPart-without, lookup-without, lookup-changed_same, lookup-changed_other, AreDistinct-changed}
 
 -- ---- covering
 
@@ -18,7 +18,7 @@ covers_first b some = covers_from b b.address (omega arith) (omega (arith, some)
 
 -- ---- one of two
 
-or_else-cases : (o p : Option Holder) (k : Holder) → or_else o p ≡ Some k → (o ≡ Some k) ⊎ ((o ≡ None) × (p ≡ Some k))
+pub or_else-cases : (o p : Option Holder) (k : Holder) → or_else o p ≡ Some k → (o ≡ Some k) ⊎ ((o ≡ None) × (p ≡ Some k))
 or_else-cases None p k found = inr (refl, found)
 or_else-cases (Some h) p k found = inl found
 
@@ -33,10 +33,10 @@ block_in-some (Some r) f b found = (r, refl, found)
 -- ---- in one region
 
 module _ (h : ℕ) (x : ℕ) where
-  in-here : (b : Block) (bs : List Block) → covers b x ≡ true → holder_in h (b ∷ bs) x ≡ Some (record { handle = h; block = b })
+  pub in-here : (b : Block) (bs : List Block) → covers b x ≡ true → holder_in h (b ∷ bs) x ≡ Some (record { handle = h; block = b })
   in-here b bs inside = cond-true (covers b x) (Some (record { handle = h; block = b })) (holder_in h bs x) inside
 
-  in-there : (b : Block) (bs : List Block) → covers b x ≡ false → holder_in h (b ∷ bs) x ≡ holder_in h bs x
+  pub in-there : (b : Block) (bs : List Block) → covers b x ≡ false → holder_in h (b ∷ bs) x ≡ holder_in h bs x
   in-there b bs not = cond-false (covers b x) (Some (record { handle = h; block = b })) (holder_in h bs x) not
 
   pub holder_in-handle : (bs : List Block) (k : Holder) → holder_in h bs x ≡ Some k → h ≡ k.handle

@@ -1,5 +1,11 @@
+pub mod BlockLemmas
 pub mod CountLemmas
 pub mod Examples
 pub mod HolderLemmas
 pub mod LookupLemmas
+pub mod PageLemmas
+pub mod PageModel
+pub mod PageServices
+pub mod PagedOpening
+pub mod PagedRegions
 pub mod ServiceLemmas

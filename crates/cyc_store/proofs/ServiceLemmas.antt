@@ -1,17 +1,17 @@
 -- What each service comes to: a store that is sound stays so, whatever it chooses.
-use Rattle.std.proofs.Common.{◌≡◌, ℕ, zero, suc, ◌+◌, ◌-◌, ◌*◌, ◌/◌, ◌<◌, ◌≤◌, ◌%◌, ◌^◌, max, Bool, true, false, List, [], ◌∷◌, ◌++◌, length, Option, None, Some, refl, sym, ap, subst, ◌∙◌, inl, inr, arith}
-use Rattle.std.specs.Prelude.{◌==◌, ◌⊎◌, ◌&&◌, nat_le, nat_lt, is_some, if◌then◌else◌, slice_index}
+use Rattle.std.proofs.Common.{◌≡◌, ℕ, suc, ◌+◌, ◌-◌, ◌*◌, ◌/◌, ◌<◌, ◌≤◌, ◌%◌, max, Bool, true, false, List, [], ◌∷◌, ◌++◌, length, Option, None, Some, refl, sym, ap, subst, ◌∙◌, inl, inr, arith}
+use Rattle.std.specs.Prelude.{◌==◌, ◌⊎◌, nat_le, is_some, if◌then◌else◌, slice_index}
 use Rattle.std.proofs.Math.Nat.{add-mul-mod_self_left, div-eq_of_lt-le, max-eq_left}
-use Rattle.std.proofs.lemmas.Bool.{cases_eq, cases_Bool, cond-true, cond-false, ltb-false, ltb-true}
+use Rattle.std.proofs.lemmas.Bool.{cases_eq, ltb-false, ltb-true}
 use Rattle.cyc_words.specs.Word.{IsWord}
 use Rattle.cyc_words.specs.Demand.{class_of, blocks_in_page, pages_for, demand_of, greatest_class}
-use Rattle.cyc_store.specs.Lookup.{lookup, without, changed, AreDistinct}
-use Rattle.cyc_store.specs.State.{Memory, put, AreWords, Block, address_of, Sort, Heap, Lexical, Dynamic, Uniques, Home, handle_of, empty_home, StoreState, homes, start, covers, Holder, holder_in, holder, block_in, block_at, word_in, word_at, has_saved, saved, sizes_of, sizes_in, demand, live_in, raised, opened, lexical_count, down_to, with_block, made_in, made_unique, room}
-use Rattle.cyc_store.specs.Services.{Call, OpenLexical, CloseTo, OpenDynamic, CloseDynamic, Allocate, Free, Refusal, BadMark, BadHandle, BadSize, NotABlock, Full, Answer, Refused, Done, Opened, OpenedLexical, Allocated, Choice, block_of, made, changed_by, served, answer, any_choice, is_full, full_at, names_dynamic, is_size, refusal, IsPlaced, IsApart, IsFresh, MayChoose, IsAllowed, ServesBy, Serves}
-use Rattle.cyc_store.specs.Soundness.{AreSound, AreEnough, IsSound}
+use Rattle.cyc_store.specs.Lookup.{lookup, without, changed}
+use Rattle.cyc_store.specs.State.{Memory, put, AreWords, Block, address_of, Sort, Heap, Lexical, Dynamic, Uniques, Home, handle_of, empty_home, StoreState, homes, start, covers, Holder, holder, block_in, block_at, word_in, word_at, has_saved, saved, sizes_of, sizes_in, demand, live_in, opened, lexical_count, down_to, with_block, made_in, made_unique, room}
+use Rattle.cyc_store.specs.Services.{Call, OpenLexical, CloseTo, OpenDynamic, CloseDynamic, Allocate, Free, Refusal, BadMark, BadHandle, BadSize, NotABlock, Full, Answer, Refused, Choice, block_of, made, served, answer, any_choice, is_full, full_at, names_dynamic, is_size, refusal, IsPlaced, IsApart, IsAllowed, ServesBy, Serves}
+use Rattle.cyc_store.specs.Soundness.{AreSound, IsSound}
 use Rattle.cyc_store.specs.Run.{Exchange, Service, Load, Save, Exchanges, Run}
 use Rattle.cyc_store.specs.declared.range.TheConstants.{HEAP, UNIQUE}
-use Rattle.cyc_store.proofs.LookupLemmas.{when_equal, when_other, cases_option, not_both, same_some, IsPart, is_kept, IsPart-all, IsPart-without, AreDistinct-append, AreDistinct-part, lookup-key}
+use Rattle.cyc_store.proofs.LookupLemmas.{when_equal, when_other, cases_option, not_both, same_some, IsPart, is_kept, IsPart-without, AreDistinct-append, AreDistinct-part, lookup-key}
 use Rattle.cyc_store.proofs.HolderLemmas.{covers_from, covers_first, AreSound-part, IsPart-down_to, AreSound-opened, AreSound-made, AreSound-freed}
 use Rattle.cyc_store.proofs.CountLemmas.{blocks-some, class_of-bound, raised-same, raised-other, raised-length, raised-more, live_in-append_same, AreEnough-made, AreEnough-part, demand-part, sizes-opened}
 
@@ -21,11 +21,11 @@ full-none : (b : Bool) → full_at b ≡ None → b ≡ false
 full-none true none = absurd (let e : Some Full ≡ None = none in cc)
 full-none false none = refl
 
-then-none : (b : Bool) (o : Option Refusal) (why : Refusal) → (if b then o else Some why) ≡ None → (b ≡ true) × (o ≡ None)
+pub then-none : (b : Bool) (o : Option Refusal) (why : Refusal) → (if b then o else Some why) ≡ None → (b ≡ true) × (o ≡ None)
 then-none true o why none = (refl, none)
 then-none false o why none = absurd (let e : Some why ≡ None = none in cc)
 
-some-there : {A : Type 0} (o : Option A) → is_some o ≡ true → (x : A) × (o ≡ Some x)
+pub some-there : {A : Type 0} (o : Option A) → is_some o ≡ true → (x : A) × (o ≡ Some x)
 some-there None inside = absurd (let e : false ≡ true = inside in cc)
 some-there (Some x) inside = (x, refl)
 
@@ -35,10 +35,10 @@ within s call not = ltb-false s.pages (demand (served s call (any_choice s))) no
 -- ---- a block that is made in one of two ways
 
 module _ (s : StoreState) (h : ℕ) (b : Block) where
-  made-unique : h ≡ UNIQUE → made s h b ≡ made_unique s b
+  pub made-unique : h ≡ UNIQUE → made s h b ≡ made_unique s b
   made-unique same = when_equal h UNIQUE (made_unique s b) (made_in s h b) same
 
-  made-in : (h ≡ UNIQUE → ⊥) → made s h b ≡ made_in s h b
+  pub made-in : (h ≡ UNIQUE → ⊥) → made s h b ≡ made_in s h b
   made-in other = when_other h UNIQUE (made_unique s b) (made_in s h b) other
 
 sizes-last : (size a c : ℕ) (bs : List Block) → sizes_of (bs ++ record { address = a; size = size } ∷ []) ≡ sizes_of (bs ++ record { address = c; size = size } ∷ [])

@@ -1,7 +1,7 @@
 -- What is true of every store that began empty and was served.
-use Rattle.std.specs.Prelude.{◌≡◌, ℕ, ◌<◌, ◌≤◌, ◌^◌, true, List, Some, length, slice_index, max}
-use Rattle.cyc_words.specs.Demand.{class_of, pages_for, greatest_class}
-use Rattle.cyc_store.specs.Lookup.{lookup, AreDistinct}
+use Rattle.std.specs.Prelude.{◌≡◌, ℕ, ◌≤◌, true, List, Some, length, slice_index}
+use Rattle.cyc_words.specs.Demand.{pages_for, greatest_class}
+use Rattle.cyc_store.specs.Lookup.{AreDistinct}
 use Rattle.cyc_store.specs.State.{AreWords, Block, address_of, Home, handle_of, StoreState, homes, covers, holder, block_at, demand, live_in}
 use Rattle.cyc_store.specs.Services.{IsPlaced}
 

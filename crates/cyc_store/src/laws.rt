@@ -4,8 +4,9 @@
 ghost use Rattle.std.specs.Prelude.{◌≡◌, ◌≢◌, ℕ, ◌+◌, ◌*◌, ◌^◌, ◌<◌, ◌≤◌, max, List, [], ◌∷◌, true, Some, None, slice_index};
 ghost use Rattle.cyc_words.specs.Word.{IsWord};
 ghost use Rattle.cyc_words.specs.Demand.{page_words, greatest_class, class_of, pages_for, region_pages};
-ghost use Rattle.cyc_store.specs.State.{Memory, AreWords, Block, StoreState, homes, start, covers, Holder, holder, block_at, word_at, saved, demand, live_in, room};
-ghost use Rattle.cyc_store.specs.Services.{Call, Refusal, Full, Answer, Refused, Choice, served, any_choice, refusal, IsPlaced, IsAllowed, Serves};
+ghost use Rattle.cyc_store.specs.Lookup.{lookup};
+ghost use Rattle.cyc_store.specs.State.{Memory, AreWords, Block, handle_of, StoreState, homes, start, covers, Holder, holder, block_at, word_at, saved, demand, live_in, room};
+ghost use Rattle.cyc_store.specs.Services.{Call, Allocate, CloseDynamic, Free, Refusal, Full, Answer, Refused, Done, Allocated, Choice, served, any_choice, refusal, IsPlaced, IsAllowed, Serves};
 ghost use Rattle.cyc_store.specs.Soundness.{IsSound};
 ghost use Rattle.cyc_store.specs.Run.{Exchange, Run};
 
@@ -28,6 +29,15 @@ pub fn blocks_stand_apart()
         → block_at (homes s) h other ≡ Some c → covers b address ≡ true → covers c address ≡ true → (g ≡ h) × (b ≡ c) }
     ensures words { (s : StoreState) → IsSound s → (handle first i : ℕ) (b : Block) → block_at (homes s) handle first ≡ Some b → i < b.size
         → word_at s (b.address + 4 * i) ≡ Some (s.memory (b.address + 4 * i)) }
+{}
+
+/// A block that was made is live, with the words that it has room for; one that was freed is not, and a dynamic region that was
+/// closed has no handle.
+pub fn blocks_come_and_go()
+    ensures made { (s t : StoreState) (handle words address : ℕ) → IsSound s → Serves s (Allocate handle words) (Allocated address) t
+        → block_at (homes t) handle address ≡ Some (record { address = address; size = room handle words }) }
+    ensures freed { (s t : StoreState) (address : ℕ) → Serves s (Free address) Done t → block_at (homes t) UNIQUE address ≡ None }
+    ensures closed { (s t : StoreState) (handle : ℕ) → Serves s (CloseDynamic handle) Done t → lookup handle_of t.regions handle ≡ None }
 {}
 
 /// A refusal is the first reason there is, and changes nothing.
