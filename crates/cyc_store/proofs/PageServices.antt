@@ -25,6 +25,14 @@ pub record HasNewest (pages : Pages) (r : Home) : Type 0 where
   pub owned : pages.owner page ≡ Some r.handle
   pub mark : pages.filled page ≡ (mark_of r).filled
 
+-- All pages of a region, the newest and those before it.
+pub record HasChain (pages : Pages) (r : Home) : Type 0 where
+  pub newest : HasNewest pages r
+  pub older : List ℕ
+  pub owned : AllByRecursion (λ (p : ℕ). pages.owner p ≡ Some r.handle) older
+  pub apart : IsDistinct (newest.page ∷ older)
+  pub many : suc (length older) ≡ (mark_of r).pages
+
 -- a page that may be drawn
 pub record IsFree (count : ℕ) (pages : Pages) (page : ℕ) : Type 0 where
   pub owner : pages.owner page ≡ None
@@ -38,7 +46,7 @@ pub record IsPaged (s : StoreState) (pages : Pages) (free : List ℕ) : Type 0 w
   pub unowned : AllByRecursion (IsFree s.pages pages) free
   pub apart : IsDistinct free
   pub count : length free + demand s ≡ s.pages
-  pub newest : (h : ℕ) (r : Home) → lookup handle_of s.regions h ≡ Some r → HasNewest pages r
+  pub chains : (h : ℕ) (r : Home) → lookup handle_of s.regions h ≡ Some r → HasChain pages r
 
 -- ---- demand after one block more
 
@@ -75,7 +83,7 @@ demand-changed (q ∷ rs) h r b classes there = elim (cases_eq q.handle h) [
 ]
 
 -- the pages of a region are those of its mark
-pages-mark : (r : Home) → region_pages (sizes_of r.blocks) ≡ (mark_of r).pages
+pub pages-mark : (r : Home) → region_pages (sizes_of r.blocks) ≡ (mark_of r).pages
 pages-mark r = sym (mark-pages (record { pages = 1; filled = 0 }) (sizes_of r.blocks))
 
 pages-next : (r : Home) (size : ℕ) → region_pages (sizes_of r.blocks ++ size ∷ []) ≡ (next_mark (mark_of r) size).pages

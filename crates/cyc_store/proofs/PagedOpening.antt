@@ -7,8 +7,8 @@ use Rattle.cyc_store.specs.declared.range.TheConstants.{PAGE_WORDS}
 use Rattle.cyc_store.proofs.LookupLemmas.{when_equal, when_other, lookup-append_cases}
 use Rattle.cyc_store.proofs.PageModel.{Pages, drawn}
 use Rattle.cyc_store.proofs.PageLemmas.{laid-opened}
-use Rattle.cyc_store.proofs.PageServices.{HasNewest, IsPaged}
-use Rattle.cyc_store.proofs.PagedRegions.{frees-rest, least, still-filled, still-newest}
+use Rattle.cyc_store.proofs.PageServices.{HasChain, IsPaged}
+use Rattle.cyc_store.proofs.PagedRegions.{frees-rest, least, still-filled, still-chained}
 
 empty-more : (n : ℕ) → 1 + n ≡ suc n
 empty-more n = omega arith
@@ -34,12 +34,18 @@ paged-opened s pages page free h sort paged = record {
   unowned = frees-rest s.pages pages page h free paged.apart.0 paged.unowned.1;
   apart = paged.apart.1;
   count = one_less (length free) (demand s) s.pages (demand (opened s h sort)) paged.count (demand-more s.regions h sort s.classes);
-  newest = λ g q found. elim (lookup-append_cases handle_of s.regions (empty_home h sort) g q found) [
-    | inl old ↦ still-newest pages page h paged.unowned.0.owner q (paged.newest g q old)
-    | inr new ↦ subst (HasNewest (drawn pages page h)) (sym new) (record {
-      page = page;
-      owned = when_equal page page (Some h) (pages.owner page) refl;
-      mark = when_equal page page 0 (pages.filled page) refl;
+  chains = λ g q found. elim (lookup-append_cases handle_of s.regions (empty_home h sort) g q found) [
+    | inl old ↦ still-chained pages page h paged.unowned.0.owner q (paged.chains g q old)
+    | inr new ↦ subst (HasChain (drawn pages page h)) (sym new) (record {
+      newest = record {
+        page = page;
+        owned = when_equal page page (Some h) (pages.owner page) refl;
+        mark = when_equal page page 0 (pages.filled page) refl;
+      };
+      older = [];
+      owned = tt;
+      apart = (tt, tt);
+      many = refl;
     })
   ];
 }

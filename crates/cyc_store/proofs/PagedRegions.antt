@@ -8,7 +8,7 @@ use Rattle.cyc_store.specs.declared.range.TheConstants.{PAGE_WORDS, UNIQUE}
 use Rattle.cyc_store.proofs.LookupLemmas.{when_equal, when_other, same_some, not_both, lookup-key, lookup-changed_same, lookup-changed_other}
 use Rattle.cyc_store.proofs.PageModel.{page_start, Pages, AreFilled, AreLaid, filled_to, drawn, Mark}
 use Rattle.cyc_store.proofs.PageLemmas.{laid-made, laid-drawn}
-use Rattle.cyc_store.proofs.PageServices.{mark_of, mark-made, mark-stays, mark-goes, HasNewest, IsFree, IsPaged, demand-stays, demand-grows}
+use Rattle.cyc_store.proofs.PageServices.{mark_of, mark-made, mark-stays, mark-goes, HasNewest, HasChain, IsFree, IsPaged, demand-stays, demand-grows}
 
 -- the block of so many words that begins at a word of a page
 abbrev pub block_in_page : (page word size : ℕ) → Block
@@ -49,32 +49,37 @@ homes-made_in s h b other = when_other UNIQUE h
     (record { handle = UNIQUE; sort = Uniques; blocks = s.unique } ∷ changed handle_of (with_block b) s.regions h)
     (λ e. other (sym e))
 
--- what is newest where one page's fill mark has moved, and its region has a block more
-newest-made : (pages : Pages) (rs : List Home) (h page words : ℕ) (r : Home) (b : Block) → lookup handle_of rs h ≡ Some r
-    → pages.owner page ≡ Some h → words ≡ (mark_of (with_block b r)).filled
-    → ((g : ℕ) (q : Home) → (g ≡ h → ⊥) → lookup handle_of rs g ≡ Some q → HasNewest pages q)
-    → (g : ℕ) (q : Home) → lookup handle_of (changed handle_of (with_block b) rs h) g ≡ Some q → HasNewest (filled_to pages page words) q
-newest-made pages rs h page words r b named owned is others g q found = elim (cases_eq g h) [
+-- where the fill mark of another region's page moves, a chain stays
+chain-filled : (pages : Pages) (page words h : ℕ) (q : Home) → pages.owner page ≡ Some h → (q.handle ≡ h → ⊥) → HasChain pages q → HasChain (filled_to pages page words) q
+chain-filled pages page words h q owned other chain = record {
+  newest = record {
+    page = chain.newest.page;
+    owned = chain.newest.owned;
+    mark =
+        when_other chain.newest.page page words (pages.filled chain.newest.page)
+        (λ e. other (same_some (sym chain.newest.owned ∙ (ap pages.owner e ∙ owned))))
+        ∙ chain.newest.mark;
+  };
+  older = chain.older;
+  owned = chain.owned;
+  apart = chain.apart;
+  many = chain.many;
+}
+
+-- the chains of all regions, where a page's fill mark has moved and its region has a block more
+chains-made : (pages : Pages) (rs : List Home) (h page words : ℕ) (r : Home) (b : Block) → lookup handle_of rs h ≡ Some r
+    → pages.owner page ≡ Some h → HasChain (filled_to pages page words) (with_block b r)
+    → ((g : ℕ) (q : Home) → (g ≡ h → ⊥) → lookup handle_of rs g ≡ Some q → HasChain pages q)
+    → (g : ℕ) (q : Home) → lookup handle_of (changed handle_of (with_block b) rs h) g ≡ Some q → HasChain (filled_to pages page words) q
+chains-made pages rs h page words r b named owned new others g q found = elim (cases_eq g h) [
   | inl same ↦
       let now : lookup handle_of (changed handle_of (with_block b) rs h) h ≡ Some (with_block b r) =
       lookup-changed_same handle_of (with_block b) (λ z. refl) rs h r named in
       let made : with_block b r ≡ q = same_some (sym now ∙ (ap (λ n. lookup handle_of (changed handle_of (with_block b) rs h) n) (sym same) ∙ found)) in
-      subst (HasNewest (filled_to pages page words)) made (record {
-        page = page;
-        owned = owned ∙ ap (λ n. Some n) (sym (lookup-key handle_of rs h r named));
-        mark = when_equal page page words (pages.filled page) refl ∙ is;
-      })
+      subst (HasChain (filled_to pages page words)) made new
   | inr other ↦
       let old : lookup handle_of rs g ≡ Some q = sym (lookup-changed_other handle_of (with_block b) (λ z. refl) rs h g other) ∙ found in
-      let newest : HasNewest pages q = others g q other old in
-      record {
-        page = newest.page;
-        owned = newest.owned;
-        mark =
-            when_other newest.page page words (pages.filled newest.page)
-            (λ e. other (sym (lookup-key handle_of rs g q old) ∙ same_some (sym newest.owned ∙ (ap pages.owner e ∙ owned))))
-            ∙ newest.mark;
-      }
+      chain-filled pages page words h q owned (λ e. other (sym (lookup-key handle_of rs g q old) ∙ e)) (others g q other old)
 ]
 
 -- a free page is no region's newest, so all of these stay where it is drawn
@@ -88,29 +93,66 @@ still-newest pages page h free q newest = record {
     other : newest.page ≡ page → ⊥
     other e = not_both free (ap pages.owner (sym e) ∙ newest.owned)
 
+owned-drawn : (pages : Pages) (page h g : ℕ) → pages.owner page ≡ None → (older : List ℕ) → AllByRecursion (λ (p : ℕ). pages.owner p ≡ Some g) older
+    → AllByRecursion (λ (p : ℕ). (drawn pages page h).owner p ≡ Some g) older
+owned-drawn pages page h g free [] all = tt
+owned-drawn pages page h g free (p ∷ older) all =
+    (when_other p page (Some h) (pages.owner p) (λ e. not_both free (ap pages.owner (sym e) ∙ all.0)) ∙ all.0, owned-drawn pages page h g free older all.1)
+
+-- a free page is in no chain
+free-apart : (pages : Pages) (page g : ℕ) → pages.owner page ≡ None → (older : List ℕ) → AllByRecursion (λ (p : ℕ). pages.owner p ≡ Some g) older
+    → AllByRecursion (λ (p : ℕ). page ≢ p) older
+free-apart pages page g free [] all = tt
+free-apart pages page g free (p ∷ older) all = (λ e. not_both free (ap pages.owner e ∙ all.0), free-apart pages page g free older all.1)
+
+pub still-chained : (pages : Pages) (page h : ℕ) → pages.owner page ≡ None → (q : Home) → HasChain pages q → HasChain (drawn pages page h) q
+unfolding still-newest
+still-chained pages page h free q chain = record {
+  newest = still-newest pages page h free q chain.newest;
+  older = chain.older;
+  owned = owned-drawn pages page h q.handle free chain.older chain.owned;
+  apart = chain.apart;
+  many = chain.many;
+}
+
 module _ (s : StoreState) (pages : Pages) (h : ℕ) (r : Home) (named : lookup handle_of s.regions h ≡ Some r) (ordinary : h ≡ UNIQUE → ⊥) (size : ℕ) (some : 0 < size) where
   -- in the newest page
-  pub paged-stays : (free : List ℕ) → IsPaged s pages free → (newest : HasNewest pages r) → (mark_of r).filled + size ≤ PAGE_WORDS
-      → IsPaged (made_in s h (block_in_page newest.page (mark_of r).filled size)) (filled_to pages newest.page ((mark_of r).filled + size)) free
-  paged-stays free paged newest room = record {
-    laid = subst (AreLaid (filled_to pages newest.page ((mark_of r).filled + size)))
-        (homes-made_in s h (block_in_page newest.page (mark_of r).filled size) ordinary)
-        (laid-made pages (homes s) newest.page h (mark_of r).filled size owned
-        (subst (λ n. n ≤ (mark_of r).filled) (sym newest.mark) (same_number (mark_of r).filled)) some paged.laid);
-    filled = still-filled pages newest.page ((mark_of r).filled + size) paged.filled room;
+  pub paged-stays : (free : List ℕ) → IsPaged s pages free → (chain : HasChain pages r) → (mark_of r).filled + size ≤ PAGE_WORDS
+      → IsPaged (made_in s h (block_in_page chain.newest.page (mark_of r).filled size)) (filled_to pages chain.newest.page ((mark_of r).filled + size)) free
+  paged-stays free paged chain room = record {
+    laid = subst (AreLaid (filled_to pages chain.newest.page ((mark_of r).filled + size)))
+        (homes-made_in s h (block_in_page chain.newest.page (mark_of r).filled size) ordinary)
+        (laid-made pages (homes s) chain.newest.page h (mark_of r).filled size owned
+        (subst (λ n. n ≤ (mark_of r).filled) (sym chain.newest.mark) (same_number (mark_of r).filled)) some paged.laid);
+    filled = still-filled pages chain.newest.page ((mark_of r).filled + size) paged.filled room;
     below = paged.below;
-    unowned = frees-stay s.pages pages newest.page ((mark_of r).filled + size) free paged.unowned;
+    unowned = frees-stay s.pages pages chain.newest.page ((mark_of r).filled + size) free paged.unowned;
     apart = paged.apart;
     count =
-        ap (λ n. length free + n) (demand-stays s pages free paged h r named (block_in_page newest.page (mark_of r).filled size) room)
+        ap (λ n. length free + n) (demand-stays s pages free paged h r named (block_in_page chain.newest.page (mark_of r).filled size) room)
         ∙ paged.count;
-    newest = newest-made pages s.regions h newest.page ((mark_of r).filled + size) r (block_in_page newest.page (mark_of r).filled size) named owned
-        (sym (ap (λ (m : Mark). m.filled) (mark-made r (block_in_page newest.page (mark_of r).filled size) ∙ mark-stays (mark_of r) size room)))
-        (λ g q _ found. paged.newest g q found);
+    chains = chains-made pages s.regions h chain.newest.page ((mark_of r).filled + size) r (block_in_page chain.newest.page (mark_of r).filled size) named owned
+        (record {
+          newest = record {
+            page = chain.newest.page;
+            owned = chain.newest.owned;
+            mark =
+                when_equal chain.newest.page chain.newest.page ((mark_of r).filled + size) (pages.filled chain.newest.page) refl
+                ∙ sym (ap (λ (m : Mark). m.filled) moves);
+          };
+          older = chain.older;
+          owned = chain.owned;
+          apart = chain.apart;
+          many = chain.many ∙ sym (ap (λ (m : Mark). m.pages) moves);
+        })
+        (λ g q _ found. paged.chains g q found);
   }
     where
-      owned : pages.owner newest.page ≡ Some h
-      owned = newest.owned ∙ ap (λ n. Some n) (lookup-key handle_of s.regions h r named)
+      owned : pages.owner chain.newest.page ≡ Some h
+      owned = chain.newest.owned ∙ ap (λ n. Some n) (lookup-key handle_of s.regions h r named)
+
+      moves : mark_of (with_block (block_in_page chain.newest.page (mark_of r).filled size) r) ≡ record { pages = (mark_of r).pages; filled = (mark_of r).filled + size }
+      moves = mark-made r (block_in_page chain.newest.page (mark_of r).filled size) ∙ mark-stays (mark_of r) size room
 
   -- at the start of a page that is drawn
   pub paged-draws : (page : ℕ) (free : List ℕ) → IsPaged s pages (page ∷ free) → PAGE_WORDS < (mark_of r).filled + size → size ≤ PAGE_WORDS
@@ -130,9 +172,19 @@ module _ (s : StoreState) (pages : Pages) (h : ℕ) (r : Home) (named : lookup h
     apart = paged.apart.1;
     count = one_less (length free) (demand s) s.pages (demand (made_in s h (block_in_page page 0 size))) paged.count
         (demand-grows s pages (page ∷ free) paged h r named (block_in_page page 0 size) past);
-    newest = newest-made (drawn pages page h) s.regions h page (0 + size) r (block_in_page page 0 size) named owned
-        (plain size ∙ sym (ap (λ (m : Mark). m.filled) (mark-made r (block_in_page page 0 size) ∙ mark-goes (mark_of r) size past)))
-        (λ g q _ found. still-newest pages page h paged.unowned.0.owner q (paged.newest g q found));
+    chains = chains-made (drawn pages page h) s.regions h page (0 + size) r (block_in_page page 0 size) named owned
+        (record {
+          newest = record {
+            page = page;
+            owned = owned ∙ ap (λ n. Some n) (sym (lookup-key handle_of s.regions h r named));
+            mark = when_equal page page (0 + size) ((drawn pages page h).filled page) refl ∙ (plain size ∙ sym (ap (λ (m : Mark). m.filled) moves));
+          };
+          older = old.newest.page ∷ old.older;
+          owned = owned-drawn pages page h r.handle paged.unowned.0.owner (old.newest.page ∷ old.older) (old.newest.owned, old.owned);
+          apart = (free-apart pages page r.handle paged.unowned.0.owner (old.newest.page ∷ old.older) (old.newest.owned, old.owned), old.apart);
+          many = ap suc old.many ∙ sym (ap (λ (m : Mark). m.pages) moves);
+        })
+        (λ g q _ found. still-chained pages page h paged.unowned.0.owner q (paged.chains g q found));
   }
     where
       owned : (drawn pages page h).owner page ≡ Some h
@@ -146,3 +198,9 @@ module _ (s : StoreState) (pages : Pages) (h : ℕ) (r : Home) (named : lookup h
 
       one_less : (n d p e : ℕ) → suc n + d ≡ p → e ≡ suc d → n + e ≡ p
       one_less n d p e count grows = omega (arith, count, grows)
+
+      old : HasChain pages r
+      old = paged.chains h r named
+
+      moves : mark_of (with_block (block_in_page page 0 size) r) ≡ record { pages = suc (mark_of r).pages; filled = size }
+      moves = mark-made r (block_in_page page 0 size) ∙ mark-goes (mark_of r) size past

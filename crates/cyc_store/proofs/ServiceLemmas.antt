@@ -121,7 +121,7 @@ opened-sound s h sort memory sound fresh words few = record {
   demand = few;
 }
 
-closed-sound : (s : StoreState) (rs : List Home) (memory : Memory) → IsSound s → IsPart rs s.regions → AreWords memory
+pub closed-sound : (s : StoreState) (rs : List Home) (memory : Memory) → IsSound s → IsPart rs s.regions → AreWords memory
     → IsSound (record s { regions = rs; memory = memory })
 closed-sound s rs memory sound part words = record {
   regions = AreSound-part (is_kept part) sound.regions;
