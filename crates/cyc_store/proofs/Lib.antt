@@ -1,0 +1,15 @@
+pub mod BlockLemmas
+pub mod CountLemmas
+pub mod Examples
+pub mod HolderLemmas
+pub mod LookupLemmas
+pub mod PageLemmas
+pub mod PageModel
+pub mod PageServices
+pub mod PagedAllocation
+pub mod PagedClosing
+pub mod PagedOpening
+pub mod PagedRegions
+pub mod PagedStart
+pub mod PagedUnwinding
+pub mod ServiceLemmas

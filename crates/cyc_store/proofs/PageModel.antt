@@ -1,0 +1,77 @@
+-- The page model: blocks are laid out page by page. A page is free or has an owner, the handle of a region; its words are
+-- filled from the first on, up to its fill mark. Nothing here says how pages and marks are kept.
+use Rattle.std.specs.Prelude.{◌≡◌, ℕ, ◌+◌, ◌*◌, ◌<◌, ◌≤◌, ◌==◌, suc, nat_le, if◌then◌else◌, List, [], ◌∷◌, Option, Some, None}
+use Rattle.cyc_store.specs.State.{Block, Home, put}
+use Rattle.cyc_store.specs.declared.range.TheConstants.{STORE_BASE, PAGE_WORDS}
+
+-- the address of a page's first word
+abbrev pub page_start : (page : ℕ) → ℕ
+page_start page = STORE_BASE + 4 * (PAGE_WORDS * page)
+
+-- a block lies in the words of a page from number `low` up to number `high`
+pub record LiesIn (page low high : ℕ) (b : Block) : Type 0 where
+  pub word : ℕ
+  pub at : b.address ≡ page_start page + 4 * word
+  pub after : low ≤ word
+  pub before : word + b.size ≤ high
+  pub some : 0 < b.size
+
+pub record Pages : Type 0 where
+  pub owner : ℕ → Option ℕ
+  pub filled : ℕ → ℕ
+
+-- no more words of a page are filled than there are
+abbrev pub AreFilled : Pages → Type 0
+AreFilled pages = (page : ℕ) → pages.filled page ≤ PAGE_WORDS
+
+-- a block lies in the filled words of a page that its region owns
+pub record IsLaid (pages : Pages) (handle : ℕ) (b : Block) : Type 0 where
+  pub page : ℕ
+  pub owned : pages.owner page ≡ Some handle
+  pub lies : LiesIn page 0 (pages.filled page) b
+
+abbrev pub AreLaidIn : Pages → (handle : ℕ) → List Block → Type 0
+AreLaidIn pages handle [] = Unit {0}
+AreLaidIn pages handle (b ∷ bs) = IsLaid pages handle b × AreLaidIn pages handle bs
+
+abbrev pub AreLaid : Pages → List Home → Type 0
+AreLaid pages [] = Unit {0}
+AreLaid pages (r ∷ rs) = AreLaidIn pages r.handle r.blocks × AreLaid pages rs
+
+-- ---- what changes
+
+-- a page is filled up to this word
+abbrev pub filled_to : Pages → (page words : ℕ) → Pages
+filled_to pages page words = record pages { filled = put pages.filled page words }
+
+-- a free page is drawn, with nothing in it
+abbrev pub drawn : Pages → (page handle : ℕ) → Pages
+drawn pages page handle = record {
+  owner = λ (other : ℕ). if other == page then Some handle else pages.owner other;
+  filled = put pages.filled page 0;
+}
+
+-- all pages of a region are given back
+abbrev pub owner_without : (handle : ℕ) → Option ℕ → Option ℕ
+owner_without handle None = None
+owner_without handle (Some owner) = if owner == handle then None else Some owner
+
+abbrev pub given_back : Pages → (handle : ℕ) → Pages
+given_back pages handle = record pages { owner = λ (page : ℕ). owner_without handle (pages.owner page) }
+
+-- ---- the pages and the fill mark of a region
+
+-- so many pages, of which the last is filled so far
+pub record Mark : Type 0 where
+  pub pages : ℕ
+  pub filled : ℕ
+
+-- after one block more
+abbrev pub next_mark : Mark → (size : ℕ) → Mark
+next_mark m size =
+    if nat_le (m.filled + size) PAGE_WORDS then record { pages = m.pages; filled = m.filled + size }
+    else record { pages = suc m.pages; filled = size }
+
+abbrev pub mark_from : Mark → List ℕ → Mark
+mark_from m [] = m
+mark_from m (size ∷ sizes) = mark_from (next_mark m size) sizes

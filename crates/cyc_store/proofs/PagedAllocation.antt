@@ -1,0 +1,80 @@
+-- A store that is laid out in pages finds a place for a block of a region wherever demand allows it, and stays so.
+use Rattle.std.proofs.Common.{◌≡◌, ℕ, ◌+◌, ◌*◌, ◌^◌, ◌<◌, ◌≤◌, List, [], ◌∷◌, None, Some, refl, sym, subst, ◌∙◌, inl, inr, arith}
+use Rattle.std.specs.Prelude.{◌⊎◌, nat_le, is_some, if◌then◌else◌}
+use Rattle.std.proofs.lemmas.Bool.{cases_lt, and_parts, leb-true}
+use Rattle.cyc_words.specs.Demand.{class_of}
+use Rattle.cyc_store.specs.Lookup.{lookup}
+use Rattle.cyc_store.specs.State.{Uniques, Home, handle_of, StoreState, homes, demand, made_in, room}
+use Rattle.cyc_store.specs.Services.{Allocate, BadHandle, BadSize, Choice, block_of, served, any_choice, is_full, full_at, is_size, refusal, IsPlaced, IsApart, IsAllowed}
+use Rattle.cyc_store.specs.Soundness.{IsSound}
+use Rattle.cyc_store.specs.declared.range.TheConstants.{PAGE_WORDS, MOST_BLOCK_WORDS, UNIQUE}
+use Rattle.cyc_store.proofs.LookupLemmas.{when_other, lookup-there}
+use Rattle.cyc_store.proofs.ServiceLemmas.{made-in, then-none, some-there, fits}
+use Rattle.cyc_store.proofs.PageModel.{page_start, Pages, filled_to, drawn}
+use Rattle.cyc_store.proofs.PageServices.{mark_of, HasChain, IsPaged, stays-placed, drawn-placed, full-without}
+use Rattle.cyc_store.proofs.PagedRegions.{block_in_page, paged-stays, paged-draws}
+
+-- some pages lay the store out
+pub record ArePages (s : StoreState) : Type 0 where
+  pub pages : Pages
+  pub free : List ℕ
+  pub paged : IsPaged s pages free
+
+-- a choice that is allowed, after which pages lay the store out
+pub record FindsPlace (s : StoreState) (h n : ℕ) : Type 0 where
+  pub choice : Choice
+  pub allowed : IsAllowed s (Allocate h n) choice
+  pub pages : ArePages (served s (Allocate h n) choice)
+
+module _ (s : StoreState) (h n : ℕ) (sound : IsSound s) (ordinary : h ≡ UNIQUE → ⊥) where
+  -- nothing but the new block changes
+  abbrev chosen : (address : ℕ) → Choice
+  chosen address = record { handle = 0; address = address; memory = s.memory }
+
+  found : (address : ℕ) → IsPlaced s.pages (block_of h n (chosen address)) × IsApart (homes s) (block_of h n (chosen address))
+      → ArePages (made_in s h (block_of h n (chosen address))) → FindsPlace s h n
+  found address may pages = record {
+    choice = chosen address;
+    allowed = record { may = may; keeps = λ x held here there. refl; words = sound.words };
+    pages = subst (λ (t : StoreState). ArePages (record t { memory = s.memory })) (sym (made-in s h (block_of h n (chosen address)) ordinary)) pages;
+  }
+
+  module _ (r : Home) (named : lookup handle_of s.regions h ≡ Some r) (some : 0 < room h n) (small : room h n ≤ PAGE_WORDS) where
+    finds : (pages : Pages) (free : List ℕ) → IsPaged s pages free → demand (made_in s h (block_of h n (chosen 0))) ≤ s.pages
+        → (PAGE_WORDS < (mark_of r).filled + room h n) ⊎ ((mark_of r).filled + room h n ≤ PAGE_WORDS) → FindsPlace s h n
+    finds pages free paged few (inr fits_page) =
+        let chain : HasChain pages r = paged.chains h r named in
+        found (page_start chain.newest.page + 4 * (mark_of r).filled)
+        (stays-placed s pages free paged h r named (block_in_page chain.newest.page (mark_of r).filled (room h n)) chain.newest refl fits_page some)
+        (record { pages = filled_to pages chain.newest.page ((mark_of r).filled + room h n); free = free; paged = paged-stays s pages h r named ordinary (room h n) some free paged chain fits_page })
+    finds pages [] paged few (inl past) =
+        absurd (never s.pages (demand (made_in s h (block_of h n (chosen 0)))) (full-without s pages [] paged h r named (block_of h n (chosen 0)) refl past) few)
+      where
+        never : (p d : ℕ) → p < d → d ≤ p → ⊥
+        never p d less more = omega (arith, less, more)
+    finds pages (page ∷ free) paged few (inl past) =
+        found (page_start page + 4 * 0)
+        (drawn-placed s pages page free paged h (block_in_page page 0 (room h n)) (no_words (page_start page)) some small)
+        (record { pages = filled_to (drawn pages page h) page (0 + room h n); free = free; paged = paged-draws s pages h r named ordinary (room h n) some page free paged past small })
+      where
+        no_words : (m : ℕ) → m + 4 * 0 ≡ m
+        no_words m = omega arith
+
+-- where an allocation in a region is not refused, there is a place for it
+pub allocation-finds : (s : StoreState) (h n : ℕ) → IsSound s → ArePages s → (h ≡ UNIQUE → ⊥) → refusal s (Allocate h n) ≡ None → FindsPlace s h n
+allocation-finds s h n sound laid ordinary none =
+    let (named, rest) = then-none (is_some (lookup handle_of (homes s) h)) (if is_size n then full_at (is_full s (Allocate h n)) else Some BadSize) BadHandle none in
+    let (sized, fit) = then-none (is_size n) (full_at (is_full s (Allocate h n))) BadSize rest in
+    let (r, there) = some-there (lookup handle_of (homes s) h) named in
+    let both = and_parts (nat_le 1 n) (nat_le n MOST_BLOCK_WORDS) sized in
+    let least : 1 ≤ n = leb-true 1 n both.0 in
+    let most : n ≤ 1000 = leb-true n MOST_BLOCK_WORDS both.1 in
+    let plain : room h n ≡ n = when_other h UNIQUE (2 ^ class_of n) n ordinary in
+    let few : demand (served s (Allocate h n) (any_choice s)) ≤ s.pages = fits s (Allocate h n) sound none in
+    finds s h n sound ordinary r
+    (sym (lookup-there handle_of (record { handle = UNIQUE; sort = Uniques; blocks = s.unique }) s.regions h (λ e. ordinary (sym e))) ∙ there)
+    (subst (λ m. 0 < m) (sym plain) (omega (arith, least)))
+    (subst (λ m. m ≤ 1024) (sym plain) (omega (arith, most)))
+    laid.pages laid.free laid.paged
+    (subst (λ (t : StoreState). demand t ≤ s.pages) (made-in s h (block_of h n (any_choice s)) ordinary) few)
+    (cases_lt PAGE_WORDS ((mark_of r).filled + room h n))

@@ -1,0 +1,93 @@
+-- A new store is laid out in pages, and stays so where a region is opened and demand allows it.
+use Rattle.std.proofs.Common.{◌≡◌, ◌≢◌, ℕ, zero, suc, ◌+◌, ◌<◌, ◌≤◌, List, [], ◌∷◌, length, None, Some, refl, ap, ◌∙◌, arith}
+use Rattle.std.specs.List.{AllByRecursion}
+use Rattle.cyc_words.specs.Simulation.{IsDistinct}
+use Rattle.cyc_store.specs.State.{Memory, Sort, Heap, StoreState, start, demand, opened}
+use Rattle.cyc_store.specs.declared.range.TheConstants.{HEAP, PAGE_WORDS}
+use Rattle.cyc_store.proofs.PageModel.{Pages, drawn}
+use Rattle.cyc_store.proofs.PageServices.{IsFree, IsPaged}
+use Rattle.cyc_store.proofs.PagedAllocation.{ArePages}
+use Rattle.cyc_store.proofs.PagedOpening.{paged-opened, full-opening}
+
+-- so many numbers, one after another
+abbrev numbers_from : (first count : ℕ) → List ℕ
+numbers_from first zero = []
+numbers_from first (suc count) = first ∷ numbers_from (suc first) count
+
+abbrev all_free : Pages
+all_free = record { owner = λ (page : ℕ). None; filled = λ (page : ℕ). 0 }
+
+-- a store before its heap is opened
+abbrev bare : (count : ℕ) → Memory → StoreState
+bare count memory = record (start count memory) { regions = [] }
+
+more : (first count total : ℕ) → first + suc count ≤ total → suc first + count ≤ total
+more first count total e = omega (arith, e)
+
+within : (first count total : ℕ) → first + suc count ≤ total → first < total
+within first count total e = omega (arith, e)
+
+are-free : (total first count : ℕ) → first + count ≤ total → AllByRecursion (IsFree total all_free) (numbers_from first count)
+are-free total first zero fits = tt
+are-free total first (suc count) fits =
+    (record { owner = refl; below = within first count total fits }, are-free total (suc first) count (more first count total fits))
+
+not_below : (x y : ℕ) → x < y → x ≡ y → ⊥
+not_below x y less same = omega (arith, less, same)
+
+next : (x y : ℕ) → x < y → x < suc y
+next x y less = omega (arith, less)
+
+own_next : (x : ℕ) → x < suc x
+own_next x = omega arith
+
+above : (x first count : ℕ) → x < first → AllByRecursion (λ (y : ℕ). x ≢ y) (numbers_from first count)
+above x first zero less = tt
+above x first (suc count) less = (not_below x first less, above x (suc first) count (next x first less))
+
+are-distinct : (first count : ℕ) → IsDistinct (numbers_from first count)
+are-distinct first zero = tt
+are-distinct first (suc count) = (above first (suc first) count (own_next first), are-distinct (suc first) count)
+
+are-many : (first count : ℕ) → length (numbers_from first count) ≡ count
+are-many first zero = refl
+are-many first (suc count) = ap suc (are-many (suc first) count)
+
+bare-paged : (count : ℕ) (memory : Memory) → IsPaged (bare count memory) all_free (numbers_from 0 count)
+bare-paged count memory = record {
+  laid = (tt, tt);
+  filled = λ page. least PAGE_WORDS;
+  below = λ page h e. absurd (let k : None ≡ Some h = e in cc);
+  unowned = are-free count 0 count (all_of count);
+  apart = are-distinct 0 count;
+  count = ap (λ n. n + 0) (are-many 0 count) ∙ plain count;
+  chains = λ h r e. absurd (let k : None ≡ Some r = e in cc);
+}
+  where
+    least : (n : ℕ) → 0 ≤ n
+    least n = omega arith
+
+    all_of : (n : ℕ) → 0 + n ≤ n
+    all_of n = omega arith
+
+    plain : (n : ℕ) → n + 0 ≡ n
+    plain n = omega arith
+
+pub start-pages : (count : ℕ) (memory : Memory) → 1 ≤ count → ArePages (start count memory)
+start-pages zero memory some = absurd (omega (arith, some))
+start-pages (suc count) memory some = record {
+  pages = drawn all_free 0 HEAP;
+  free = numbers_from 1 count;
+  paged = paged-opened (bare (suc count) memory) all_free 0 (numbers_from 1 count) HEAP Heap (bare-paged (suc count) memory);
+}
+
+-- a region is opened with a page of its own, wherever demand allows it
+pub opening-pages : (s : StoreState) (h : ℕ) (sort : Sort) → ArePages s → demand (opened s h sort) ≤ s.pages → ArePages (opened s h sort)
+opening-pages s h sort laid few = by laid.pages laid.free laid.paged
+  where
+    never : (p d : ℕ) → p < d → d ≤ p → ⊥
+    never p d less more = omega (arith, less, more)
+
+    by : (pages : Pages) (free : List ℕ) → IsPaged s pages free → ArePages (opened s h sort)
+    by pages [] paged = absurd (never s.pages (demand (opened s h sort)) (full-opening s pages h sort paged) few)
+    by pages (page ∷ free) paged = record { pages = drawn pages page h; free = free; paged = paged-opened s pages page free h sort paged }

@@ -1,0 +1,6 @@
+pub mod Answers
+pub mod Lookup
+pub mod Run
+pub mod Services
+pub mod Soundness
+pub mod State

@@ -1,0 +1,182 @@
+-- What a store holds: regions and unique blocks, and the words of memory beside them. The regions are those of Grossman et al.
+-- (2002); a block is an address and a size, and all words are one function of the address, so that writing a word changes no
+-- block. What a store does to place blocks is its own affair: nothing here says where a page begins.
+use Rattle.std.specs.Prelude.{ℕ, zero, suc, ◌+◌, ◌*◌, ◌%◌, ◌^◌, ◌==◌, ◌&&◌, nat_le, nat_lt, max, Bool, true, false, if◌then◌else◌, List, [], ◌∷◌, ◌++◌, map, Option, Some, None, slice_index, set}
+use Rattle.cyc_words.specs.Word.{IsWord}
+use Rattle.cyc_words.specs.Demand.{class_of, pages_for, demand_of}
+use Rattle.cyc_store.specs.Lookup.{lookup, changed}
+use Rattle.cyc_store.specs.declared.range.TheConstants.{HEAP, UNIQUE}
+
+-- ---- memory
+
+-- the word that stands at each address
+abbrev pub Memory : Type 0
+Memory = ℕ → ℕ
+
+abbrev pub put : Memory → (address word : ℕ) → Memory
+put memory address word = λ (other : ℕ). if other == address then word else memory other
+
+abbrev pub AreWords : Memory → Type 0
+AreWords memory = (address : ℕ) → IsWord (memory address)
+
+-- ---- blocks and regions
+
+-- a block's first address, a multiple of 4, and its words
+pub record Block : Type 0 where
+  pub address : ℕ
+  pub size : ℕ
+
+abbrev pub address_of : Block → ℕ
+address_of b = b.address
+
+-- the heap; a region that ends with its block, or with its key; and the home of the unique blocks
+pub data Sort : Type 0 where
+  Heap : Sort
+  Lexical : Sort
+  Dynamic : Sort
+  Uniques : Sort
+
+-- a region, with its blocks in the order made
+pub record Home : Type 0 where
+  pub handle : ℕ
+  pub sort : Sort
+  pub blocks : List Block
+
+abbrev pub handle_of : Home → ℕ
+handle_of r = r.handle
+
+-- a region as it is opened
+abbrev pub empty_home : (handle : ℕ) → Sort → Home
+empty_home handle sort = record { handle = handle; sort = sort; blocks = [] }
+
+-- A store. Its open regions stand in the order in which they were opened, so the lexical ones do.
+pub record StoreState : Type 0 where
+  pub pages : ℕ
+  pub regions : List Home
+  -- the live unique blocks
+  pub unique : List Block
+  -- of each class of unique blocks, the pages for the most of them that were live so far
+  pub classes : List ℕ
+  pub memory : Memory
+
+-- the regions, before them the unique blocks as one region more, which has a handle of its own
+abbrev pub homes : StoreState → List Home
+homes s = record { handle = UNIQUE; sort = Uniques; blocks = s.unique } ∷ s.regions
+
+-- a new store: the heap, and nothing in it. The classes are those of 1, 2, 4 and so on up to 1,024 words.
+abbrev pub start : (pages : ℕ) → Memory → StoreState
+start pages memory = record {
+  pages = pages;
+  regions = empty_home HEAP Heap ∷ [];
+  unique = [];
+  classes = 0 ∷ 0 ∷ 0 ∷ 0 ∷ 0 ∷ 0 ∷ 0 ∷ 0 ∷ 0 ∷ 0 ∷ 0 ∷ [];
+  memory = memory;
+}
+
+-- ---- which block an address is in
+
+abbrev pub covers : Block → (address : ℕ) → Bool
+covers b address = nat_le b.address address && nat_lt address (b.address + 4 * b.size)
+
+-- a block, and the handle of the region that it is in
+pub record Holder : Type 0 where
+  pub handle : ℕ
+  pub block : Block
+
+abbrev pub holder_in : (handle : ℕ) → List Block → (address : ℕ) → Option Holder
+holder_in handle [] address = None
+holder_in handle (b ∷ bs) address =
+    if covers b address then Some (record { handle = handle; block = b }) else holder_in handle bs address
+
+abbrev pub or_else : Option Holder → Option Holder → Option Holder
+or_else None other = other
+or_else (Some h) other = Some h
+
+-- the block that has this address
+abbrev pub holder : List Home → (address : ℕ) → Option Holder
+holder [] address = None
+holder (r ∷ rs) address = or_else (holder_in r.handle r.blocks address) (holder rs address)
+
+abbrev pub block_in : Option Home → (address : ℕ) → Option Block
+block_in None address = None
+block_in (Some r) address = lookup address_of r.blocks address
+
+-- the block of this region that begins at this address
+abbrev pub block_at : List Home → (handle address : ℕ) → Option Block
+block_at rs handle address = block_in (lookup handle_of rs handle) address
+
+-- ---- words of live blocks
+
+abbrev pub word_in : Option Holder → Memory → (address : ℕ) → Option ℕ
+word_in None memory address = None
+word_in (Some h) memory address = Some (memory address)
+
+-- the word at an address, where it is that of a word of a live block
+abbrev pub word_at : StoreState → (address : ℕ) → Option ℕ
+word_at s address = if address % 4 == 0 then word_in (holder (homes s) address) s.memory address else None
+
+abbrev pub has_saved : StoreState → (address word : ℕ) → Option ℕ → StoreState
+has_saved s address word None = s
+has_saved s address word (Some old) = record s { memory = put s.memory address word }
+
+-- a word of a live block is written; anywhere else nothing is
+abbrev pub saved : StoreState → (address word : ℕ) → StoreState
+saved s address word = has_saved s address word (word_at s address)
+
+-- ---- demand
+
+abbrev pub sizes_of : List Block → List ℕ
+sizes_of bs = map (λ (b : Block). b.size) bs
+
+abbrev pub sizes_in : List Home → List (List ℕ)
+sizes_in rs = map (λ (r : Home). sizes_of r.blocks) rs
+
+-- the pages that the blocks ask for
+abbrev pub demand : StoreState → ℕ
+demand s = demand_of (sizes_in s.regions) s.classes
+
+-- how many blocks are of a class
+abbrev pub live_in : (class : ℕ) → List Block → ℕ
+live_in class [] = 0
+live_in class (b ∷ bs) = if class_of b.size == class then suc (live_in class bs) else live_in class bs
+
+-- the pages of the classes where so many blocks of one class are live
+abbrev pub raised : (classes : List ℕ) → (class live : ℕ) → List ℕ
+raised classes class live = set classes class (max (slice_index classes class) (pages_for class live))
+
+-- ---- what changes
+
+abbrev pub opened : StoreState → (handle : ℕ) → Sort → StoreState
+opened s handle sort = record s { regions = s.regions ++ empty_home handle sort ∷ [] }
+
+abbrev pub is_lexical : Sort → Bool
+is_lexical Heap = false
+is_lexical Lexical = true
+is_lexical Dynamic = false
+is_lexical Uniques = false
+
+abbrev pub lexical_count : List Home → ℕ
+lexical_count [] = 0
+lexical_count (r ∷ rs) = if is_lexical r.sort then suc (lexical_count rs) else lexical_count rs
+
+-- The oldest lexical regions stay, as many as the mark says, and all other regions do.
+abbrev pub down_to : (mark : ℕ) → List Home → List Home
+down_to mark [] = []
+down_to zero (r ∷ rs) = if is_lexical r.sort then down_to zero rs else r ∷ down_to zero rs
+down_to (suc mark) (r ∷ rs) = if is_lexical r.sort then r ∷ down_to mark rs else r ∷ down_to (suc mark) rs
+
+abbrev pub with_block : Block → Home → Home
+with_block b r = record r { blocks = r.blocks ++ b ∷ [] }
+
+abbrev pub made_in : StoreState → (handle : ℕ) → Block → StoreState
+made_in s handle b = record s { regions = changed handle_of (with_block b) s.regions handle }
+
+abbrev pub made_unique : StoreState → Block → StoreState
+made_unique s b = record s {
+  unique = s.unique ++ b ∷ [];
+  classes = raised s.classes (class_of b.size) (suc (live_in (class_of b.size) s.unique));
+}
+
+-- the words of a block that is asked for with so many: a unique block has those of its class
+abbrev pub room : (handle words : ℕ) → ℕ
+room handle words = if handle == UNIQUE then 2 ^ class_of words else words

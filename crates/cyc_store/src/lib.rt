@@ -1,0 +1,15 @@
+//! The store of a running program: what a store holds and what its services do, as a relation, and the trait that each
+//! store meets.
+//!
+//! The definitions stand in `specs/`: what a store holds (`State`), its services (`Services`), and what stays true of every
+//! store that is served (`Soundness`). [`laws`] has their laws.
+#![tactic(auto)]
+
+mod answer;
+pub mod laws;
+mod range;
+mod store;
+
+pub use answer::{BadHandle, BadMark, No, NotABlock};
+pub use range::{HEAP, LEAST_PAGES, MOST_BLOCK_WORDS, MOST_PAGES, PAGE_WORDS, STORE_BASE, UNIQUE};
+pub use store::Store;

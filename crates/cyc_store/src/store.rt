@@ -1,0 +1,57 @@
+//! The trait that each store meets.
+
+ghost use Rattle.std.specs.Prelude.{◌≡◌, Bool, is_some};
+ghost use Rattle.cyc_store.specs.Answers.{Responds, allocated, done_unless, opened_dynamic, opened_lexical};
+ghost use Rattle.cyc_store.specs.Services.{Allocate, CloseDynamic, CloseTo, Free, OpenDynamic, OpenLexical};
+ghost use Rattle.cyc_store.specs.Services as services;
+ghost use Rattle.cyc_store.specs.State.{StoreState, saved, word_at};
+
+use super::answer::{BadHandle, BadMark, No, NotABlock};
+
+/// A store: regions that are opened and closed, blocks that are made in them, unique blocks that are freed one at a time, and
+/// the words of what is live.
+///
+/// What it holds is its ghost member `held`, and each method does to that what the relation of the services allows.
+/// Which handle a region gets and where a block lies is the store's choice. A refusal changes nothing.
+pub trait Store {
+    ghost held: { Self → StoreState };
+
+    /// Whether the store may want memory after it was made. Where this is false no call answers [`No::Memory`].
+    const GROWS: bool;
+
+    ghost GROWS: { Bool };
+
+    /// Opens a lexical region. Gives its handle, which nothing had, and the number of lexical regions that were open before.
+    fn open_lexical(&mut self) -> Result<(u32, u32), No>
+        ensures { Responds GROWS (held self.old) OpenLexical (opened_lexical result) (held self.new) };
+
+    /// Closes the newest lexical regions until `mark` are open.
+    fn close_to(&mut self, mark: u32) -> Result<(), BadMark>
+        ensures { Responds GROWS (held self.old) (CloseTo mark) (done_unless services.BadMark result) (held self.new) };
+
+    /// Opens a dynamic region. Gives its handle, which nothing had.
+    fn open_dynamic(&mut self) -> Result<u32, No>
+        ensures { Responds GROWS (held self.old) OpenDynamic (opened_dynamic result) (held self.new) };
+
+    /// Closes the dynamic region with this handle.
+    fn close_dynamic(&mut self, handle: u32) -> Result<(), BadHandle>
+        ensures { Responds GROWS (held self.old) (CloseDynamic handle) (done_unless services.BadHandle result) (held self.new) };
+
+    /// Makes a block of so many words, with any contents, in the region with this handle, and gives its address. In the unique
+    /// region the block has the words of its class, the least power of two that holds those asked for.
+    fn alloc(&mut self, handle: u32, words: u32) -> Result<u32, No>
+        ensures { Responds GROWS (held self.old) (Allocate handle words) (allocated result) (held self.new) };
+
+    /// Frees the live unique block that begins at this address.
+    fn free(&mut self, address: u32) -> Result<(), NotABlock>
+        ensures { Responds GROWS (held self.old) (Free address) (done_unless services.NotABlock result) (held self.new) };
+
+    /// The word at an address, where it is that of a word of a live block.
+    fn load(&self, address: u32) -> Option<u32>
+        ensures { result ≡ word_at (held self.now) address };
+
+    /// Writes a word of a live block. False where the address is that of none; then nothing changes.
+    fn save(&mut self, address: u32, word: u32) -> bool
+        ensures done { result ≡ is_some (word_at (held self.old) address) }
+        ensures saved { held self.new ≡ saved (held self.old) address word };
+}
