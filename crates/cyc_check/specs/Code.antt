@@ -1,5 +1,7 @@
 -- What the code has to do with the checking function: what its functions give, and what its tables of names hold.
 use Rattle.std.specs.Prelude.{◌≡◌, ℕ, zero, suc, Bool, true, false, if◌then◌else◌, List, [], ◌∷◌, Option, Some, None, Result, Ok, Err}
+use Rattle.std.specs.declared.boxed.Box.{Box}
+use Rattle.std.specs.declared.alloc.Global.{Global as Heap}
 use Rattle.cyc_words.specs.declared.fault.Code.TheVariants as codes
 use Rattle.cyc_words.specs.declared.fault.Fault.{Fault}
 use Rattle.cyc_words.specs.Fault.{memory_fault}
@@ -9,6 +11,7 @@ use Rattle.cyc_syntax.specs.Symbols.{Place}
 use Rattle.cyc_syntax.specs.Trees.{Expression, Expressions, place_of}
 use Rattle.cyc_syntax.specs.TreeView.{view_expression}
 use Rattle.cyc_types.specs.declared.typed.Kind.TheVariants as kinds
+use Rattle.cyc_types.specs.declared.typed.Expr.{Expr as ExpressionCode}
 use Rattle.cyc_types.specs.declared.typed.Converted.{Converted as ConvertedCode}
 use Rattle.cyc_types.specs.declared.typed.Operation.{Operation}
 use Rattle.cyc_types.specs.declared.typed.Operation.TheVariants as operation
@@ -46,6 +49,10 @@ ints (suc n) = Int ∷ ints n
 abbrev pub result_if : Bool → Option Ty
 result_if true = Some Int
 result_if false = None
+
+-- a node in a box
+abbrev pub view_boxed : Box ExpressionCode Heap → typed.Expression
+view_boxed b = view.view_expression b.value
 
 -- ---- arguments
 

@@ -1,10 +1,11 @@
 //! The typed tree of an expression.
-ghost use Rattle.std.specs.Prelude.{◌≡◌, ℕ, map, option_map, length, Some, Ok, IfOk};
+ghost use Rattle.std.specs.Prelude.{◌≡◌, ℕ, [], ◌∷◌, ◌++◌, map, option_map, length, Some, Ok, IfOk, OnOk, IfErr};
 ghost use Rattle.cyc_words.specs.declared.fault.Code.TheVariants as codes;
 ghost use Rattle.cyc_syntax.specs.TreeView.{place_of_span, view_name, view_expression, expressions_of, operations_of};
 ghost use Rattle.cyc_syntax.specs.Symbols.{Place};
 ghost use Rattle.cyc_syntax.specs.Trees as trees;
 ghost use Rattle.cyc_syntax.specs.Trees.{place_of};
+ghost use Rattle.cyc_types.specs.declared.typed.Operation.{Operation as OperationCode};
 ghost use Rattle.cyc_types.specs.Types as types;
 ghost use Rattle.cyc_types.specs.TypedTrees.{type_of};
 ghost use Rattle.cyc_types.specs.TypedTrees as nodes;
@@ -15,7 +16,7 @@ ghost use Rattle.cyc_types.specs.TypingRules.{name_in, unary_operator, then_oper
 ghost use Rattle.cyc_types.specs.Refusals.{fault_at};
 ghost use Rattle.cyc_types.specs.Checking.{and_then, is_int, convert, read, place_meant, target, call, prefixed, check, check_all, check_chain};
 ghost use Rattle.cyc_check.specs.declared.stop.Stop.TheVariants as stops;
-ghost use Rattle.cyc_check.specs.Code.{Gives, result_if, value_of, as_ints, passed, arguments, put_operation, one_operation};
+ghost use Rattle.cyc_check.specs.Code.{Gives, view_boxed, result_if, value_of, as_ints, passed, arguments, put_operation, one_operation};
 ghost use Rattle.cyc_check.specs.Checkers.{scope_of};
 
 use crate::checker::Checker;
@@ -197,19 +198,63 @@ fn call_of(callee: Callee, arguments: Vec<Converted>, has_result: bool) -> typed
     }
 }
 
+/// The node in a box. A walk hands on boxes, so that its frames are small however large a node is.
+#[inline(never)]
+fn boxed(alloc: Global, expression: typed::Expr) -> Result<Box<typed::Expr>, Stop>
+    ensures { Gives view_boxed result (Ok (typed_view.view_expression expression)) }
+{
+    Ok(Box::new(alloc, expression)?)
+}
+
+#[inline(never)]
+fn number(alloc: Global, value: u32) -> Result<Box<typed::Expr>, Stop>
+    ensures { Gives view_boxed result (Ok (nodes.Number value)) }
+{
+    boxed(alloc, typed::Expr::Number { value })
+}
+
+#[inline(never)]
+fn unary_of(
+    alloc: Global,
+    operator: UnaryOperator,
+    operand: Box<typed::Expr>,
+) -> Result<Box<typed::Expr>, Stop>
+    ensures { Gives view_boxed result (Ok (nodes.Unary operator (view_boxed operand))) }
+{
+    boxed(alloc, typed::Expr::Unary { operator, operand })
+}
+
+#[inline(never)]
 fn binary_of(
     alloc: Global,
-    first: typed::Expr,
+    first: Box<typed::Expr>,
     rest: Vec<typed::Operation>,
-) -> Result<typed::Expr, AllocError>
-    ensures { IfOk result (λ e. typed_view.view_expression e ≡ nodes.Binary (typed_view.view_expression first) (typed_view.operations_of rest.items) types.Int) }
+) -> Result<Box<typed::Expr>, Stop>
+    ensures { Gives view_boxed result (Ok (nodes.Binary (view_boxed first) (typed_view.operations_of rest.items) types.Int)) }
 {
-    let first = Box::new(alloc, first)?;
-    Ok(typed::Expr::Binary {
-        first,
-        rest,
-        of_type: Ty::Int,
-    })
+    let of_type = Ty::Int;
+    boxed(
+        alloc,
+        typed::Expr::Binary {
+            first,
+            rest,
+            of_type,
+        },
+    )
+}
+
+/// Puts an operation behind the others.
+#[inline(never)]
+fn push_operation(
+    operations: &mut Vec<typed::Operation>,
+    operator: BinaryOperator,
+    operand: Box<typed::Expr>,
+) -> Result<(), Stop>
+    ensures pushed { OnOk result ((o : OperationCode) × (operations.new.items ≡ operations.old.items ++ o ∷ []) × (put_operation o ≡ then_operation operator (view_boxed operand))) }
+    ensures memory { IfErr result (λ e. e ≡ stops.Memory) }
+{
+    operations.push(operation_of(operator, Box::into_inner(operand)))?;
+    Ok(())
 }
 
 fn assign_of(alloc: Global, target: Lvalue, value: Converted) -> Result<typed::Expr, AllocError>
@@ -224,28 +269,33 @@ fn assign_of(alloc: Global, target: Lvalue, value: Converted) -> Result<typed::E
 }
 
 /// The assignment of a value to a place.
+#[inline(never)]
 fn assign(
     alloc: Global,
     target: Lvalue,
     right: &Expr,
-    value: typed::Expr,
-) -> Result<typed::Expr, Stop>
-    ensures { Gives typed_view.view_expression result (and_then (convert (typed_view.view_expression value) types.Int (place_of (view_expression right.now))) (λ c. Ok (nodes.Assign (typed_view.view_lvalue target) c (Some types.Int)))) }
+    value: Box<typed::Expr>,
+) -> Result<Box<typed::Expr>, Stop>
+    ensures { Gives view_boxed result (and_then (convert (view_boxed value) types.Int (place_of (view_expression right.now))) (λ c. Ok (nodes.Assign (typed_view.view_lvalue target) c (Some types.Int)))) }
 {
-    let value = convert(right, value)?;
-    Ok(assign_of(alloc, target, value)?)
+    let value = convert(right, Box::into_inner(value))?;
+    boxed(alloc, assign_of(alloc, target, value)?)
 }
 
 impl<'a> Checker<'a> {
-    fn read(&self, name: Ident) -> Result<typed::Expr, Stop>
-        ensures { Gives typed_view.view_expression result (read (meaning_of (scope_of self.now) (view_name name)) (place_of_span name.span)) }
+    #[inline(never)]
+    fn read(&self, name: Ident) -> Result<Box<typed::Expr>, Stop>
+        ensures { Gives view_boxed result (read (meaning_of (scope_of self.now) (view_name name)) (place_of_span name.span)) }
     {
         match self.meaning(name) {
             None => Err(refused(Code::UnknownName, name.span)),
-            Some(Meaning::Variable { target }) => Ok(typed::Expr::Copy {
-                source: target,
-                of_type: Ty::Int,
-            }),
+            Some(Meaning::Variable { target }) => boxed(
+                self.alloc,
+                typed::Expr::Copy {
+                    source: target,
+                    of_type: Ty::Int,
+                },
+            ),
             Some(Meaning::Routine { .. }) => Err(refused(Code::TypeMismatch, name.span)),
         }
     }
@@ -267,10 +317,10 @@ impl<'a> Checker<'a> {
         function: Ident,
         expressions: &[Expr],
         arguments: Vec<Converted>,
-    ) -> Result<typed::Expr, Stop>
+    ) -> Result<Box<typed::Expr>, Stop>
         requires same { length expressions.now ≡ length arguments.items }
         requires ints { typed_view.arguments_of arguments.items ≡ as_ints (map value_of arguments.items) }
-        ensures { Gives typed_view.view_expression result (call (meaning_of (scope_of self.now) (view_name function)) (place_of_span function.span) (expressions_of expressions.now) (map value_of arguments.items)) }
+        ensures { Gives view_boxed result (call (meaning_of (scope_of self.now) (view_name function)) (place_of_span function.span) (expressions_of expressions.now) (map value_of arguments.items)) }
     {
         match self.meaning(function) {
             None => Err(refused(Code::UnknownName, function.span)),
@@ -286,7 +336,7 @@ impl<'a> Checker<'a> {
                     return Err(refused(Code::TypeMismatch, function.span));
                 }
                 match pass(expressions, &arguments) {
-                    Ok(()) => Ok(call_of(callee, arguments, has_result)),
+                    Ok(()) => boxed(self.alloc, call_of(callee, arguments, has_result)),
                     Err(stop) => Err(stop),
                 }
             }
@@ -296,14 +346,12 @@ impl<'a> Checker<'a> {
 
 impl<'a> Checker<'a> {
     #[cycle(expression)]
-    pub(crate) fn check_expression(&self, expression: &Expr) -> Result<typed::Expr, Stop>
-        ensures { Gives typed_view.view_expression result (check (scope_of self.now) (view_expression expression.now)) }
+    pub(crate) fn check_expression(&self, expression: &Expr) -> Result<Box<typed::Expr>, Stop>
+        ensures { Gives view_boxed result (check (scope_of self.now) (view_expression expression.now)) }
     {
         match expression {
-            Expr::Number { value, .. } => Ok(typed::Expr::Number { value: *value }),
-            Expr::Character { value, .. } => Ok(typed::Expr::Number {
-                value: u32::from(*value),
-            }),
+            Expr::Number { value, .. } => number(self.alloc, *value),
+            Expr::Character { value, .. } => number(self.alloc, u32::from(*value)),
             Expr::Variable { name } => self.read(*name),
             Expr::Call {
                 function,
@@ -339,7 +387,7 @@ impl<'a> Checker<'a> {
             arguments.push(Converted {
                 from: Kind::Int,
                 to: Kind::Int,
-                value,
+                value: Box::into_inner(value),
             })?;
         }
         Ok(arguments)
@@ -347,16 +395,22 @@ impl<'a> Checker<'a> {
 
     #[cycle(expression)]
     #[tactic(auto, using(crate::proofs::Arguments::same_length, crate::proofs::Arguments::as_converted, crate::proofs::Arguments::are_values, crate::proofs::Arguments::are_refused))]
-    fn check_call(&self, function: Ident, expressions: &[Expr]) -> Result<typed::Expr, Stop>
-        ensures { Gives typed_view.view_expression result (check (scope_of self.now) (trees.Call (view_name function) (expressions_of expressions.now))) }
+    #[inline(never)]
+    fn check_call(&self, function: Ident, expressions: &[Expr]) -> Result<Box<typed::Expr>, Stop>
+        ensures { Gives view_boxed result (check (scope_of self.now) (trees.Call (view_name function) (expressions_of expressions.now))) }
     {
         let arguments = self.check_arguments(expressions)?;
         self.resolve_call(function, expressions, arguments)
     }
 
     #[cycle(expression)]
-    fn check_prefixed(&self, operator: PrefixOperator, operand: &Expr) -> Result<typed::Expr, Stop>
-        ensures { (p : Place) → Gives typed_view.view_expression result (check (scope_of self.now) (trees.Prefixed p operator (view_expression operand.now))) }
+    #[inline(never)]
+    fn check_prefixed(
+        &self,
+        operator: PrefixOperator,
+        operand: &Expr,
+    ) -> Result<Box<typed::Expr>, Stop>
+        ensures { (p : Place) → Gives view_boxed result (check (scope_of self.now) (trees.Prefixed p operator (view_expression operand.now))) }
     {
         let value = self.check_expression(operand)?;
         let Some(operator) = unary_operator(operator) else {
@@ -365,19 +419,18 @@ impl<'a> Checker<'a> {
         if !is_int(&value) {
             return Err(mismatch(operand));
         }
-        let operand = Box::new(self.alloc, value)?;
-        Ok(typed::Expr::Unary { operator, operand })
+        unary_of(self.alloc, operator, value)
     }
 
-    /// One operation of a chain behind its first operand.
+    /// The operand of one operation of a chain behind its first operand.
     #[cycle(expression)]
     fn check_operation(
         &self,
         operation: &Operation,
         first: &Expr,
         left: &typed::Expr,
-    ) -> Result<typed::Operation, Stop>
-        ensures { Gives put_operation result (one_operation (scope_of self.now) (place_of (view_expression first.now)) (type_of (typed_view.view_expression left.now)) operation.now.operator (view_expression operation.now.operand)) }
+    ) -> Result<Box<typed::Expr>, Stop>
+        ensures { Gives (λ b. then_operation operation.now.operator (view_boxed b)) result (one_operation (scope_of self.now) (place_of (view_expression first.now)) (type_of (typed_view.view_expression left.now)) operation.now.operator (view_expression operation.now.operand)) }
     {
         let operand = self.check_expression(&operation.operand)?;
         if !is_int(left) {
@@ -386,7 +439,7 @@ impl<'a> Checker<'a> {
         if !is_int(&operand) {
             return Err(mismatch(&operation.operand));
         }
-        Ok(operation_of(operation.operator, operand))
+        Ok(operand)
     }
 
     #[cycle(expression)]
@@ -400,8 +453,8 @@ impl<'a> Checker<'a> {
     {
         let mut rest = Vec::new(self.alloc);
         for operation in operations {
-            let operation = self.check_operation(operation, first, left)?;
-            rest.push(operation)?;
+            let operand = self.check_operation(operation, first, left)?;
+            push_operation(&mut rest, operation.operator, operand)?;
         }
         if !is_int(left) {
             return Err(mismatch(first));
@@ -415,12 +468,12 @@ impl<'a> Checker<'a> {
         &self,
         operations: &[Operation],
         first: &Expr,
-        left: typed::Expr,
-    ) -> Result<typed::Expr, Stop>
-        ensures { Gives typed_view.view_expression result (and_then (check_chain (scope_of self.now) (place_of (view_expression first.now)) (type_of (typed_view.view_expression left)) (operations_of operations.now)) (λ bs. Ok (nodes.Binary (typed_view.view_expression left) bs types.Int))) }
+        left: Box<typed::Expr>,
+    ) -> Result<Box<typed::Expr>, Stop>
+        ensures { Gives view_boxed result (and_then (check_chain (scope_of self.now) (place_of (view_expression first.now)) (type_of (view_boxed left)) (operations_of operations.now)) (λ bs. Ok (nodes.Binary (view_boxed left) bs types.Int))) }
     {
         let rest = self.check_operations(operations, first, &left)?;
-        Ok(binary_of(self.alloc, left, rest)?)
+        binary_of(self.alloc, left, rest)
     }
 
     /// The left side of an assignment.

@@ -75,7 +75,7 @@ impl<'a> Checker<'a> {
         if !is_int(&value) {
             return Err(mismatch(condition));
         }
-        Ok(value)
+        Ok(Box::into_inner(value))
     }
 
     fn check_returned(&self, span: Span, value: &Option<Expr>) -> Result<Option<Converted>, Stop>
@@ -93,7 +93,7 @@ impl<'a> Checker<'a> {
                 if !self.has_result {
                     return Err(refused(Code::TypeMismatch, span));
                 }
-                Ok(Some(convert(written, value)?))
+                Ok(Some(convert(written, Box::into_inner(value))?))
             }
         }
     }
@@ -115,7 +115,7 @@ impl<'a> Checker<'a> {
                 if self.is_declared(name) {
                     return Err(refused(Code::DeclaredTwice, name.span));
                 }
-                Ok(Some(convert(written, value)?))
+                Ok(Some(convert(written, Box::into_inner(value))?))
             }
         }
     }
@@ -164,7 +164,7 @@ impl<'a> Checker<'a> {
             Stmt::Block { block } => self.check_block(&block.items),
             Stmt::Empty { .. } => Ok(typed::Stmt::Empty),
             Stmt::Expression { value } => {
-                let value = self.check_expression(value)?;
+                let value = Box::into_inner(self.check_expression(value)?);
                 Ok(typed::Stmt::Evaluate { value })
             }
             Stmt::If {
