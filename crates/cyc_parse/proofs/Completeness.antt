@@ -1,4 +1,5 @@
--- COMPLETENESS: where symbols have a tree, the parser answers that tree, or the refusal of the first limit that it breaks.
+-- COMPLETENESS: where symbols have a tree, the parser answers that tree, or the refusal of the first limit that it
+-- breaks.
 use Rattle.std.proofs.Common.{◌≡◌, ℕ, zero, suc, ◌≤◌, List, [], ◌∷◌, ◌++◌, length, Some, None, Ok, refl, sym, ap, subst, ◌∙◌, arith, length-append}
 use Rattle.cyc_syntax.specs.Symbols.{Symbol}
 use Rattle.cyc_syntax.specs.Trees.{Declaration, StructType, Exceptions, Global, Function, WrittenType, BaseType, Int, Struct, Handle, Key}

@@ -1,6 +1,6 @@
--- What a parser that answers has read: symbols that a yield spells and whose leaves keep the limits. And what one has read that
--- refuses for a limit: the first symbols of a yield, up to the one refused. Here are the rules by which both follow for parsers made
--- of parsers.
+-- What a parser that answers has read: symbols that a yield spells and whose leaves keep the limits. And what one has
+-- read that refuses for a limit: the first symbols of a yield, up to the one refused. Here are the rules by which both
+-- follow for parsers made of parsers.
 use Rattle.std.proofs.Common.{◌≡◌, ℕ, zero, suc, ◌≤◌, Bool, true, false, cond, List, [], ◌∷◌, ◌++◌, Option, Some, None, is_some, Ok, Err, refl, sym, ap, subst, ◌∙◌, arith, rules, append_assoc}
 use Rattle.std.specs.Option.{IfSome}
 use Rattle.std.specs.List.{AllByRecursion}
@@ -66,8 +66,8 @@ IsLimit Unexpected = ⊥
 IsLimit TooDeep = Unit {0}
 IsLimit TooLong = Unit {0}
 
--- What holds of each answer on these symbols: of what is answered, of what it was read from, and of the symbols that are left. Where
--- a limit refuses a symbol, the symbols up to it begin something of which it holds.
+-- What holds of each answer on these symbols: of what is answered, of what it was read from, and of the symbols that
+-- are left. Where a limit refuses a symbol, the symbols up to it begin something of which it holds.
 pub record Gives {A : Type 0} (p : Parser A) (Post : A → Yield → List Symbol → Type 0) (ts : List Symbol) : Type 0 where
   pub gives : (rest : List Symbol) (x : A) → p ts ≡ Ok (x, rest) → Derived ts rest (λ ls. Post x ls rest)
   pub goes : (e : Refusal) → p ts ≡ Err e → IsLimit e.reason → Completed Post ts e.left

@@ -1,5 +1,6 @@
--- What a parser looks at: it refuses a symbol, or leaves it, and looks at none behind that one. There is one place where it looks at
--- one symbol more: `<` behind `new` and a name opens region arguments where a region comes, and else goes on with an expression.
+-- What a parser looks at: it refuses a symbol, or leaves it, and looks at none behind that one. There is one place
+-- where it looks at one symbol more: `<` behind `new` and a name opens region arguments where a region comes, and else
+-- goes on with an expression.
 use Rattle.std.proofs.Common.{◌≡◌, ℕ, zero, suc, ◌+◌, ◌≤◌, ◌<◌, Bool, true, false, cond, List, [], ◌∷◌, ◌++◌, length, Option, Some, None, is_some, Ok, Err, refl, sym, ap, subst, ◌∙◌, arith, append_assoc, length-append}
 use Rattle.std.proofs.Math.Path.{fun_ext}
 use Rattle.cyc_syntax.specs.declared.tokens.Keyword.{Keyword}
@@ -43,8 +44,9 @@ IsLess t = t.terminal ≡ Mark signs.Less
 abbrev pub Differ : List Symbol → List Symbol → Type 0
 Differ a b = region_next a ≡ region_next b → ⊥
 
--- The outcome on symbols whose end is a, where b may come in its place. `Open` says behind which answers `<` may open region
--- arguments. The parser reads into a; or it stands at such a `<` right before a, and b does not go on with it in the same way.
+-- The outcome on symbols whose end is a, where b may come in its place. `Open` says behind which answers `<` may open
+-- region arguments. The parser reads into a; or it stands at such a `<` right before a, and b does not go on with it in
+-- the same way.
 pub data Beyond {A : Type 0} (Open : A → Type 0) (a b : List Symbol) (o : Outcome A) : Type 0 where
   reads_on : (x : A) (rest : List Symbol) → o ≡ Ok (x, rest) → IsSuffix rest a → Beyond Open a b o
   refuses_on : (e : Refusal) → o ≡ Err e → IsSuffix (e.left) a → Beyond Open a b o
@@ -91,7 +93,8 @@ answered x (t ∷ f) a b = both_read x t f refl refl
 
 -- ---- rules
 
--- what may follow an answer behind which `<` may open region arguments: it does not refuse that `<`, but for a chain that is too long
+-- what may follow an answer behind which `<` may open region arguments: it does not refuse that `<`, but for a chain
+-- that is too long
 abbrev pub Tolerates : {B : Type 0} → (B → Type 0) → Parser B → Type 0
 Tolerates Open q = (t : Symbol) (a b : List Symbol) → IsLess t → Differ a b → Beyond Open a b (q (t ∷ a))
 

@@ -1,4 +1,5 @@
--- What a parser does on symbols that begin with a yield, and the rules by which this follows for parsers made of parsers.
+-- What a parser does on symbols that begin with a yield, and the rules by which this follows for parsers made of
+-- parsers.
 use Rattle.std.proofs.Common.{◌≡◌, ℕ, zero, suc, ◌+◌, ◌≤◌, ◌<◌, Bool, true, false, cond, List, [], ◌∷◌, ◌++◌, Option, Some, None, Ok, Err, refl, sym, ap, subst, ◌∙◌, arith, le-ltb, lt-ltb, append-nil, append_assoc, length, zero-le, suc-le-suc}
 use Rattle.std.specs.Option.{IfSome}
 use Rattle.std.specs.Prelude.{nat_lt}
@@ -27,8 +28,8 @@ judge (leaf ∷ leaves) (t ∷ ts) outcome =
     (cond (nat_lt max_items leaf.item) (Err (record { reason = TooLong; left = t ∷ ts }))
     (judge leaves ts outcome))
 
--- Where symbols begin with the yield of x, and what follows does not go on with it, the parser gives x, or the refusal of the first
--- limit that is broken.
+-- Where symbols begin with the yield of x, and what follows does not go on with it, the parser gives x, or the refusal
+-- of the first limit that is broken.
 pub record Reads {A : Type 0} (p : Parser A) (x : A) (leaves : Yield) (Ends : List Symbol → Type 0) : Type 0 where
   pub reads : (ts rest : List Symbol) → Front leaves ts rest → Ends rest → p ts ≡ judge leaves ts (Ok (x, rest))
 

@@ -1,5 +1,5 @@
--- SOUNDNESS: what the parser answers is a tree of all the symbols, and keeps the limits. And where it refuses a symbol for a limit,
--- some program begins with the symbols up to that one.
+-- SOUNDNESS: what the parser answers is a tree of all the symbols, and keeps the limits. And where it refuses a symbol
+-- for a limit, some program begins with the symbols up to that one.
 use Rattle.std.proofs.Common.{◌≡◌, ℕ, zero, suc, ◌≤◌, List, [], ◌∷◌, ◌++◌, length, Option, Some, None, Ok, Err, refl, sym, ap, subst, ◌∙◌, arith, append_assoc}
 use Rattle.std.proofs.lemmas.List.{append_cancel_right}
 use Rattle.std.specs.Option.{IfSome}

@@ -16,7 +16,8 @@ use Rattle.cyc_parse.specs.Answers.{end_of, fault_of}
 abbrev pub declarations_of : Tree → List Declaration
 declarations_of tree = map view_declaration tree.declarations.items
 
--- The tokens are accepted with these declarations: they are a tree of the tokens by the grammar, and all is within the limits.
+-- The tokens are accepted with these declarations: they are a tree of the tokens by the grammar, and all is within the
+-- limits.
 pub record IsAccepted (tokens : List Token) (tree : List Declaration) : Type 0 where
   pub has : HasTree (symbols_of tokens) tree
   pub within : IsWithinLimits tree

@@ -28,12 +28,14 @@ view_reason reasons.Unexpected = Unexpected
 view_reason reasons.TooDeep = TooDeep
 view_reason reasons.TooLong = TooLong
 
--- A refusal of the code is the parser's, and stands at the first of the symbols left. When memory runs out, nothing is said.
+-- A refusal of the code is the parser's, and stands at the first of the symbols left. When memory runs out, nothing is
+-- said.
 abbrev pub Stops : {Y : Type 0} → Stop → Outcome Y → List Symbol → Type 0
 Stops stops.Memory outcome left = Unit {0}
 Stops (stops.Refused why) outcome left = outcome ≡ Err (record { reason = view_reason why; left = left })
 
--- What the code answered, seen by `view`, and the symbols that it left are what the parser gives, unless memory ran out.
+-- What the code answered, seen by `view`, and the symbols that it left are what the parser gives, unless memory ran
+-- out.
 abbrev pub Gives : {X Y : Type 0} → (X → Y) → Result X Stop → Outcome Y → List Symbol → Type 0
 Gives view (Ok x) outcome left = outcome ≡ Ok (view x, left)
 Gives view (Err e) outcome left = Stops e outcome left

@@ -1,5 +1,5 @@
--- What a parser of symbols is, and the parsers of one symbol. The functions here and in the modules above are what the code computes;
--- `proofs/` shows what they have to do with the grammar.
+-- What a parser of symbols is, and the parsers of one symbol. The functions here and in the modules above are what the
+-- code computes; `proofs/` shows what they have to do with the grammar.
 use Rattle.std.specs.Prelude.{ℕ, zero, suc, Bool, false, List, [], ◌∷◌, Option, Some, None, is_some, ◌&&◌, Result, Ok, Err, if◌then◌else◌}
 use denote.Enum.Bare.{sameb}
 use Rattle.cyc_syntax.specs.declared.tokens.Keyword.{Keyword}

@@ -1,4 +1,5 @@
--- What a refusal of the parser says of the symbols, in the grammar's words. (Which limits there are is this project's own choice.)
+-- What a refusal of the parser says of the symbols, in the grammar's words. (Which limits there are is this project's
+-- own choice.)
 use Rattle.std.specs.Prelude.{◌≡◌, ℕ, ◌≤◌, ◌<◌, Bool, List, [], ◌∷◌, ◌++◌, length}
 use Rattle.std.specs.List.{AllByRecursion}
 use Rattle.cyc_syntax.specs.declared.tokens.Sign.TheVariants as signs
@@ -29,8 +30,9 @@ pub record BreaksFirst (why : Reason) (leaves : Yield) (count : ℕ) : Type 0 wh
 abbrev pub region_next : List Symbol → Bool
 region_next symbols = starts begins_region (next symbols)
 
--- Behind `new` and a name, `<` opens region arguments if a region comes, and else is an operator. So what such a sign is, the symbol
--- behind it decides: of other symbols that may come behind it, those are alike that are both regions or both none.
+-- Behind `new` and a name, `<` opens region arguments if a region comes, and else is an operator. So what such a sign
+-- is, the symbol behind it decides: of other symbols that may come behind it, those are alike that are both regions or
+-- both none.
 abbrev pub IsAlike : Symbol → List Symbol → List Symbol → Type 0
 IsAlike symbol back more = symbol.terminal ≡ Mark signs.Less → region_next more ≡ region_next back
 
@@ -46,7 +48,8 @@ Holds Unexpected front [] = (tree : List Declaration) → HasTree front tree →
 Holds Unexpected front (symbol ∷ back) = (more : List Symbol) (tree : List Declaration) → HasTree (front ++ symbol ∷ more) tree → ⊥
 -- no limit is broken at the end
 Holds TooDeep front [] = ⊥
--- programs begin with the symbols up to this one, and in each of them this one is the first to break a limit: it stands too deep
+-- programs begin with the symbols up to this one, and in each of them this one is the first to break a limit: it stands
+-- too deep
 Holds TooDeep front (symbol ∷ back) = IsBegun front symbol × ((more : List Symbol) (tree : List Declaration) → HasTree (front ++ symbol ∷ more) tree → BreaksFirst TooDeep (program tree) (length front))
 Holds TooLong front [] = ⊥
 -- the same, and it is an item too many

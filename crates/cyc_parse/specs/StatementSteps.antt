@@ -1,5 +1,5 @@
--- Parts of the parser of statements that are functions of their own in the code, and one step of each list that the code reads in
--- a loop: the next item or clause, if the list goes on.
+-- Parts of the parser of statements that are functions of their own in the code, and one step of each list that the
+-- code reads in a loop: the next item or clause, if the list goes on.
 use Rattle.std.specs.Prelude.{ℕ, suc, Option, Some, None, option_map}
 use Rattle.cyc_syntax.specs.declared.tokens.Keyword.TheVariants as words
 use Rattle.cyc_syntax.specs.declared.tokens.Sign.TheVariants as signs

@@ -1,5 +1,5 @@
--- Parts of the parser that are functions of their own in the code, and one step of each list that the code reads in a loop: the
--- next item, if the list goes on.
+-- Parts of the parser that are functions of their own in the code, and one step of each list that the code reads in a
+-- loop: the next item, if the list goes on.
 use Rattle.std.specs.Prelude.{ℕ, suc, Bool, Option, Some, None}
 use Rattle.cyc_syntax.specs.declared.tokens.Sign.TheVariants as signs
 use Rattle.cyc_syntax.specs.declared.tree.PrefixOperator.{PrefixOperator}

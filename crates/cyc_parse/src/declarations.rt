@@ -1,4 +1,5 @@
-//! The parser of declarations and of programs. A declaration stands at no depth: its brackets are the first level of nesting.
+//! The parser of declarations and of programs. A declaration stands at no depth: its brackets are the first level of
+//! nesting.
 ghost use Rattle.std.specs.Prelude.{◌≡◌, ℕ, suc, map, option_map, []};
 ghost use Rattle.cyc_syntax.specs.TreeView.{place_of_span, view_name, view_type, view_member, view_constructor, view_value, view_constraint, view_list, view_parameters, view_declaration};
 ghost use Rattle.cyc_parse.specs.Code.{Gives};

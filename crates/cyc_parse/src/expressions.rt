@@ -1,5 +1,5 @@
-//! The parser of expressions: chains of binary operators by their levels, from the tightest. A function with `room` reads at a
-//! level of nesting below which so many are left.
+//! The parser of expressions: chains of binary operators by their levels, from the tightest. A function with `room`
+//! reads at a level of nesting below which so many are left.
 ghost use Rattle.std.specs.Prelude.{◌≡◌, suc, map, option_map, [], IfOk};
 ghost use Rattle.cyc_syntax.specs.TreeView.{place_of_span, view_name, view_expression, view_initial, expressions_of, postfixes_of, operations_of, then_postfix};
 ghost use Rattle.cyc_parse.specs.Code.{Gives};
@@ -122,8 +122,8 @@ impl<'a> Parser<'a> {
 
     // ---- operands
 
-    // What is dropped where a parse stops is walked in each function that holds it: an expression at hand goes into a box at once,
-    // or to a function that holds it alone.
+    // What is dropped where a parse stops is walked in each function that holds it: an expression at hand goes into a
+    // box at once, or to a function that holds it alone.
 
     /// The bracket that closes behind an expression.
     #[tactic(auto, unfolding(crate::specs::Steps::closed, crate::specs::Parsing::bind))]

@@ -1,5 +1,5 @@
-//! The parser of statements and of the items of blocks. A function with `room` reads at a level of nesting below which so many
-//! are left.
+//! The parser of statements and of the items of blocks. A function with `room` reads at a level of nesting below which
+//! so many are left.
 ghost use Rattle.std.specs.Prelude.{◌≡◌, ℕ, suc, length, option_map, IfOk};
 ghost use Rattle.cyc_syntax.specs.TreeView.{place_of_span, view_name, view_expression, view_initial, view_statement, view_item, view_block, items_of, clauses_of, default_of};
 ghost use Rattle.cyc_syntax.specs.Trees as trees;
@@ -127,7 +127,8 @@ impl<'a> Parser<'a> {
 
     // ---- statements that begin with expressions
 
-    /// Behind the right side of a swap. There `<` may be the begin of region arguments, and then what follows it is unexpected.
+    /// Behind the right side of a swap. There `<` may be the begin of region arguments, and then what follows it is
+    /// unexpected.
     #[tactic(auto, unfolding(crate::specs::Statements::end_of_swap, crate::specs::Parsing::if_sees, crate::specs::Parsing::bind))]
     fn end_swap(&mut self, right: &Expr) -> Result<Span, Stop>
         ensures { (room : ℕ) → Gives place_of_span result (end_of_swap (suc room) (view_expression right.now) self.old) self.new }

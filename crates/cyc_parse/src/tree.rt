@@ -22,13 +22,14 @@ use std::alloc::{AllocError, Global};
 
 /// The tree of a text that has these tokens, or its fault.
 ///
-/// A token is refused that no program goes on with, that stands too deep, or that begins an item too many of its list; and so is
-/// the end of the text, where its tokens are not yet a program. Any growth of the tree may be refused for want of memory.
+/// A token is refused that no program goes on with, that stands too deep, or that begins an item too many of its list;
+/// and so is the end of the text, where its tokens are not yet a program. Any growth of the tree may be refused for
+/// want of memory.
 pub fn parse(alloc: Global, tokens: &[Token], text: &[u8]) -> Result<Tree, Fault>
     requires short { length text.now ≤ max_bytes }
     requires tokens { AreTokensOf text.now tokens.now }
-    // What is accepted has a tree, and this is answered; what is refused is so for what its code says at its place, and a program
-    // that breaks a limit is refused for the first that it breaks.
+    // What is accepted has a tree, and this is answered; what is refused is so for what its code says at its place, and
+    // a program that breaks a limit is refused for the first that it breaks.
     ensures decides { Decides (IsAccepted (map (token_of text.now) tokens.now)) (λ tree t. declarations_of t ≡ tree)
         (IsRefused text.now (map (token_of text.now) tokens.now)) (IsFaulty text.now (map (token_of text.now) tokens.now)) result }
     // Names have the numbers of their texts, in the order in which they first come.

@@ -1,5 +1,5 @@
--- Which trees a list of symbols has: those of the grammar. `Yields` has the productions; here stand the conditions that they
--- put on the parts of a tree, and what it is to be spelled by a yield.
+-- Which trees a list of symbols has: those of the grammar. `Yields` has the productions; here stand the conditions that
+-- they put on the parts of a tree, and what it is to be spelled by a yield.
 use Rattle.std.specs.Prelude.{◌≡◌, ℕ, suc, ◌≤◌, ◌<◌, Bool, true, false, List, [], ◌∷◌, Option, Some, None}
 use Rattle.std.specs.List.{AllByRecursion}
 use Rattle.std.specs.Option.{IfSome}

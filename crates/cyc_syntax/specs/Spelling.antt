@@ -1,6 +1,7 @@
--- Which byte strings are tokens, spaces and comments. Cyclone's lexical syntax is C's, with a backquote before the names of
--- regions, `@` and `?` as marks of pointers, and `:=:` for a swap (the Cyclone manual's grammar). This project's own choice: ASCII
--- alone, no floating, octal or suffixed numbers, no strings, six escapes, and the words of its subset.
+-- Which byte strings are tokens, spaces and comments. Cyclone's lexical syntax is C's, with a backquote before the
+-- names of regions, `@` and `?` as marks of pointers, and `:=:` for a swap (the Cyclone manual's grammar). This
+-- project's own choice: ASCII alone, no floating, octal or suffixed numbers, no strings, six escapes, and the words of
+-- its subset.
 use Rattle.std.specs.Prelude.{◌≡◌, ◌≢◌, ℕ, ◌+◌, ◌-◌, ◌*◌, Bool, false, not, ◌&&◌, ◌||◌, ◌==◌, nat_le, if◌then◌else◌, IsTrue, Option, Some, None, ◌⊎◌, List, [], ◌∷◌, ◌++◌, drop, fold, codes}
 use Rattle.std.specs.List.{list_all, list_any}
 use Rattle.cyc_syntax.specs.declared.tokens.Keyword.{Keyword}
@@ -182,8 +183,8 @@ IsBlockComment bytes = (body : List ℕ) × (bytes ≡ codes "/*" ++ (body ++ co
 abbrev pub IsOpenComment : List ℕ → Type 0
 IsOpenComment bytes = (body : List ℕ) × (bytes ≡ codes "/*" ++ body) × HasNoClose body
 
--- What a piece of a text can be. A comment that is not closed is a piece, so that `/*` never is two signs; but no text with one
--- has a list of tokens.
+-- What a piece of a text can be. A comment that is not closed is a piece, so that `/*` never is two signs; but no text
+-- with one has a list of tokens.
 pub data Piece : Type 0 where
   Lexeme : Kind → Piece
   Space : Piece

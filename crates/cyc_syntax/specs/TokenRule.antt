@@ -1,5 +1,5 @@
--- The token rule: at each place of a text the longest token, space or comment stands there. It relates the bytes of a text and
--- the list of its tokens with their places (maximal munch, as C and Cyclone have it).
+-- The token rule: at each place of a text the longest token, space or comment stands there. It relates the bytes of a
+-- text and the list of its tokens with their places (maximal munch, as C and Cyclone have it).
 use Rattle.std.specs.Prelude.{◌≡◌, ◌≢◌, ℕ, ◌+◌, ◌<◌, ◌≤◌, List, [], ◌∷◌, ◌++◌, length, take, map, count_by, All}
 use Rattle.std.specs.List.{after_last}
 use Rattle.cyc_syntax.specs.Spelling.{is_line_feed, Piece, Lexeme, Space, Comment, OpenComment, Spells, SpellsToken}
@@ -13,8 +13,8 @@ line_behind front = count_by is_line_feed front + 1
 abbrev pub column_behind : List ℕ → ℕ
 column_behind front = length (after_last is_line_feed front) + 1
 
--- The bytes are read as this piece where `after` follows them: they spell it, and no longer front of what stands there is a
--- token, a space or a comment.
+-- The bytes are read as this piece where `after` follows them: they spell it, and no longer front of what stands there
+-- is a token, a space or a comment.
 pub record IsRead (piece : Piece) (bytes after : List ℕ) : Type 0 where
   pub spelled : Spells piece bytes
   pub longest : (other : Piece) (front rest : List ℕ) → bytes ++ after ≡ front ++ rest → Spells other front → length front ≤ length bytes
@@ -24,7 +24,8 @@ pub record Part : Type 0 where
   pub piece : Piece
   pub bytes : List ℕ
 
--- The text is the bytes of the parts, each the longest piece at its place, and then the rest. No part is an open comment.
+-- The text is the bytes of the parts, each the longest piece at its place, and then the rest. No part is an open
+-- comment.
 abbrev pub IsCut : List Part → List ℕ → List ℕ → Type 0
 IsCut [] text rest = text ≡ rest
 IsCut (p ∷ ps) text rest =

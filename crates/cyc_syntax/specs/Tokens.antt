@@ -1,5 +1,6 @@
--- Tokens as the token rule and the grammar speak of them: values with no memory behind them. The names and the spellings
--- are Cyclone's (the Cyclone manual's grammar); what is left out of the language is this project's own choice.
+-- Tokens as the token rule and the grammar speak of them: values with no memory behind them. The names and the
+-- spellings are Cyclone's (the Cyclone manual's grammar); what is left out of the language is this project's own
+-- choice.
 use Rattle.std.specs.Prelude.{ℕ, List, drop, slice_range}
 use Rattle.cyc_syntax.specs.declared.tokens.Keyword.{Keyword}
 use Rattle.cyc_syntax.specs.declared.tokens.Sign.{Sign}

@@ -1,5 +1,5 @@
--- Abstract syntax trees as the grammar and all later definitions speak of them: values with no memory behind them. A name is a
--- number. Lists of nodes are chains of constructors of their own.
+-- Abstract syntax trees as the grammar and all later definitions speak of them: values with no memory behind them. A
+-- name is a number. Lists of nodes are chains of constructors of their own.
 use Rattle.std.specs.Prelude.{ℕ, Bool, List, Option}
 use Rattle.cyc_syntax.specs.declared.tree.PointerKind.{PointerKind}
 use Rattle.cyc_syntax.specs.declared.tree.PrefixOperator.{PrefixOperator}

@@ -1,13 +1,14 @@
--- The productions of the grammar. Each case below is one production: it says, for a tree, the leaves that spell it, from the
--- left to the right (the yield of the tree). The grammar is that of Cyclone (the Cyclone manual's grammar), cut down to this
--- project's subset; the form of outlives constraints is this project's own choice.
+-- The productions of the grammar. Each case below is one production: it says, for a tree, the leaves that spell it,
+-- from the left to the right (the yield of the tree). The grammar is that of Cyclone (the Cyclone manual's grammar),
+-- cut down to this project's subset; the form of outlives constraints is this project's own choice.
 --
 -- Beside its terminal a leaf has two numbers, of which this project's limits speak, and no production depends on them:
--- * its nesting: the brackets `(`, `[`, `{` that are open before it, and the prefix operators, `new`, `rnew`, `=`, `if`, `else`,
---   `while` and `try` in whose operand or statement it stands. A condition stands in its brackets alone, and what follows `else`
---   in the `else` alone. The handle of `rnew` and its value stand in the `rnew`, the exception behind `throw new` in the `new`;
--- * its item: that it begins the item of this number, from 1, of a list of fields, constructors, parameters, arguments, regions
---   or constraints, or is the operator, postfix or mark of this number of its chain. All other leaves have 0.
+-- * its nesting: the brackets `(`, `[`, `{` that are open before it, and the prefix operators, `new`, `rnew`, `=`,
+--   `if`, `else`, `while` and `try` in whose operand or statement it stands. A condition stands in its brackets alone,
+--   and what follows `else` in the `else` alone. The handle of `rnew` and its value stand in the `rnew`, the exception
+--   behind `throw new` in the `new`;
+-- * its item: that it begins the item of this number, from 1, of a list of fields, constructors, parameters, arguments,
+--   regions or constraints, or is the operator, postfix or mark of this number of its chain. All other leaves have 0.
 use Rattle.std.specs.Prelude.{ℕ, suc, Bool, true, false, List, [], ◌∷◌, ◌++◌, Option, Some, None}
 use Rattle.cyc_syntax.specs.declared.tokens.Keyword.{Keyword}
 use Rattle.cyc_syntax.specs.declared.tokens.Keyword.TheVariants as words

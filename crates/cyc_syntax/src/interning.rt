@@ -12,7 +12,8 @@ pub struct Name {
     pub number: usize,
 }
 
-/// The texts that were interned, each once, in the order in which they first came. A text's number is its place there, from 0.
+/// The texts that were interned, each once, in the order in which they first came. A text's number is its place there,
+/// from 0.
 #[derive(Drop)]
 pub struct Names {
     texts: IndexSet<Vec<u8>>,

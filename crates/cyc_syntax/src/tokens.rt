@@ -11,8 +11,8 @@ pub struct Token {
     pub end: usize,
 }
 
-/// What a token is. An identifier and a region name are spelled by the token's bytes (a region name's bytes begin with a
-/// backquote); a number and a character constant carry their value.
+/// What a token is. An identifier and a region name are spelled by the token's bytes (a region name's bytes begin with
+/// a backquote); a number and a character constant carry their value.
 #[derive(Clone, Copy, Debug, PartialEq, Eq)]
 pub enum TokenKind {
     Identifier,

@@ -1,8 +1,9 @@
 //! Abstract syntax trees: what the grammar makes of a list of tokens.
 //!
-//! A chain of operators of one level is one node with a list, and so is a chain of postfixes: a tree is never deeper than
-//! the nesting of its text times the levels of the grammar, whatever the number of its tokens. Brackets are kept. A node
-//! keeps the place of each token that a refusal may name; the place of the first token of an expression is that of its leftmost part.
+//! A chain of operators of one level is one node with a list, and so is a chain of postfixes: a tree is never deeper
+//! than the nesting of its text times the levels of the grammar, whatever the number of its tokens. Brackets are kept.
+//! A node keeps the place of each token that a refusal may name; the place of the first token of an expression is that
+//! of its leftmost part.
 
 use crate::{Name, Names};
 use cyc_words::Span;
