@@ -3,9 +3,10 @@
 
     make bench
 
-The text is a program of this language and of C: functions over ints with loops and calls. `cyclone check` goes through its tokens,
-its tree, its types and its flow; `tcc -c` also compiles it, in the same pass; `gcc -fsyntax-only` checks its types and compiles nothing. The
-fastest of many runs counts, and beside it stands the fastest on a program of one line, which is the time to start.
+The text is a program of this language and of C: functions over ints with loops and calls. `cyclone check` goes through
+its tokens, its tree, its types and its flow; `tcc -c` also compiles it, in the same pass; `gcc -fsyntax-only` checks
+its types and compiles nothing. The fastest of many runs counts, and beside it stands the fastest on a program of one
+line, which is the time to start.
 """
 import os
 import shutil

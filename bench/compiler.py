@@ -3,12 +3,13 @@
 
     make bench
 
-The text is the one of bench/checker.py, a program of this language and of C. `cyclone compile` makes an image of it; `tcc -c` and
-`mips-linux-gnu-gcc -O0 -c` make an object file. The fastest of many runs counts, and beside it stands the time to start.
+The text is the one of bench/checker.py, a program of this language and of C. `cyclone compile` makes an image of it;
+`tcc -c` and `mips-linux-gnu-gcc -O0 -c` make an object file. The fastest of many runs counts, and beside it stands the
+time to start.
 
-The code is measured by the instructions that three of the programs in examples/ execute. gcc compiles the same texts for the same
-machine: with the services of `cyclone run` for putchar and getchar, as an image, without optimisation. The machine counts in
-both: the least budget with which a run ends is the number of its instructions.
+The code is measured by the instructions that three of the programs in examples/ execute. gcc compiles the same texts
+for the same machine: with the services of `cyclone run` for putchar and getchar, as an image, without optimisation. The
+machine counts in both: the least budget with which a run ends is the number of its instructions.
 """
 import os
 import shutil

@@ -5,6 +5,7 @@
 """
 import os
 
+FOLDERS = (("src", ".rt"), ("specs", ".antt"), ("proofs", ".antt"))
 ROOT = os.path.join(os.path.dirname(os.path.abspath(__file__)), "..")
 
 
@@ -34,7 +35,7 @@ def main():
     print("| Crate | Code | Definitions | Proofs | Must-fail edits |\n|---|---|---|---|---|")
     total = [0, 0, 0, 0]
     for crate in crates():
-        row = [lines_in(crate, "src", ".rt"), lines_in(crate, "specs", ".antt"), lines_in(crate, "proofs", ".antt"), edits_of(crate)]
+        row = [lines_in(crate, folder, ending) for folder, ending in FOLDERS] + [edits_of(crate)]
         total = [one + other for one, other in zip(total, row)]
         print(f"| `{crate}` | " + " | ".join(f"{number:,}" for number in row) + " |")
     print("| all | " + " | ".join(f"{number:,}" for number in total) + " |")

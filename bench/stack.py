@@ -3,8 +3,8 @@
 
     make bench        or        python3 bench/stack.py [PROGRAM]
 
-For each text the least stack is sought, by halving, with which the program gives the answer that it gives with plenty. The
-greatest figures of the texts that are accepted, and of those that are refused, come last. A MB is 2^20 bytes.
+For each text the least stack is sought, by halving, with which the program gives the answer that it gives with plenty.
+The greatest figures of the texts that are accepted, and of those that are refused, come last. A MB is 2^20 bytes.
 """
 import os
 import resource

@@ -1,11 +1,12 @@
 #!/usr/bin/env python3
-"""Compares what stands elsewhere of the codes of refusals with docs/codes.txt, and tries the smallest text of each code.
+"""Compares what stands elsewhere of the codes of refusals with docs/codes.txt, and tries the smallest text of each
+code.
 
     python3 tests/codes.py [--program PATH] [--write]
 
-The docstrings of crates/cyc_words/src/fault.rt, the messages and hints of crates/cyclone/src/advice.rt and the table of codes in
-docs/LANGUAGE.md have to say what docs/codes.txt says. --write makes the table in docs/LANGUAGE.md of it, and tries nothing. The
-last line is `N passed, M failed`, of the three files and the codes.
+The docstrings of crates/cyc_words/src/fault.rt, the messages and hints of crates/cyclone/src/advice.rt and the table of
+codes in docs/LANGUAGE.md have to say what docs/codes.txt says. --write makes the table in docs/LANGUAGE.md of it, and
+tries nothing. The last line is `N passed, M failed`, of the three files and the codes.
 """
 import os
 import re
@@ -115,7 +116,8 @@ def faults_of_advice(found):
 def differences(wanted, written):
     """The names at which two tables differ."""
     names = sorted(wanted.keys() | written.keys())
-    return [suite.difference(name, wanted.get(name), written.get(name)) for name in names if wanted.get(name) != written.get(name)]
+    pairs = [(name, wanted.get(name), written.get(name)) for name in names]
+    return [suite.difference(*pair) for pair in pairs if pair[1] != pair[2]]
 
 
 def table_of(text):
@@ -145,9 +147,12 @@ def faults_of_code(code, program, folder):
     with open(source, "wb") as file:
         file.write(code.source())
     refusal = (b"", f"fault {code.number} at {code.at}", 2)
-    compiled = suite.answer([program, "compile", source, "-o", os.path.join(folder, "text.elf")])
     checked = suite.answer([program, "check", source])
-    expected = (("check", (b"", "done", 0) if code.by == "compile" else refusal, checked), ("compile", refusal, compiled))
+    compiled = suite.answer([program, "compile", source, "-o", os.path.join(folder, "text.elf")])
+    expected = [
+        ("check", (b"", "done", 0) if code.by == "compile" else refusal, checked),
+        ("compile", refusal, compiled),
+    ]
     return [suite.difference(what, wanted, got) for what, wanted, got in expected if wanted != got]
 
 

@@ -3,11 +3,11 @@
 
     python3 tests/differential.py [--program PATH] [--count N] [--seed N] [--check] [--texts FOLDER]
 
-Each program is generated so that it is accepted and ends soon: it has functions that call each other, globals, locals that hide
-others, loops with breaks and continues, all operators, reads of the input and prints. It is run on two inputs, with just as many
-calls as it needs and fewer, and with a small budget of steps, which has to give a prefix of the whole output. One of its
-functions is filled up with locals until its frame has 256 words, which changes nothing, and 257, which is refused. The same seed
-gives the same programs. The last line is `N passed, M failed`, of programs.
+Each program is generated so that it is accepted and ends soon: it has functions that call each other, globals, locals
+that hide others, loops with breaks and continues, all operators, reads of the input and prints. It is run on two
+inputs, with just as many calls as it needs and fewer, and with a small budget of steps, which has to give a prefix of
+the whole output. One of its functions is filled up with locals until its frame has 256 words, which changes nothing,
+and 257, which is refused. The same seed gives the same programs. The last line is `N passed, M failed`, of programs.
 
 --check only asks whether `check` takes the programs. --texts writes them to a folder, and each in C beside it. As
 `--program tests/in_c.py` answers like the program itself, the expectations can be held against gcc too.

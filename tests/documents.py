@@ -3,9 +3,10 @@
 
     python3 tests/documents.py [--write]
 
-Outside of tables and programs a line of a document has at most 120 characters, a code span ends on its line, and a path in a code
-span that begins with a folder of the repository leads to a file or a folder. --write fills the lines of the documents up to 120
-characters, so that no code span is broken, and looks for nothing. The last line is `N passed, M failed`, of documents.
+Outside of tables and programs a line of a document has at most 120 characters, a code span ends on its line, and a path
+in a code span that begins with a folder of the repository leads to a file or a folder. --write fills the lines of the
+documents up to 120 characters, so that no code span is broken, and looks for nothing. The last line is `N passed, M
+failed`, of documents.
 """
 import argparse
 import os
@@ -74,6 +75,11 @@ def is_text(line):
     return line.strip() != "" and not line.startswith(("#", "|", "    "))
 
 
+def goes_on(line, rest):
+    """Whether a line goes on with a paragraph whose lines begin with `rest`."""
+    return line.startswith(rest) and is_text(line[len(rest):]) and not ITEM.match(line)
+
+
 def pieces_of(text):
     """The words of a text with their code spans whole."""
     pattern = re.compile(r"(?:(?P<ticks>`+)(?!`)(?:.|\n)*?(?<!`)(?P=ticks)(?!`)|[^\s`])+")
@@ -107,7 +113,7 @@ def filled_document(text):
         first = item.group() if item else line[: len(line) - len(line.lstrip())]
         rest = " " * len(first)
         paragraph = [line[len(first):]]
-        while at < len(lines) and lines[at].startswith(rest) and is_text(lines[at][len(rest):]) and not ITEM.match(lines[at]):
+        while at < len(lines) and goes_on(lines[at], rest):
             paragraph.append(lines[at])
             at += 1
         done += filled("\n".join(paragraph), first, rest)

@@ -3,9 +3,9 @@
 
     python3 tests/examples.py [--program PATH]
 
-`NAME.cyc` is compiled, and run on `NAME.in`, or on no input where there is none. `NAME.out` is what a terminal then shows: the
-standard output, and behind it the last line on standard error, which also tells the exit status. `check` has to take the
-program too. The last line is `N passed, M failed`.
+`NAME.cyc` is compiled, and run on `NAME.in`, or on no input where there is none. `NAME.out` is what a terminal then
+shows: the standard output, and behind it the last line on standard error, which also tells the exit status. `check` has
+to take the program too. The last line is `N passed, M failed`.
 """
 import os
 import tempfile

@@ -3,11 +3,12 @@
 
     python3 tests/reference.py check F | compile F -o I | run I [--calls N] [--steps N]
 
-Nothing here is fast or proved, and nothing is shared with the compiler: a text becomes a tree by recursive descent, the tree is
-held against the rules of names, of values and of variables that are not set yet, and then evaluated as it stands. It answers as
-the program `cyclone` does, so the command-line suite can be run on it too (`tests/run.py --program tests/reference.py`): that
-shows that a case's expected values do not hang on the compiler. Its images are texts, and it has no instructions: `--steps`
-counts calls and passes of loops. Nesting and the lengths of lists are not looked at, nor is anything but ints.
+Nothing here is fast or proved, and nothing is shared with the compiler: a text becomes a tree by recursive descent, the
+tree is held against the rules of names, of values and of variables that are not set yet, and then evaluated as it
+stands. It answers as the program `cyclone` does, so the command-line suite can be run on it too (`tests/run.py
+--program tests/reference.py`): that shows that a case's expected values do not hang on the compiler. Its images are
+texts, and it has no instructions: `--steps` counts calls and passes of loops. Nesting and the lengths of lists are not
+looked at, nor is anything but ints.
 """
 import re
 import sys

@@ -75,7 +75,7 @@ class Case:
 
 
 def repeated(value):
-    """What a `let` means: `"TEXT"`, `"TEXT" * N` with `#` for the number of each copy, or plain text up to the end of the line."""
+    """What a `let` means: `"TEXT"`, `"TEXT" * N` with `#` for the number of each copy, or plain text up to the line's end."""
     match = re.fullmatch(r'"((?:[^"\\]|\\.)*)"(?:\s*\*\s*(\d+))?', value)
     if not match:
         return value

@@ -53,7 +53,7 @@ def limit_stack():
 
 
 def program_of(options, count):
-    """The program's path, with the stack limited. Where there is no program, the test ends, with all of its `count` failed."""
+    """The program's path, with the stack limited. Where there is no program, the test ends, and all `count` failed."""
     program = os.path.abspath(options.program)
     if not os.access(program, os.X_OK):
         print(f"there is no program {program}: `make build` proves and builds it")
