@@ -6,7 +6,7 @@ use Rattle.cyc_syntax.specs.Symbols.{Place, Terminal, Identifier, Word, Mark, Sy
 use Rattle.cyc_syntax.specs.Trees.{Named, Expression, Number, Character, Null, HeapRegion, UniqueRegion, Variable, Call, Bracketed, NumberOfElements, FreeUnique, FreeKey, Chained, Prefixed, New, RegionNew, Binary, Assign, Statement, Block, Labelled, Empty, IfElse, While, NoItems, MoreItems, Execute, DynamicRegion, Default, Case}
 use Rattle.cyc_syntax.specs.Yields.{Leaf, Yield}
 use Rattle.cyc_syntax.specs.Yields as yields
-use Rattle.cyc_syntax.specs.Grammar.{IsExpression, IsExpressionOrNone, wants_else, IsStatement, IsBody, AreItems, IsItem, AreClauses, IsSomeClause, max_nesting}
+use Rattle.cyc_syntax.specs.Grammar.{IsExpression, IsExpressionOrNone, wants_else, IsBody, AreItems, IsItem, AreClauses, IsSomeClause, max_nesting}
 use Rattle.cyc_parse.specs.Parsing.{TooDeep, next, bind, pure, inside, sees, starts, sign, word, identifier}
 use Rattle.cyc_parse.specs.Expressions.{nested}
 use Rattle.cyc_parse.specs.Statements.{begins_statement, begins_item, begins_clause, is_case, is_default, is_else, is_unary, ends_in_new, end_of_swap, Nested, body, expression, expression_from, swap, behind, statement_from_name, else_part, return_value, thrown, caught, clauses_in, clauses, if_statement, while_statement, throw_statement, try_statement, statement_by, statement, local_value, local, opened_key, region, alias, new_key, dynamic_region, let_by, item_by, item, items_in, items, nested_statements}

@@ -7,7 +7,7 @@ use Rattle.cyc_syntax.specs.declared.tokens.Sign.TheVariants as signs
 use Rattle.cyc_syntax.specs.declared.tree.PrefixOperator.TheVariants as prefixes
 use Rattle.cyc_syntax.specs.Symbols.{Place, Terminal, Identifier, RegionName, Word, Mark, Symbol}
 use Rattle.cyc_syntax.specs.Symbols as terminals
-use Rattle.cyc_syntax.specs.Trees.{Named, Int, Struct, Handle, Key, WrittenType, Member, Constructor, Constraint, Expression, Number, Character, Null, HeapRegion, UniqueRegion, Variable, Bracketed, NumberOfElements, FreeUnique, FreeKey, Call, Chained, Prefixed, New, RegionNew, Binary, Assign, Initial, Plain, Array, Statement, Block, Empty, Evaluate, If, While, Return, Break, Continue, Throw, Try, Braces, NoItems, MoreItems, Items, Item, Execute, Local, Region, Alias, Default}
+use Rattle.cyc_syntax.specs.Trees.{Named, Int, Struct, Handle, Key, Expression, Number, Character, Null, HeapRegion, UniqueRegion, Variable, Bracketed, NumberOfElements, FreeUnique, FreeKey, Call, Chained, Prefixed, New, RegionNew, Binary, Assign, Plain, Array, Statement, Block, Empty, Evaluate, If, While, Return, Break, Continue, Throw, Try, Braces, NoItems, MoreItems, Execute, Local, Region, Alias, Default}
 use Rattle.cyc_syntax.specs.Yields.{Yield}
 use Rattle.cyc_syntax.specs.Yields as yields
 use Rattle.cyc_syntax.specs.Grammar.{IsExpression, IsInitial, wants_else, IsStatement, AreItems, IsItem}
@@ -16,7 +16,7 @@ use Rattle.cyc_parse.specs.Types.{begins_type}
 use Rattle.cyc_parse.specs.Expressions.{begins_expression, begins_initial}
 use Rattle.cyc_parse.specs.Statements.{statement_word, statement_sign, begins_statement, item_word, begins_item, is_else}
 use Rattle.cyc_parse.specs.Declarations.{begins_constructor}
-use Rattle.cyc_parse.proofs.Rules.{leaf_of, leaf_at}
+use Rattle.cyc_parse.proofs.Rules.{leaf_of}
 use Rattle.cyc_parse.proofs.Gives.{Spells, Any, Opened, possibly, opened_at, opened_item, opened_then}
 
 -- a name, and a number
