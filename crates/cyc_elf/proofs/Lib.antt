@@ -1,9 +1,13 @@
-pub mod Again
-pub mod Answering
-pub mod Apart
-pub mod Appends
-pub mod Few
+-- the reader answers as the rules do
 pub mod Rules
-pub mod Sound
 pub mod Walks
+pub mod Apart
+pub mod Answering
+-- what it reads is well formed
+pub mod Sound
+-- the writer
+pub mod Appends
 pub mod Writes
+pub mod Few
+-- what is written is read as the same image
+pub mod Again

@@ -1,8 +1,12 @@
+-- the table of instructions, and the contracts of `encode`, `decode` and `write_text`
 pub mod Field
 pub mod Table
 pub mod Encoding
 pub mod Decoding
-pub mod Effect
 pub mod Text
+-- what each operation computes, for the machine to cite
+pub mod Effect
+-- what the functions inside the crate promise each other
 pub mod Operand
+-- worked examples, which nothing cites
 mod Examples

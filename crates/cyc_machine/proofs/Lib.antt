@@ -1,8 +1,11 @@
-pub mod Examples
-pub mod MemoryLaws
+-- what the laws and the proofs of compilation cite
+pub mod StepLaws
+pub mod RunLaws
+pub mod ShapeLaws
 pub mod PhaseLaws
 pub mod RegisterLaws
-pub mod RunLaws
+pub mod MemoryLaws
+-- loading
 pub mod Segments
-pub mod ShapeLaws
-pub mod StepLaws
+-- a run by computation, which nothing cites
+pub mod Examples

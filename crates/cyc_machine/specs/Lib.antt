@@ -1,8 +1,11 @@
-pub mod Arrays
-pub mod Bounds
-pub mod Run
-pub mod Shape
-pub mod Start
+-- the machine: its state, a step, a run, and the state that an image starts with
 pub mod State
 pub mod Step
+pub mod Run
+pub mod Bounds
+pub mod Start
+-- the same as a machine among others, and what no step changes
 pub mod WorldMachine
+pub mod Shape
+-- how the code keeps its memory, which only the crate's own functions speak of
+pub mod Arrays

@@ -1,9 +1,11 @@
-pub mod BytesLemmas
-pub mod Decisions
-pub mod DeviceLemmas
-pub mod EndingLemmas
-pub mod Matching
-pub mod PrefixLemmas
-pub mod Prices
-pub mod Simulation
+-- what the laws and other crates cite
 pub mod WordLemmas
+pub mod BytesLemmas
+pub mod PrefixLemmas
+pub mod EndingLemmas
+pub mod DeviceLemmas
+pub mod Decisions
+-- machines that do what others do
+pub mod Simulation
+pub mod Matching
+pub mod Prices

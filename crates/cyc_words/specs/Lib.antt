@@ -1,11 +1,13 @@
+-- words of 32 bits, bytes, faults, and devices: what the contracts of this crate rest on
+pub mod Word
 pub mod Bytes
-pub mod Decision
-pub mod Demand
-pub mod Device
-pub mod Ending
 pub mod Fault
 pub mod Prefix
+pub mod Device
 pub mod Reader
-pub mod Simulation
-pub mod Word
 pub mod Writer
+-- what the contracts of many crates rest on
+pub mod Decision
+pub mod Ending
+pub mod Demand
+pub mod Simulation
