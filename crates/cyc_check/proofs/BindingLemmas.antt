@@ -1,4 +1,5 @@
 -- The table finds the newest local, and what is newest stays found as bindings come and go.
+use Rattle.std.specs.List.{list_any}
 use Rattle.std.proofs.Common.{◌≡◌, ◌≢◌, ℕ, zero, suc, ◌+◌, ◌≤◌, ◌<◌, Bool, true, false, cond, nat_eq, ◌&&◌, ◌||◌, List, [], ◌∷◌, ◌++◌, length, map, drop, get_or, Option, Some, None, refl, sym, ap, ◌∙◌, arith}
 use Rattle.std.proofs.lemmas.List.{reverse-append}
 use Rattle.std.proofs.lemmas.Bool.{eqb-true, eq-eqb}
@@ -6,7 +7,6 @@ use Rattle.cyc_syntax.specs.Trees.{Named}
 use Rattle.cyc_types.specs.Scopes.{Declared, meaning_in, meaning_among, is_declared_in, Variable}
 use Rattle.cyc_types.specs.TypedTrees.{Local as LocalPlace}
 use Rattle.cyc_types.specs.Types.{Int}
-use Rattle.cyc_types.specs.TypingRules.{is_among}
 use Rattle.cyc_check.specs.declared.locals.Local.{Local}
 use Rattle.cyc_check.specs.declared.locals.Binding.{Binding}
 use Rattle.cyc_check.specs.Bindings.{view_local, locals_of, newest, local_names, Finds, Descends}
@@ -41,21 +41,21 @@ swapped a b false e = by_test (nat_eq b a) refl
     by_test true f = let g = eq-eqb a b (sym (eqb-true b a f)) in cc
     by_test false f = f
 
-pub has_found : (vs : List Local) (x : ℕ) (l : Local) → newest vs x ≡ Some l → is_among x (local_names vs) ≡ true
+pub has_found : (vs : List Local) (x : ℕ) (l : Local) → newest vs x ≡ Some l → list_any (nat_eq x) (local_names vs) ≡ true
 has_found [] x l e = cc
 has_found (v ∷ vs) x l e = by_test (has_found vs x l) (nat_eq v.name x) refl e
   where
-    by_test : (newest vs x ≡ Some l → is_among x (local_names vs) ≡ true) → (t : Bool) → nat_eq v.name x ≡ t → cond t (Some v) (newest vs x) ≡ Some l → (nat_eq x v.name || is_among x (local_names vs)) ≡ true
-    by_test h true f e = ap (λ (b : Bool). b || is_among x (local_names vs)) (swapped v.name x true f)
-    by_test h false f e = ap (λ (b : Bool). b || is_among x (local_names vs)) (swapped v.name x false f) ∙ h e
+    by_test : (newest vs x ≡ Some l → list_any (nat_eq x) (local_names vs) ≡ true) → (t : Bool) → nat_eq v.name x ≡ t → cond t (Some v) (newest vs x) ≡ Some l → (nat_eq x v.name || list_any (nat_eq x) (local_names vs)) ≡ true
+    by_test h true f e = ap (λ (b : Bool). b || list_any (nat_eq x) (local_names vs)) (swapped v.name x true f)
+    by_test h false f e = ap (λ (b : Bool). b || list_any (nat_eq x) (local_names vs)) (swapped v.name x false f) ∙ h e
 
-pub has_lost : (vs : List Local) (x : ℕ) → newest vs x ≡ None → is_among x (local_names vs) ≡ false
+pub has_lost : (vs : List Local) (x : ℕ) → newest vs x ≡ None → list_any (nat_eq x) (local_names vs) ≡ false
 has_lost [] x e = refl
 has_lost (v ∷ vs) x e = by_test (has_lost vs x) (nat_eq v.name x) refl e
   where
-    by_test : (newest vs x ≡ None → is_among x (local_names vs) ≡ false) → (t : Bool) → nat_eq v.name x ≡ t → cond t (Some v) (newest vs x) ≡ None → (nat_eq x v.name || is_among x (local_names vs)) ≡ false
+    by_test : (newest vs x ≡ None → list_any (nat_eq x) (local_names vs) ≡ false) → (t : Bool) → nat_eq v.name x ≡ t → cond t (Some v) (newest vs x) ≡ None → (nat_eq x v.name || list_any (nat_eq x) (local_names vs)) ≡ false
     by_test h true f e = cc
-    by_test h false f e = ap (λ (b : Bool). b || is_among x (local_names vs)) (swapped v.name x false f) ∙ h e
+    by_test h false f e = ap (λ (b : Bool). b || list_any (nat_eq x) (local_names vs)) (swapped v.name x false f) ∙ h e
 
 -- ---- whether the innermost block declares a name
 

@@ -1,29 +1,29 @@
 -- The table finds the first entry of each name.
+use Rattle.std.specs.List.{list_any}
 use Rattle.std.proofs.Common.{◌≡◌, ◌≢◌, ℕ, Bool, true, false, cond, nat_eq, ◌||◌, List, [], ◌∷◌, ◌++◌, length, set, get_or, ◌<◌, map, Option, Some, None, refl, sym, ap, ◌∙◌}
 use Rattle.std.proofs.lemmas.Bool.{eqb-true, eq-eqb}
 use Rattle.std.proofs.lemmas.List.{get_or-set_same, get_or-set_other}
 use Rattle.cyc_types.specs.Scopes.{meaning_in}
-use Rattle.cyc_types.specs.TypingRules.{is_among}
 use Rattle.cyc_check.specs.declared.declared.Meaning.{Meaning}
 use Rattle.cyc_check.specs.declared.declared.Entry.{Entry}
 use Rattle.cyc_check.specs.Entries.{view_entry, meaning_or_unknown, first, names_of}
 use Rattle.cyc_check.proofs.BindingLemmas.{swapped}
 
-pub declares_found : (ds : List Entry) (x : ℕ) (m : Meaning) → first ds x ≡ Some m → is_among x (names_of ds) ≡ true
+pub declares_found : (ds : List Entry) (x : ℕ) (m : Meaning) → first ds x ≡ Some m → list_any (nat_eq x) (names_of ds) ≡ true
 declares_found [] x m e = cc
 declares_found (d ∷ ds) x m e = by_test (declares_found ds x m) (nat_eq d.name x) refl e
   where
-    by_test : (first ds x ≡ Some m → is_among x (names_of ds) ≡ true) → (t : Bool) → nat_eq d.name x ≡ t → cond t (Some d.meaning) (first ds x) ≡ Some m → (nat_eq x d.name || is_among x (names_of ds)) ≡ true
-    by_test h true f e = ap (λ (b : Bool). b || is_among x (names_of ds)) (swapped d.name x true f)
-    by_test h false f e = ap (λ (b : Bool). b || is_among x (names_of ds)) (swapped d.name x false f) ∙ h e
+    by_test : (first ds x ≡ Some m → list_any (nat_eq x) (names_of ds) ≡ true) → (t : Bool) → nat_eq d.name x ≡ t → cond t (Some d.meaning) (first ds x) ≡ Some m → (nat_eq x d.name || list_any (nat_eq x) (names_of ds)) ≡ true
+    by_test h true f e = ap (λ (b : Bool). b || list_any (nat_eq x) (names_of ds)) (swapped d.name x true f)
+    by_test h false f e = ap (λ (b : Bool). b || list_any (nat_eq x) (names_of ds)) (swapped d.name x false f) ∙ h e
 
-pub declares_lost : (ds : List Entry) (x : ℕ) → first ds x ≡ None → is_among x (names_of ds) ≡ false
+pub declares_lost : (ds : List Entry) (x : ℕ) → first ds x ≡ None → list_any (nat_eq x) (names_of ds) ≡ false
 declares_lost [] x e = refl
 declares_lost (d ∷ ds) x e = by_test (declares_lost ds x) (nat_eq d.name x) refl e
   where
-    by_test : (first ds x ≡ None → is_among x (names_of ds) ≡ false) → (t : Bool) → nat_eq d.name x ≡ t → cond t (Some d.meaning) (first ds x) ≡ None → (nat_eq x d.name || is_among x (names_of ds)) ≡ false
+    by_test : (first ds x ≡ None → list_any (nat_eq x) (names_of ds) ≡ false) → (t : Bool) → nat_eq d.name x ≡ t → cond t (Some d.meaning) (first ds x) ≡ None → (nat_eq x d.name || list_any (nat_eq x) (names_of ds)) ≡ false
     by_test h true f e = cc
-    by_test h false f e = ap (λ (b : Bool). b || is_among x (names_of ds)) (swapped d.name x false f) ∙ h e
+    by_test h false f e = ap (λ (b : Bool). b || list_any (nat_eq x) (names_of ds)) (swapped d.name x false f) ∙ h e
 
 -- what a scope's names mean
 pub first_meaning : (ds : List Entry) (x : ℕ) → meaning_in (map view_entry ds) x ≡ meaning_or_unknown (first ds x)

@@ -1,6 +1,8 @@
 -- What the code has to do with the checking function: what its functions give, and what its tables of names hold.
 use Rattle.std.specs.Prelude.{◌≡◌, ℕ, zero, suc, Bool, true, false, if◌then◌else◌, List, [], ◌∷◌, Option, Some, None, Result, Ok, Err}
 use Rattle.cyc_words.specs.declared.fault.Code.TheVariants as codes
+use Rattle.cyc_words.specs.declared.fault.Fault.{Fault}
+use Rattle.cyc_words.specs.Fault.{memory_fault}
 use Rattle.cyc_syntax.specs.declared.tree.Expr.{Expr}
 use Rattle.cyc_syntax.specs.declared.tree.BinaryOperator.{BinaryOperator}
 use Rattle.cyc_syntax.specs.Symbols.{Place}
@@ -19,6 +21,11 @@ use Rattle.cyc_types.specs.Refusals.{fault_at}
 use Rattle.cyc_types.specs.Scopes.{Scope}
 use Rattle.cyc_check.specs.declared.stop.Stop.{Stop}
 use Rattle.cyc_check.specs.declared.stop.Stop.TheVariants as stops
+
+-- the fault that is answered
+abbrev pub fault_of : Stop → Fault
+fault_of stops.Memory = memory_fault
+fault_of (stops.Refused f) = f
 
 -- A refusal of the code is the checking function's. When memory runs out, nothing is said.
 abbrev pub Stops : {Y : Type 0} → Stop → Checked Y → Type 0

@@ -47,9 +47,9 @@ impl Model for Declared {
 }
 
 impl Declared {
-    ghost use Rattle.std.specs.Prelude.{◌≡◌, [], ◌∷◌, ◌++◌, OnOk, IfErr};
+    ghost use Rattle.std.specs.Prelude.{◌≡◌, [], ◌∷◌, ◌++◌, nat_eq, OnOk, IfErr};
     ghost use Rattle.cyc_check.specs.declared.stop.Stop.TheVariants.{Memory};
-    ghost use Rattle.cyc_types.specs.TypingRules.{is_among};
+    ghost use Rattle.std.specs.List.{list_any};
     ghost use Rattle.cyc_check.specs.Entries.{first, names_of};
 
     pub(crate) fn new(alloc: Global) -> Declared
@@ -74,7 +74,7 @@ impl Declared {
     /// Whether a function or a global has this name.
     #[tactic(auto, using(crate::proofs::EntryLemmas::declares_found, crate::proofs::EntryLemmas::declares_lost))]
     pub(crate) fn has(&self, name: usize) -> bool
-        ensures { result ≡ is_among name (names_of self.now) }
+        ensures { result ≡ list_any (nat_eq name) (names_of self.now) }
     {
         match self.meaning(name) {
             Some(_) => true,

@@ -22,9 +22,9 @@ use crate::checker::Checker;
 use crate::declared::Meaning;
 use crate::stop::{Stop, not_built, refused};
 use cyc_syntax::{BinaryOperator, Expr, Ident, Operation, PrefixOperator};
-use cyc_words::{Code, Span};
 use cyc_types::typed::{Callee, Converted, Kind, LogicalOperator, Lvalue, Operator, UnaryOperator};
 use cyc_types::{Ty, typed};
+use cyc_words::{Code, Span};
 use std::alloc::{AllocError, Global};
 
 /// The place of an expression's first token.
@@ -103,7 +103,7 @@ pub(crate) fn is_int(value: &typed::Expr) -> bool
 
 /// The value of the expression, converted to an int.
 #[tactic(auto, using(crate::proofs::Conversions::converted_int, crate::proofs::Conversions::unconverted))]
-pub(crate) fn converted(expression: &Expr, value: typed::Expr) -> Result<Converted, Stop>
+pub(crate) fn convert(expression: &Expr, value: typed::Expr) -> Result<Converted, Stop>
     ensures { Gives typed_view.view_converted result (convert (typed_view.view_expression value) types.Int (place_of (view_expression expression.now))) }
 {
     if !is_int(&value) {
@@ -186,7 +186,6 @@ fn result_if(has_result: bool) -> Option<Ty>
     if has_result { Some(Ty::Int) } else { None }
 }
 
-#[tactic(auto, using(crate::proofs::TypedViews::call_view))]
 fn call_of(callee: Callee, arguments: Vec<Converted>, has_result: bool) -> typed::Expr
     ensures { typed_view.view_expression result ≡ nodes.Call callee (typed_view.arguments_of arguments.items) (result_if has_result) }
 {
@@ -198,7 +197,6 @@ fn call_of(callee: Callee, arguments: Vec<Converted>, has_result: bool) -> typed
     }
 }
 
-#[tactic(auto, using(crate::proofs::TypedViews::binary_view))]
 fn binary_of(
     alloc: Global,
     first: typed::Expr,
@@ -226,7 +224,7 @@ fn assign_of(alloc: Global, target: Lvalue, value: Converted) -> Result<typed::E
 }
 
 /// The assignment of a value to a place.
-fn assigned(
+fn assign(
     alloc: Global,
     target: Lvalue,
     right: &Expr,
@@ -234,7 +232,7 @@ fn assigned(
 ) -> Result<typed::Expr, Stop>
     ensures { Gives typed_view.view_expression result (and_then (convert (typed_view.view_expression value) types.Int (place_of (view_expression right.now))) (λ c. Ok (nodes.Assign (typed_view.view_lvalue target) c (Some types.Int)))) }
 {
-    let value = converted(right, value)?;
+    let value = convert(right, value)?;
     Ok(assign_of(alloc, target, value)?)
 }
 
@@ -253,7 +251,7 @@ impl<'a> Checker<'a> {
     }
 
     /// The left side of an assignment, which is this name.
-    fn place(&self, name: Ident, left: &Expr) -> Result<Lvalue, Stop>
+    fn resolve_place(&self, name: Ident, left: &Expr) -> Result<Lvalue, Stop>
         ensures { Gives (λ l. (typed_view.view_lvalue l, types.Int)) result (place_meant (meaning_of (scope_of self.now) (view_name name)) (place_of_span name.span) (place_of (view_expression left.now))) }
     {
         match self.meaning(name) {
@@ -264,7 +262,7 @@ impl<'a> Checker<'a> {
     }
 
     #[tactic(auto, using(crate::proofs::Conversions::called_well, crate::proofs::Conversions::miscounted))]
-    fn called(
+    fn resolve_call(
         &self,
         function: Ident,
         expressions: &[Expr],
@@ -298,7 +296,7 @@ impl<'a> Checker<'a> {
 
 impl<'a> Checker<'a> {
     #[cycle(expression)]
-    pub(crate) fn expression(&self, expression: &Expr) -> Result<typed::Expr, Stop>
+    pub(crate) fn check_expression(&self, expression: &Expr) -> Result<typed::Expr, Stop>
         ensures { Gives typed_view.view_expression result (check (scope_of self.now) (view_expression expression.now)) }
     {
         match expression {
@@ -310,21 +308,21 @@ impl<'a> Checker<'a> {
             Expr::Call {
                 function,
                 arguments,
-            } => self.call(*function, arguments),
-            Expr::Bracketed { inner, .. } => self.expression(inner),
+            } => self.check_call(*function, arguments),
+            Expr::Bracketed { inner, .. } => self.check_expression(inner),
             Expr::Prefixed {
                 operator,
                 operand,
                 ..
-            } => self.prefixed(*operator, operand),
+            } => self.check_prefixed(*operator, operand),
             Expr::Binary { first, rest } => {
-                let left = self.expression(first)?;
-                self.chain(rest, first, left)
+                let left = self.check_expression(first)?;
+                self.check_chain(rest, first, left)
             }
             Expr::Assign { target, value } => {
-                let place = self.target(target)?;
-                let right = self.expression(value)?;
-                assigned(self.alloc, place, value, right)
+                let place = self.check_target(target)?;
+                let right = self.check_expression(value)?;
+                assign(self.alloc, place, value, right)
             }
             _ => Err(not_built()),
         }
@@ -332,12 +330,12 @@ impl<'a> Checker<'a> {
 
     /// The arguments of a call, as ints.
     #[cycle(expression)]
-    fn arguments(&self, expressions: &[Expr]) -> Result<Vec<Converted>, Stop>
+    fn check_arguments(&self, expressions: &[Expr]) -> Result<Vec<Converted>, Stop>
         ensures { Gives (λ v. typed_view.arguments_of v.items) result (arguments (scope_of self.now) (expressions_of expressions.now)) }
     {
         let mut arguments = Vec::new(self.alloc);
         for expression in expressions {
-            let value = self.expression(expression)?;
+            let value = self.check_expression(expression)?;
             arguments.push(Converted {
                 from: Kind::Int,
                 to: Kind::Int,
@@ -349,18 +347,18 @@ impl<'a> Checker<'a> {
 
     #[cycle(expression)]
     #[tactic(auto, using(crate::proofs::Arguments::same_length, crate::proofs::Arguments::as_converted, crate::proofs::Arguments::are_values, crate::proofs::Arguments::are_refused))]
-    fn call(&self, function: Ident, expressions: &[Expr]) -> Result<typed::Expr, Stop>
+    fn check_call(&self, function: Ident, expressions: &[Expr]) -> Result<typed::Expr, Stop>
         ensures { Gives typed_view.view_expression result (check (scope_of self.now) (trees.Call (view_name function) (expressions_of expressions.now))) }
     {
-        let arguments = self.arguments(expressions)?;
-        self.called(function, expressions, arguments)
+        let arguments = self.check_arguments(expressions)?;
+        self.resolve_call(function, expressions, arguments)
     }
 
     #[cycle(expression)]
-    fn prefixed(&self, operator: PrefixOperator, operand: &Expr) -> Result<typed::Expr, Stop>
+    fn check_prefixed(&self, operator: PrefixOperator, operand: &Expr) -> Result<typed::Expr, Stop>
         ensures { (p : Place) → Gives typed_view.view_expression result (check (scope_of self.now) (trees.Prefixed p operator (view_expression operand.now))) }
     {
-        let value = self.expression(operand)?;
+        let value = self.check_expression(operand)?;
         let Some(operator) = unary_operator(operator) else {
             return Err(not_built());
         };
@@ -373,7 +371,7 @@ impl<'a> Checker<'a> {
 
     /// One operation of a chain behind its first operand.
     #[cycle(expression)]
-    fn operation(
+    fn check_operation(
         &self,
         operation: &Operation,
         first: &Expr,
@@ -381,7 +379,7 @@ impl<'a> Checker<'a> {
     ) -> Result<typed::Operation, Stop>
         ensures { Gives put_operation result (one_operation (scope_of self.now) (place_of (view_expression first.now)) (type_of (typed_view.view_expression left.now)) operation.now.operator (view_expression operation.now.operand)) }
     {
-        let operand = self.expression(&operation.operand)?;
+        let operand = self.check_expression(&operation.operand)?;
         if !is_int(left) {
             return Err(mismatch(first));
         }
@@ -392,7 +390,7 @@ impl<'a> Checker<'a> {
     }
 
     #[cycle(expression)]
-    fn operations(
+    fn check_operations(
         &self,
         operations: &[Operation],
         first: &Expr,
@@ -402,7 +400,7 @@ impl<'a> Checker<'a> {
     {
         let mut rest = Vec::new(self.alloc);
         for operation in operations {
-            let operation = self.operation(operation, first, left)?;
+            let operation = self.check_operation(operation, first, left)?;
             rest.push(operation)?;
         }
         if !is_int(left) {
@@ -413,7 +411,7 @@ impl<'a> Checker<'a> {
 
     /// A first operand with the operations behind it.
     #[cycle(expression)]
-    fn chain(
+    fn check_chain(
         &self,
         operations: &[Operation],
         first: &Expr,
@@ -421,19 +419,19 @@ impl<'a> Checker<'a> {
     ) -> Result<typed::Expr, Stop>
         ensures { Gives typed_view.view_expression result (and_then (check_chain (scope_of self.now) (place_of (view_expression first.now)) (type_of (typed_view.view_expression left)) (operations_of operations.now)) (λ bs. Ok (nodes.Binary (typed_view.view_expression left) bs types.Int))) }
     {
-        let rest = self.operations(operations, first, &left)?;
+        let rest = self.check_operations(operations, first, &left)?;
         Ok(binary_of(self.alloc, left, rest)?)
     }
 
     /// The left side of an assignment.
     #[cycle(expression)]
-    fn target(&self, left: &Expr) -> Result<Lvalue, Stop>
+    fn check_target(&self, left: &Expr) -> Result<Lvalue, Stop>
         ensures { Gives (λ l. (typed_view.view_lvalue l, types.Int)) result (target (scope_of self.now) (name_in (view_expression left.now)) (place_of (view_expression left.now)) (check (scope_of self.now) (view_expression left.now))) }
     {
         match name_in(left) {
-            Some(name) => self.place(name, left),
+            Some(name) => self.resolve_place(name, left),
             None => {
-                self.expression(left)?;
+                self.check_expression(left)?;
                 Err(refused(Code::NotAPlace, span_of(left)))
             }
         }

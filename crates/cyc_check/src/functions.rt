@@ -16,8 +16,8 @@ use crate::declared::Declared;
 use crate::locals::{Local, Locals};
 use crate::stop::{Stop, not_built};
 use cyc_syntax::{Declaration, Ident, Item, Member, ParameterList, Parameters, WrittenType};
-use cyc_words::Span;
 use cyc_types::{Ty, typed};
+use cyc_words::Span;
 use std::alloc::Global;
 
 /// The types of this number of locals.
@@ -98,7 +98,13 @@ pub(crate) fn functions_of(
                 body,
             } => {
                 let members = members(parameters);
-                let function = checker.function(result, *name, members, &body.items, body.end)?;
+                let function = checker.check_function(
+                    result,
+                    *name,
+                    members,
+                    &body.items,
+                    body.end,
+                )?;
                 all.push(function)?;
             }
             _ => return Err(not_built()),
@@ -109,7 +115,7 @@ pub(crate) fn functions_of(
 
 impl<'a> Checker<'a> {
     /// A function. What is in scope before it is forgotten.
-    fn function(
+    fn check_function(
         &mut self,
         returned: &Option<WrittenType>,
         name: Ident,
@@ -120,7 +126,7 @@ impl<'a> Checker<'a> {
         ensures gives { Gives typed_view.view_function result (and_then (check_items (body_scope (map view_entry self.old.declared.now) (option_map view_type returned.now) (map view_member members.now)) (items_of written.now)) (λ js. Ok (function_of (option_map view_type returned.now) (view_name name) (map view_member members.now) (items_of written.now) (place_of_span end) js))) }
         ensures same { OnOk result (self.new.declared ≡ self.old.declared) }
     {
-        let body = self.function_items(returned, members, written)?;
+        let body = self.check_function_items(returned, members, written)?;
         let parameters = int_types(self.alloc, members.len())?;
         let locals = int_types(self.alloc, self.next_local - members.len())?;
         Ok(typed::Function {
@@ -138,7 +144,7 @@ impl<'a> Checker<'a> {
 
     /// The items of a function's body, which is one block with its parameters. What is in scope before it is forgotten.
     #[tactic(auto, using(crate::proofs::Loops::drop_all))]
-    fn function_items(
+    fn check_function_items(
         &mut self,
         returned: &Option<WrittenType>,
         members: &[Member],
@@ -156,6 +162,6 @@ impl<'a> Checker<'a> {
         self.region = 0;
         self.in_loop = false;
         self.has_result = has_result(returned);
-        self.items(written)
+        self.check_items(written)
     }
 }

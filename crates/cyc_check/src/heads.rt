@@ -3,12 +3,12 @@ ghost use Rattle.std.specs.Prelude.{◌≡◌, Option, List, [], map, option_map
 ghost use Rattle.cyc_syntax.specs.Names.{number_of};
 ghost use Rattle.cyc_syntax.specs.Trees as trees;
 ghost use Rattle.cyc_syntax.specs.TreeView.{view_name, view_type, view_member, view_parameters, view_declaration};
-ghost use Rattle.cyc_types.specs.TypingRules.{main_text, known_before, declared};
+ghost use Rattle.cyc_types.specs.TypingRules.{main_text, regions_before, known_before, declared};
 ghost use Rattle.cyc_types.specs.Checking.{and_then, check_distinct, check_head, check_heads};
 ghost use Rattle.cyc_check.specs.declared.stop.Stop.TheVariants.{Memory};
 ghost use Rattle.cyc_check.specs.Code.{Gives};
 ghost use Rattle.cyc_check.specs.Entries.{view_entry, names_of};
-ghost use Rattle.cyc_check.specs.Heads.{heads_before, is_new, behind_head};
+ghost use Rattle.cyc_check.specs.Heads.{heads_before, regions_of, is_new, is_untaken, behind_head};
 
 use crate::declared::{Declared, Meaning};
 use crate::functions::members;
@@ -25,6 +25,9 @@ pub(crate) struct Heads {
     declared: Declared,
     /// The number of the name `main`.
     main: usize,
+    /// The numbers of the names `H` and `U`, whose regions are declared before the program.
+    heap: usize,
+    unique: usize,
     /// The numbers that the next global and the next function get.
     globals: usize,
     functions: usize,
@@ -36,7 +39,7 @@ pub(crate) fn declared_by(
     names: &Names,
     declarations: &[Declaration],
 ) -> Result<Declared, Stop>
-    ensures { Gives (map view_entry) result (and_then (check_heads (number_of names.now main_text) (known_before names.now) (map view_declaration declarations.now)) (λ _. Ok (declared names.now (map view_declaration declarations.now)))) }
+    ensures { Gives (map view_entry) result (and_then (check_heads (number_of names.now main_text) (regions_before names.now) (known_before names.now) (map view_declaration declarations.now)) (λ _. Ok (declared names.now (map view_declaration declarations.now)))) }
 {
     let mut heads = Heads::new(alloc, names)?;
     let mut parameters = Locals::new(alloc);
@@ -97,6 +100,8 @@ impl Heads {
         Ok(Heads {
             declared,
             main: number_of(names, b"main"),
+            heap: number_of(names, b"H"),
+            unique: number_of(names, b"U"),
             globals: 0,
             functions: 0,
         })
@@ -112,8 +117,19 @@ impl Heads {
         Ok(())
     }
 
-    fn global(&mut self, name: Ident) -> Result<(), Stop>
-        ensures gives { (w : trees.WrittenType) (v : Option trees.GlobalValue) → Gives (λ _. tt) result (check_head self.old.main (names_of self.old.declared) (trees.Global w (view_name name) v)) }
+    /// Whether neither a name nor a region of a function's name is declared yet.
+    fn is_untaken(&self, name: Ident) -> Result<(), Stop>
+        ensures { Gives (λ _. tt) result (is_untaken (regions_of self.now) (names_of self.now.declared) (view_name name)) }
+    {
+        let number = name.name.number;
+        if self.declared.has(number) || number == self.heap || number == self.unique {
+            return Err(refused(Code::DeclaredTwice, name.span));
+        }
+        Ok(())
+    }
+
+    fn declare_global(&mut self, name: Ident) -> Result<(), Stop>
+        ensures gives { (w : trees.WrittenType) (v : Option trees.GlobalValue) → Gives (λ _. tt) result (check_head self.old.main (regions_of self.old) (names_of self.old.declared) (trees.Global w (view_name name) v)) }
         ensures behind { (w : trees.WrittenType) (v : Option trees.GlobalValue) → OnOk result (self.new ≡ behind_head (trees.Global w (view_name name) v) self.old) }
     {
         self.is_new(name)?;
@@ -131,17 +147,17 @@ impl Heads {
         Ok(())
     }
 
-    fn function(
+    fn declare_function(
         &mut self,
         known: &mut Locals,
         returned: &Option<WrittenType>,
         name: Ident,
         parameters: &Parameters,
     ) -> Result<(), Stop>
-        ensures gives { (b : trees.Body) → Gives (λ _. tt) result (check_head self.old.main (names_of self.old.declared) (trees.Function (option_map view_type returned.now) (view_name name) (view_parameters parameters.now) b)) }
+        ensures gives { (b : trees.Body) → Gives (λ _. tt) result (check_head self.old.main (regions_of self.old) (names_of self.old.declared) (trees.Function (option_map view_type returned.now) (view_name name) (view_parameters parameters.now) b)) }
         ensures behind { (b : trees.Body) → OnOk result (self.new ≡ behind_head (trees.Function (option_map view_type returned.now) (view_name name) (view_parameters parameters.now) b) self.old) }
     {
-        self.is_new(name)?;
+        self.is_untaken(name)?;
         let members = members(parameters);
         let has_result = returned.is_some();
         if name.name.number == self.main && !(has_result && members.is_empty()) {
@@ -164,17 +180,17 @@ impl Heads {
 
     /// Declares what a head declares.
     fn declare(&mut self, known: &mut Locals, declaration: &Declaration) -> Result<(), Stop>
-        ensures gives { Gives (λ _. tt) result (check_head self.old.main (names_of self.old.declared) (view_declaration declaration.now)) }
+        ensures gives { Gives (λ _. tt) result (check_head self.old.main (regions_of self.old) (names_of self.old.declared) (view_declaration declaration.now)) }
         ensures behind { OnOk result (self.new ≡ behind_head (view_declaration declaration.now) self.old) }
     {
         match declaration {
-            Declaration::Global { name, .. } => self.global(*name),
+            Declaration::Global { name, .. } => self.declare_global(*name),
             Declaration::Function {
                 result,
                 name,
                 parameters,
                 ..
-            } => self.function(known, result, *name, parameters),
+            } => self.declare_function(known, result, *name, parameters),
             _ => Err(not_built()),
         }
     }

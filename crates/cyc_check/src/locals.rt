@@ -43,9 +43,9 @@ impl Model for Locals {
 }
 
 impl Locals {
-    ghost use Rattle.std.specs.Prelude.{◌≡◌, ℕ, ◌-◌, ◌<◌, List, [], ◌∷◌, map, length, drop, get_or, None, OnOk, IfErr};
+    ghost use Rattle.std.specs.Prelude.{◌≡◌, ℕ, ◌-◌, ◌<◌, List, [], ◌∷◌, map, length, drop, nat_eq, get_or, None, OnOk, IfErr};
     ghost use Rattle.cyc_syntax.specs.TreeView.{view_name};
-    ghost use Rattle.cyc_types.specs.TypingRules.{is_among};
+    ghost use Rattle.std.specs.List.{list_any};
     ghost use Rattle.cyc_types.specs.Scopes.{Declared, meaning_in, meaning_among, is_declared_in};
     ghost use Rattle.cyc_check.specs.declared.stop.Stop.TheVariants.{Memory};
     ghost use Rattle.cyc_check.specs.Bindings.{view_local, newest, local_names, Descends, variable_or};
@@ -92,7 +92,7 @@ impl Locals {
     /// Whether a local of this name is in scope.
     #[tactic(auto, using(crate::proofs::BindingLemmas::has_found, crate::proofs::BindingLemmas::has_lost))]
     pub(crate) fn has(&self, name: usize) -> bool
-        ensures { result ≡ is_among name (local_names self.now) }
+        ensures { result ≡ list_any (nat_eq name) (local_names self.now) }
     {
         match self.find(name) {
             Some(_) => true,

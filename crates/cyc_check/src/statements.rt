@@ -12,16 +12,15 @@ ghost use Rattle.cyc_check.specs.Code.{Gives};
 ghost use Rattle.cyc_check.specs.Checkers.{scope_of, IsInOrder, behind_statement, behind_block, behind_items, behind_item, one_item, looping, in_block, with_local, leaves_loop};
 
 use crate::checker::Checker;
-use crate::expressions::{converted, is_int, mismatch};
+use crate::expressions::{convert, is_int, mismatch};
 use crate::locals::Local;
 use crate::stop::{Stop, not_built, refused};
 use cyc_syntax::{Expr, Ident, Item, Stmt};
-use cyc_words::{Code, Span};
 use cyc_types::typed::Converted;
 use cyc_types::{Ty, typed};
+use cyc_words::{Code, Span};
 use std::alloc::{AllocError, Global};
 
-#[tactic(auto, using(crate::proofs::TypedViews::block_view))]
 fn block_of(region: usize, items: Vec<typed::Item>) -> typed::Stmt
     ensures { typed_view.view_statement result ≡ nodes.Block region (typed_view.items_of items.items) }
 {
@@ -69,17 +68,17 @@ impl<'a> Checker<'a> {
         self.locals.is_declared_in(self.region, name.name.number)
     }
 
-    fn condition(&self, condition: &Expr) -> Result<typed::Expr, Stop>
+    fn check_condition(&self, condition: &Expr) -> Result<typed::Expr, Stop>
         ensures { Gives typed_view.view_expression result (check_condition (scope_of self.now) (view_expression condition.now)) }
     {
-        let value = self.expression(condition)?;
+        let value = self.check_expression(condition)?;
         if !is_int(&value) {
             return Err(mismatch(condition));
         }
         Ok(value)
     }
 
-    fn returned(&self, span: Span, value: &Option<Expr>) -> Result<Option<Converted>, Stop>
+    fn check_returned(&self, span: Span, value: &Option<Expr>) -> Result<Option<Converted>, Stop>
         ensures { Gives (option_map typed_view.view_converted) result (check_returned (scope_of self.now) (place_of_span span) (option_map view_expression value.now)) }
     {
         match value {
@@ -90,17 +89,17 @@ impl<'a> Checker<'a> {
                 Ok(None)
             }
             Some(written) => {
-                let value = self.expression(written)?;
+                let value = self.check_expression(written)?;
                 if !self.has_result {
                     return Err(refused(Code::TypeMismatch, span));
                 }
-                Ok(Some(converted(written, value)?))
+                Ok(Some(convert(written, value)?))
             }
         }
     }
 
     /// The initial value of a local.
-    fn initial(&self, name: Ident, value: &Option<Expr>) -> Result<Option<Converted>, Stop>
+    fn check_initial(&self, name: Ident, value: &Option<Expr>) -> Result<Option<Converted>, Stop>
         requires { IsInOrder self.now }
         ensures { Gives (option_map typed_view.view_converted) result (check_initial (scope_of self.now) (is_declared (scope_of self.now) (view_name name)) (fault_at codes.DeclaredTwice (place_of_span name.span)) types.Int (option_map view_expression value.now)) }
     {
@@ -112,11 +111,11 @@ impl<'a> Checker<'a> {
                 Ok(None)
             }
             Some(written) => {
-                let value = self.expression(written)?;
+                let value = self.check_expression(written)?;
                 if self.is_declared(name) {
                     return Err(refused(Code::DeclaredTwice, name.span));
                 }
-                Ok(Some(converted(written, value)?))
+                Ok(Some(convert(written, value)?))
             }
         }
     }
@@ -131,12 +130,12 @@ impl<'a> Checker<'a> {
         Ok(())
     }
 
-    fn local(&mut self, name: Ident, value: &Option<Expr>) -> Result<typed::Item, Stop>
+    fn declare_local(&mut self, name: Ident, value: &Option<Expr>) -> Result<typed::Item, Stop>
         requires { IsInOrder self.old }
         ensures gives { Gives typed_view.view_item result (and_then (check_initial (scope_of self.old) (is_declared (scope_of self.old) (view_name name)) (fault_at codes.DeclaredTwice (place_of_span name.span)) types.Int (option_map view_expression value.now)) (λ c. Ok (nodes.Declare self.old.next_local types.Int c))) }
         ensures behind { OnOk result (self.new ≡ with_local self.old (view_name name)) }
     {
-        let value = self.initial(name, value)?;
+        let value = self.check_initial(name, value)?;
         let number = self.next_local;
         let Some(next) = number.checked_add(1) else {
             return Err(Stop::Memory);
@@ -156,16 +155,16 @@ impl<'a> Checker<'a> {
 
     #[cycle(statement)]
     #[tactic(auto, using(crate::proofs::Orders::order_in_loop, crate::proofs::Orders::order_behind))]
-    pub(crate) fn statement(&mut self, statement: &Stmt) -> Result<typed::Stmt, Stop>
+    pub(crate) fn check_statement(&mut self, statement: &Stmt) -> Result<typed::Stmt, Stop>
         requires { IsInOrder self.old }
         ensures gives { Gives typed_view.view_statement result (check_statement (scope_of self.old) (view_statement statement.now)) }
         ensures behind { OnOk result (self.new ≡ behind_statement self.old (view_statement statement.now)) }
     {
         match statement {
-            Stmt::Block { block } => self.block(&block.items),
+            Stmt::Block { block } => self.check_block(&block.items),
             Stmt::Empty { .. } => Ok(typed::Stmt::Empty),
             Stmt::Expression { value } => {
-                let value = self.expression(value)?;
+                let value = self.check_expression(value)?;
                 Ok(typed::Stmt::Evaluate { value })
             }
             Stmt::If {
@@ -174,8 +173,8 @@ impl<'a> Checker<'a> {
                 otherwise: None,
                 ..
             } => {
-                let condition = self.condition(condition)?;
-                let then = self.statement(then)?;
+                let condition = self.check_condition(condition)?;
+                let then = self.check_statement(then)?;
                 choice(self.alloc, condition, then, typed::Stmt::Empty)
             }
             Stmt::If {
@@ -184,9 +183,9 @@ impl<'a> Checker<'a> {
                 otherwise: Some(otherwise),
                 ..
             } => {
-                let condition = self.condition(condition)?;
-                let then = self.statement(then)?;
-                let otherwise = self.statement(otherwise)?;
+                let condition = self.check_condition(condition)?;
+                let then = self.check_statement(then)?;
+                let otherwise = self.check_statement(otherwise)?;
                 choice(self.alloc, condition, then, otherwise)
             }
             Stmt::While {
@@ -194,12 +193,12 @@ impl<'a> Checker<'a> {
                 condition,
                 body,
             } => {
-                let condition = self.condition(condition)?;
-                let body = self.body(body)?;
+                let condition = self.check_condition(condition)?;
+                let body = self.check_body(body)?;
                 repetition(self.alloc, *span, condition, body)
             }
             Stmt::Return { span, value } => {
-                let value = self.returned(*span, value)?;
+                let value = self.check_returned(*span, value)?;
                 Ok(typed::Stmt::Return { value })
             }
             Stmt::Break { span } => {
@@ -217,14 +216,14 @@ impl<'a> Checker<'a> {
     /// The body of a loop.
     #[cycle(statement)]
     #[tactic(auto, using(crate::proofs::Orders::order_in_loop))]
-    fn body(&mut self, statement: &Stmt) -> Result<typed::Stmt, Stop>
+    fn check_body(&mut self, statement: &Stmt) -> Result<typed::Stmt, Stop>
         requires { IsInOrder self.old }
         ensures gives { Gives typed_view.view_statement result (check_statement (scope_of (looping self.old)) (view_statement statement.now)) }
         ensures behind { OnOk result (self.new ≡ behind_statement self.old (view_statement statement.now)) }
     {
         let outer = self.in_loop;
         self.in_loop = true;
-        let body = self.statement(statement)?;
+        let body = self.check_statement(statement)?;
         self.in_loop = outer;
         Ok(body)
     }
@@ -232,7 +231,7 @@ impl<'a> Checker<'a> {
     /// The block of these items.
     #[cycle(statement)]
     #[tactic(auto, using(crate::proofs::Orders::order_in_block))]
-    fn block(&mut self, items: &[Item]) -> Result<typed::Stmt, Stop>
+    fn check_block(&mut self, items: &[Item]) -> Result<typed::Stmt, Stop>
         requires { IsInOrder self.old }
         ensures gives { Gives typed_view.view_statement result (and_then (check_items (scope_of (in_block self.old)) (items_of items.now)) (λ js. Ok (nodes.Block self.old.next_region js))) }
         ensures behind { OnOk result (self.new ≡ behind_block self.old (items_of items.now)) }
@@ -244,14 +243,14 @@ impl<'a> Checker<'a> {
         };
         self.region = region;
         self.next_region = next;
-        let items = self.items(items)?;
+        let items = self.check_items(items)?;
         self.region = outer;
         Ok(block_of(region, items))
     }
 
     /// The items of a block. What they declare is forgotten behind them.
     #[cycle(statement)]
-    pub(crate) fn items(&mut self, items: &[Item]) -> Result<Vec<typed::Item>, Stop>
+    pub(crate) fn check_items(&mut self, items: &[Item]) -> Result<Vec<typed::Item>, Stop>
         requires { IsInOrder self.old }
         ensures gives { Gives (λ v. typed_view.items_of v.items) result (check_items (scope_of self.old) (items_of items.now)) }
         ensures behind { OnOk result (self.new ≡ behind_items self.old (items_of items.now)) }
@@ -259,7 +258,7 @@ impl<'a> Checker<'a> {
         let count = self.locals.len();
         let mut all = Vec::new(self.alloc);
         for item in items {
-            let item = self.item(item)?;
+            let item = self.check_item(item)?;
             all.push(item)?;
         }
         self.locals.close(count);
@@ -267,17 +266,17 @@ impl<'a> Checker<'a> {
     }
 
     #[cycle(statement)]
-    fn item(&mut self, item: &Item) -> Result<typed::Item, Stop>
+    fn check_item(&mut self, item: &Item) -> Result<typed::Item, Stop>
         requires { IsInOrder self.old }
         ensures gives { Gives typed_view.view_item result (one_item (view_item item.now) (scope_of self.old)) }
         ensures behind { OnOk result (self.new ≡ behind_item (view_item item.now) self.old) }
     {
         match item {
             Item::Statement { statement } => {
-                let statement = self.statement(statement)?;
+                let statement = self.check_statement(statement)?;
                 Ok(typed::Item::Execute { statement })
             }
-            Item::Local { name, value, .. } => self.local(*name, value),
+            Item::Local { name, value, .. } => self.declare_local(*name, value),
             _ => Err(not_built()),
         }
     }

@@ -3,6 +3,7 @@ ghost use Rattle.std.specs.Prelude.{◌≡◌};
 ghost use Rattle.cyc_syntax.specs.TreeView.{place_of_span};
 ghost use Rattle.cyc_types.specs.Refusals.{fault_at, not_built, no_main};
 ghost use Rattle.cyc_check.specs.declared.stop.Stop.TheVariants.{Memory, Refused};
+ghost use Rattle.cyc_check.specs.Code.{fault_of};
 
 use cyc_words::{Code, Fault, Span};
 use std::alloc::{AllocError, AllocFailed};
@@ -27,6 +28,17 @@ impl<T: Drop> From<AllocFailed<T>> for Stop {
 
     fn from(_e: AllocFailed<T>) -> Stop {
         Stop::Memory
+    }
+}
+
+impl From<Stop> for Fault {
+    ghost from_gives = { λ e f. f ≡ fault_of e };
+
+    fn from(stop: Stop) -> Fault {
+        match stop {
+            Stop::Memory => Fault::memory(),
+            Stop::Refused(fault) => fault,
+        }
     }
 }
 

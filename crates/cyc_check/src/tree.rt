@@ -1,14 +1,12 @@
 //! From a tree to its typed tree, or to its fault.
-ghost use Rattle.std.specs.Prelude.{◌≡◌, ◌⊎◌, map, IfOk, IfErr, MatchResult};
-ghost use Rattle.cyc_words.specs.declared.fault.Fault.{Fault};
+ghost use Rattle.std.specs.Prelude.{◌≡◌, map};
+ghost use Rattle.cyc_words.specs.Decision.{Decides};
 ghost use Rattle.cyc_syntax.specs.TreeView.{view_declaration};
-ghost use Rattle.cyc_types.specs.TypedTrees.{Program};
 ghost use Rattle.cyc_types.specs.TypedTreeView.{view_program};
 ghost use Rattle.cyc_types.specs.TypingRules.{IsTypedProgram};
 ghost use Rattle.cyc_types.specs.Refusals.{IsRefusedProgram};
 ghost use Rattle.cyc_types.specs.Checking.{check_of};
 ghost use Rattle.cyc_check.specs.Code.{Gives};
-ghost use Rattle.cyc_words.specs.Fault.{memory_fault};
 
 use crate::functions::functions_of;
 use crate::heads::{declared_by, number_of};
@@ -26,21 +24,10 @@ use std::alloc::Global;
 /// in order (`DeclaredTwice`, `BadMain`), a `main` that is missing (`BadMain` at 1:1), and the bodies in order (`UnknownName`,
 /// `DeclaredTwice`, `TypeMismatch`, `NotAPlace`, `OutsideLoop`). Any table and any node may be refused for want of memory.
 pub fn check(alloc: Global, tree: &Tree) -> Result<TypedTree, Fault>
-    // What is accepted has this typed tree. What is refused has this fault.
-    ensures accepted { IfOk result (λ typed. IsTypedProgram tree.now.names (map view_declaration tree.now.declarations.items) (view_program typed)) }
-    ensures refused { IfErr result (λ f. (f ≡ memory_fault) ⊎ IsRefusedProgram tree.now.names (map view_declaration tree.now.declarations.items) f) }
-
-    // And the other way round, want of memory aside.
-    ensures accepts { (program : Program) → IsTypedProgram tree.now.names (map view_declaration tree.now.declarations.items) program
-        → MatchResult result (λ typed. view_program typed ≡ program) (λ f. f ≡ memory_fault) }
-    ensures refuses { (fault : Fault) → IsRefusedProgram tree.now.names (map view_declaration tree.now.declarations.items) fault
-        → MatchResult result (λ _. ⊥) (λ f. (f ≡ memory_fault) ⊎ (f ≡ fault)) }
+    // What is accepted has this typed tree, and what is refused has this fault.
+    ensures decides { Decides (IsTypedProgram tree.now.names (map view_declaration tree.now.declarations.items)) (λ program typed. view_program typed ≡ program) (IsRefusedProgram tree.now.names (map view_declaration tree.now.declarations.items)) (IsRefusedProgram tree.now.names (map view_declaration tree.now.declarations.items)) result }
 {
-    match typed_tree(alloc, tree) {
-        Ok(typed) => Ok(typed),
-        Err(Stop::Memory) => Err(Fault::memory()),
-        Err(Stop::Refused(fault)) => Err(fault),
-    }
+    Ok(typed_tree(alloc, tree)?)
 }
 
 /// What the checking function answers.

@@ -1,5 +1,7 @@
 -- What the code has to do with the flow rules: the states that it holds, and what its functions answer.
 use Rattle.std.specs.Prelude.{◌≡◌, map, Result, Ok, Err}
+use Rattle.cyc_words.specs.declared.fault.Fault.{Fault}
+use Rattle.cyc_words.specs.Fault.{memory_fault}
 use Rattle.cyc_flow.specs.declared.state.Fullness.{Fullness as FullnessCode}
 use Rattle.cyc_flow.specs.declared.state.Fullness.TheVariants as code
 use Rattle.cyc_flow.specs.declared.state.State.{State as StateCode}
@@ -18,6 +20,11 @@ abbrev pub view_state : StateCode → State
 view_state states.Unreached = Unreached
 view_state (states.Reached v) = Reached (map view_fullness v.items)
 
+-- the fault that is answered
+abbrev pub fault_of : Stop → Fault
+fault_of stops.Memory = memory_fault
+fault_of (stops.Refused x) = x
+
 -- What stopped the code is what is wrong. When memory runs out, nothing is said.
 abbrev pub Stops : Stop → Kept → Type 0
 Stops stops.Memory verdict = Unit {0}
@@ -34,6 +41,6 @@ Gives (Ok s) verdict behind = (verdict ≡ Ok tt) × (view_state s ≡ behind)
 Gives (Err e) verdict behind = Stops e verdict
 
 -- The same in a loop that may be left: its breaks met so far are then these.
-abbrev pub Goes : Result StateCode Stop → Kept → State → State → State → Type 0
-Goes (Ok s) verdict behind breaks met = (verdict ≡ Ok tt) × (view_state s ≡ behind) × (met ≡ breaks)
-Goes (Err e) verdict behind breaks met = Stops e verdict
+abbrev pub GivesInLoop : Result StateCode Stop → Kept → State → State → State → Type 0
+GivesInLoop (Ok s) verdict behind breaks met = (verdict ≡ Ok tt) × (view_state s ≡ behind) × (met ≡ breaks)
+GivesInLoop (Err e) verdict behind breaks met = Stops e verdict

@@ -1,12 +1,11 @@
 //! The flow check of a program.
-ghost use Rattle.std.specs.Prelude.{◌≡◌, ◌⊎◌, map, IfOk, IfErr, MatchResult};
-ghost use Rattle.cyc_words.specs.declared.fault.Fault.{Fault};
+ghost use Rattle.std.specs.Prelude.{◌≡◌, map, IfOk};
+ghost use Rattle.cyc_words.specs.Decision.{Decides};
 ghost use Rattle.cyc_types.specs.TypedTreeView.{view_function, view_program};
 ghost use Rattle.cyc_types.specs.FlowRules.{start_of, IsAllowedProgram};
 ghost use Rattle.cyc_types.specs.FlowRefusals.{IsStoppedProgram};
 ghost use Rattle.cyc_types.specs.FlowChecking.{keep_end, keep_function, keep_functions};
 ghost use Rattle.cyc_flow.specs.Code.{view_state, Allows};
-ghost use Rattle.cyc_words.specs.Fault.{memory_fault};
 
 use crate::expressions::refusal;
 use crate::state::{Fullness, State, add};
@@ -27,24 +26,14 @@ pub struct Flowed {
 /// Whether a typed tree keeps the flow rules: each variable holds a value where it is used, a loop leaves none emptier than it was
 /// at its head, and no path through a function with a result reaches its end.
 ///
-/// The first fault is the answer, by the order in which a program is run. Of its four codes a text of the int language has only
-/// `EmptyVariable` and `MissingReturn`, since nothing there empties or locks a variable. Any copy of what is known may be refused for
-/// want of memory.
+/// The first fault is the answer, by the order in which a program is run. Any copy of what is known may be refused for want of
+/// memory.
 pub fn flow(alloc: Global, tree: TypedTree) -> Result<Flowed, Fault>
-    // What is accepted is this tree, and keeps the rules. What is refused has this fault.
-    ensures accepted { IfOk result (λ v. (v.tree ≡ tree) × IsAllowedProgram (view_program tree)) }
-    ensures refused { IfErr result (λ f. (f ≡ memory_fault) ⊎ IsStoppedProgram (view_program tree) f) }
-
-    // And the other way round, want of memory aside.
-    ensures accepts { IsAllowedProgram (view_program tree) → MatchResult result (λ v. v.tree ≡ tree) (λ f. f ≡ memory_fault) }
-    ensures refuses { (fault : Fault) → IsStoppedProgram (view_program tree) fault
-        → MatchResult result (λ _. ⊥) (λ f. (f ≡ memory_fault) ⊎ (f ≡ fault)) }
+    // What is accepted is this tree, which keeps the rules, and what is refused has this fault.
+    ensures decides { Decides (λ (_ : Unit {0}). IsAllowedProgram (view_program tree)) (λ _ v. v.tree ≡ tree) (IsStoppedProgram (view_program tree)) (IsStoppedProgram (view_program tree)) result }
 {
-    match check_functions(alloc, &tree.functions) {
-        Ok(()) => Ok(Flowed { tree }),
-        Err(Stop::Memory) => Err(Fault::memory()),
-        Err(Stop::Refused(fault)) => Err(fault),
-    }
+    check_functions(alloc, &tree.functions)?;
+    Ok(Flowed { tree })
 }
 
 fn check_functions(alloc: Global, functions: &[Function]) -> Result<(), Stop>
@@ -61,7 +50,7 @@ fn check_function(alloc: Global, function: &Function) -> Result<(), Stop>
 {
     let start = start_of(alloc, function)?;
     let mut walk = Walk::new(alloc);
-    let end = walk.items(None, &function.body, start)?;
+    let end = walk.check_items(None, &function.body, start)?;
     check_end(function, &end)
 }
 

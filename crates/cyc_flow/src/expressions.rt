@@ -11,8 +11,8 @@ ghost use Rattle.cyc_flow.specs.Steps.{keep_operation, after_operation};
 
 use crate::state::{Fullness, State, meet};
 use crate::stop::Stop;
-use cyc_words::{Code, Fault, Span};
 use cyc_types::typed::{Converted, Expr, Lvalue, Operation};
+use cyc_words::{Code, Fault, Span};
 use std::alloc::Global;
 
 /// The refusal with this code at this place.
@@ -38,7 +38,7 @@ impl State {
     }
 
     /// Behind an assignment to a place: a local must not be locked, and is then full.
-    fn written(self, place: Lvalue) -> Result<State, Stop>
+    fn write(self, place: Lvalue) -> Result<State, Stop>
         ensures { Gives result (store_place (view_lvalue place) (view_state self)) (after_store (view_lvalue place) (view_state self)) }
     {
         let Lvalue::Local { span, number } = place else {
@@ -52,7 +52,7 @@ impl State {
 
     /// Behind an expression.
     #[cycle(expression)]
-    pub(crate) fn evaluated(self, alloc: Global, value: &Expr) -> Result<State, Stop>
+    pub(crate) fn evaluate(self, alloc: Global, value: &Expr) -> Result<State, Stop>
         ensures { Gives result (keep (view_expression value.now) (view_state self)) (after (view_expression value.now) (view_state self)) }
     {
         match value {
@@ -61,49 +61,49 @@ impl State {
                 self.read(*source)?;
                 Ok(self)
             }
-            Expr::Call { arguments, .. } => self.passed(alloc, arguments),
-            Expr::Unary { operand, .. } => self.evaluated(alloc, operand),
+            Expr::Call { arguments, .. } => self.pass(alloc, arguments),
+            Expr::Unary { operand, .. } => self.evaluate(alloc, operand),
             Expr::Binary { first, rest, .. } => {
-                let state = self.evaluated(alloc, first)?;
-                state.operated(alloc, rest)
+                let state = self.evaluate(alloc, first)?;
+                state.apply_operations(alloc, rest)
             }
             Expr::Assign { target, value, .. } => {
-                let state = self.converted(alloc, value)?;
-                state.written(*target)
+                let state = self.convert(alloc, value)?;
+                state.write(*target)
             }
         }
     }
 
     /// Behind an expression whose value is converted.
     #[cycle(expression)]
-    pub(crate) fn converted(self, alloc: Global, converted: &Converted) -> Result<State, Stop>
+    pub(crate) fn convert(self, alloc: Global, converted: &Converted) -> Result<State, Stop>
         ensures { Gives result (keep_converted (view_converted converted.now) (view_state self)) (after_converted (view_converted converted.now) (view_state self)) }
     {
-        self.evaluated(alloc, &converted.value)
+        self.evaluate(alloc, &converted.value)
     }
 
     /// Behind the arguments of a call.
     #[cycle(expression)]
-    fn passed(self, alloc: Global, arguments: &[Converted]) -> Result<State, Stop>
+    fn pass(self, alloc: Global, arguments: &[Converted]) -> Result<State, Stop>
         ensures { Gives result (keep_arguments (arguments_of arguments.now) (view_state self)) (after_arguments (arguments_of arguments.now) (view_state self)) }
     {
         let mut state = self;
         for argument in arguments {
-            state = state.converted(alloc, argument)?;
+            state = state.convert(alloc, argument)?;
         }
         Ok(state)
     }
 
     /// Behind one operator of a chain and its operand, which `&&` and `||` may leave out.
     #[cycle(expression)]
-    fn operated_once(self, alloc: Global, operation: &Operation) -> Result<State, Stop>
+    fn apply_operation(self, alloc: Global, operation: &Operation) -> Result<State, Stop>
         ensures { Gives result (keep_operation operation.now (view_state self)) (after_operation operation.now (view_state self)) }
     {
         match operation {
-            Operation::Compute { operand, .. } => self.evaluated(alloc, operand),
+            Operation::Compute { operand, .. } => self.evaluate(alloc, operand),
             Operation::Test { operand, .. } => {
                 let before = self.copy(alloc)?;
-                let behind = self.evaluated(alloc, operand)?;
+                let behind = self.evaluate(alloc, operand)?;
                 Ok(meet(before, behind))
             }
         }
@@ -111,18 +111,18 @@ impl State {
 
     /// Behind the rest of a chain.
     #[cycle(expression)]
-    fn operated(self, alloc: Global, operations: &[Operation]) -> Result<State, Stop>
+    fn apply_operations(self, alloc: Global, operations: &[Operation]) -> Result<State, Stop>
         ensures { Gives result (keep_operations (operations_of operations.now) (view_state self)) (after_operations (operations_of operations.now) (view_state self)) }
     {
         let mut state = self;
         for operation in operations {
-            state = state.operated_once(alloc, operation)?;
+            state = state.apply_operation(alloc, operation)?;
         }
         Ok(state)
     }
 
     /// Behind the declaration of a local: it holds its initial value, or nothing.
-    pub(crate) fn declared(
+    pub(crate) fn declare(
         self,
         alloc: Global,
         number: usize,
@@ -133,16 +133,20 @@ impl State {
         let Some(converted) = value else {
             return Ok(self.with_fullness(number, Fullness::Vacant));
         };
-        let state = self.converted(alloc, converted)?;
+        let state = self.convert(alloc, converted)?;
         Ok(state.with_fullness(number, Fullness::Full))
     }
 
     /// Behind a `return` no code is run.
-    pub(crate) fn returned(self, alloc: Global, value: &Option<Converted>) -> Result<State, Stop>
+    pub(crate) fn return_value(
+        self,
+        alloc: Global,
+        value: &Option<Converted>,
+    ) -> Result<State, Stop>
         ensures { Gives result (keep_value (option_map view_converted value.now) (view_state self)) Unreached }
     {
         if let Some(converted) = value {
-            self.converted(alloc, converted)?;
+            self.convert(alloc, converted)?;
         }
         Ok(State::Unreached)
     }

@@ -3,8 +3,8 @@
 use crate::expressions::refusal;
 use crate::state::{State, meet};
 use crate::stop::Stop;
-use cyc_words::{Code, Span};
 use cyc_types::typed::{Item, Stmt};
+use cyc_words::{Code, Span};
 use std::alloc::Global;
 use std::mem;
 
@@ -21,7 +21,7 @@ impl Loop {
     ghost use Rattle.cyc_flow.specs.Steps.{view_loop};
 
     /// Back at the head nothing may be emptier than it was.
-    fn comes_back(&self, state: &State) -> Result<(), Stop>
+    fn check_head(&self, state: &State) -> Result<(), Stop>
         ensures { Allows result (keep_head (view_loop self.now).place (view_state state.now) (view_loop self.now).head) }
     {
         if !state.is_at_least(&self.head) {
@@ -44,7 +44,7 @@ impl Walk {
     ghost use Rattle.cyc_types.specs.TypedTreeView.{view_statement, view_item, items_of};
     ghost use Rattle.cyc_types.specs.FlowRules.{Unreached, meet, after_statement, after_items, breaks_of, item_breaks};
     ghost use Rattle.cyc_types.specs.FlowChecking.{keep_continue, keep_statement, keep_items};
-    ghost use Rattle.cyc_flow.specs.Code.{view_state, Gives, Goes};
+    ghost use Rattle.cyc_flow.specs.Code.{view_state, Gives, GivesInLoop};
     ghost use Rattle.cyc_flow.specs.Steps.{view_loop, keep_item, after_item, breaks_of_item};
 
     pub(crate) fn new(alloc: Global) -> Walk
@@ -57,17 +57,17 @@ impl Walk {
     }
 
     /// Behind a `continue`, which goes back to the head of the loop around.
-    fn continued(around: Option<&Loop>, state: State) -> Result<State, Stop>
+    fn continue_loop(around: Option<&Loop>, state: State) -> Result<State, Stop>
         ensures { Gives result (keep_continue (option_map (λ l. view_loop l.now) around.entry) (view_state state)) Unreached }
     {
         if let Some(around) = around {
-            around.comes_back(&state)?;
+            around.check_head(&state)?;
         }
         Ok(State::Unreached)
     }
 
     /// Behind a `break`.
-    fn broken(&mut self, state: State) -> State
+    fn break_loop(&mut self, state: State) -> State
         ensures behind { view_state result ≡ Unreached }
         ensures breaks { view_state self.new.breaks ≡ meet (view_state self.old.breaks) (view_state state) }
     {
@@ -79,27 +79,27 @@ impl Walk {
     /// Behind a statement in this loop, if one is around it.
     #[cycle(statement)]
     #[tactic(auto, using(crate::proofs::States::meet_unreached, crate::proofs::States::meet_assoc))]
-    fn statement(
+    fn check_statement(
         &mut self,
         around: Option<&Loop>,
         statement: &Stmt,
         state: State,
     ) -> Result<State, Stop>
-        ensures { Goes result (keep_statement (option_map (λ l. view_loop l.now) around.entry) (view_statement statement.now) (view_state state)) (after_statement (view_statement statement.now) (view_state state)) (meet (view_state self.old.breaks) (breaks_of (view_statement statement.now) (view_state state))) (view_state self.new.breaks) }
+        ensures { GivesInLoop result (keep_statement (option_map (λ l. view_loop l.now) around.entry) (view_statement statement.now) (view_state state)) (after_statement (view_statement statement.now) (view_state state)) (meet (view_state self.old.breaks) (breaks_of (view_statement statement.now) (view_state state))) (view_state self.new.breaks) }
     {
         match statement {
-            Stmt::Block { items, .. } => self.items(around, items, state),
+            Stmt::Block { items, .. } => self.check_items(around, items, state),
             Stmt::Empty => Ok(state),
-            Stmt::Evaluate { value } => Ok(state.evaluated(self.alloc, value)?),
+            Stmt::Evaluate { value } => Ok(state.evaluate(self.alloc, value)?),
             Stmt::If {
                 condition,
                 then,
                 otherwise,
             } => {
-                let state = state.evaluated(self.alloc, condition)?;
+                let state = state.evaluate(self.alloc, condition)?;
                 let other = state.copy(self.alloc)?;
-                let behind_then = self.statement(around, then, state)?;
-                let behind_otherwise = self.statement(around, otherwise, other)?;
+                let behind_then = self.check_statement(around, then, state)?;
+                let behind_otherwise = self.check_statement(around, otherwise, other)?;
                 Ok(meet(behind_then, behind_otherwise))
             }
             Stmt::While {
@@ -108,46 +108,51 @@ impl Walk {
                 body,
             } => {
                 let head = state.copy(self.alloc)?;
-                let inside = state.evaluated(self.alloc, condition)?;
+                let inside = state.evaluate(self.alloc, condition)?;
                 let exit = inside.copy(self.alloc)?;
                 let around = Loop { span: *span, head };
                 let outer = mem::replace(&mut self.breaks, State::Unreached);
-                let end = self.statement(Some(&around), body, inside)?;
+                let end = self.check_statement(Some(&around), body, inside)?;
                 let breaks = mem::replace(&mut self.breaks, outer);
-                around.comes_back(&end)?;
+                around.check_head(&end)?;
                 // The condition has just been evaluated, or a break has left the loop.
                 Ok(meet(exit, breaks))
             }
-            Stmt::Return { value } => Ok(state.returned(self.alloc, value)?),
-            Stmt::Break => Ok(self.broken(state)),
-            Stmt::Continue => Ok(Walk::continued(around, state)?),
+            Stmt::Return { value } => Ok(state.return_value(self.alloc, value)?),
+            Stmt::Break => Ok(self.break_loop(state)),
+            Stmt::Continue => Ok(Walk::continue_loop(around, state)?),
         }
     }
 
     #[cycle(statement)]
     #[tactic(auto, using(crate::proofs::States::meet_unreached))]
-    fn item(&mut self, around: Option<&Loop>, item: &Item, state: State) -> Result<State, Stop>
-        ensures { Goes result (keep_item (option_map (λ l. view_loop l.now) around.entry) (view_item item.now) (view_state state)) (after_item (view_item item.now) (view_state state)) (meet (view_state self.old.breaks) (breaks_of_item (view_item item.now) (view_state state))) (view_state self.new.breaks) }
+    fn check_item(
+        &mut self,
+        around: Option<&Loop>,
+        item: &Item,
+        state: State,
+    ) -> Result<State, Stop>
+        ensures { GivesInLoop result (keep_item (option_map (λ l. view_loop l.now) around.entry) (view_item item.now) (view_state state)) (after_item (view_item item.now) (view_state state)) (meet (view_state self.old.breaks) (breaks_of_item (view_item item.now) (view_state state))) (view_state self.new.breaks) }
     {
         match item {
-            Item::Execute { statement } => self.statement(around, statement, state),
-            Item::Local { number, value, .. } => Ok(state.declared(self.alloc, *number, value)?),
+            Item::Execute { statement } => self.check_statement(around, statement, state),
+            Item::Local { number, value, .. } => Ok(state.declare(self.alloc, *number, value)?),
         }
     }
 
     /// Behind the items of a block.
     #[cycle(statement)]
-    pub(crate) fn items(
+    pub(crate) fn check_items(
         &mut self,
         around: Option<&Loop>,
         items: &[Item],
         state: State,
     ) -> Result<State, Stop>
-        ensures { Goes result (keep_items (option_map (λ l. view_loop l.now) around.entry) (items_of items.now) (view_state state)) (after_items (items_of items.now) (view_state state)) (meet (view_state self.old.breaks) (item_breaks (items_of items.now) (view_state state))) (view_state self.new.breaks) }
+        ensures { GivesInLoop result (keep_items (option_map (λ l. view_loop l.now) around.entry) (items_of items.now) (view_state state)) (after_items (items_of items.now) (view_state state)) (meet (view_state self.old.breaks) (item_breaks (items_of items.now) (view_state state))) (view_state self.new.breaks) }
     {
         let mut state = state;
         for item in items {
-            state = self.item(around, item, state)?;
+            state = self.check_item(around, item, state)?;
         }
         Ok(state)
     }

@@ -1,6 +1,7 @@
 //! Why a check stops.
 ghost use Rattle.std.specs.Prelude.{◌≡◌};
 ghost use Rattle.cyc_flow.specs.declared.stop.Stop.TheVariants.{Memory};
+ghost use Rattle.cyc_flow.specs.Code.{fault_of};
 
 use cyc_words::Fault;
 use std::alloc::AllocError;
@@ -17,5 +18,16 @@ impl From<AllocError> for Stop {
 
     fn from(_e: AllocError) -> Stop {
         Stop::Memory
+    }
+}
+
+impl From<Stop> for Fault {
+    ghost from_gives = { λ e f. f ≡ fault_of e };
+
+    fn from(stop: Stop) -> Fault {
+        match stop {
+            Stop::Memory => Fault::memory(),
+            Stop::Refused(fault) => fault,
+        }
     }
 }

@@ -28,8 +28,8 @@ abbrev pub Holds : Code → ℕ → List ℕ → Type 0
 Holds codes.TooManyTokens count text = (k : Kind) × Begins (Lexeme k) text × (max_tokens ≤ count)
 Holds code count text = FailsHere code text
 
--- The first place of the text where a code holds: all before it is tokens within the limits, spaces and comments. Of several
--- codes that hold there it is the lowest.
+-- The first place of the text where a code holds: all before it is tokens within the limits, spaces and comments. Of
+-- several codes that hold there it is the lowest.
 pub record IsFirstFault (text : List ℕ) (fault : Fault) : Type 0 where
   pub parts : List Part
   pub rest : List ℕ

@@ -4,7 +4,8 @@ ghost use Rattle.cyc_words.specs.declared.fault.Fault.{Fault};
 ghost use Rattle.cyc_syntax.specs.Tokens.{Token};
 ghost use Rattle.cyc_lex.specs.Refusals.{IsAccepted, IsRefused};
 
-/// The definitions leave no choice: a text is accepted with one list of tokens at most, or refused with one fault at most.
+/// The definitions leave no choice: a text is accepted with one list of tokens at most, or refused with one fault at
+/// most.
 pub fn one_answer()
     ensures tokens { (text : List ℕ) (a b : List Token) → IsAccepted text a → IsAccepted text b → a ≡ b }
     ensures fault { (text : List ℕ) (f g : Fault) → IsRefused text f → IsRefused text g → f ≡ g }

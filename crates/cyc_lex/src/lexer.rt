@@ -19,9 +19,9 @@ pub const MAX_TOKENS: usize = 60000;
 
 /// The tokens of a text, by the token rule: at each place the longest token, space or comment is read.
 ///
-/// A text above the limit of bytes is refused at 1:1. Otherwise the first place is refused where no token, space or comment
-/// begins, a comment is not closed, a number is above the limit, or a token stands that is one too many; of several reasons
-/// the one with the lowest code. Any growth of the list of tokens may be refused for want of memory.
+/// A text above the limit of bytes is refused at 1:1. Otherwise the first place is refused where no token, space or
+/// comment begins, a comment is not closed, a number is above the limit, or a token stands that is one too many; of
+/// several reasons the one with the lowest code. Any growth of the list of tokens may be refused for want of memory.
 pub fn lex(alloc: Global, text: &[u8]) -> Result<Vec<Token>, Fault>
     // What is accepted has tokens, and these are answered; what is refused has its first fault.
     ensures decides { Decides (IsAccepted text.now) (λ tokens v. map (token_of text.now) v.items ≡ tokens) (IsRefused text.now) (IsRefused text.now) result }

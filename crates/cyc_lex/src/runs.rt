@@ -38,8 +38,8 @@ pub fn line_len(bytes: &[u8]) -> usize
 /// The largest number of a text.
 pub const MAX_NUMBER: u64 = 2147483647;
 
-/// The number that digits have in base 10 or 16, or `None` where it is above the limit. It is never computed further than one
-/// digit past the limit.
+/// The number that digits have in base 10 or 16, or `None` where it is above the limit. It is never computed further
+/// than one digit past the limit.
 pub fn number_value(base: u64, digits: &[u8]) -> Option<u32>
     requires positive { 0 < base }
     requires within { base ≤ 16 }

@@ -1,7 +1,10 @@
-pub mod Examples
-pub mod ListLemmas
-pub mod Nested
-pub mod Outcomes
+-- what the proofs of the compiler cite
 pub mod RunLaws
-pub mod ValueExamples
+-- what the laws of this crate cite
+pub mod Outcomes
 pub mod WorldLaws
+pub mod Nested
+pub mod ListLemmas
+-- examples
+pub mod Examples
+pub mod ValueExamples

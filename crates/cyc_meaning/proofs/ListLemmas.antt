@@ -13,11 +13,6 @@ module _ {A : Type 0} where
   slice_get-end [] x = refl
   slice_get-end (a ∷ xs) x = slice_get-end xs x
 
-  pub slice_get-set_same : (xs : List A) (i : ℕ) (x y : A) → slice_get xs i ≡ Some x → slice_get (set xs i y) i ≡ Some y
-  slice_get-set_same [] i x y found = absurd (let e : None ≡ Some x = found in cc)
-  slice_get-set_same (a ∷ xs) zero x y found = refl
-  slice_get-set_same (a ∷ xs) (suc i) x y found = slice_get-set_same xs i x y found
-
   pub slice_get-set_other : (xs : List A) (i j : ℕ) (y : A) → j ≢ i → slice_get (set xs i y) j ≡ slice_get xs j
   slice_get-set_other [] i j y other = refl
   slice_get-set_other (a ∷ xs) zero zero y other = absurd (other refl)

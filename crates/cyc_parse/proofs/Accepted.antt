@@ -65,11 +65,11 @@ pub named : (text : List ℕ) (tokens : List Token) (result : Result Tree Fault)
 named text tokens (Ok t) h = h.names
 named text tokens (Err fault) h = tt
 
-pub weighed : (text : List ℕ) (tokens : List Token) (result : Result Tree Fault) → IsAnswer text tokens result
-    → IfOk result (λ t. tree_weight (declarations_of t) ≡ length tokens)
-weighed text tokens (Ok t) h =
-    answered_weight (symbols_of tokens) [] (declarations_of t) (whole_read (symbols_of tokens) (declarations_of t) h.declarations) ∙ length-map tokens _
-weighed text tokens (Err fault) h = tt
+pub weighed : (text : List ℕ) (tokens : List Token) (count : ℕ) (result : Result Tree Fault) → length tokens ≡ count → IsAnswer text tokens result
+    → IfOk result (λ t. tree_weight (declarations_of t) ≡ count)
+weighed text tokens count (Ok t) same h =
+    answered_weight (symbols_of tokens) [] (declarations_of t) (whole_read (symbols_of tokens) (declarations_of t) h.declarations) ∙ length-map tokens _ ∙ same
+weighed text tokens count (Err fault) same h = tt
 
 refused : (text : List ℕ) (tokens : List Token) (result : Result Tree Fault) → IsAnswer text tokens result → IfErr result (λ f. (f ≡ memory_fault) ⊎ IsRefused text tokens f)
 refused text tokens (Ok tree) h = tt

@@ -94,8 +94,8 @@ pub all-append : (xs ys : Yield) → AllByRecursion IsWithin xs → AllByRecursi
 all-append [] ys f g = g
 all-append (l ∷ xs) ys (one, f) g = (one, all-append xs ys f g)
 
-pub begins_behind : {xs ys : Yield} {ts mid left : List Symbol} → Front xs ts mid → Begins ys mid left → Begins (xs ++ ys) ts left
-begins_behind {xs = xs} {ts = ts} {mid = mid} front b = record {
+begins_behind : (xs : Yield) {ys : Yield} {ts mid left : List Symbol} → Front xs ts mid → Begins ys mid left → Begins (xs ++ ys) ts left
+begins_behind xs {ts = ts} {mid = mid} front b = record {
   done = xs ++ b.done;
   more = b.more;
   symbol = b.symbol;
@@ -104,6 +104,11 @@ begins_behind {xs = xs} {ts = ts} {mid = mid} front b = record {
   left_are = b.left_are;
   front = front-append xs b.done ts mid b.back front b.front;
 }
+
+-- behind one symbol
+pub begins_next : (leaf : Leaf) (t : Symbol) {ys : Yield} {more mid left : List Symbol} → t.terminal ≡ leaf.terminal → IfSome leaf.place (λ q. t.place ≡ q) → more ≡ mid → Begins ys mid left
+    → Begins (leaf ∷ ys) (t ∷ more) left
+begins_next leaf t {more = more} terminal place same b = begins_behind (leaf ∷ []) (t, more, refl, record { terminal = terminal; place = place }, same) b
 
 begins_before : {xs : Yield} (ys : Yield) {ts left : List Symbol} → Begins xs ts left → Begins (xs ++ ys) ts left
 begins_before ys b = record {
@@ -187,7 +192,7 @@ part_then {p = p} {f = f} {Q = Q} {ts = ts} first second = record {
     completed e limit (in_second x mid h k) =
         let a = first.gives mid x h in
         let b = (second x a.leaves mid a.post).goes e k limit in
-        record { value = b.value; leaves = a.leaves ++ b.leaves; begins = begins_behind a.front b.begins; post = b.post }
+        record { value = b.value; leaves = a.leaves ++ b.leaves; begins = begins_behind a.leaves a.front b.begins; post = b.post }
 
 -- a part whose yield is known
 pub spelled_then : {A B : Type 0} {p : Parser A} {f : A → Parser B} {yield : A → Yield} {Is : A → List Symbol → Type 0} {Q : B → Yield → List Symbol → Type 0} {ts : List Symbol}
@@ -411,8 +416,7 @@ take_then {A} {B} {C} room reads give f {Q = Q} {ts = ts} some leaf fits few is 
     refused (t ∷ more) e limit (in_second x mid h k) =
         let (r, a, roomy, reading, value, same) = taken room (reads t.terminal) give t more mid x h in
         let d = (second a t.place mid).goes e (ap (λ (b : B). f b mid) value ∙ k) limit in
-        let front = (t, more, refl, record { terminal = is a t.terminal t.place reading; place = place a t.place }, same) in
-        record { value = d.value; leaves = leaf a t.place ∷ d.leaves; begins = begins_behind {xs = leaf a t.place ∷ []} front d.begins; post = d.post }
+        record { value = d.value; leaves = leaf a t.place ∷ d.leaves; begins = begins_next (leaf a t.place) t (is a t.terminal t.place reading) (place a t.place) same d.begins; post = d.post }
 
 -- with no room left nothing is read
 pub stuck_then : {A B C : Type 0} (reads : Terminal → Option A) (give : A → Place → B) (f : B → Parser C) {Q : C → Yield → List Symbol → Type 0} {ts : List Symbol} (leaf : Leaf) (possible : Possible (λ y ys rest. Q y (leaf ∷ ys) rest))
@@ -507,13 +511,13 @@ module _ {C : Type 0} {Q : C → Yield → List Symbol → Type 0} {ts : List Sy
   pub region_then : {f : Named → Parser C} → Fits room d → ((x : Named) (mid : List Symbol) → Gives (f x) (λ y ys rest. Q y (leaf_at d (RegionName x.name) x.place ∷ ys) rest) mid) → Gives (bind (region_name room) f) Q ts
   region_then fits second = take_then room region_of_terminal named _ 0 (λ a q. leaf_at d (RegionName a) q) (λ _ _. fits) (λ _ _. omega arith) (λ a u _ e. region_is u a e) (λ _ _. refl) (λ a q mid. second (named a q) mid)
 
-pub stuck_sign : {C : Type 0} {Q : C → Yield → List Symbol → Type 0} {ts : List Symbol} (d : ℕ) (s : Sign) {f : Place → Parser C}
+pub stuck_sign : {C : Type 0} {Q : C → Yield → List Symbol → Type 0} {ts : List Symbol} (d : ℕ) (s : Sign) (f : Place → Parser C)
     → Possible (λ y ys rest. Q y (leaf_of d (Mark s) ∷ ys) rest) → Gives (bind (sign zero s) f) Q ts
-stuck_sign d s possible = stuck_then (is_sign s) only_place _ (leaf_of d (Mark s)) possible (λ a u e. sign_is s u a e) (λ _. tt)
+stuck_sign d s f possible = stuck_then (is_sign s) only_place f (leaf_of d (Mark s)) possible (λ a u e. sign_is s u a e) (λ _. tt)
 
-pub stuck_word : {C : Type 0} {Q : C → Yield → List Symbol → Type 0} {ts : List Symbol} (d : ℕ) (k : Keyword) {f : Place → Parser C}
+pub stuck_word : {C : Type 0} {Q : C → Yield → List Symbol → Type 0} {ts : List Symbol} (d : ℕ) (k : Keyword) (f : Place → Parser C)
     → Possible (λ y ys rest. Q y (leaf_of d (Word k) ∷ ys) rest) → Gives (bind (word zero k) f) Q ts
-stuck_word d k possible = stuck_then (is_word k) only_place _ (leaf_of d (Word k)) possible (λ a u e. word_is k u a e) (λ _. tt)
+stuck_word d k f possible = stuck_then (is_word k) only_place f (leaf_of d (Word k)) possible (λ a u e. word_is k u a e) (λ _. tt)
 
 -- ---- by the next symbol
 
@@ -536,8 +540,7 @@ advance_leaf_then {C} {f = f} {Q = Q} {ts = ts} leaf u comes is shallow few plac
     refused (t ∷ more) e comes h limit =
         let same : t.terminal ≡ u = cc in
         let d = (second t.place more).goes e h limit in
-        let front = (t, more, refl, record { terminal = same ∙ sym (is t.place); place = place t.place }, refl) in
-        record { value = d.value; leaves = leaf t.place ∷ d.leaves; begins = begins_behind {xs = leaf t.place ∷ []} front d.begins; post = d.post }
+        record { value = d.value; leaves = leaf t.place ∷ d.leaves; begins = begins_next (leaf t.place) t (same ∙ sym (is t.place)) (place t.place) refl d.begins; post = d.post }
 
     start : (ts rest : List Symbol) (y : C) → next ts ≡ Some u → bind advance f ts ≡ Ok (y, rest) → Derived ts rest (λ ls. Q y ls rest)
     start [] rest y e h = absurd (cc)

@@ -14,7 +14,7 @@ use Rattle.cyc_parse.specs.Types.{begins_type}
 use Rattle.cyc_parse.specs.Statements.{nested_statements}
 use Rattle.cyc_parse.specs.Declarations.{begins_void, begins_constructor, number_value, member, field, has_int, constructor, more_of, some_of, parameter_list, effect_regions, effect, constraint, constraints, parameters, value_by, value, global_value, global, function, typed, struct_fields, struct_or_typed, exceptions, declaration_by, declaration}
 use Rattle.cyc_parse.proofs.Rules.{Front, Fits, leaf_of, leaf_at}
-use Rattle.cyc_parse.proofs.Gives.{Derived, Gives, Follows, Spells, Any, part_then, spelled_then, last_then, pure_gives, Begins, Completed, IsLimit, Opened, possibly, unexpected_gives, begun_gives, begins_behind, gives_as, item_gives, take_then, sign_then, word_then, identifier_then, region_then, advance_then, advance_bare_then, choose_gives, sees_gives, starts_gives, stuck_sign, some_place, numbered, opened_then}
+use Rattle.cyc_parse.proofs.Gives.{Derived, Gives, Follows, Spells, Any, part_then, spelled_then, last_then, pure_gives, Begins, Completed, IsLimit, Opened, possibly, unexpected_gives, begun_gives, begins_next, gives_as, item_gives, take_then, sign_then, word_then, identifier_then, region_then, advance_then, advance_bare_then, choose_gives, sees_gives, starts_gives, stuck_sign, some_place, numbered, opened_then}
 use Rattle.cyc_parse.proofs.Openings.{member_opened, field_opened, constructor_opened, constraint_opened}
 use Rattle.cyc_parse.proofs.GivesTypes.{separated_gives, regions_give, optional_regions_give, with_pointers_give, written_type_gives}
 use Rattle.cyc_parse.proofs.GivesStatements.{body_gives, nested_statements_give}
@@ -35,7 +35,7 @@ module _ {A : Type 0} (begins : Terminal → Bool) (item : Parser A) (yield : A 
 -- ---- parts with brackets of their own, where one level of room may be left
 
 int_rest : (room d : ℕ) → Fits room d → (ts : List Symbol) → Gives (bind (sign room signs.LeftParen) (λ _. bind (word (inside room) words.Int) (λ _. bind (sign (inside room) signs.RightParen) (λ _. pure true)))) (Spells (yields.has_int d) Any) ts
-int_rest zero d fits ts = stuck_sign d signs.LeftParen (possibly true _ (refl, tt))
+int_rest zero d fits ts = stuck_sign d signs.LeftParen _ (possibly true _ (refl, tt))
 int_rest (suc room) d fits ts = sign_then (suc room) d signs.LeftParen fits (λ _ mid. word_then room (suc d) words.Int (omega arith) (λ _ mid. sign_then room (suc d) signs.RightParen (omega arith) (λ _ mid. pure_gives (refl, tt))))
 
 has_int_gives : (room d : ℕ) → Fits room d → (ts : List Symbol) → Gives (has_int room) (Spells (yields.has_int d) Any) ts
@@ -49,7 +49,7 @@ effect_regions_give room d fits ts = starts_gives begins_region (λ _. gives_as 
 effect_rest : (room d : ℕ) → Fits room d → (ts : List Symbol)
     → Gives (bind (sign room signs.Semicolon) (λ _. bind (sign room signs.LeftBrace) (λ _. bind (effect_regions (inside room)) (λ rs. bind (sign (inside room) signs.RightBrace) (λ _. pure (Some rs))))))
     (Spells (yields.optional (yields.effect d)) Any) ts
-effect_rest zero d fits ts = stuck_sign d signs.Semicolon (possibly (Some []) _ (refl, tt))
+effect_rest zero d fits ts = stuck_sign d signs.Semicolon _ (possibly (Some []) _ (refl, tt))
 effect_rest (suc room) d fits ts = sign_then (suc room) d signs.Semicolon fits (λ _ mid. sign_then (suc room) d signs.LeftBrace fits (λ _ mid. spelled_then (effect_regions_give room (suc d) (omega arith) mid) (λ rs mid _.
     sign_then room (suc d) signs.RightBrace (omega arith) (λ _ mid. pure_gives (refl, tt)))))
 
@@ -171,13 +171,13 @@ module _ (room d : ℕ) (fits : Fits (suc room) d) (shallow : suc d ≤ max_nest
       completed t more left y same ls begins (inl post) = record {
         value = y;
         leaves = leaf_at d (Word words.Struct) t.place ∷ ls;
-        begins = begins_behind {xs = leaf_at d (Word words.Struct) t.place ∷ []} (t, more, refl, record { terminal = same; place = refl }, refl) begins;
+        begins = begins_next (leaf_at d (Word words.Struct) t.place) t same refl refl begins;
         post = post;
       }
       completed t more left y same ls begins (inr post) = record {
         value = y;
         leaves = leaf_of d (Word words.Struct) ∷ ls;
-        begins = begins_behind {xs = leaf_of d (Word words.Struct) ∷ []} (t, more, refl, record { terminal = same; place = tt }, refl) begins;
+        begins = begins_next (leaf_of d (Word words.Struct)) t same tt refl begins;
         post = post;
       }
 

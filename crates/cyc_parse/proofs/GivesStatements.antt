@@ -46,13 +46,13 @@ and_right false b h = absurd (cc)
 
 closed_name : (room d : ℕ) → Fits room d → (ts : List Symbol)
     → Gives (bind (sign room signs.LeftParen) (λ _. bind (identifier (inside room)) (λ v. bind (sign (inside room) signs.RightParen) (λ _. pure (Some v))))) (Spells (yields.optional (yields.caught d)) Any) ts
-closed_name zero d fits ts = stuck_sign d signs.LeftParen (possibly (Some (named_at some_place)) _ (refl, tt))
+closed_name zero d fits ts = stuck_sign d signs.LeftParen _ (possibly (Some (named_at some_place)) _ (refl, tt))
 closed_name (suc room) d fits ts = sign_then (suc room) d signs.LeftParen fits (λ _ mid. identifier_then room (suc d) (omega arith) (λ v mid. sign_then room (suc d) signs.RightParen (omega arith) (λ _ mid. pure_gives (refl, tt))))
 
 opened_rest : (room d : ℕ) → Fits room (suc d) → (ts : List Symbol)
     → Gives (bind (word room words.Open) (λ _. bind (sign room signs.LeftParen) (λ _. bind (identifier (inside room)) (λ k. bind (sign (inside room) signs.RightParen) (λ _. pure (Some k))))))
     (Follows (leaf_of d (Mark signs.Assign) ∷ []) (yields.optional (yields.opened d)) Any) ts
-opened_rest zero d fits ts = stuck_word (suc d) words.Open (possibly (Some (named_at some_place)) _ (refl, tt))
+opened_rest zero d fits ts = stuck_word (suc d) words.Open _ (possibly (Some (named_at some_place)) _ (refl, tt))
 opened_rest (suc room) d fits ts = word_then (suc room) (suc d) words.Open fits (λ _ mid. sign_then (suc room) (suc d) signs.LeftParen fits (λ _ mid. identifier_then room (suc (suc d)) (omega arith) (λ k mid. sign_then room (suc (suc d)) signs.RightParen (omega arith) (λ _ mid. pure_gives (refl, tt)))))
 
 abbrev key_leaves : ℕ → Yield
@@ -61,7 +61,7 @@ key_leaves d = leaf_of d (Mark signs.Assign) ∷ leaf_of (suc d) (Word words.New
 new_key_rest : (room d : ℕ) → Fits (suc room) d → (ts : List Symbol)
     → Gives (bind (sign (suc room) signs.Assign) (λ _. bind (word room words.NewKey) (λ _. bind (sign room signs.LeftParen) (λ _. bind (sign (inside room) signs.RightParen) (λ _. bind (sign (suc room) signs.Semicolon) (λ _. pure {A = Unit {0}} tt))))))
     (Spells (λ _. key_leaves d) Any) ts
-new_key_rest zero d fits ts = sign_then 1 d signs.Assign fits (λ _ mid. stuck_word (suc d) words.NewKey (possibly tt _ (refl, tt)))
+new_key_rest zero d fits ts = sign_then 1 d signs.Assign fits (λ _ mid. stuck_word (suc d) words.NewKey _ (possibly tt _ (refl, tt)))
 new_key_rest (suc room) d fits ts = sign_then (suc (suc room)) d signs.Assign fits (λ _ mid. word_then (suc room) (suc d) words.NewKey (omega arith) (λ _ mid. sign_then (suc room) (suc d) signs.LeftParen (omega arith)
     (λ _ mid. sign_then room (suc (suc d)) signs.RightParen (omega arith) (λ _ mid. sign_then (suc (suc room)) d signs.Semicolon fits (λ _ mid. pure_gives (refl, tt))))))
 

@@ -103,14 +103,14 @@ unfolding program
 program_gives ts = spelled_then (one_gives ts) (λ d mid is. last_then (λ ds. d ∷ ds) (gives_same (declarations_in 200 (length mid)) refl (declarations_give (length mid) mid)) (λ ds rest are. (refl, (tt, (is, are)))))
 
 -- symbols that leaves stand for
-place_or : Option Place → Place
+abbrev place_or : Option Place → Place
 place_or None = some_place
 place_or (Some p) = p
 
-symbol_for : Leaf → Symbol
+abbrev symbol_for : Leaf → Symbol
 symbol_for leaf = record { terminal = leaf.terminal; place = place_or leaf.place }
 
-symbols_for : Yield → List Symbol
+abbrev symbols_for : Yield → List Symbol
 symbols_for [] = []
 symbols_for (leaf ∷ leaves) = symbol_for leaf ∷ symbols_for leaves
 
@@ -144,14 +144,17 @@ limit_begun front back s why limit h =
     let (before, are, spelled) = before_rest b.done (front ++ s ∷ back) b.back b.front in
     let behind : back ≡ b.back = rest_same back b.back s b.symbol b.left_are in
     let same : before ≡ front ++ s ∷ [] =
-        append_cancel_right before (front ++ s ∷ []) back (ap (λ (us : List Symbol). before ++ us) behind ∙ sym are ∙ sym (append_assoc front (s ∷ []) back)) in
+    append_cancel_right before (front ++ s ∷ []) back (ap (λ (us : List Symbol). before ++ us) behind ∙ sym are ∙ sym (append_assoc front (s ∷ []) back)) in
     let whole : IsSpelled (b.done ++ b.more) (before ++ symbols_for b.more) = spelled-append b.done b.more before (symbols_for b.more) spelled (for_spelled b.more) in
-    let symbols : before ++ symbols_for b.more ≡ front ++ s ∷ symbols_for b.more = ap (λ (us : List Symbol). us ++ symbols_for b.more) same ∙ append_assoc front (s ∷ []) (symbols_for b.more) in
-    (symbols_for b.more, c.value, record {
-      nonempty = c.post.1.0;
-      formed = c.post.1.1;
-      spelled = subst (λ (ys : Yield). IsSpelled ys (front ++ s ∷ symbols_for b.more)) (sym b.are ∙ c.post.0) (subst (IsSpelled (b.done ++ b.more)) symbols whole);
-    })
+    let symbols : before ++ symbols_for b.more ≡ front ++ s ∷ symbols_for b.more = ap (λ (us : List Symbol). us ++ symbols_for b.more) same ∙ append_assoc front (s ∷ []) (symbols_for b.more) in (
+      symbols_for b.more,
+      c.value,
+      record {
+        nonempty = c.post.1.0;
+        formed = c.post.1.1;
+        spelled = subst (λ (ys : Yield). IsSpelled ys (front ++ s ∷ symbols_for b.more)) (sym b.are ∙ c.post.0) (subst (IsSpelled (b.done ++ b.more)) symbols whole);
+      },
+    )
   where
     rest_same : (xs ys : List Symbol) (s t : Symbol) → s ∷ xs ≡ t ∷ ys → xs ≡ ys
     rest_same xs ys s t e = cc

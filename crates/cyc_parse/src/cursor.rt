@@ -106,7 +106,7 @@ impl<'a> Parser<'a> {
 
     // ---- a symbol at the level that is read, which is not too deep
 
-    pub(crate) fn sign(&mut self, wanted: Sign) -> Result<Span, Stop>
+    pub(crate) fn take_sign(&mut self, wanted: Sign) -> Result<Span, Stop>
         ensures { (room : ℕ) → Gives place_of_span result (sign (suc room) wanted self.old) self.new }
     {
         if !self.sees(wanted) {
@@ -116,7 +116,7 @@ impl<'a> Parser<'a> {
     }
 
     #[tactic(auto, unfolding(crate::specs::Parsing::take))]
-    pub(crate) fn word(&mut self, wanted: Keyword) -> Result<Span, Stop>
+    pub(crate) fn take_word(&mut self, wanted: Keyword) -> Result<Span, Stop>
         ensures { (room : ℕ) → Gives place_of_span result (word (suc room) wanted self.old) self.new }
     {
         match self.next() {
@@ -126,7 +126,7 @@ impl<'a> Parser<'a> {
     }
 
     #[tactic(auto, unfolding(crate::specs::Parsing::take))]
-    pub(crate) fn identifier(&mut self) -> Result<Ident, Stop>
+    pub(crate) fn take_identifier(&mut self) -> Result<Ident, Stop>
         ensures { (room : ℕ) → Gives view_name result (identifier (suc room) self.old) self.new }
     {
         let Some(Terminal::Identifier(name)) = self.next() else {
@@ -137,7 +137,7 @@ impl<'a> Parser<'a> {
     }
 
     #[tactic(auto, unfolding(crate::specs::Parsing::take))]
-    pub(crate) fn region_name(&mut self) -> Result<Ident, Stop>
+    pub(crate) fn take_region_name(&mut self) -> Result<Ident, Stop>
         ensures { (room : ℕ) → Gives view_name result (region_name (suc room) self.old) self.new }
     {
         let Some(Terminal::RegionName(name)) = self.next() else {
@@ -149,7 +149,7 @@ impl<'a> Parser<'a> {
 
     // ---- a symbol further inside: `room` counts the levels that are left there
 
-    pub(crate) fn sign_inside(&mut self, room: u32, wanted: Sign) -> Result<Span, Stop>
+    pub(crate) fn take_sign_inside(&mut self, room: u32, wanted: Sign) -> Result<Span, Stop>
         ensures { Gives place_of_span result (sign room wanted self.old) self.new }
     {
         if !self.sees(wanted) {
@@ -159,7 +159,7 @@ impl<'a> Parser<'a> {
     }
 
     #[tactic(auto, unfolding(crate::specs::Parsing::take))]
-    pub(crate) fn word_inside(&mut self, room: u32, wanted: Keyword) -> Result<Span, Stop>
+    pub(crate) fn take_word_inside(&mut self, room: u32, wanted: Keyword) -> Result<Span, Stop>
         ensures { Gives place_of_span result (word room wanted self.old) self.new }
     {
         match self.next() {
@@ -169,7 +169,7 @@ impl<'a> Parser<'a> {
     }
 
     #[tactic(auto, unfolding(crate::specs::Parsing::take))]
-    pub(crate) fn identifier_inside(&mut self, room: u32) -> Result<Ident, Stop>
+    pub(crate) fn take_identifier_inside(&mut self, room: u32) -> Result<Ident, Stop>
         ensures { Gives view_name result (identifier room self.old) self.new }
     {
         let Some(Terminal::Identifier(name)) = self.next() else {
@@ -180,7 +180,7 @@ impl<'a> Parser<'a> {
     }
 
     #[tactic(auto, unfolding(crate::specs::Parsing::take))]
-    pub(crate) fn region_name_inside(&mut self, room: u32) -> Result<Ident, Stop>
+    pub(crate) fn take_region_name_inside(&mut self, room: u32) -> Result<Ident, Stop>
         ensures { Gives view_name result (region_name room self.old) self.new }
     {
         let Some(Terminal::RegionName(name)) = self.next() else {

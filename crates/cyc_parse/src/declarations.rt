@@ -11,7 +11,10 @@ use crate::cursor::{Parser, refusal};
 use crate::stop::{Reason, Stop};
 use crate::symbol::Terminal;
 use crate::types::MAX_ITEMS;
-use cyc_syntax::{BaseType, Constraint, Constructor, Declaration, GlobalValue, Ident, Keyword, Member, ParameterList, Parameters, Sign, WrittenType};
+use cyc_syntax::{
+    BaseType, Constraint, Constructor, Declaration, GlobalValue, Ident, Keyword, Member,
+    ParameterList, Parameters, Sign, WrittenType,
+};
 use cyc_words::Span;
 
 /// The most levels of nesting.
@@ -37,35 +40,35 @@ impl<'a> Parser<'a> {
 
     /// A field without its semicolon, or a parameter.
     #[tactic(auto, unfolding(crate::specs::Declarations::member, crate::specs::Parsing::bind))]
-    fn member(&mut self) -> Result<Member, Stop>
+    fn parse_member(&mut self) -> Result<Member, Stop>
         ensures { (room : ℕ) → Gives view_member result (member (suc room) self.old) self.new }
     {
-        let of_type = self.written_type()?;
-        let name = self.identifier()?;
+        let of_type = self.parse_type()?;
+        let name = self.take_identifier()?;
         Ok(Member { of_type, name })
     }
 
     #[tactic(auto, unfolding(crate::specs::Declarations::field, crate::specs::Parsing::bind))]
-    fn field(&mut self) -> Result<Member, Stop>
+    fn parse_field(&mut self) -> Result<Member, Stop>
         ensures { (room : ℕ) → Gives view_member result (field (suc room) self.old) self.new }
     {
-        let member = self.member()?;
-        self.sign(Sign::Semicolon)?;
+        let member = self.parse_member()?;
+        self.take_sign(Sign::Semicolon)?;
         Ok(member)
     }
 
     #[tactic(auto, unfolding(crate::specs::Steps::one_of, crate::specs::Parsing::if_starts, crate::specs::Parsing::bind))]
-    fn next_field(&mut self) -> Result<Option<Member>, Stop>
+    fn parse_next_field(&mut self) -> Result<Option<Member>, Stop>
         ensures { (room : ℕ) → Gives (option_map view_member) result (one_of begins_type (field (suc room)) self.old) self.new }
     {
         if !self.begins_type() {
             return Ok(None);
         }
-        Ok(Some(self.field()?))
+        Ok(Some(self.parse_field()?))
     }
 
     #[tactic(auto, unfolding(crate::specs::Declarations::more_of, crate::specs::Parsing::if_starts))]
-    fn end_of_fields(&mut self) -> Result<(), Stop>
+    fn end_fields(&mut self) -> Result<(), Stop>
         ensures { (room : ℕ) → Gives (λ _. []) result (more_of begins_type (field (suc room)) 0 self.old) self.new }
     {
         if self.begins_type() {
@@ -76,58 +79,58 @@ impl<'a> Parser<'a> {
 
     /// The fields of a struct, at least one.
     #[tactic(auto, unfolding(crate::specs::Declarations::some_of, crate::specs::Parsing::bind))]
-    fn field_list(&mut self) -> Result<Vec<Member>, Stop>
+    fn parse_field_list(&mut self) -> Result<Vec<Member>, Stop>
         ensures { (room : ℕ) → Gives (λ v. map view_member v.items) result (some_of begins_type (field (suc room)) self.old) self.new }
     {
-        let first = self.field()?;
+        let first = self.parse_field()?;
         let mut fields = Vec::new(self.alloc());
         fields.push(first)?;
         for _ in 1..MAX_ITEMS {
-            let Some(field) = self.next_field()? else {
+            let Some(field) = self.parse_next_field()? else {
                 return Ok(fields);
             };
             fields.push(field)?;
         }
-        self.end_of_fields()?;
+        self.end_fields()?;
         Ok(fields)
     }
 
     /// `(int)`, if it comes next.
     #[tactic(auto, unfolding(crate::specs::Declarations::has_int, crate::specs::Parsing::if_sees, crate::specs::Parsing::bind))]
-    fn has_int(&mut self) -> Result<bool, Stop>
+    fn parse_int(&mut self) -> Result<bool, Stop>
         ensures { Gives (λ b. b) result (has_int 200 self.old) self.new }
     {
         if !self.sees(Sign::LeftParen) {
             return Ok(false);
         }
-        self.sign(Sign::LeftParen)?;
-        self.word(Keyword::Int)?;
-        self.sign(Sign::RightParen)?;
+        self.take_sign(Sign::LeftParen)?;
+        self.take_word(Keyword::Int)?;
+        self.take_sign(Sign::RightParen)?;
         Ok(true)
     }
 
     #[tactic(auto, unfolding(crate::specs::Declarations::constructor, crate::specs::Parsing::bind))]
-    fn constructor(&mut self) -> Result<Constructor, Stop>
+    fn parse_constructor(&mut self) -> Result<Constructor, Stop>
         ensures { Gives view_constructor result (constructor 200 self.old) self.new }
     {
-        let name = self.identifier()?;
-        let has_int = self.has_int()?;
-        self.sign(Sign::Semicolon)?;
+        let name = self.take_identifier()?;
+        let has_int = self.parse_int()?;
+        self.take_sign(Sign::Semicolon)?;
         Ok(Constructor { name, has_int })
     }
 
     #[tactic(auto, unfolding(crate::specs::Steps::one_of, crate::specs::Parsing::if_starts, crate::specs::Parsing::bind))]
-    fn next_constructor(&mut self) -> Result<Option<Constructor>, Stop>
+    fn parse_next_constructor(&mut self) -> Result<Option<Constructor>, Stop>
         ensures { Gives (option_map view_constructor) result (one_of begins_constructor (constructor 200) self.old) self.new }
     {
         if !self.begins_constructor() {
             return Ok(None);
         }
-        Ok(Some(self.constructor()?))
+        Ok(Some(self.parse_constructor()?))
     }
 
     #[tactic(auto, unfolding(crate::specs::Declarations::more_of, crate::specs::Parsing::if_starts))]
-    fn end_of_constructors(&mut self) -> Result<(), Stop>
+    fn end_constructors(&mut self) -> Result<(), Stop>
         ensures { Gives (λ _. []) result (more_of begins_constructor (constructor 200) 0 self.old) self.new }
     {
         if self.begins_constructor() {
@@ -138,66 +141,66 @@ impl<'a> Parser<'a> {
 
     /// The constructors of `exn`, at least one.
     #[tactic(auto, unfolding(crate::specs::Declarations::some_of, crate::specs::Parsing::bind))]
-    fn constructor_list(&mut self) -> Result<Vec<Constructor>, Stop>
+    fn parse_constructor_list(&mut self) -> Result<Vec<Constructor>, Stop>
         ensures { Gives (λ v. map view_constructor v.items) result (some_of begins_constructor (constructor 200) self.old) self.new }
     {
-        let first = self.constructor()?;
+        let first = self.parse_constructor()?;
         let mut constructors = Vec::new(self.alloc());
         constructors.push(first)?;
         for _ in 1..MAX_ITEMS {
-            let Some(constructor) = self.next_constructor()? else {
+            let Some(constructor) = self.parse_next_constructor()? else {
                 return Ok(constructors);
             };
             constructors.push(constructor)?;
         }
-        self.end_of_constructors()?;
+        self.end_constructors()?;
         Ok(constructors)
     }
 
     // ---- parameters
 
     #[tactic(auto, unfolding(crate::specs::Steps::after_comma, crate::specs::Parsing::if_sees, crate::specs::Parsing::bind))]
-    fn member_after_comma(&mut self) -> Result<Option<Member>, Stop>
+    fn parse_member_after_comma(&mut self) -> Result<Option<Member>, Stop>
         ensures { (room : ℕ) → Gives (option_map view_member) result (after_comma (suc room) (member (suc room)) self.old) self.new }
     {
         if !self.sees(Sign::Comma) {
             return Ok(None);
         }
-        self.sign(Sign::Comma)?;
-        Ok(Some(self.member()?))
+        self.take_sign(Sign::Comma)?;
+        Ok(Some(self.parse_member()?))
     }
 
     #[tactic(auto, unfolding(crate::specs::Parsing::more_items, crate::specs::Parsing::if_sees, crate::specs::Parsing::bind, crate::specs::Parsing::refuse_item))]
-    fn end_of_members(&mut self) -> Result<(), Stop>
+    fn end_members(&mut self) -> Result<(), Stop>
         ensures { (room : ℕ) → Gives (λ _. []) result (more_items (suc room) begins_type (member (suc room)) 0 self.old) self.new }
     {
         if !self.sees(Sign::Comma) {
             return Ok(());
         }
-        self.sign(Sign::Comma)?;
+        self.take_sign(Sign::Comma)?;
         Err(refusal(self.begins_type(), Reason::TooLong))
     }
 
     /// Parameters with commas between.
     #[tactic(auto, unfolding(crate::specs::Parsing::separated, crate::specs::Parsing::bind))]
-    fn members(&mut self) -> Result<Vec<Member>, Stop>
+    fn parse_members(&mut self) -> Result<Vec<Member>, Stop>
         ensures { (room : ℕ) → Gives (λ v. map view_member v.items) result (separated (suc room) begins_type (member (suc room)) self.old) self.new }
     {
-        let first = self.member()?;
+        let first = self.parse_member()?;
         let mut members = Vec::new(self.alloc());
         members.push(first)?;
         for _ in 1..MAX_ITEMS {
-            let Some(member) = self.member_after_comma()? else {
+            let Some(member) = self.parse_member_after_comma()? else {
                 return Ok(members);
             };
             members.push(member)?;
         }
-        self.end_of_members()?;
+        self.end_members()?;
         Ok(members)
     }
 
     #[tactic(auto, unfolding(crate::specs::Declarations::parameter_list, crate::specs::Parsing::if_starts, crate::specs::Parsing::bind))]
-    fn parameter_list(&mut self) -> Result<ParameterList, Stop>
+    fn parse_parameter_list(&mut self) -> Result<ParameterList, Stop>
         ensures { (room : ℕ) → Gives view_list result (parameter_list (suc room) self.old) self.new }
     {
         if self.begins_void() {
@@ -208,105 +211,105 @@ impl<'a> Parser<'a> {
             let members = Vec::new(self.alloc());
             return Ok(ParameterList::Listed { members });
         }
-        let members = self.members()?;
+        let members = self.parse_members()?;
         Ok(ParameterList::Listed { members })
     }
 
     /// The regions of an effect, which may be none.
     #[tactic(auto, unfolding(crate::specs::Declarations::effect_regions, crate::specs::Parsing::if_starts))]
-    fn effect_regions(&mut self) -> Result<Vec<Ident>, Stop>
+    fn parse_effect_regions(&mut self) -> Result<Vec<Ident>, Stop>
         ensures { (room : ℕ) → Gives (λ v. map view_name v.items) result (effect_regions (suc room) self.old) self.new }
     {
         if self.begins_region() {
-            self.regions()
+            self.parse_regions()
         } else {
             Ok(Vec::new(self.alloc()))
         }
     }
 
     #[tactic(auto, unfolding(crate::specs::Declarations::effect, crate::specs::Parsing::if_sees, crate::specs::Parsing::bind))]
-    fn effect(&mut self) -> Result<Option<Vec<Ident>>, Stop>
+    fn parse_effect(&mut self) -> Result<Option<Vec<Ident>>, Stop>
         ensures { Gives (option_map (λ v. map view_name v.items)) result (effect 200 self.old) self.new }
     {
         if !self.sees(Sign::Semicolon) {
             return Ok(None);
         }
-        self.sign(Sign::Semicolon)?;
-        self.sign(Sign::LeftBrace)?;
-        let regions = self.effect_regions()?;
-        self.sign(Sign::RightBrace)?;
+        self.take_sign(Sign::Semicolon)?;
+        self.take_sign(Sign::LeftBrace)?;
+        let regions = self.parse_effect_regions()?;
+        self.take_sign(Sign::RightBrace)?;
         Ok(Some(regions))
     }
 
     #[tactic(auto, unfolding(crate::specs::Declarations::constraint, crate::specs::Parsing::bind))]
-    fn constraint(&mut self) -> Result<Constraint, Stop>
+    fn parse_constraint(&mut self) -> Result<Constraint, Stop>
         ensures { (room : ℕ) → Gives view_constraint result (constraint (suc room) self.old) self.new }
     {
-        let longer = self.region_name()?;
-        self.sign(Sign::Greater)?;
-        let shorter = self.region_name()?;
+        let longer = self.take_region_name()?;
+        self.take_sign(Sign::Greater)?;
+        let shorter = self.take_region_name()?;
         Ok(Constraint { longer, shorter })
     }
 
     #[tactic(auto, unfolding(crate::specs::Steps::after_comma, crate::specs::Parsing::if_sees, crate::specs::Parsing::bind))]
-    fn constraint_after_comma(&mut self) -> Result<Option<Constraint>, Stop>
+    fn parse_constraint_after_comma(&mut self) -> Result<Option<Constraint>, Stop>
         ensures { (room : ℕ) → Gives (option_map view_constraint) result (after_comma (suc room) (constraint (suc room)) self.old) self.new }
     {
         if !self.sees(Sign::Comma) {
             return Ok(None);
         }
-        self.sign(Sign::Comma)?;
-        Ok(Some(self.constraint()?))
+        self.take_sign(Sign::Comma)?;
+        Ok(Some(self.parse_constraint()?))
     }
 
     #[tactic(auto, unfolding(crate::specs::Parsing::more_items, crate::specs::Parsing::if_sees, crate::specs::Parsing::bind, crate::specs::Parsing::refuse_item))]
-    fn end_of_constraints(&mut self) -> Result<(), Stop>
+    fn end_constraints(&mut self) -> Result<(), Stop>
         ensures { (room : ℕ) → Gives (λ _. []) result (more_items (suc room) begins_region (constraint (suc room)) 0 self.old) self.new }
     {
         if !self.sees(Sign::Comma) {
             return Ok(());
         }
-        self.sign(Sign::Comma)?;
+        self.take_sign(Sign::Comma)?;
         Err(refusal(self.begins_region(), Reason::TooLong))
     }
 
     /// Constraints with commas between.
     #[tactic(auto, unfolding(crate::specs::Parsing::separated, crate::specs::Parsing::bind))]
-    fn constraint_list(&mut self) -> Result<Vec<Constraint>, Stop>
+    fn parse_constraint_list(&mut self) -> Result<Vec<Constraint>, Stop>
         ensures { (room : ℕ) → Gives (λ v. map view_constraint v.items) result (separated (suc room) begins_region (constraint (suc room)) self.old) self.new }
     {
-        let first = self.constraint()?;
+        let first = self.parse_constraint()?;
         let mut constraints = Vec::new(self.alloc());
         constraints.push(first)?;
         for _ in 1..MAX_ITEMS {
-            let Some(constraint) = self.constraint_after_comma()? else {
+            let Some(constraint) = self.parse_constraint_after_comma()? else {
                 return Ok(constraints);
             };
             constraints.push(constraint)?;
         }
-        self.end_of_constraints()?;
+        self.end_constraints()?;
         Ok(constraints)
     }
 
     #[tactic(auto, unfolding(crate::specs::Declarations::constraints, crate::specs::Parsing::if_sees, crate::specs::Parsing::bind))]
-    fn constraints(&mut self) -> Result<Vec<Constraint>, Stop>
+    fn parse_constraints(&mut self) -> Result<Vec<Constraint>, Stop>
         ensures { (room : ℕ) → Gives (λ v. map view_constraint v.items) result (constraints (suc room) self.old) self.new }
     {
         if !self.sees(Sign::Colon) {
             return Ok(Vec::new(self.alloc()));
         }
-        self.sign(Sign::Colon)?;
-        self.constraint_list()
+        self.take_sign(Sign::Colon)?;
+        self.parse_constraint_list()
     }
 
     /// What stands between the brackets of a function's head.
     #[tactic(auto, unfolding(crate::specs::Declarations::parameters, crate::specs::Parsing::bind))]
-    fn parameters(&mut self) -> Result<Parameters, Stop>
+    fn parse_parameters(&mut self) -> Result<Parameters, Stop>
         ensures { Gives view_parameters result (parameters 200 self.old) self.new }
     {
-        let list = self.parameter_list()?;
-        let effect = self.effect()?;
-        let constraints = self.constraints()?;
+        let list = self.parse_parameter_list()?;
+        let effect = self.parse_effect()?;
+        let constraints = self.parse_constraints()?;
         Ok(Parameters {
             list,
             effect,
@@ -317,7 +320,7 @@ impl<'a> Parser<'a> {
     // ---- declarations
 
     #[tactic(auto, unfolding(crate::specs::Parsing::take))]
-    fn number(&mut self) -> Result<u32, Stop>
+    fn take_number(&mut self) -> Result<u32, Stop>
         ensures { (room : ℕ) → Gives (λ n. n) result (take (suc room) number_value (λ n p. n) self.old) self.new }
     {
         let Some(Terminal::Number(value)) = self.next() else {
@@ -328,7 +331,7 @@ impl<'a> Parser<'a> {
     }
 
     #[tactic(auto, unfolding(crate::specs::Declarations::value, crate::specs::Parsing::choose, crate::specs::Parsing::bind))]
-    fn value(&mut self) -> Result<GlobalValue, Stop>
+    fn parse_value(&mut self) -> Result<GlobalValue, Stop>
         ensures { Gives view_value result (value 200 self.old) self.new }
     {
         match self.next() {
@@ -346,7 +349,7 @@ impl<'a> Parser<'a> {
             }
             Some(Terminal::Mark(Sign::Minus)) => {
                 let span = self.advance()?;
-                let value = self.number()?;
+                let value = self.take_number()?;
                 Ok(GlobalValue::Negative { span, value })
             }
             _ => Err(Stop::Refused(Reason::Unexpected)),
@@ -355,23 +358,23 @@ impl<'a> Parser<'a> {
 
     /// The initial value of a global, if one is given.
     #[tactic(auto, unfolding(crate::specs::Declarations::global_value, crate::specs::Parsing::if_sees, crate::specs::Parsing::bind))]
-    fn global_value(&mut self) -> Result<Option<GlobalValue>, Stop>
+    fn parse_global_value(&mut self) -> Result<Option<GlobalValue>, Stop>
         ensures { Gives (option_map view_value) result (global_value 200 self.old) self.new }
     {
         if !self.sees(Sign::Assign) {
             return Ok(None);
         }
-        self.sign(Sign::Assign)?;
-        Ok(Some(self.value()?))
+        self.take_sign(Sign::Assign)?;
+        Ok(Some(self.parse_value()?))
     }
 
     /// A global, behind its type and its name.
     #[tactic(auto, unfolding(crate::specs::Declarations::global, crate::specs::Parsing::bind))]
-    fn global(&mut self, of_type: WrittenType, name: Ident) -> Result<Declaration, Stop>
+    fn parse_global(&mut self, of_type: WrittenType, name: Ident) -> Result<Declaration, Stop>
         ensures { Gives view_declaration result (global 200 (view_type of_type) (view_name name) self.old) self.new }
     {
-        let value = self.global_value()?;
-        self.sign(Sign::Semicolon)?;
+        let value = self.parse_global_value()?;
+        self.take_sign(Sign::Semicolon)?;
         Ok(Declaration::Global {
             of_type,
             name,
@@ -381,13 +384,17 @@ impl<'a> Parser<'a> {
 
     /// A function, behind its result's type and its name.
     #[tactic(auto, unfolding(crate::specs::Declarations::function, crate::specs::Parsing::bind))]
-    fn function(&mut self, of_type: Option<WrittenType>, name: Ident) -> Result<Declaration, Stop>
+    fn parse_function(
+        &mut self,
+        of_type: Option<WrittenType>,
+        name: Ident,
+    ) -> Result<Declaration, Stop>
         ensures { Gives view_declaration result (function 200 (option_map view_type of_type) (view_name name) self.old) self.new }
     {
-        self.sign(Sign::LeftParen)?;
-        let parameters = self.parameters()?;
-        self.sign_inside(MAX_NESTING, Sign::RightParen)?;
-        let body = self.body(MAX_NESTING)?;
+        self.take_sign(Sign::LeftParen)?;
+        let parameters = self.parse_parameters()?;
+        self.take_sign_inside(MAX_NESTING, Sign::RightParen)?;
+        let body = self.parse_block(MAX_NESTING)?;
         Ok(Declaration::Function {
             result: of_type,
             name,
@@ -398,26 +405,26 @@ impl<'a> Parser<'a> {
 
     /// A declaration that begins with this type.
     #[tactic(auto, unfolding(crate::specs::Declarations::typed, crate::specs::Parsing::if_sees, crate::specs::Parsing::bind))]
-    fn typed(&mut self, of_type: WrittenType) -> Result<Declaration, Stop>
+    fn parse_typed(&mut self, of_type: WrittenType) -> Result<Declaration, Stop>
         ensures { Gives view_declaration result (typed 200 (view_type of_type) self.old) self.new }
     {
-        let name = self.identifier()?;
+        let name = self.take_identifier()?;
         if self.sees(Sign::LeftParen) {
-            self.function(Some(of_type), name)
+            self.parse_function(Some(of_type), name)
         } else {
-            self.global(of_type, name)
+            self.parse_global(of_type, name)
         }
     }
 
     /// A struct, behind its name and its regions.
     #[tactic(auto, unfolding(crate::specs::Declarations::struct_fields, crate::specs::Parsing::bind))]
-    fn struct_declared(&mut self, name: Ident, regions: Vec<Ident>) -> Result<Declaration, Stop>
+    fn parse_struct(&mut self, name: Ident, regions: Vec<Ident>) -> Result<Declaration, Stop>
         ensures { (room : ℕ) → Gives view_declaration result (struct_fields (suc room) (view_name name) (map view_name regions.items) self.old) self.new }
     {
-        self.sign(Sign::LeftBrace)?;
-        let fields = self.field_list()?;
-        self.sign(Sign::RightBrace)?;
-        self.sign(Sign::Semicolon)?;
+        self.take_sign(Sign::LeftBrace)?;
+        let fields = self.parse_field_list()?;
+        self.take_sign(Sign::RightBrace)?;
+        self.take_sign(Sign::Semicolon)?;
         Ok(Declaration::Struct {
             name,
             regions,
@@ -427,75 +434,75 @@ impl<'a> Parser<'a> {
 
     /// Behind `struct`: a struct is declared, or its type begins another declaration.
     #[tactic(auto, unfolding(crate::specs::Declarations::struct_or_typed, crate::specs::Parsing::if_sees, crate::specs::Parsing::bind))]
-    fn struct_or_typed(&mut self, span: Span) -> Result<Declaration, Stop>
+    fn parse_struct_or_typed(&mut self, span: Span) -> Result<Declaration, Stop>
         ensures { Gives view_declaration result (struct_or_typed 200 (place_of_span span) self.old) self.new }
     {
-        let name = self.identifier()?;
-        let regions = self.optional_regions()?;
+        let name = self.take_identifier()?;
+        let regions = self.parse_optional_regions()?;
         if self.sees(Sign::LeftBrace) {
-            return self.struct_declared(name, regions);
+            return self.parse_struct(name, regions);
         }
-        let of_type = self.with_pointers(span, BaseType::Struct { name, regions })?;
-        self.typed(of_type)
+        let of_type = self.parse_rest_of_type(span, BaseType::Struct { name, regions })?;
+        self.parse_typed(of_type)
     }
 
     /// `datatype exn`
     #[tactic(auto, unfolding(crate::specs::Declarations::exceptions, crate::specs::Parsing::bind))]
-    fn exceptions(&mut self) -> Result<Declaration, Stop>
+    fn parse_exceptions(&mut self) -> Result<Declaration, Stop>
         ensures { Gives view_declaration result (exceptions 200 self.old) self.new }
     {
-        self.word(Keyword::Datatype)?;
-        self.word(Keyword::Exn)?;
-        self.sign(Sign::LeftBrace)?;
-        let constructors = self.constructor_list()?;
-        self.sign(Sign::RightBrace)?;
-        self.sign(Sign::Semicolon)?;
+        self.take_word(Keyword::Datatype)?;
+        self.take_word(Keyword::Exn)?;
+        self.take_sign(Sign::LeftBrace)?;
+        let constructors = self.parse_constructor_list()?;
+        self.take_sign(Sign::RightBrace)?;
+        self.take_sign(Sign::Semicolon)?;
         Ok(Declaration::Exceptions { constructors })
     }
 
     #[tactic(auto, unfolding(crate::specs::Declarations::declaration, crate::specs::Parsing::choose, crate::specs::Parsing::bind))]
-    fn declaration(&mut self) -> Result<Declaration, Stop>
+    fn parse_declaration(&mut self) -> Result<Declaration, Stop>
         ensures { Gives view_declaration result (declaration 200 self.old) self.new }
     {
         match self.next() {
             Some(Terminal::Word(Keyword::Struct)) => {
                 let span = self.advance()?;
-                self.struct_or_typed(span)
+                self.parse_struct_or_typed(span)
             }
-            Some(Terminal::Word(Keyword::Datatype)) => self.exceptions(),
+            Some(Terminal::Word(Keyword::Datatype)) => self.parse_exceptions(),
             Some(Terminal::Word(Keyword::Void)) => {
                 self.advance()?;
-                let name = self.identifier()?;
-                self.function(None, name)
+                let name = self.take_identifier()?;
+                self.parse_function(None, name)
             }
             _ => {
-                let of_type = self.written_type()?;
-                self.typed(of_type)
+                let of_type = self.parse_type()?;
+                self.parse_typed(of_type)
             }
         }
     }
 
     #[tactic(auto, unfolding(crate::specs::Steps::one_declaration, crate::specs::Parsing::choose, crate::specs::Parsing::bind))]
-    fn next_declaration(&mut self) -> Result<Option<Declaration>, Stop>
+    fn parse_next_declaration(&mut self) -> Result<Option<Declaration>, Stop>
         ensures { Gives (option_map view_declaration) result (one_declaration 200 self.old) self.new }
     {
         match self.next() {
-            Some(_) => Ok(Some(self.declaration()?)),
+            Some(_) => Ok(Some(self.parse_declaration()?)),
             None => Ok(None),
         }
     }
 
     /// A program: at least one declaration, up to the end of the symbols.
     #[tactic(auto, unfolding(crate::specs::Declarations::program_of, crate::specs::Declarations::program, crate::specs::Parsing::bind))]
-    pub(crate) fn program(&mut self) -> Result<Vec<Declaration>, Stop>
+    pub(crate) fn parse_program(&mut self) -> Result<Vec<Declaration>, Stop>
         ensures { Gives (λ v. map view_declaration v.items) result (program_of self.old) self.new }
     {
-        let first = self.declaration()?;
+        let first = self.parse_declaration()?;
         let mut declarations = Vec::new(self.alloc());
         declarations.push(first)?;
         let most = self.len();
         for _ in 0..most {
-            let Some(declaration) = self.next_declaration()? else {
+            let Some(declaration) = self.parse_next_declaration()? else {
                 return Ok(declarations);
             };
             declarations.push(declaration)?;

@@ -13,7 +13,9 @@ use crate::cursor::{Parser, refusal};
 use crate::stop::{Reason, Stop};
 use crate::symbol::Terminal;
 use crate::types::MAX_ITEMS;
-use cyc_syntax::{BinaryOperator, Expr, Ident, Initial, Keyword, Operation, Postfix, PrefixOperator, Sign};
+use cyc_syntax::{
+    BinaryOperator, Expr, Ident, Initial, Keyword, Operation, Postfix, PrefixOperator, Sign,
+};
 use cyc_words::Span;
 use std::alloc::{AllocError, Global};
 
@@ -65,57 +67,57 @@ impl<'a> Parser<'a> {
 
     #[cycle(expression)]
     #[tactic(auto, unfolding(crate::specs::Expressions::nested, crate::specs::Parsing::refuse_item), using(crate::proofs::Levels::nested_unary))]
-    pub(crate) fn unary(&mut self, room: u32) -> Result<Expr, Stop>
+    pub(crate) fn parse_unary(&mut self, room: u32) -> Result<Expr, Stop>
         ensures { Gives view_expression result ((nested room).unary self.old) self.new }
     {
         if room == 0 {
             return Err(refusal(self.begins_expression(), Reason::TooDeep));
         }
-        self.unary_here(room - 1)
+        self.parse_unary_here(room - 1)
     }
 
     #[cycle(expression)]
     #[tactic(auto, unfolding(crate::specs::Expressions::nested, crate::specs::Parsing::refuse_item), using(crate::proofs::Levels::nested_binary))]
-    pub(crate) fn binary(&mut self, room: u32) -> Result<Expr, Stop>
+    pub(crate) fn parse_binary(&mut self, room: u32) -> Result<Expr, Stop>
         ensures { Gives view_expression result ((nested room).binary self.old) self.new }
     {
         if room == 0 {
             return Err(refusal(self.begins_expression(), Reason::TooDeep));
         }
-        self.binary_here(room - 1)
+        self.parse_binary_here(room - 1)
     }
 
     #[cycle(expression)]
     #[tactic(auto, unfolding(crate::specs::Expressions::nested, crate::specs::Parsing::refuse_item), using(crate::proofs::Levels::nested_expression))]
-    pub(crate) fn expression(&mut self, room: u32) -> Result<Expr, Stop>
+    pub(crate) fn parse_expression(&mut self, room: u32) -> Result<Expr, Stop>
         ensures { Gives view_expression result ((nested room).expression self.old) self.new }
     {
         if room == 0 {
             return Err(refusal(self.begins_expression(), Reason::TooDeep));
         }
-        self.expression_here(room - 1)
+        self.parse_expression_here(room - 1)
     }
 
     #[cycle(expression)]
     #[tactic(auto, unfolding(crate::specs::Expressions::nested, crate::specs::Parsing::refuse_item), using(crate::proofs::Levels::nested_group))]
-    pub(crate) fn group(&mut self, room: u32) -> Result<Expr, Stop>
+    pub(crate) fn parse_group(&mut self, room: u32) -> Result<Expr, Stop>
         ensures { Gives view_expression result ((nested room).group self.old) self.new }
     {
         if room == 0 {
             return Err(refusal(self.sees(Sign::LeftParen), Reason::TooDeep));
         }
-        self.group_here(room - 1)
+        self.parse_group_here(room - 1)
     }
 
     #[cycle(expression)]
     #[tactic(auto, unfolding(crate::specs::Expressions::nested, crate::specs::Parsing::refuse_item), using(crate::proofs::Levels::nested_initial))]
-    fn initial(&mut self, room: u32) -> Result<Initial, Stop>
+    fn parse_initial(&mut self, room: u32) -> Result<Initial, Stop>
         ensures { Gives view_initial result ((nested room).initial self.old) self.new }
     {
         if room == 0 {
             return Err(refusal(self.begins_initial(), Reason::TooDeep));
         }
-        self.initial_here(room - 1)
+        self.parse_initial_here(room - 1)
     }
 
     // ---- operands
@@ -125,121 +127,121 @@ impl<'a> Parser<'a> {
 
     /// The bracket that closes behind an expression.
     #[tactic(auto, unfolding(crate::specs::Steps::closed, crate::specs::Parsing::bind))]
-    fn closed(&mut self, room: u32, inner: Expr) -> Result<Expr, Stop>
+    fn close_group(&mut self, room: u32, inner: Expr) -> Result<Expr, Stop>
         ensures { Gives view_expression result (closed room (view_expression inner) self.old) self.new }
     {
-        self.sign_inside(room, Sign::RightParen)?;
+        self.take_sign_inside(room, Sign::RightParen)?;
         Ok(inner)
     }
 
     /// An expression in round brackets.
     #[cycle(expression)]
     #[tactic(auto, unfolding(crate::specs::Expressions::group, crate::specs::Steps::closed, crate::specs::Parsing::bind))]
-    pub(crate) fn group_here(&mut self, room: u32) -> Result<Expr, Stop>
+    pub(crate) fn parse_group_here(&mut self, room: u32) -> Result<Expr, Stop>
         ensures { Gives view_expression result (group room (nested room) self.old) self.new }
     {
-        self.sign(Sign::LeftParen)?;
-        let inner = self.expression(room)?;
-        self.closed(room, inner)
+        self.take_sign(Sign::LeftParen)?;
+        let inner = self.parse_expression(room)?;
+        self.close_group(room, inner)
     }
 
     #[cycle(expression)]
     #[tactic(auto, unfolding(crate::specs::Steps::after_comma, crate::specs::Parsing::if_sees, crate::specs::Parsing::bind))]
-    fn argument_after_comma(&mut self, room: u32) -> Result<Option<Expr>, Stop>
+    fn parse_argument_after_comma(&mut self, room: u32) -> Result<Option<Expr>, Stop>
         ensures { Gives (option_map view_expression) result (after_comma room (nested room).expression self.old) self.new }
     {
         if !self.sees(Sign::Comma) {
             return Ok(None);
         }
-        self.sign_inside(room, Sign::Comma)?;
-        Ok(Some(self.expression(room)?))
+        self.take_sign_inside(room, Sign::Comma)?;
+        Ok(Some(self.parse_expression(room)?))
     }
 
     #[tactic(auto, unfolding(crate::specs::Parsing::more_items, crate::specs::Parsing::if_sees, crate::specs::Parsing::bind, crate::specs::Parsing::refuse_item))]
-    fn end_of_arguments(&mut self, room: u32) -> Result<(), Stop>
+    fn end_arguments(&mut self, room: u32) -> Result<(), Stop>
         ensures { Gives (λ _. []) result (more_items room begins_expression (nested room).expression 0 self.old) self.new }
     {
         if !self.sees(Sign::Comma) {
             return Ok(());
         }
-        self.sign_inside(room, Sign::Comma)?;
+        self.take_sign_inside(room, Sign::Comma)?;
         Err(refusal(self.begins_expression(), Reason::TooLong))
     }
 
     #[cycle(expression)]
     #[tactic(auto, unfolding(crate::specs::Parsing::separated, crate::specs::Parsing::bind))]
-    fn listed(&mut self, room: u32) -> Result<Vec<Expr>, Stop>
+    fn parse_argument_list(&mut self, room: u32) -> Result<Vec<Expr>, Stop>
         ensures { Gives (λ v. map view_expression v.items) result (separated room begins_expression (nested room).expression self.old) self.new }
     {
-        let first = self.expression(room)?;
+        let first = self.parse_expression(room)?;
         let mut arguments = Vec::new(self.alloc());
         arguments.push(first)?;
         for _ in 1..MAX_ITEMS {
-            let Some(argument) = self.argument_after_comma(room)? else {
+            let Some(argument) = self.parse_argument_after_comma(room)? else {
                 return Ok(arguments);
             };
             arguments.push(argument)?;
         }
-        self.end_of_arguments(room)?;
+        self.end_arguments(room)?;
         Ok(arguments)
     }
 
     /// The arguments of a call, up to its closing bracket.
     #[cycle(expression)]
     #[tactic(auto, unfolding(crate::specs::Expressions::arguments, crate::specs::Parsing::if_sees, crate::specs::Parsing::bind), using(crate::proofs::Levels::chain_of_view))]
-    fn arguments(&mut self, room: u32) -> Result<Vec<Expr>, Stop>
+    fn parse_arguments(&mut self, room: u32) -> Result<Vec<Expr>, Stop>
         ensures { Gives (λ v. expressions_of v.items) result (arguments room (nested room) self.old) self.new }
     {
         if self.sees(Sign::RightParen) {
             return Ok(Vec::new(self.alloc()));
         }
-        let arguments = self.listed(room)?;
+        let arguments = self.parse_argument_list(room)?;
         Ok(arguments)
     }
 
     /// An expression that begins with this name: a call or a variable.
     #[cycle(expression)]
     #[tactic(auto, unfolding(crate::specs::Expressions::from_name, crate::specs::Parsing::if_sees, crate::specs::Parsing::bind))]
-    pub(crate) fn from_name(&mut self, room: u32, name: Ident) -> Result<Expr, Stop>
+    pub(crate) fn parse_from_name(&mut self, room: u32, name: Ident) -> Result<Expr, Stop>
         ensures { Gives view_expression result (from_name room (nested room) (view_name name) self.old) self.new }
     {
         if !self.sees(Sign::LeftParen) {
             return Ok(Expr::Variable { name });
         }
-        self.sign(Sign::LeftParen)?;
-        let arguments = self.arguments(room)?;
-        self.sign_inside(room, Sign::RightParen)?;
+        self.take_sign(Sign::LeftParen)?;
+        let arguments = self.parse_arguments(room)?;
+        self.take_sign_inside(room, Sign::RightParen)?;
         Ok(call(name, arguments))
     }
 
     /// `free_ukey(..)`
     #[tactic(auto, unfolding(crate::specs::Expressions::primary, crate::specs::Parsing::choose, crate::specs::Parsing::bind, crate::specs::Steps::freed_key))]
-    fn freed_key(&mut self, room: u32) -> Result<Expr, Stop>
+    fn parse_freed_key(&mut self, room: u32) -> Result<Expr, Stop>
         ensures { Gives view_expression result (freed_key room self.old) self.new }
     {
         let span = self.advance()?;
-        self.sign(Sign::LeftParen)?;
-        let key = self.identifier_inside(room)?;
-        self.sign_inside(room, Sign::RightParen)?;
+        self.take_sign(Sign::LeftParen)?;
+        let key = self.take_identifier_inside(room)?;
+        self.take_sign_inside(room, Sign::RightParen)?;
         Ok(Expr::FreeKey { span, key })
     }
 
     /// An expression in round brackets, as a tree.
     #[cycle(expression)]
     #[tactic(auto, unfolding(crate::specs::Parsing::bind, crate::specs::Steps::bracketed))]
-    fn bracketed(&mut self, room: u32) -> Result<Expr, Stop>
+    fn parse_bracketed(&mut self, room: u32) -> Result<Expr, Stop>
         ensures { Gives view_expression result (bracketed room (nested room) self.old) self.new }
     {
         let span = self.advance()?;
-        let inner = self.expression(room)?;
+        let inner = self.parse_expression(room)?;
         let inner = boxed(self.alloc(), inner)?;
-        self.sign_inside(room, Sign::RightParen)?;
+        self.take_sign_inside(room, Sign::RightParen)?;
         Ok(Expr::Bracketed { span, inner })
     }
 
     #[cycle(expression)]
     #[tactic(auto, unfolding(crate::specs::Expressions::primary, crate::specs::Parsing::choose, crate::specs::Parsing::bind, crate::specs::Steps::freed_key, crate::specs::Steps::bracketed))]
-    fn primary(&mut self, room: u32) -> Result<Expr, Stop>
+    fn parse_primary(&mut self, room: u32) -> Result<Expr, Stop>
         ensures { Gives view_expression result (primary room (nested room) self.old) self.new }
     {
         match self.next() {
@@ -253,7 +255,7 @@ impl<'a> Parser<'a> {
             }
             Some(Terminal::Identifier(name)) => {
                 let span = self.advance()?;
-                self.from_name(room, Ident { name, span })
+                self.parse_from_name(room, Ident { name, span })
             }
             Some(Terminal::Word(Keyword::Null)) => {
                 let span = self.advance()?;
@@ -269,52 +271,52 @@ impl<'a> Parser<'a> {
             }
             Some(Terminal::Word(Keyword::NumberOfElements)) => {
                 let span = self.advance()?;
-                let pointer = self.group_here(room)?;
+                let pointer = self.parse_group_here(room)?;
                 let pointer = boxed(self.alloc(), pointer)?;
                 Ok(Expr::NumberOfElements { span, pointer })
             }
             Some(Terminal::Word(Keyword::FreeUnique)) => {
                 let span = self.advance()?;
-                let pointer = self.group_here(room)?;
+                let pointer = self.parse_group_here(room)?;
                 let pointer = boxed(self.alloc(), pointer)?;
                 Ok(Expr::FreeUnique { span, pointer })
             }
-            Some(Terminal::Word(Keyword::FreeKey)) => self.freed_key(room),
-            Some(Terminal::Mark(Sign::LeftParen)) => self.bracketed(room),
+            Some(Terminal::Word(Keyword::FreeKey)) => self.parse_freed_key(room),
+            Some(Terminal::Mark(Sign::LeftParen)) => self.parse_bracketed(room),
             _ => Err(Stop::Refused(Reason::Unexpected)),
         }
     }
 
     /// The bracket that closes behind an index.
     #[tactic(auto, unfolding(crate::specs::Steps::indexed, crate::specs::Parsing::bind))]
-    fn indexed(&mut self, room: u32, index: Expr) -> Result<Option<Postfix>, Stop>
+    fn close_index(&mut self, room: u32, index: Expr) -> Result<Option<Postfix>, Stop>
         ensures { Gives (option_map then_postfix) result (indexed room (view_expression index) self.old) self.new }
     {
-        self.sign_inside(room, Sign::RightBracket)?;
+        self.take_sign_inside(room, Sign::RightBracket)?;
         Ok(Some(Postfix::Index { index }))
     }
 
     /// `[..]` or `->` and a field's name, if one comes next.
     #[cycle(expression)]
     #[tactic(auto, unfolding(crate::specs::Steps::one_postfix, crate::specs::Steps::indexed, crate::specs::Parsing::if_sees, crate::specs::Parsing::bind))]
-    fn postfix(&mut self, room: u32) -> Result<Option<Postfix>, Stop>
+    fn parse_postfix(&mut self, room: u32) -> Result<Option<Postfix>, Stop>
         ensures { Gives (option_map then_postfix) result (one_postfix room (nested room) self.old) self.new }
     {
         if self.sees(Sign::LeftBracket) {
-            self.sign(Sign::LeftBracket)?;
-            let index = self.expression(room)?;
-            return self.indexed(room, index);
+            self.take_sign(Sign::LeftBracket)?;
+            let index = self.parse_expression(room)?;
+            return self.close_index(room, index);
         }
         if self.sees(Sign::Arrow) {
-            self.sign(Sign::Arrow)?;
-            let name = self.identifier()?;
+            self.take_sign(Sign::Arrow)?;
+            let name = self.take_identifier()?;
             return Ok(Some(Postfix::Field { name }));
         }
         Ok(None)
     }
 
     #[tactic(auto, unfolding(crate::specs::Expressions::postfixes, crate::specs::Parsing::if_sees))]
-    fn end_of_postfixes(&mut self, room: u32) -> Result<(), Stop>
+    fn end_postfixes(&mut self, room: u32) -> Result<(), Stop>
         ensures { Gives (λ _. NoPostfixes) result (postfixes room (nested room) 0 self.old) self.new }
     {
         if self.sees(Sign::LeftBracket) || self.sees(Sign::Arrow) {
@@ -324,27 +326,27 @@ impl<'a> Parser<'a> {
     }
 
     #[cycle(expression)]
-    fn postfixes(&mut self, room: u32) -> Result<Vec<Postfix>, Stop>
+    fn parse_postfixes(&mut self, room: u32) -> Result<Vec<Postfix>, Stop>
         ensures { Gives (λ v. postfixes_of v.items) result (postfixes room (nested room) 64 self.old) self.new }
     {
         let mut postfixes = Vec::new(self.alloc());
         for _ in 0..MAX_ITEMS {
-            let Some(postfix) = self.postfix(room)? else {
+            let Some(postfix) = self.parse_postfix(room)? else {
                 return Ok(postfixes);
             };
             postfixes.push(postfix)?;
         }
-        self.end_of_postfixes(room)?;
+        self.end_postfixes(room)?;
         Ok(postfixes)
     }
 
     /// Goes on from an operand by its postfixes.
     #[cycle(expression)]
     #[tactic(auto, unfolding(crate::specs::Steps::with_chain, crate::specs::Parsing::bind))]
-    pub(crate) fn with_postfixes(&mut self, room: u32, base: Expr) -> Result<Expr, Stop>
+    pub(crate) fn parse_rest_of_operand(&mut self, room: u32, base: Expr) -> Result<Expr, Stop>
         ensures { Gives view_expression result (with_chain room (nested room) (view_expression base) self.old) self.new }
     {
-        let postfixes = self.postfixes(room)?;
+        let postfixes = self.parse_postfixes(room)?;
         Ok(chained(self.alloc(), base, postfixes)?)
     }
 
@@ -352,11 +354,11 @@ impl<'a> Parser<'a> {
 
     #[cycle(expression)]
     #[tactic(auto, unfolding(crate::specs::Steps::prefixed, crate::specs::Parsing::bind))]
-    fn prefixed(&mut self, room: u32, operator: PrefixOperator) -> Result<Expr, Stop>
+    fn parse_prefixed(&mut self, room: u32, operator: PrefixOperator) -> Result<Expr, Stop>
         ensures { Gives view_expression result (prefixed (nested room) operator self.old) self.new }
     {
         let span = self.advance()?;
-        let operand = self.unary(room)?;
+        let operand = self.parse_unary(room)?;
         let operand = boxed(self.alloc(), operand)?;
         Ok(Expr::Prefixed {
             span,
@@ -368,11 +370,11 @@ impl<'a> Parser<'a> {
     /// `new`
     #[cycle(expression)]
     #[tactic(auto, unfolding(crate::specs::Steps::created, crate::specs::Parsing::bind))]
-    fn created(&mut self, room: u32) -> Result<Expr, Stop>
+    fn parse_new(&mut self, room: u32) -> Result<Expr, Stop>
         ensures { Gives view_expression result (created (nested room) self.old) self.new }
     {
         let span = self.advance()?;
-        let value = self.initial(room)?;
+        let value = self.parse_initial(room)?;
         let value = boxed_initial(self.alloc(), value)?;
         Ok(Expr::New { span, value })
     }
@@ -380,13 +382,13 @@ impl<'a> Parser<'a> {
     /// `rnew(..)`
     #[cycle(expression)]
     #[tactic(auto, unfolding(crate::specs::Steps::created_in, crate::specs::Parsing::bind))]
-    fn created_in(&mut self, room: u32) -> Result<Expr, Stop>
+    fn parse_region_new(&mut self, room: u32) -> Result<Expr, Stop>
         ensures { Gives view_expression result (created_in (nested room) self.old) self.new }
     {
         let span = self.advance()?;
-        let region = self.group(room)?;
+        let region = self.parse_group(room)?;
         let region = boxed(self.alloc(), region)?;
-        let value = self.initial(room)?;
+        let value = self.parse_initial(room)?;
         let value = boxed_initial(self.alloc(), value)?;
         Ok(Expr::RegionNew {
             span,
@@ -398,20 +400,26 @@ impl<'a> Parser<'a> {
     /// An operand with its prefixes and postfixes.
     #[cycle(expression)]
     #[tactic(auto, unfolding(crate::specs::Expressions::unary, crate::specs::Expressions::with_postfixes, crate::specs::Parsing::choose, crate::specs::Parsing::bind, crate::specs::Steps::prefixed, crate::specs::Steps::created, crate::specs::Steps::created_in, crate::specs::Steps::with_chain))]
-    pub(crate) fn unary_here(&mut self, room: u32) -> Result<Expr, Stop>
+    pub(crate) fn parse_unary_here(&mut self, room: u32) -> Result<Expr, Stop>
         ensures { Gives view_expression result (unary room (nested room) self.old) self.new }
     {
         match self.next() {
-            Some(Terminal::Mark(Sign::Minus)) => self.prefixed(room, PrefixOperator::Negate),
-            Some(Terminal::Mark(Sign::Not)) => self.prefixed(room, PrefixOperator::Not),
-            Some(Terminal::Mark(Sign::Tilde)) => self.prefixed(room, PrefixOperator::Complement),
-            Some(Terminal::Mark(Sign::Star)) => self.prefixed(room, PrefixOperator::Dereference),
-            Some(Terminal::Mark(Sign::And)) => self.prefixed(room, PrefixOperator::AddressOf),
-            Some(Terminal::Word(Keyword::New)) => self.created(room),
-            Some(Terminal::Word(Keyword::RegionNew)) => self.created_in(room),
+            Some(Terminal::Mark(Sign::Minus)) => self.parse_prefixed(room, PrefixOperator::Negate),
+            Some(Terminal::Mark(Sign::Not)) => self.parse_prefixed(room, PrefixOperator::Not),
+            Some(Terminal::Mark(Sign::Tilde)) => self.parse_prefixed(
+                room,
+                PrefixOperator::Complement,
+            ),
+            Some(Terminal::Mark(Sign::Star)) => self.parse_prefixed(
+                room,
+                PrefixOperator::Dereference,
+            ),
+            Some(Terminal::Mark(Sign::And)) => self.parse_prefixed(room, PrefixOperator::AddressOf),
+            Some(Terminal::Word(Keyword::New)) => self.parse_new(room),
+            Some(Terminal::Word(Keyword::RegionNew)) => self.parse_region_new(room),
             _ => {
-                let base = self.primary(room)?;
-                self.with_postfixes(room, base)
+                let base = self.parse_primary(room)?;
+                self.parse_rest_of_operand(room, base)
             }
         }
     }
@@ -435,14 +443,14 @@ impl<'a> Parser<'a> {
 
     #[cycle(expression)]
     #[tactic(auto, unfolding(crate::specs::Steps::one_operation, crate::specs::Steps::operand, crate::specs::Parsing::choose, crate::specs::Parsing::bind))]
-    fn operation(&mut self, room: u32, below: u32) -> Result<Option<Operation>, Stop>
+    fn parse_operation(&mut self, room: u32, below: u32) -> Result<Option<Operation>, Stop>
         ensures { Gives (option_map then_operation) result (one_operation (operand room (nested room) below) (suc below) self.old) self.new }
     {
         let Some(operator) = self.operator(below) else {
             return Ok(None);
         };
         let span = self.advance()?;
-        let operand = self.unary_here(room)?;
+        let operand = self.parse_unary_here(room)?;
         let operand = self.climb(room, below, operand)?;
         Ok(Some(Operation {
             operator,
@@ -452,7 +460,7 @@ impl<'a> Parser<'a> {
     }
 
     #[tactic(auto, unfolding(crate::specs::Expressions::operations, crate::specs::Parsing::if_is))]
-    fn end_of_operations(&mut self, room: u32, below: u32) -> Result<(), Stop>
+    fn end_operations(&mut self, room: u32, below: u32) -> Result<(), Stop>
         ensures { Gives (λ _. NoOperations) result (operations (operand room (nested room) below) (suc below) 0 self.old) self.new }
     {
         match self.operator(below) {
@@ -462,17 +470,17 @@ impl<'a> Parser<'a> {
     }
 
     #[cycle(expression)]
-    fn operations(&mut self, room: u32, below: u32) -> Result<Vec<Operation>, Stop>
+    fn parse_operations(&mut self, room: u32, below: u32) -> Result<Vec<Operation>, Stop>
         ensures { Gives (λ v. operations_of v.items) result (operations (operand room (nested room) below) (suc below) 64 self.old) self.new }
     {
         let mut operations = Vec::new(self.alloc());
         for _ in 0..MAX_ITEMS {
-            let Some(operation) = self.operation(room, below)? else {
+            let Some(operation) = self.parse_operation(room, below)? else {
                 return Ok(operations);
             };
             operations.push(operation)?;
         }
-        self.end_of_operations(room, below)?;
+        self.end_operations(room, below)?;
         Ok(operations)
     }
 
@@ -485,50 +493,50 @@ impl<'a> Parser<'a> {
         if level == 0 {
             return Ok(first);
         }
-        self.one_level(room, level - 1, first)
+        self.climb_level(room, level - 1, first)
     }
 
     #[cycle(expression)]
     #[tactic(auto, unfolding(crate::specs::Steps::one_level, crate::specs::Parsing::bind))]
-    fn one_level(&mut self, room: u32, below: u32, first: Expr) -> Result<Expr, Stop>
+    fn climb_level(&mut self, room: u32, below: u32, first: Expr) -> Result<Expr, Stop>
         ensures { Gives view_expression result (one_level room (nested room) below (view_expression first) self.old) self.new }
     {
         let first = self.climb(room, below, first)?;
-        let rest = self.operations(room, below)?;
+        let rest = self.parse_operations(room, below)?;
         Ok(joined(self.alloc(), first, rest)?)
     }
 
     #[cycle(expression)]
     #[tactic(auto, unfolding(crate::specs::Expressions::binary, crate::specs::Parsing::bind))]
-    fn binary_here(&mut self, room: u32) -> Result<Expr, Stop>
+    fn parse_binary_here(&mut self, room: u32) -> Result<Expr, Stop>
         ensures { Gives view_expression result (binary room (nested room) self.old) self.new }
     {
-        let first = self.unary_here(room)?;
+        let first = self.parse_unary_here(room)?;
         self.climb(room, LEVELS, first)
     }
 
     #[cycle(expression)]
     #[tactic(auto, unfolding(crate::specs::Expressions::assignment, crate::specs::Parsing::if_sees, crate::specs::Parsing::bind))]
-    pub(crate) fn assignment(&mut self, room: u32, target: Expr) -> Result<Expr, Stop>
+    pub(crate) fn parse_assignment(&mut self, room: u32, target: Expr) -> Result<Expr, Stop>
         ensures { Gives view_expression result (assignment room (nested room) (view_expression target) self.old) self.new }
     {
         if !self.sees(Sign::Assign) {
             return Ok(target);
         }
         let target = boxed(self.alloc(), target)?;
-        self.sign(Sign::Assign)?;
-        let value = self.expression(room)?;
+        self.take_sign(Sign::Assign)?;
+        let value = self.parse_expression(room)?;
         let value = boxed(self.alloc(), value)?;
         Ok(Expr::Assign { target, value })
     }
 
     #[cycle(expression)]
     #[tactic(auto, unfolding(crate::specs::Expressions::expression, crate::specs::Parsing::bind))]
-    pub(crate) fn expression_here(&mut self, room: u32) -> Result<Expr, Stop>
+    pub(crate) fn parse_expression_here(&mut self, room: u32) -> Result<Expr, Stop>
         ensures { Gives view_expression result (expression room (nested room) self.old) self.new }
     {
-        let target = self.binary_here(room)?;
-        self.assignment(room, target)
+        let target = self.parse_binary_here(room)?;
+        self.parse_assignment(room, target)
     }
 
     // ---- what `new` and `rnew` put into the new object
@@ -536,15 +544,15 @@ impl<'a> Parser<'a> {
     /// The values of a struct's fields, at least one.
     #[cycle(expression)]
     #[tactic(auto, unfolding(crate::specs::Expressions::values, crate::specs::Parsing::bind))]
-    fn values(&mut self, room: u32) -> Result<Vec<Expr>, Stop>
+    fn parse_values(&mut self, room: u32) -> Result<Vec<Expr>, Stop>
         ensures { Gives (λ v. expressions_of v.items) result (values room (nested room) self.old) self.new }
     {
-        let first = self.expression(room)?;
+        let first = self.parse_expression(room)?;
         let mut values = Vec::new(self.alloc());
         values.push(first)?;
         let most = self.len();
         for _ in 0..most {
-            let Some(value) = self.argument_after_comma(room)? else {
+            let Some(value) = self.parse_argument_after_comma(room)? else {
                 return Ok(values);
             };
             values.push(value)?;
@@ -554,47 +562,47 @@ impl<'a> Parser<'a> {
 
     #[cycle(expression)]
     #[tactic(auto, unfolding(crate::specs::Expressions::fields, crate::specs::Parsing::bind))]
-    fn fields(&mut self, room: u32, name: Ident, regions: Vec<Ident>) -> Result<Initial, Stop>
+    fn parse_fields(&mut self, room: u32, name: Ident, regions: Vec<Ident>) -> Result<Initial, Stop>
         ensures { Gives view_initial result (fields room (nested room) (view_name name) (map view_name regions.items) self.old) self.new }
     {
-        self.sign(Sign::LeftBrace)?;
-        let values = self.values(room)?;
-        self.sign_inside(room, Sign::RightBrace)?;
+        self.take_sign(Sign::LeftBrace)?;
+        let values = self.parse_values(room)?;
+        self.take_sign_inside(room, Sign::RightBrace)?;
         Ok(struct_fields(name, regions, values))
     }
 
     /// A struct's name opens its fields, with region arguments or without, or the name begins an expression.
     #[cycle(expression)]
     #[tactic(auto, unfolding(crate::specs::Expressions::initial_from_name, crate::specs::Expressions::with_postfixes, crate::specs::Parsing::if_sees, crate::specs::Parsing::bind, crate::specs::Steps::with_chain))]
-    fn initial_from_name(&mut self, room: u32, name: Ident) -> Result<Initial, Stop>
+    fn parse_initial_from_name(&mut self, room: u32, name: Ident) -> Result<Initial, Stop>
         ensures { Gives view_initial result (initial_from_name room (nested room) (view_name name) self.old) self.new }
     {
         if self.sees(Sign::LeftBrace) {
-            return self.fields(room, name, Vec::new(self.alloc()));
+            return self.parse_fields(room, name, Vec::new(self.alloc()));
         }
         if self.opens_regions() {
-            let regions = self.region_list()?;
-            return self.fields(room, name, regions);
+            let regions = self.parse_region_list()?;
+            return self.parse_fields(room, name, regions);
         }
-        let base = self.from_name(room, name)?;
-        let value = self.with_postfixes(room, base)?;
+        let base = self.parse_from_name(room, name)?;
+        let value = self.parse_rest_of_operand(room, base)?;
         Ok(Initial::Plain { value })
     }
 
     /// `{for variable < length : element}`
     #[cycle(expression)]
     #[tactic(auto, unfolding(crate::specs::Expressions::array, crate::specs::Parsing::bind))]
-    fn array(&mut self, room: u32) -> Result<Initial, Stop>
+    fn parse_array(&mut self, room: u32) -> Result<Initial, Stop>
         ensures { Gives view_initial result (array room (nested room) self.old) self.new }
     {
-        self.sign(Sign::LeftBrace)?;
-        let span = self.word_inside(room, Keyword::For)?;
-        let variable = self.identifier_inside(room)?;
-        self.sign_inside(room, Sign::Less)?;
-        let length = self.binary(room)?;
-        self.sign_inside(room, Sign::Colon)?;
-        let element = self.expression(room)?;
-        self.sign_inside(room, Sign::RightBrace)?;
+        self.take_sign(Sign::LeftBrace)?;
+        let span = self.take_word_inside(room, Keyword::For)?;
+        let variable = self.take_identifier_inside(room)?;
+        self.take_sign_inside(room, Sign::Less)?;
+        let length = self.parse_binary(room)?;
+        self.take_sign_inside(room, Sign::Colon)?;
+        let element = self.parse_expression(room)?;
+        self.take_sign_inside(room, Sign::RightBrace)?;
         Ok(Initial::Array {
             span,
             variable,
@@ -605,17 +613,17 @@ impl<'a> Parser<'a> {
 
     #[cycle(expression)]
     #[tactic(auto, unfolding(crate::specs::Expressions::initial, crate::specs::Parsing::choose, crate::specs::Parsing::bind))]
-    fn initial_here(&mut self, room: u32) -> Result<Initial, Stop>
+    fn parse_initial_here(&mut self, room: u32) -> Result<Initial, Stop>
         ensures { Gives view_initial result (initial room (nested room) self.old) self.new }
     {
         match self.next() {
             Some(Terminal::Identifier(name)) => {
                 let span = self.advance()?;
-                self.initial_from_name(room, Ident { name, span })
+                self.parse_initial_from_name(room, Ident { name, span })
             }
-            Some(Terminal::Mark(Sign::LeftBrace)) => self.array(room),
+            Some(Terminal::Mark(Sign::LeftBrace)) => self.parse_array(room),
             _ => Ok(Initial::Plain {
-                value: self.unary_here(room)?,
+                value: self.parse_unary_here(room)?,
             }),
         }
     }

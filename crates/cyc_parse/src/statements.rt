@@ -94,23 +94,23 @@ impl<'a> Parser<'a> {
 
     #[cycle(statement)]
     #[tactic(auto, unfolding(crate::specs::Statements::nested_statements, crate::specs::Parsing::refuse_item), using(crate::proofs::StatementLevels::nested_statement))]
-    fn statement(&mut self, room: u32) -> Result<Stmt, Stop>
+    fn parse_statement(&mut self, room: u32) -> Result<Stmt, Stop>
         ensures { Gives view_statement result ((nested_statements room).statement self.old) self.new }
     {
         if room == 0 {
             return Err(refusal(self.begins_statement(), Reason::TooDeep));
         }
-        self.statement_here(room - 1)
+        self.parse_statement_here(room - 1)
     }
 
     /// The items of a block.
     #[cycle(statement)]
     #[tactic(auto, unfolding(crate::specs::Statements::nested_statements, crate::specs::Parsing::if_starts), using(crate::proofs::StatementLevels::nested_items))]
-    fn items(&mut self, room: u32) -> Result<Vec<Item>, Stop>
+    fn parse_items(&mut self, room: u32) -> Result<Vec<Item>, Stop>
         ensures { Gives (λ v. items_of v.items) result ((nested_statements room).items self.old) self.new }
     {
         if room > 0 {
-            return self.items_here(room - 1);
+            return self.parse_items_here(room - 1);
         }
         if self.begins_item() {
             return Err(Stop::Refused(Reason::TooDeep));
@@ -119,21 +119,21 @@ impl<'a> Parser<'a> {
     }
 
     /// A sign inside one more bracket.
-    fn sign_deeper(&mut self, room: u32, wanted: Sign) -> Result<Span, Stop>
+    fn take_sign_deeper(&mut self, room: u32, wanted: Sign) -> Result<Span, Stop>
         ensures { Gives place_of_span result (sign (inside room) wanted self.old) self.new }
     {
-        self.sign_inside(inside(room), wanted)
+        self.take_sign_inside(inside(room), wanted)
     }
 
     // ---- statements that begin with expressions
 
     /// Behind the right side of a swap. There `<` may be the begin of region arguments, and then what follows it is unexpected.
     #[tactic(auto, unfolding(crate::specs::Statements::end_of_swap, crate::specs::Parsing::if_sees, crate::specs::Parsing::bind))]
-    fn end_of_swap(&mut self, right: &Expr) -> Result<Span, Stop>
+    fn end_swap(&mut self, right: &Expr) -> Result<Span, Stop>
         ensures { (room : ℕ) → Gives place_of_span result (end_of_swap (suc room) (view_expression right.now) self.old) self.new }
     {
         if self.sees(Sign::Semicolon) {
-            return self.sign(Sign::Semicolon);
+            return self.take_sign(Sign::Semicolon);
         }
         if self.sees(Sign::Less) && ends_in_new(right) {
             self.advance()?;
@@ -142,51 +142,51 @@ impl<'a> Parser<'a> {
     }
 
     #[tactic(auto, unfolding(crate::specs::Statements::swap, crate::specs::Expressions::nested, crate::specs::Parsing::bind))]
-    fn swap(&mut self, room: u32, left: Expr) -> Result<Stmt, Stop>
+    fn parse_swap(&mut self, room: u32, left: Expr) -> Result<Stmt, Stop>
         ensures { Gives view_statement result (swap room (nested_statements room) (view_expression left) self.old) self.new }
     {
-        self.sign(Sign::Swap)?;
-        let right = self.unary_here(room)?;
-        self.end_of_swap(&right)?;
+        self.take_sign(Sign::Swap)?;
+        let right = self.parse_unary_here(room)?;
+        self.end_swap(&right)?;
         Ok(Stmt::Swap { left, right })
     }
 
     /// Goes on behind the expression that a statement begins with.
     #[tactic(auto, unfolding(crate::specs::Statements::behind, crate::specs::Parsing::bind))]
-    fn behind(&mut self, room: u32, value: Expr) -> Result<Stmt, Stop>
+    fn parse_rest_of_statement(&mut self, room: u32, value: Expr) -> Result<Stmt, Stop>
         ensures { Gives view_statement result (behind room (nested_statements room) (view_expression value) self.old) self.new }
     {
         if self.sees(Sign::Swap) && is_unary(&value) {
-            return self.swap(room, value);
+            return self.parse_swap(room, value);
         }
-        self.sign(Sign::Semicolon)?;
+        self.take_sign(Sign::Semicolon)?;
         Ok(Stmt::Expression { value })
     }
 
     /// An expression that begins with this name.
     #[tactic(auto, unfolding(crate::specs::Statements::expression_from, crate::specs::Expressions::nested, crate::specs::Expressions::with_postfixes, crate::specs::Parsing::bind, crate::specs::Steps::with_chain))]
-    fn expression_from(&mut self, room: u32, name: Ident) -> Result<Expr, Stop>
+    fn parse_expression_from(&mut self, room: u32, name: Ident) -> Result<Expr, Stop>
         ensures { Gives view_expression result (expression_from room (nested_statements room) (view_name name) self.old) self.new }
     {
-        let base = self.from_name(room, name)?;
-        let operand = self.with_postfixes(room, base)?;
+        let base = self.parse_from_name(room, name)?;
+        let operand = self.parse_rest_of_operand(room, base)?;
         let target = self.climb(room, LEVELS, operand)?;
-        self.assignment(room, target)
+        self.parse_assignment(room, target)
     }
 
     /// A label's colon follows the name, or the name begins an expression.
     #[cycle(statement)]
     #[tactic(auto, unfolding(crate::specs::Statements::statement_from_name, crate::specs::Parsing::if_sees, crate::specs::Parsing::bind))]
-    fn statement_from_name(&mut self, room: u32, name: Ident) -> Result<Stmt, Stop>
+    fn parse_statement_from_name(&mut self, room: u32, name: Ident) -> Result<Stmt, Stop>
         ensures { Gives view_statement result (statement_from_name room (nested_statements room) (view_name name) self.old) self.new }
     {
         if self.sees(Sign::Colon) {
-            self.sign(Sign::Colon)?;
-            let block = self.body(room)?;
+            self.take_sign(Sign::Colon)?;
+            let block = self.parse_block(room)?;
             return Ok(labelled(name, block));
         }
-        let value = self.expression_from(room, name)?;
-        self.behind(room, value)
+        let value = self.parse_expression_from(room, name)?;
+        self.parse_rest_of_statement(room, value)
     }
 
     // ---- statements that begin with words
@@ -194,18 +194,18 @@ impl<'a> Parser<'a> {
     /// Items in braces.
     #[cycle(statement)]
     #[tactic(auto, unfolding(crate::specs::Statements::body, crate::specs::Parsing::bind))]
-    pub(crate) fn body(&mut self, room: u32) -> Result<Block, Stop>
+    pub(crate) fn parse_block(&mut self, room: u32) -> Result<Block, Stop>
         ensures { Gives view_block result (body room (nested_statements room) self.old) self.new }
     {
-        let span = self.sign(Sign::LeftBrace)?;
-        let items = self.items(room)?;
-        let end = self.sign_inside(room, Sign::RightBrace)?;
+        let span = self.take_sign(Sign::LeftBrace)?;
+        let items = self.parse_items(room)?;
+        let end = self.take_sign_inside(room, Sign::RightBrace)?;
         Ok(Block { span, items, end })
     }
 
     #[cycle(statement)]
     #[tactic(auto, unfolding(crate::specs::Statements::else_part, crate::specs::Parsing::if_starts, crate::specs::Parsing::bind))]
-    fn else_part(
+    fn parse_else_part(
         &mut self,
         room: u32,
         span: Span,
@@ -222,8 +222,8 @@ impl<'a> Parser<'a> {
                 otherwise: None,
             });
         }
-        self.word(Keyword::Else)?;
-        let otherwise = self.statement(room)?;
+        self.take_word(Keyword::Else)?;
+        let otherwise = self.parse_statement(room)?;
         let otherwise = Some(boxed(self.alloc(), otherwise)?);
         Ok(Stmt::If {
             span,
@@ -236,23 +236,23 @@ impl<'a> Parser<'a> {
     /// Behind `if`.
     #[cycle(statement)]
     #[tactic(auto, unfolding(crate::specs::Statements::if_statement, crate::specs::Expressions::nested, crate::specs::Parsing::bind))]
-    fn if_statement(&mut self, room: u32, span: Span) -> Result<Stmt, Stop>
+    fn parse_if(&mut self, room: u32, span: Span) -> Result<Stmt, Stop>
         ensures { Gives view_statement result (if_statement room (nested_statements room) (place_of_span span) self.old) self.new }
     {
-        let condition = self.group_here(room)?;
-        let then = self.statement(room)?;
+        let condition = self.parse_group_here(room)?;
+        let then = self.parse_statement(room)?;
         let then = boxed(self.alloc(), then)?;
-        self.else_part(room, span, condition, then)
+        self.parse_else_part(room, span, condition, then)
     }
 
     /// Behind `while`.
     #[cycle(statement)]
     #[tactic(auto, unfolding(crate::specs::Statements::while_statement, crate::specs::Expressions::nested, crate::specs::Parsing::bind))]
-    fn while_statement(&mut self, room: u32, span: Span) -> Result<Stmt, Stop>
+    fn parse_while(&mut self, room: u32, span: Span) -> Result<Stmt, Stop>
         ensures { Gives view_statement result (while_statement room (nested_statements room) (place_of_span span) self.old) self.new }
     {
-        let condition = self.group_here(room)?;
-        let body = self.statement(room)?;
+        let condition = self.parse_group_here(room)?;
+        let body = self.parse_statement(room)?;
         let body = boxed(self.alloc(), body)?;
         Ok(Stmt::While {
             span,
@@ -262,45 +262,45 @@ impl<'a> Parser<'a> {
     }
 
     #[tactic(auto, unfolding(crate::specs::Statements::return_value, crate::specs::Statements::expression, crate::specs::Expressions::nested, crate::specs::Parsing::if_sees, crate::specs::Parsing::bind))]
-    fn return_value(&mut self, room: u32) -> Result<Option<Expr>, Stop>
+    fn parse_return_value(&mut self, room: u32) -> Result<Option<Expr>, Stop>
         ensures { Gives (option_map view_expression) result (return_value room (nested_statements room) self.old) self.new }
     {
         if self.sees(Sign::Semicolon) {
             return Ok(None);
         }
-        Ok(Some(self.expression_here(room)?))
+        Ok(Some(self.parse_expression_here(room)?))
     }
 
     /// Behind `return`.
     #[tactic(auto, unfolding(crate::specs::StatementSteps::return_statement, crate::specs::Parsing::bind))]
-    fn return_statement(&mut self, room: u32, span: Span) -> Result<Stmt, Stop>
+    fn parse_return(&mut self, room: u32, span: Span) -> Result<Stmt, Stop>
         ensures { Gives view_statement result (return_statement room (nested_statements room) (place_of_span span) self.old) self.new }
     {
-        let value = self.return_value(room)?;
-        self.sign(Sign::Semicolon)?;
+        let value = self.parse_return_value(room)?;
+        self.take_sign(Sign::Semicolon)?;
         Ok(Stmt::Return { span, value })
     }
 
     /// The value of an exception, in round brackets.
     #[tactic(auto, unfolding(crate::specs::Statements::thrown, crate::specs::Parsing::if_sees, crate::specs::Parsing::bind))]
-    fn thrown(&mut self, room: u32) -> Result<Option<Expr>, Stop>
+    fn parse_thrown(&mut self, room: u32) -> Result<Option<Expr>, Stop>
         ensures { Gives (option_map view_expression) result (thrown room (nested_statements room) self.old) self.new }
     {
         if !self.sees(Sign::LeftParen) {
             return Ok(None);
         }
-        Ok(Some(self.group(room)?))
+        Ok(Some(self.parse_group(room)?))
     }
 
     /// Behind `throw`.
     #[tactic(auto, unfolding(crate::specs::Statements::throw_statement, crate::specs::Parsing::bind))]
-    fn throw_statement(&mut self, room: u32, span: Span) -> Result<Stmt, Stop>
+    fn parse_throw(&mut self, room: u32, span: Span) -> Result<Stmt, Stop>
         ensures { Gives view_statement result (throw_statement room (nested_statements room) (place_of_span span) self.old) self.new }
     {
-        self.word(Keyword::New)?;
-        let exception = self.identifier_inside(room)?;
-        let value = self.thrown(room)?;
-        self.sign(Sign::Semicolon)?;
+        self.take_word(Keyword::New)?;
+        let exception = self.take_identifier_inside(room)?;
+        let value = self.parse_thrown(room)?;
+        self.take_sign(Sign::Semicolon)?;
         Ok(Stmt::Throw {
             span,
             exception,
@@ -310,33 +310,33 @@ impl<'a> Parser<'a> {
 
     /// The variable of a clause, in round brackets.
     #[tactic(auto, unfolding(crate::specs::Statements::caught, crate::specs::Parsing::if_sees, crate::specs::Parsing::bind))]
-    fn caught(&mut self, room: u32) -> Result<Option<Ident>, Stop>
+    fn parse_caught(&mut self, room: u32) -> Result<Option<Ident>, Stop>
         ensures { Gives (option_map view_name) result (caught room (nested_statements room) self.old) self.new }
     {
         if !self.sees(Sign::LeftParen) {
             return Ok(None);
         }
-        self.sign_inside(room, Sign::LeftParen)?;
-        let variable = self.identifier_inside(inside(room))?;
-        self.sign_deeper(room, Sign::RightParen)?;
+        self.take_sign_inside(room, Sign::LeftParen)?;
+        let variable = self.take_identifier_inside(inside(room))?;
+        self.take_sign_deeper(room, Sign::RightParen)?;
         Ok(Some(variable))
     }
 
     /// `case &exception(variable): ..`, if one comes next.
     #[cycle(statement)]
     #[tactic(auto, unfolding(crate::specs::StatementSteps::one_clause, crate::specs::Parsing::if_starts, crate::specs::Parsing::bind))]
-    fn clause(&mut self, room: u32) -> Result<Option<Clause>, Stop>
+    fn parse_clause(&mut self, room: u32) -> Result<Option<Clause>, Stop>
         ensures { Gives (option_map then_clause) result (one_clause room (nested_statements room) self.old) self.new }
     {
         if !self.begins_case() {
             return Ok(None);
         }
-        self.word_inside(room, Keyword::Case)?;
-        self.sign_inside(room, Sign::And)?;
-        let exception = self.identifier_inside(room)?;
-        let variable = self.caught(room)?;
-        self.sign_inside(room, Sign::Colon)?;
-        let items = self.items(room)?;
+        self.take_word_inside(room, Keyword::Case)?;
+        self.take_sign_inside(room, Sign::And)?;
+        let exception = self.take_identifier_inside(room)?;
+        let variable = self.parse_caught(room)?;
+        self.take_sign_inside(room, Sign::Colon)?;
+        let items = self.parse_items(room)?;
         Ok(Some(Clause {
             exception,
             variable,
@@ -347,26 +347,26 @@ impl<'a> Parser<'a> {
     /// The items of `default: ..`, if it comes next.
     #[cycle(statement)]
     #[tactic(auto, unfolding(crate::specs::StatementSteps::default_clause, crate::specs::Parsing::if_starts, crate::specs::Parsing::bind))]
-    fn default_clause(&mut self, room: u32) -> Result<Option<Vec<Item>>, Stop>
+    fn parse_default_clause(&mut self, room: u32) -> Result<Option<Vec<Item>>, Stop>
         ensures { Gives default_of result (default_clause room (nested_statements room) self.old) self.new }
     {
         if !self.begins_default() {
             return Ok(None);
         }
-        self.word_inside(room, Keyword::Default)?;
-        self.sign_inside(room, Sign::Colon)?;
-        Ok(Some(self.items(room)?))
+        self.take_word_inside(room, Keyword::Default)?;
+        self.take_sign_inside(room, Sign::Colon)?;
+        Ok(Some(self.parse_items(room)?))
     }
 
     #[cycle(statement)]
-    fn handlers(&mut self, room: u32) -> Result<Handlers, Stop>
+    fn parse_handlers(&mut self, room: u32) -> Result<Handlers, Stop>
         ensures { Gives (λ h. clauses_of h.clauses.items (default_of h.default)) result (clauses_in room (nested_statements room) (length self.old) self.old) self.new }
     {
         let mut clauses = Vec::new(self.alloc());
         let most = self.len();
         for _ in 0..most {
-            let Some(clause) = self.clause(room)? else {
-                let default = self.default_clause(room)?;
+            let Some(clause) = self.parse_clause(room)? else {
+                let default = self.parse_default_clause(room)?;
                 return Ok(Handlers { clauses, default });
             };
             clauses.push(clause)?;
@@ -380,18 +380,18 @@ impl<'a> Parser<'a> {
     /// The clauses of a `catch`, at least one.
     #[cycle(statement)]
     #[tactic(auto, unfolding(crate::specs::Statements::clauses, crate::specs::Parsing::if_starts))]
-    fn clauses(&mut self, room: u32) -> Result<Handlers, Stop>
+    fn parse_clauses(&mut self, room: u32) -> Result<Handlers, Stop>
         ensures { Gives (λ h. clauses_of h.clauses.items (default_of h.default)) result (clauses room (nested_statements room) self.old) self.new }
     {
         if !self.begins_clause() {
             return Err(Stop::Refused(Reason::Unexpected));
         }
-        self.handlers(room)
+        self.parse_handlers(room)
     }
 
     /// The brace that closes behind the clauses of a `try`.
     #[tactic(auto, unfolding(crate::specs::StatementSteps::end_of_try, crate::specs::Parsing::bind))]
-    fn end_of_try(
+    fn end_try(
         &mut self,
         room: u32,
         span: Span,
@@ -400,72 +400,72 @@ impl<'a> Parser<'a> {
     ) -> Result<Stmt, Stop>
         ensures { Gives view_statement result (end_of_try room (nested_statements room) (place_of_span span) (view_statement body.value) (clauses_of handlers.clauses.items (default_of handlers.default)) self.old) self.new }
     {
-        self.sign_inside(room, Sign::RightBrace)?;
+        self.take_sign_inside(room, Sign::RightBrace)?;
         Ok(guarded(span, body, handlers))
     }
 
     /// Behind `try`.
     #[cycle(statement)]
     #[tactic(auto, unfolding(crate::specs::Statements::try_statement, crate::specs::StatementSteps::end_of_try, crate::specs::Parsing::bind))]
-    fn try_statement(&mut self, room: u32, span: Span) -> Result<Stmt, Stop>
+    fn parse_try(&mut self, room: u32, span: Span) -> Result<Stmt, Stop>
         ensures { Gives view_statement result (try_statement room (nested_statements room) (place_of_span span) self.old) self.new }
     {
-        let body = self.statement(room)?;
+        let body = self.parse_statement(room)?;
         let body = boxed(self.alloc(), body)?;
-        self.word(Keyword::Catch)?;
-        self.sign(Sign::LeftBrace)?;
-        let handlers = self.clauses(room)?;
-        self.end_of_try(room, span, body, handlers)
+        self.take_word(Keyword::Catch)?;
+        self.take_sign(Sign::LeftBrace)?;
+        let handlers = self.parse_clauses(room)?;
+        self.end_try(room, span, body, handlers)
     }
 
     #[cycle(statement)]
     #[tactic(auto, unfolding(crate::specs::Statements::statement, crate::specs::Statements::expression, crate::specs::Expressions::nested, crate::specs::Parsing::choose, crate::specs::Parsing::bind, crate::specs::StatementSteps::return_statement))]
-    fn statement_here(&mut self, room: u32) -> Result<Stmt, Stop>
+    fn parse_statement_here(&mut self, room: u32) -> Result<Stmt, Stop>
         ensures { Gives view_statement result (statement room (nested_statements room) self.old) self.new }
     {
         match self.next() {
             Some(Terminal::Identifier(name)) => {
                 let span = self.advance()?;
-                self.statement_from_name(room, Ident { name, span })
+                self.parse_statement_from_name(room, Ident { name, span })
             }
-            Some(Terminal::Mark(Sign::LeftBrace)) => Ok(block(self.body(room)?)),
+            Some(Terminal::Mark(Sign::LeftBrace)) => Ok(block(self.parse_block(room)?)),
             Some(Terminal::Mark(Sign::Semicolon)) => {
                 let span = self.advance()?;
                 Ok(Stmt::Empty { span })
             }
             Some(Terminal::Word(Keyword::If)) => {
                 let span = self.advance()?;
-                self.if_statement(room, span)
+                self.parse_if(room, span)
             }
             Some(Terminal::Word(Keyword::While)) => {
                 let span = self.advance()?;
-                self.while_statement(room, span)
+                self.parse_while(room, span)
             }
             Some(Terminal::Word(Keyword::Return)) => {
                 let span = self.advance()?;
-                self.return_statement(room, span)
+                self.parse_return(room, span)
             }
             Some(Terminal::Word(Keyword::Break)) => {
                 let span = self.advance()?;
-                self.sign(Sign::Semicolon)?;
+                self.take_sign(Sign::Semicolon)?;
                 Ok(Stmt::Break { span })
             }
             Some(Terminal::Word(Keyword::Continue)) => {
                 let span = self.advance()?;
-                self.sign(Sign::Semicolon)?;
+                self.take_sign(Sign::Semicolon)?;
                 Ok(Stmt::Continue { span })
             }
             Some(Terminal::Word(Keyword::Throw)) => {
                 let span = self.advance()?;
-                self.throw_statement(room, span)
+                self.parse_throw(room, span)
             }
             Some(Terminal::Word(Keyword::Try)) => {
                 let span = self.advance()?;
-                self.try_statement(room, span)
+                self.parse_try(room, span)
             }
             _ => {
-                let value = self.expression_here(room)?;
-                self.behind(room, value)
+                let value = self.parse_expression_here(room)?;
+                self.parse_rest_of_statement(room, value)
             }
         }
     }
@@ -473,24 +473,24 @@ impl<'a> Parser<'a> {
     // ---- items
 
     #[tactic(auto, unfolding(crate::specs::Statements::local_value, crate::specs::Parsing::if_sees, crate::specs::Parsing::bind))]
-    fn local_value(&mut self, room: u32) -> Result<Option<Expr>, Stop>
+    fn parse_local_value(&mut self, room: u32) -> Result<Option<Expr>, Stop>
         ensures { Gives (option_map view_expression) result (local_value room (nested_statements room) self.old) self.new }
     {
         if !self.sees(Sign::Assign) {
             return Ok(None);
         }
-        self.sign(Sign::Assign)?;
-        Ok(Some(self.expression(room)?))
+        self.take_sign(Sign::Assign)?;
+        Ok(Some(self.parse_expression(room)?))
     }
 
     #[tactic(auto, unfolding(crate::specs::Statements::local, crate::specs::Parsing::bind))]
-    fn local(&mut self, room: u32) -> Result<Item, Stop>
+    fn parse_local(&mut self, room: u32) -> Result<Item, Stop>
         ensures { Gives view_item result (local room (nested_statements room) self.old) self.new }
     {
-        let of_type = self.written_type()?;
-        let name = self.identifier()?;
-        let value = self.local_value(room)?;
-        self.sign(Sign::Semicolon)?;
+        let of_type = self.parse_type()?;
+        let name = self.take_identifier()?;
+        let value = self.parse_local_value(room)?;
+        self.take_sign(Sign::Semicolon)?;
         Ok(Item::Local {
             of_type,
             name,
@@ -500,29 +500,29 @@ impl<'a> Parser<'a> {
 
     /// `= open(key)`
     #[tactic(auto, unfolding(crate::specs::Statements::opened_key, crate::specs::Parsing::if_sees, crate::specs::Parsing::bind))]
-    fn opened_key(&mut self, room: u32) -> Result<Option<Ident>, Stop>
+    fn parse_opened_key(&mut self, room: u32) -> Result<Option<Ident>, Stop>
         ensures { Gives (option_map view_name) result (opened_key room (nested_statements room) self.old) self.new }
     {
         if !self.sees(Sign::Assign) {
             return Ok(None);
         }
-        self.sign(Sign::Assign)?;
-        self.word_inside(room, Keyword::Open)?;
-        self.sign_inside(room, Sign::LeftParen)?;
-        let key = self.identifier_inside(inside(room))?;
-        self.sign_deeper(room, Sign::RightParen)?;
+        self.take_sign(Sign::Assign)?;
+        self.take_word_inside(room, Keyword::Open)?;
+        self.take_sign_inside(room, Sign::LeftParen)?;
+        let key = self.take_identifier_inside(inside(room))?;
+        self.take_sign_deeper(room, Sign::RightParen)?;
         Ok(Some(key))
     }
 
     #[tactic(auto, unfolding(crate::specs::Statements::region, crate::specs::Parsing::bind))]
-    fn region(&mut self, room: u32) -> Result<Item, Stop>
+    fn parse_region(&mut self, room: u32) -> Result<Item, Stop>
         ensures { Gives view_item result (region room (nested_statements room) self.old) self.new }
     {
-        self.word(Keyword::Region)?;
-        let region = self.region_of()?;
-        let handle = self.identifier()?;
-        let key = self.opened_key(room)?;
-        self.sign(Sign::Semicolon)?;
+        self.take_word(Keyword::Region)?;
+        let region = self.parse_region_of()?;
+        let handle = self.take_identifier()?;
+        let key = self.parse_opened_key(room)?;
+        self.take_sign(Sign::Semicolon)?;
         Ok(Item::Region {
             region,
             handle,
@@ -532,16 +532,16 @@ impl<'a> Parser<'a> {
 
     /// Behind `let`.
     #[tactic(auto, unfolding(crate::specs::Statements::alias, crate::specs::Parsing::bind))]
-    fn alias(&mut self, room: u32) -> Result<Item, Stop>
+    fn parse_alias(&mut self, room: u32) -> Result<Item, Stop>
         ensures { Gives view_item result (alias room (nested_statements room) self.old) self.new }
     {
-        self.word(Keyword::Alias)?;
-        let region = self.region_of()?;
-        let of_type = self.written_type()?;
-        let name = self.identifier()?;
-        self.sign(Sign::Assign)?;
-        let source = self.identifier_inside(room)?;
-        self.sign(Sign::Semicolon)?;
+        self.take_word(Keyword::Alias)?;
+        let region = self.parse_region_of()?;
+        let of_type = self.parse_type()?;
+        let name = self.take_identifier()?;
+        self.take_sign(Sign::Assign)?;
+        let source = self.take_identifier_inside(room)?;
+        self.take_sign(Sign::Semicolon)?;
         Ok(Item::Alias {
             region,
             of_type,
@@ -552,57 +552,57 @@ impl<'a> Parser<'a> {
 
     /// The one region of a type, in its brackets.
     #[tactic(auto, unfolding(crate::specs::Types::region_of, crate::specs::Parsing::bind))]
-    fn region_inside(&mut self, room: u32) -> Result<Ident, Stop>
+    fn parse_region_inside(&mut self, room: u32) -> Result<Ident, Stop>
         ensures { Gives view_name result (region_of room self.old) self.new }
     {
-        self.sign_inside(room, Sign::Less)?;
-        let region = self.region_name_inside(room)?;
-        self.sign_inside(room, Sign::Greater)?;
+        self.take_sign_inside(room, Sign::Less)?;
+        let region = self.take_region_name_inside(room)?;
+        self.take_sign_inside(room, Sign::Greater)?;
         Ok(region)
     }
 
     /// `= new_ukey();`
     #[tactic(auto, unfolding(crate::specs::Statements::new_key, crate::specs::Parsing::bind))]
-    fn new_key(&mut self, room: u32) -> Result<(), Stop>
+    fn parse_new_key(&mut self, room: u32) -> Result<(), Stop>
         ensures { Gives (λ _. tt) result (new_key room (nested_statements room) self.old) self.new }
     {
-        self.sign(Sign::Assign)?;
-        self.word_inside(room, Keyword::NewKey)?;
-        self.sign_inside(room, Sign::LeftParen)?;
-        self.sign_deeper(room, Sign::RightParen)?;
-        self.sign(Sign::Semicolon)?;
+        self.take_sign(Sign::Assign)?;
+        self.take_word_inside(room, Keyword::NewKey)?;
+        self.take_sign_inside(room, Sign::LeftParen)?;
+        self.take_sign_deeper(room, Sign::RightParen)?;
+        self.take_sign(Sign::Semicolon)?;
         Ok(())
     }
 
     /// Behind `let`.
     #[tactic(auto, unfolding(crate::specs::Statements::dynamic_region, crate::specs::Parsing::bind))]
-    fn dynamic_region(&mut self, room: u32) -> Result<Item, Stop>
+    fn parse_dynamic_region(&mut self, room: u32) -> Result<Item, Stop>
         ensures { Gives view_item result (dynamic_region room (nested_statements room) self.old) self.new }
     {
-        self.word(Keyword::NewDynamicRegion)?;
-        self.sign(Sign::LeftBrace)?;
-        let region = self.region_inside(room)?;
-        let key = self.identifier_inside(room)?;
-        self.sign_inside(room, Sign::RightBrace)?;
-        self.new_key(room)?;
+        self.take_word(Keyword::NewDynamicRegion)?;
+        self.take_sign(Sign::LeftBrace)?;
+        let region = self.parse_region_inside(room)?;
+        let key = self.take_identifier_inside(room)?;
+        self.take_sign_inside(room, Sign::RightBrace)?;
+        self.parse_new_key(room)?;
         Ok(Item::DynamicRegion { region, key })
     }
 
     /// Behind `let`.
     #[tactic(auto, unfolding(crate::specs::StatementSteps::let_item, crate::specs::Parsing::choose))]
-    fn let_item(&mut self, room: u32) -> Result<Item, Stop>
+    fn parse_let_item(&mut self, room: u32) -> Result<Item, Stop>
         ensures { Gives view_item result (let_item room (nested_statements room) self.old) self.new }
     {
         match self.next() {
-            Some(Terminal::Word(Keyword::Alias)) => self.alias(room),
-            Some(Terminal::Word(Keyword::NewDynamicRegion)) => self.dynamic_region(room),
+            Some(Terminal::Word(Keyword::Alias)) => self.parse_alias(room),
+            Some(Terminal::Word(Keyword::NewDynamicRegion)) => self.parse_dynamic_region(room),
             _ => Err(Stop::Refused(Reason::Unexpected)),
         }
     }
 
     #[cycle(statement)]
     #[tactic(auto, unfolding(crate::specs::Statements::item, crate::specs::Parsing::choose, crate::specs::Parsing::bind, crate::specs::StatementSteps::let_item))]
-    fn item(&mut self, room: u32) -> Result<Item, Stop>
+    fn parse_item(&mut self, room: u32) -> Result<Item, Stop>
         ensures { Gives view_item result (item room (nested_statements room) self.old) self.new }
     {
         match self.next() {
@@ -610,14 +610,14 @@ impl<'a> Parser<'a> {
                 Terminal::Word(
                     Keyword::Int | Keyword::Struct | Keyword::RegionType | Keyword::KeyType,
                 ),
-            ) => self.local(room),
-            Some(Terminal::Word(Keyword::Region)) => self.region(room),
+            ) => self.parse_local(room),
+            Some(Terminal::Word(Keyword::Region)) => self.parse_region(room),
             Some(Terminal::Word(Keyword::Let)) => {
                 self.advance()?;
-                self.let_item(room)
+                self.parse_let_item(room)
             }
             _ => {
-                let statement = self.statement_here(room)?;
+                let statement = self.parse_statement_here(room)?;
                 Ok(Item::Statement { statement })
             }
         }
@@ -626,24 +626,24 @@ impl<'a> Parser<'a> {
     /// An item, if one comes next.
     #[cycle(statement)]
     #[tactic(auto, unfolding(crate::specs::StatementSteps::one_item, crate::specs::Parsing::if_starts, crate::specs::Parsing::bind))]
-    fn next_item(&mut self, room: u32) -> Result<Option<Item>, Stop>
+    fn parse_next_item(&mut self, room: u32) -> Result<Option<Item>, Stop>
         ensures { Gives (option_map view_item) result (one_item room (nested_statements room) self.old) self.new }
     {
         if !self.begins_item() {
             return Ok(None);
         }
-        Ok(Some(self.item(room)?))
+        Ok(Some(self.parse_item(room)?))
     }
 
     #[cycle(statement)]
     #[tactic(auto, unfolding(crate::specs::Statements::items))]
-    fn items_here(&mut self, room: u32) -> Result<Vec<Item>, Stop>
+    fn parse_items_here(&mut self, room: u32) -> Result<Vec<Item>, Stop>
         ensures { Gives (λ v. items_of v.items) result (items room (nested_statements room) self.old) self.new }
     {
         let mut items = Vec::new(self.alloc());
         let most = self.len();
         for _ in 0..most {
-            let Some(item) = self.next_item(room)? else {
+            let Some(item) = self.parse_next_item(room)? else {
                 return Ok(items);
             };
             items.push(item)?;

@@ -106,7 +106,7 @@ fn declarations_of(alloc: Global, symbols: &[Symbol], end: Span) -> Result<Vec<D
     ensures refused { IfErr result (λ f. (f ≡ memory_fault) ⊎ answers.IsRefused (place_of_span end) (map view_symbol symbols.now) f) }
 {
     let mut parser = Parser::new(alloc, symbols);
-    match parser.whole_program() {
+    match parser.parse_whole_program() {
         Ok(declarations) => Ok(declarations),
         Err(Stop::Memory) => Err(Fault::memory()),
         Err(Stop::Refused(reason)) => Err(parser.fault(reason, end)),
@@ -116,10 +116,10 @@ fn declarations_of(alloc: Global, symbols: &[Symbol], end: Span) -> Result<Vec<D
 impl<'a> Parser<'a> {
     /// A program, and nothing behind it.
     #[tactic(auto, unfolding(crate::specs::Answers::whole_program, crate::specs::Parsing::bind))]
-    fn whole_program(&mut self) -> Result<Vec<Declaration>, Stop>
+    fn parse_whole_program(&mut self) -> Result<Vec<Declaration>, Stop>
         ensures { Gives (λ v. map view_declaration v.items) result (whole_program self.old) self.new }
     {
-        let declarations = self.program()?;
+        let declarations = self.parse_program()?;
         match self.next() {
             Some(_) => Err(Stop::Refused(Reason::Unexpected)),
             None => Ok(declarations),

@@ -34,63 +34,63 @@ impl<'a> Parser<'a> {
     }
 
     #[tactic(auto, unfolding(crate::specs::Steps::after_comma, crate::specs::Parsing::if_sees, crate::specs::Parsing::bind))]
-    fn region_after_comma(&mut self) -> Result<Option<Ident>, Stop>
+    fn parse_region_after_comma(&mut self) -> Result<Option<Ident>, Stop>
         ensures { (room : ℕ) → Gives (option_map view_name) result (after_comma (suc room) (region_name (suc room)) self.old) self.new }
     {
         if !self.sees(Sign::Comma) {
             return Ok(None);
         }
-        self.sign(Sign::Comma)?;
-        Ok(Some(self.region_name()?))
+        self.take_sign(Sign::Comma)?;
+        Ok(Some(self.take_region_name()?))
     }
 
     /// After as many regions as a list may have: one more is too long.
     #[tactic(auto, unfolding(crate::specs::Parsing::more_items, crate::specs::Parsing::if_sees, crate::specs::Parsing::bind, crate::specs::Parsing::refuse_item))]
-    fn end_of_regions(&mut self) -> Result<(), Stop>
+    fn end_regions(&mut self) -> Result<(), Stop>
         ensures { (room : ℕ) → Gives (λ _. []) result (more_items (suc room) begins_region (region_name (suc room)) 0 self.old) self.new }
     {
         if !self.sees(Sign::Comma) {
             return Ok(());
         }
-        self.sign(Sign::Comma)?;
+        self.take_sign(Sign::Comma)?;
         Err(refusal(self.begins_region(), Reason::TooLong))
     }
 
     /// Region names with commas between.
     #[tactic(auto, unfolding(crate::specs::Parsing::regions, crate::specs::Parsing::separated, crate::specs::Parsing::bind))]
-    pub(crate) fn regions(&mut self) -> Result<Vec<Ident>, Stop>
+    pub(crate) fn parse_regions(&mut self) -> Result<Vec<Ident>, Stop>
         ensures { (room : ℕ) → Gives (λ v. map view_name v.items) result (regions (suc room) self.old) self.new }
     {
-        let first = self.region_name()?;
+        let first = self.take_region_name()?;
         let mut regions = Vec::new(self.alloc());
         regions.push(first)?;
         for _ in 1..MAX_ITEMS {
-            let Some(region) = self.region_after_comma()? else {
+            let Some(region) = self.parse_region_after_comma()? else {
                 return Ok(regions);
             };
             regions.push(region)?;
         }
-        self.end_of_regions()?;
+        self.end_regions()?;
         Ok(regions)
     }
 
     /// Region arguments in their brackets.
     #[tactic(auto, unfolding(crate::specs::Parsing::region_list, crate::specs::Parsing::bind))]
-    pub(crate) fn region_list(&mut self) -> Result<Vec<Ident>, Stop>
+    pub(crate) fn parse_region_list(&mut self) -> Result<Vec<Ident>, Stop>
         ensures { (room : ℕ) → Gives (λ v. map view_name v.items) result (region_list (suc room) self.old) self.new }
     {
-        self.sign(Sign::Less)?;
-        let regions = self.regions()?;
-        self.sign(Sign::Greater)?;
+        self.take_sign(Sign::Less)?;
+        let regions = self.parse_regions()?;
+        self.take_sign(Sign::Greater)?;
         Ok(regions)
     }
 
     #[tactic(auto, unfolding(crate::specs::Types::optional_regions, crate::specs::Parsing::if_sees))]
-    pub(crate) fn optional_regions(&mut self) -> Result<Vec<Ident>, Stop>
+    pub(crate) fn parse_optional_regions(&mut self) -> Result<Vec<Ident>, Stop>
         ensures { (room : ℕ) → Gives (λ v. map view_name v.items) result (optional_regions (suc room) self.old) self.new }
     {
         if self.sees(Sign::Less) {
-            self.region_list()
+            self.parse_region_list()
         } else {
             Ok(Vec::new(self.alloc()))
         }
@@ -98,23 +98,23 @@ impl<'a> Parser<'a> {
 
     /// The one region of a handle's or a key's type, in its brackets.
     #[tactic(auto, unfolding(crate::specs::Types::region_of, crate::specs::Parsing::bind))]
-    pub(crate) fn region_of(&mut self) -> Result<Ident, Stop>
+    pub(crate) fn parse_region_of(&mut self) -> Result<Ident, Stop>
         ensures { (room : ℕ) → Gives view_name result (region_of (suc room) self.old) self.new }
     {
-        self.sign(Sign::Less)?;
-        let region = self.region_name()?;
-        self.sign(Sign::Greater)?;
+        self.take_sign(Sign::Less)?;
+        let region = self.take_region_name()?;
+        self.take_sign(Sign::Greater)?;
         Ok(region)
     }
 
     #[tactic(auto, unfolding(crate::specs::Types::optional_region, crate::specs::Parsing::if_starts, crate::specs::Parsing::bind))]
-    fn optional_region(&mut self) -> Result<Option<Ident>, Stop>
+    fn parse_optional_region(&mut self) -> Result<Option<Ident>, Stop>
         ensures { (room : ℕ) → Gives (option_map view_name) result (optional_region (suc room) self.old) self.new }
     {
         if !self.begins_region() {
             return Ok(None);
         }
-        Ok(Some(self.region_name()?))
+        Ok(Some(self.take_region_name()?))
     }
 
     /// The next symbol, if it is a pointer mark.
@@ -130,19 +130,19 @@ impl<'a> Parser<'a> {
     }
 
     #[tactic(auto, unfolding(crate::specs::Steps::one_pointer, crate::specs::Parsing::choose, crate::specs::Parsing::bind))]
-    fn pointer(&mut self) -> Result<Option<Pointer>, Stop>
+    fn parse_pointer(&mut self) -> Result<Option<Pointer>, Stop>
         ensures { (room : ℕ) → Gives (option_map view_pointer) result (one_pointer (suc room) self.old) self.new }
     {
         let Some(kind) = self.mark() else {
             return Ok(None);
         };
         self.advance()?;
-        let region = self.optional_region()?;
+        let region = self.parse_optional_region()?;
         Ok(Some(Pointer { kind, region }))
     }
 
     #[tactic(auto, unfolding(crate::specs::Types::pointers_of, crate::specs::Parsing::if_is))]
-    fn end_of_pointers(&mut self) -> Result<(), Stop>
+    fn end_pointers(&mut self) -> Result<(), Stop>
         ensures { (room : ℕ) → Gives (λ _. []) result (pointers_of (suc room) 0 self.old) self.new }
     {
         match self.mark() {
@@ -152,52 +152,56 @@ impl<'a> Parser<'a> {
     }
 
     /// The pointer marks of a type.
-    fn pointers(&mut self) -> Result<Vec<Pointer>, Stop>
+    fn parse_pointers(&mut self) -> Result<Vec<Pointer>, Stop>
         ensures { (room : ℕ) → Gives (λ v. map view_pointer v.items) result (pointers_of (suc room) 64 self.old) self.new }
     {
         let mut pointers = Vec::new(self.alloc());
         for _ in 0..MAX_ITEMS {
-            let Some(pointer) = self.pointer()? else {
+            let Some(pointer) = self.parse_pointer()? else {
                 return Ok(pointers);
             };
             pointers.push(pointer)?;
         }
-        self.end_of_pointers()?;
+        self.end_pointers()?;
         Ok(pointers)
     }
 
     #[tactic(auto, unfolding(crate::specs::Types::with_pointers, crate::specs::Parsing::bind))]
-    pub(crate) fn with_pointers(&mut self, span: Span, base: BaseType) -> Result<WrittenType, Stop>
+    pub(crate) fn parse_rest_of_type(
+        &mut self,
+        span: Span,
+        base: BaseType,
+    ) -> Result<WrittenType, Stop>
         ensures { (room : ℕ) → Gives view_type result (with_pointers (suc room) (place_of_span span) (view_base base) self.old) self.new }
     {
-        let marks = self.pointers()?;
+        let marks = self.parse_pointers()?;
         Ok(WrittenType { span, base, marks })
     }
 
     #[tactic(auto, unfolding(crate::specs::Types::written_type, crate::specs::Parsing::choose, crate::specs::Parsing::bind))]
-    pub(crate) fn written_type(&mut self) -> Result<WrittenType, Stop>
+    pub(crate) fn parse_type(&mut self) -> Result<WrittenType, Stop>
         ensures { (room : ℕ) → Gives view_type result (written_type (suc room) self.old) self.new }
     {
         match self.next() {
             Some(Terminal::Word(Keyword::Int)) => {
                 let span = self.advance()?;
-                self.with_pointers(span, BaseType::Int)
+                self.parse_rest_of_type(span, BaseType::Int)
             }
             Some(Terminal::Word(Keyword::Struct)) => {
                 let span = self.advance()?;
-                let name = self.identifier()?;
-                let regions = self.optional_regions()?;
-                self.with_pointers(span, BaseType::Struct { name, regions })
+                let name = self.take_identifier()?;
+                let regions = self.parse_optional_regions()?;
+                self.parse_rest_of_type(span, BaseType::Struct { name, regions })
             }
             Some(Terminal::Word(Keyword::RegionType)) => {
                 let span = self.advance()?;
-                let region = self.region_of()?;
-                self.with_pointers(span, BaseType::Handle { region })
+                let region = self.parse_region_of()?;
+                self.parse_rest_of_type(span, BaseType::Handle { region })
             }
             Some(Terminal::Word(Keyword::KeyType)) => {
                 let span = self.advance()?;
-                let region = self.region_of()?;
-                self.with_pointers(span, BaseType::Key { region })
+                let region = self.parse_region_of()?;
+                self.parse_rest_of_type(span, BaseType::Key { region })
             }
             _ => Err(Stop::Refused(Reason::Unexpected)),
         }

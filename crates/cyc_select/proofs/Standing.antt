@@ -1,13 +1,12 @@
 -- How a plain program's calls stand in the memory of the labelled machine: their frames lie one below another from the
 -- end of the stack on, each with its slots and, where it waits, its return address.
-use Rattle.std.proofs.Common.{◌≡◌, ◌≢◌, ℕ, zero, suc, ◌+◌, ◌-◌, ◌*◌, ◌%◌, ◌^◌, ◌<◌, ◌≤◌, Bool, true, false, List, [], ◌∷◌, length, Some, None, refl, sym, ap, subst, ◌∙◌, arith, inl, inr}
-use Rattle.std.specs.Prelude.{◌⊎◌, slice_index}
+use Rattle.std.proofs.Common.{◌≡◌, ◌≢◌, ℕ, suc, ◌+◌, ◌*◌, ◌%◌, ◌<◌, ◌≤◌, List, [], ◌∷◌, length, Some, sym, ap, subst, ◌∙◌, arith, inl, inr}
 use Rattle.std.specs.List.{AllByRecursion}
 use Rattle.cyc_words.specs.Word.{IsWord}
 use Rattle.cyc_isa.specs.Effect.{memory_address}
 use Rattle.cyc_machine.specs.State.{data_base, stack_end, globals_length, words_per_call}
 use Rattle.cyc_plain.specs.declared.instruction.Instruction.TheVariants as plain
-use Rattle.cyc_plain.specs.Program.{Routine, Program, CodePlace, routine_at, most_globals}
+use Rattle.cyc_plain.specs.Program.{Program, routine_at}
 use Rattle.cyc_plain.specs.State as states
 use Rattle.cyc_plain.specs.State.{Words, AreWords, put, copied, Activation, Configuration}
 use Rattle.cyc_plain.specs.Step.{instruction_at}
@@ -16,8 +15,7 @@ use Rattle.cyc_plain.proofs.SlotLaws.{put-same, put-other}
 use Rattle.std.proofs.lemmas.Bool.{cases_eq}
 use Rattle.cyc_frame.specs.Layout.{slot_word, frame_at}
 use Rattle.cyc_frame.specs.declared.frame.Frame.{Frame}
-use Rattle.cyc_select.specs.Labelled.{Labelled, IsFormed, AreAddresses}
-use Rattle.cyc_select.specs.Selection.{slot_offset, instruction_line, body_count, select_of}
+use Rattle.cyc_select.specs.Selection.{slot_offset, instruction_line, body_count}
 use Rattle.cyc_select.specs.Emission.{AreFrames}
 use Rattle.cyc_select.proofs.Cells.{IsCell}
 use Rattle.cyc_select.proofs.Operations.{address_at}

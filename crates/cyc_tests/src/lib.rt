@@ -17,6 +17,8 @@ mod machine;
 #[cfg(test)]
 mod syntax;
 #[cfg(test)]
+mod system;
+#[cfg(test)]
 mod types;
 #[cfg(test)]
 mod words;

@@ -1,7 +1,7 @@
 //! Which region outlives which, worked out by hand, and types that are far deeper than any that a text can have.
 
 use cyc_syntax::PointerKind;
-use cyc_types::{Kind, Outlives, Region, Ty};
+use cyc_types::{ScopeKind, Outlives, Region, Ty};
 use smallvec::SmallVec;
 use std::alloc::Global;
 use std::test::Fail;
@@ -32,9 +32,9 @@ fn table(alloc: Global, outlives: &Outlives) -> Result<String, Fail> {
 fn scopes_within_scopes(rt: HostRuntime) -> Result<(), Fail> {
     let alloc = rt.alloc();
     let mut outlives = Outlives::new(alloc, &[], &[A, Region::Unique])?;
-    outlives.open_scope(B, Kind::Dynamic)?;
-    outlives.open_scope(C, Kind::Lexical)?;
-    outlives.open_scope(D, Kind::Alias)?;
+    outlives.open_scope(B, ScopeKind::Dynamic)?;
+    outlives.open_scope(C, ScopeKind::Lexical)?;
+    outlives.open_scope(D, ScopeKind::Alias)?;
     let open = table(alloc, &outlives)?;
     assert_eq!(rt; open.as_str(), "101111 010000 001010 000110 000010 000001 ");
     outlives.close_scope();

@@ -4,6 +4,7 @@ use Rattle.std.proofs.Common.{◌≡◌, ◌≢◌, ℕ, suc, Bool, true, false,
 use Rattle.std.proofs.lemmas.Bool.{eqb-true}
 use Rattle.cyc_words.specs.declared.fault.Code.TheVariants as codes
 use Rattle.cyc_words.specs.declared.fault.Fault.{Fault}
+use Rattle.cyc_words.proofs.Decisions.{IsDecided}
 use Rattle.cyc_syntax.specs.Names.{number_of}
 use Rattle.cyc_syntax.specs.Symbols.{Place}
 use Rattle.cyc_syntax.specs.Trees.{Named, Expression, Number, Character, Null, HeapRegion, UniqueRegion, Variable, Call, Bracketed, NumberOfElements, FreeUnique, FreeKey, Chained, Prefixed, New, RegionNew, Binary, Assign, Expressions, NoExpressions, MoreExpressions, Operations, NoOperations, ThenOperation, Statement, Block, Labelled, Empty, Evaluate, Swap, If, IfElse, While, Return, Break, Continue, Throw, Try, Body, Braces, Items, NoItems, MoreItems, Execute, Local, Region, Alias, DynamicRegion, Member, Declaration, StructType, Exceptions, Global, Function, place_of}
@@ -13,7 +14,7 @@ use Rattle.cyc_types.specs.TypedTrees.{Lvalue, Converted, Convert, type_of}
 use Rattle.cyc_types.specs.TypedTrees as typed
 use Rattle.cyc_types.specs.Scopes.{Signature, Meaning, Unknown, Routine, Declared, Scope, meaning_of, is_declared, behind, in_block, in_body, with_local}
 use Rattle.cyc_types.specs.Scopes as scopes
-use Rattle.cyc_types.specs.TypingRules.{type_written, Converts, IsConverted, name_in, IsRead, IsPlace, IsTarget, ArePassed, IsCalled, IsTyped, AreTyped, IsChain, IsInitial, IsReturned, IsTypedStatement, IsTypedBody, AreTypedItems, members_of, AreDistinct, IsHead, with_names, AreHeads, main_text, declared, known_before, body_scope, AreFunctions, IsTypedProgram, globals_of, function_number}
+use Rattle.cyc_types.specs.TypingRules.{type_written, Converts, IsConverted, name_in, IsRead, IsPlace, IsTarget, ArePassed, IsCalled, IsTyped, AreTyped, IsChain, IsInitial, IsReturned, IsTypedStatement, IsTypedBody, AreTypedItems, members_of, AreNewNames, IsHead, with_names, AreHeads, main_text, declared, known_before, regions_before, body_scope, AreFunctions, IsTypedProgram, globals_of, function_number}
 use Rattle.cyc_types.specs.Refusals.{fault_at, IsUnconverted, IsUnreadable, IsNoPlace, IsMispassed, IsMiscalled, IsRefused, AreRefused, IsChainRefused, IsNoCondition, IsMisreturned, IsInitialRefused, IsWalked, IsInitialUnconverted, IsRefusedStatement, IsRefusedBody, AreRefusedItems, IsRepeated, IsRefusedHead, AreRefusedHeads, AreRefusedFunctions, IsRefusedProgram}
 use Rattle.cyc_types.specs.Checking.{Checked, and_then, unless, conversion, convert_by, convert, want_int, read, place_meant, target, pass, call, prefixed, check, check_all, check_chain, check_condition, return_by, return_nothing, check_returned, check_initial, check_statement, check_body, check_items, check_distinct, check_head, check_heads, check_functions, check_of}
 use Rattle.cyc_types.proofs.Judged.{Judges, good, bad, Aligned, typed-aligned, convert_cases, judged_program}
@@ -158,19 +159,19 @@ mutual
   derived_items g (MoreItems (Alias r t x y) is) js i = absurd i
   derived_items g (MoreItems (DynamicRegion r k) is) js i = absurd i
 
-distinct_derived : (known : List ℕ) (ms : List Member) → AreDistinct known ms → check_distinct known ms ≡ Ok tt
+distinct_derived : (known : List ℕ) (ms : List Member) → AreNewNames known ms → check_distinct known ms ≡ Ok tt
 distinct_derived known [] h = refl
 distinct_derived known (m ∷ ms) (n, h) = unless_on _ _ n (distinct_derived (m.name.name ∷ known) ms h)
 
-head_derived : (main : ℕ) (known : List ℕ) (d : Declaration) → IsHead main known d → check_head main known d ≡ Ok tt
-head_derived main known (StructType s rs fs) h = absurd h
-head_derived main known (Exceptions cs) h = absurd h
-head_derived main known (Global w x v) (n, m) = unless_on _ _ n (unless_on _ _ m refl)
-head_derived main known (Function r x ps b) (n, m, h) = unless_on _ _ n (unless_on _ _ m (distinct_derived [] (members_of ps.list) h))
+head_derived : (main : ℕ) (regions known : List ℕ) (d : Declaration) → IsHead main regions known d → check_head main regions known d ≡ Ok tt
+head_derived main regions known (StructType s rs fs) h = absurd h
+head_derived main regions known (Exceptions cs) h = absurd h
+head_derived main regions known (Global w x v) (n, m) = unless_on _ _ n (unless_on _ _ m refl)
+head_derived main regions known (Function r x ps b) (n, m, h) = unless_on _ _ n (unless_on _ _ m (distinct_derived [] (members_of ps.list) h))
 
-heads_derived : (main : ℕ) (known : List ℕ) (ds : List Declaration) → AreHeads main known ds → check_heads main known ds ≡ Ok tt
-heads_derived main known [] h = refl
-heads_derived main known (d ∷ ds) (h, hs) = then_on _ (head_derived main known d h) (heads_derived main (with_names d known) ds hs)
+heads_derived : (main : ℕ) (regions known : List ℕ) (ds : List Declaration) → AreHeads main regions known ds → check_heads main regions known ds ≡ Ok tt
+heads_derived main regions known [] h = refl
+heads_derived main regions known (d ∷ ds) (h, hs) = then_on _ (head_derived main regions known d h) (heads_derived main regions (with_names d known) ds hs)
 
 functions_derived : (ds : List Declared) (tree : List Declaration) (fs : List typed.Function) → AreFunctions ds tree fs → check_functions ds tree ≡ Ok fs
 functions_derived ds [] fs eq = ap Ok (sym eq)
@@ -185,7 +186,7 @@ program-equal gs main p g m = rw (sym g, sym m) refl
 
 pub derived_program : (texts : List (List ℕ)) (tree : List Declaration) (p : typed.Program) → IsTypedProgram texts tree p → check_of texts tree ≡ Ok p
 derived_program texts tree p h =
-    unless_on _ _ (ap not h.int_part) (then_on _ (heads_derived (number_of texts main_text) (known_before texts) tree h.heads)
+    unless_on _ _ (ap not h.int_part) (then_on _ (heads_derived (number_of texts main_text) (regions_before texts) (known_before texts) tree h.heads)
     (unless_on _ _ (ap not h.has_main) (then_on _ (functions_derived (declared texts tree) tree p.functions h.functions)
     (ap Ok (program-equal (globals_of tree) (function_number (number_of texts main_text) tree) p h.globals h.main)))))
 
@@ -344,19 +345,19 @@ repeated known [] f h = absurd h
 repeated known (m ∷ ms) f (inl (d, eq)) = unless_err _ _ d ∙ ap Err (sym eq)
 repeated known (m ∷ ms) f (inr (n, h)) = unless_on _ _ n (repeated (m.name.name ∷ known) ms f h)
 
-head_refused : (main : ℕ) (known : List ℕ) (d : Declaration) (f : Fault) → IsRefusedHead main known d f → check_head main known d ≡ Err f
-head_refused main known (StructType s rs fs) f h = ap Err (sym h)
-head_refused main known (Exceptions cs) f h = ap Err (sym h)
-head_refused main known (Global w x v) f (inl (d, eq)) = unless_err _ _ d ∙ ap Err (sym eq)
-head_refused main known (Global w x v) f (inr (n, m, eq)) = unless_on _ _ n (unless_err _ _ m ∙ ap Err (sym eq))
-head_refused main known (Function r x ps b) f (inl (d, eq)) = unless_err _ _ d ∙ ap Err (sym eq)
-head_refused main known (Function r x ps b) f (inr (inl (n, m, eq))) = unless_on _ _ n (unless_err _ _ m ∙ ap Err (sym eq))
-head_refused main known (Function r x ps b) f (inr (inr (n, m, h))) = unless_on _ _ n (unless_on _ _ m (repeated [] (members_of ps.list) f h))
+head_refused : (main : ℕ) (regions known : List ℕ) (d : Declaration) (f : Fault) → IsRefusedHead main regions known d f → check_head main regions known d ≡ Err f
+head_refused main regions known (StructType s rs fs) f h = ap Err (sym h)
+head_refused main regions known (Exceptions cs) f h = ap Err (sym h)
+head_refused main regions known (Global w x v) f (inl (d, eq)) = unless_err _ _ d ∙ ap Err (sym eq)
+head_refused main regions known (Global w x v) f (inr (n, m, eq)) = unless_on _ _ n (unless_err _ _ m ∙ ap Err (sym eq))
+head_refused main regions known (Function r x ps b) f (inl (d, eq)) = unless_err _ _ d ∙ ap Err (sym eq)
+head_refused main regions known (Function r x ps b) f (inr (inl (n, m, eq))) = unless_on _ _ n (unless_err _ _ m ∙ ap Err (sym eq))
+head_refused main regions known (Function r x ps b) f (inr (inr (n, m, h))) = unless_on _ _ n (unless_on _ _ m (repeated [] (members_of ps.list) f h))
 
-heads_refused : (main : ℕ) (known : List ℕ) (ds : List Declaration) (f : Fault) → AreRefusedHeads main known ds f → check_heads main known ds ≡ Err f
-heads_refused main known [] f h = absurd h
-heads_refused main known (d ∷ ds) f (inl h) = then_err _ (head_refused main known d f h)
-heads_refused main known (d ∷ ds) f (inr (h, k)) = then_on _ (head_derived main known d h) (heads_refused main (with_names d known) ds f k)
+heads_refused : (main : ℕ) (regions known : List ℕ) (ds : List Declaration) (f : Fault) → AreRefusedHeads main regions known ds f → check_heads main regions known ds ≡ Err f
+heads_refused main regions known [] f h = absurd h
+heads_refused main regions known (d ∷ ds) f (inl h) = then_err _ (head_refused main regions known d f h)
+heads_refused main regions known (d ∷ ds) f (inr (h, k)) = then_on _ (head_derived main regions known d h) (heads_refused main regions (with_names d known) ds f k)
 
 functions_refused : (ds : List Declared) (tree : List Declaration) (f : Fault) → AreRefusedFunctions ds tree f → check_functions ds tree ≡ Err f
 functions_refused ds [] f h = absurd h
@@ -369,11 +370,11 @@ functions_refused ds (Function r x ps (Braces p is q) ∷ tree) f (inr (js, h, k
 
 pub refused_program : (texts : List (List ℕ)) (tree : List Declaration) (f : Fault) → IsRefusedProgram texts tree f → check_of texts tree ≡ Err f
 refused_program texts tree f (inl (i, eq)) = unless_err _ _ (ap not i) ∙ ap Err (sym eq)
-refused_program texts tree f (inr (inl (i, h))) = unless_on _ _ (ap not i) (then_err _ (heads_refused (number_of texts main_text) (known_before texts) tree f h))
+refused_program texts tree f (inr (inl (i, h))) = unless_on _ _ (ap not i) (then_err _ (heads_refused (number_of texts main_text) (regions_before texts) (known_before texts) tree f h))
 refused_program texts tree f (inr (inr (inl (i, h, m, eq)))) =
-    unless_on _ _ (ap not i) (then_on _ (heads_derived (number_of texts main_text) (known_before texts) tree h) (unless_err _ _ (ap not m) ∙ ap Err (sym eq)))
+    unless_on _ _ (ap not i) (then_on _ (heads_derived (number_of texts main_text) (regions_before texts) (known_before texts) tree h) (unless_err _ _ (ap not m) ∙ ap Err (sym eq)))
 refused_program texts tree f (inr (inr (inr (i, h, m, k)))) =
-    unless_on _ _ (ap not i) (then_on _ (heads_derived (number_of texts main_text) (known_before texts) tree h)
+    unless_on _ _ (ap not i) (then_on _ (heads_derived (number_of texts main_text) (regions_before texts) (known_before texts) tree h)
     (unless_on _ _ (ap not m) (then_err _ (functions_refused (declared texts tree) tree f k))))
 
 -- ---- the laws
@@ -414,10 +415,12 @@ one_fault texts tree f g h k = from_err f g (sym (refused_program texts tree f h
 pub typed_or_refused : (texts : List (List ℕ)) (tree : List Declaration) (p : typed.Program) (f : Fault) → IsTypedProgram texts tree p → IsRefusedProgram texts tree f → ⊥
 typed_or_refused texts tree p f h k = ok_is_no_err p f (sym (derived_program texts tree p h) ∙ refused_program texts tree f k)
 
--- no fault is left out
-pub typed_unless_refused : (texts : List (List ℕ)) (tree : List Declaration) → ((f : Fault) → IsRefusedProgram texts tree f → ⊥) → (p : typed.Program) × IsTypedProgram texts tree p
-typed_unless_refused texts tree never = go (check_of texts tree) (judged_program texts tree)
-  where
-    go : (r : Checked typed.Program) → Judges (IsTypedProgram texts tree) (IsRefusedProgram texts tree) r → (p : typed.Program) × IsTypedProgram texts tree p
-    go r (good {a = q} h) = (q, h)
-    go r (bad {f = d} h) = absurd (never d h)
+-- so a tree leaves no choice
+pub typing_is_decided : (texts : List (List ℕ)) (tree : List Declaration) → IsDecided (IsTypedProgram texts tree) (IsRefusedProgram texts tree) (IsRefusedProgram texts tree)
+typing_is_decided texts tree =
+    record {
+      one = one_typed_tree texts tree;
+      same = one_fault texts tree;
+      never_refused = typed_or_refused texts tree;
+      never_faulty = typed_or_refused texts tree;
+    }

@@ -2,6 +2,7 @@
 use Rattle.std.proofs.Common.{◌≡◌, ◌≢◌, Bool, true, false, not, List, [], ◌∷◌, Option, Some, None, Ok, Err, inl, inr, refl, sym, ap, subst, ◌∙◌}
 use Rattle.cyc_words.specs.declared.fault.Code.TheVariants as codes
 use Rattle.cyc_words.specs.declared.fault.Fault.{Fault}
+use Rattle.cyc_words.proofs.Decisions.{IsDecided}
 use Rattle.cyc_syntax.specs.Symbols.{Place}
 use Rattle.cyc_types.specs.Types.{Ty}
 use Rattle.cyc_types.specs.TypedTrees.{Lvalue, Local, Global, Expression, Number, Copy, Call, Unary, Binary, Assign, Converted, Convert, Arguments, NoArguments, MoreArguments, Operations, NoOperations, ThenCompute, ThenTest, Statement, Block, Empty, Evaluate, If, While, Return, Break, Continue, Items, NoItems, MoreItems, Execute, Declare, Function, Program}
@@ -306,3 +307,13 @@ allowed_or_stopped p x h k = ok_is_no_err tt x (sym (allowed_program p h) ∙ st
 -- one fault at most
 pub one_flow_fault : (p : Program) (x y : Fault) → IsStoppedProgram p x → IsStoppedProgram p y → x ≡ y
 one_flow_fault p x y h k = from_err x y (sym (stopped_program p x h) ∙ stopped_program p y k)
+
+-- so a typed tree leaves no choice
+pub flow_is_decided : (p : Program) → IsDecided (λ (u : Unit {0}). IsAllowedProgram p) (IsStoppedProgram p) (IsStoppedProgram p)
+flow_is_decided p =
+    record {
+      one = λ u v allowed again. refl;
+      same = one_flow_fault p;
+      never_refused = λ u x allowed stops. allowed_or_stopped p x allowed stops;
+      never_faulty = λ u x allowed stops. allowed_or_stopped p x allowed stops;
+    }

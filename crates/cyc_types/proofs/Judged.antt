@@ -1,5 +1,6 @@
 -- What the function that checks answers holds: a typed tree is derived, a fault is refused.
 use Rattle.std.specs.Prelude.{nat_eq, length}
+use Rattle.std.specs.List.{list_any}
 use Rattle.std.proofs.Common.{◌≡◌, ◌≢◌, ℕ, Bool, true, false, cond, not, ◌&&◌, ◌⊎◌, List, [], ◌∷◌, Option, Some, None, Ok, Err, inl, inr, refl, sym, subst, ◌∙◌, arith}
 use Rattle.std.proofs.lemmas.Bool.{eqb-true, eqb-false}
 use Rattle.cyc_words.specs.declared.fault.Code.TheVariants as codes
@@ -17,7 +18,7 @@ use Rattle.cyc_types.specs.TypedTrees as typed
 use Rattle.cyc_types.specs.IntPart.{is_int_program}
 use Rattle.cyc_types.specs.Scopes.{Signature, Meaning, Unknown, Routine, Declared, Scope, meaning_of, is_declared, behind, in_block, in_body, with_local}
 use Rattle.cyc_types.specs.Scopes as scopes
-use Rattle.cyc_types.specs.TypingRules.{type_written, Converts, IsConverted, unary_operator, name_in, IsRead, IsPlace, IsTarget, ArePassed, IsCalled, IsTyped, AreTyped, IsChain, IsInitial, IsReturned, IsTypedStatement, IsTypedBody, AreTypedItems, members_of, is_among, AreDistinct, is_main_head, IsHead, with_names, AreHeads, declares, main_text, declared, known_before, body_scope, AreFunctions, IsTypedProgram}
+use Rattle.cyc_types.specs.TypingRules.{type_written, Converts, IsConverted, unary_operator, name_in, IsRead, IsPlace, IsTarget, ArePassed, IsCalled, IsTyped, AreTyped, IsChain, IsInitial, IsReturned, IsTypedStatement, IsTypedBody, AreTypedItems, members_of, AreNewNames, is_main_head, is_taken, IsHead, with_names, AreHeads, declares, main_text, declared, known_before, regions_before, body_scope, AreFunctions, IsTypedProgram}
 use Rattle.cyc_types.specs.Refusals.{fault_at, IsUnconverted, IsUnreadable, IsNoPlace, IsMispassed, IsMiscalled, IsRefused, AreRefused, IsChainRefused, IsNoCondition, IsMisreturned, IsInitialRefused, IsWalked, IsInitialUnconverted, IsRefusedStatement, IsRefusedBody, AreRefusedItems, IsRepeated, IsRefusedHead, AreRefusedHeads, AreRefusedFunctions, IsRefusedProgram}
 use Rattle.cyc_types.specs.Checking.{Checked, and_then, unless, conversion, convert_by, convert, want_int, read, place_meant, target, pass, call, prefixed, check, check_all, check_chain, check_condition, return_by, return_nothing, check_returned, check_initial, check_statement, check_body, check_items, check_distinct, check_head, check_heads, check_functions, check_of}
 
@@ -252,25 +253,25 @@ mutual
 
 -- ---- programs
 
-distinct_judged : (known : List ℕ) (ms : List Member) → Judges (λ (u : Unit {0}). AreDistinct known ms) (IsRepeated known ms) (check_distinct known ms)
+distinct_judged : (known : List ℕ) (ms : List Member) → Judges (λ (u : Unit {0}). AreNewNames known ms) (IsRepeated known ms) (check_distinct known ms)
 distinct_judged known [] = good tt
 distinct_judged known (m ∷ ms) =
-    tested (is_among m.name.name known) _ _ (λ d. inl (d, refl)) (λ n. mapped (distinct_judged (m.name.name ∷ known) ms) (λ u h. (n, h)) (λ f h. inr (n, h)))
+    tested (list_any (nat_eq m.name.name) known) _ _ (λ d. inl (d, refl)) (λ n. mapped (distinct_judged (m.name.name ∷ known) ms) (λ u h. (n, h)) (λ f h. inr (n, h)))
 
-head_judged : (main : ℕ) (known : List ℕ) (d : Declaration) → Judges (λ (u : Unit {0}). IsHead main known d) (IsRefusedHead main known d) (check_head main known d)
-head_judged main known (StructType s rs fs) = bad refl
-head_judged main known (Exceptions cs) = bad refl
-head_judged main known (Global w x v) =
-    tested (is_among x.name known) _ _ (λ d. inl (d, refl)) (λ n. tested (nat_eq x.name main) _ _ (λ d. inr (n, d, refl)) (λ m. good (n, m)))
-head_judged main known (Function r x ps b) =
-    tested (is_among x.name known) _ _ (λ d. inl (d, refl))
+head_judged : (main : ℕ) (regions known : List ℕ) (d : Declaration) → Judges (λ (u : Unit {0}). IsHead main regions known d) (IsRefusedHead main regions known d) (check_head main regions known d)
+head_judged main regions known (StructType s rs fs) = bad refl
+head_judged main regions known (Exceptions cs) = bad refl
+head_judged main regions known (Global w x v) =
+    tested (list_any (nat_eq x.name) known) _ _ (λ d. inl (d, refl)) (λ n. tested (nat_eq x.name main) _ _ (λ d. inr (n, d, refl)) (λ m. good (n, m)))
+head_judged main regions known (Function r x ps b) =
+    tested (is_taken regions known x.name) _ _ (λ d. inl (d, refl))
     (λ n. tested (nat_eq x.name main && not (is_main_head r ps)) _ _ (λ d. inr (inl (n, d, refl)))
     (λ m. mapped (distinct_judged [] (members_of ps.list)) (λ u h. (n, m, h)) (λ f h. inr (inr (n, m, h)))))
 
-heads_judged : (main : ℕ) (known : List ℕ) (ds : List Declaration) → Judges (λ (u : Unit {0}). AreHeads main known ds) (AreRefusedHeads main known ds) (check_heads main known ds)
-heads_judged main known [] = good tt
-heads_judged main known (d ∷ ds) =
-    chained _ (head_judged main known d) (λ f h. inl h) (λ u h. mapped (heads_judged main (with_names d known) ds) (λ v k. (h, k)) (λ f k. inr (h, k)))
+heads_judged : (main : ℕ) (regions known : List ℕ) (ds : List Declaration) → Judges (λ (u : Unit {0}). AreHeads main regions known ds) (AreRefusedHeads main regions known ds) (check_heads main regions known ds)
+heads_judged main regions known [] = good tt
+heads_judged main regions known (d ∷ ds) =
+    chained _ (head_judged main regions known d) (λ f h. inl h) (λ u h. mapped (heads_judged main regions (with_names d known) ds) (λ v k. (h, k)) (λ f k. inr (h, k)))
 
 functions_judged : (ds : List Declared) (tree : List Declaration) → Judges (AreFunctions ds tree) (AreRefusedFunctions ds tree) (check_functions ds tree)
 functions_judged ds [] = good refl
@@ -293,7 +294,7 @@ not_false true e = absurd (cc)
 pub judged_program : (texts : List (List ℕ)) (tree : List Declaration) → Judges (IsTypedProgram texts tree) (IsRefusedProgram texts tree) (check_of texts tree)
 judged_program texts tree =
     tested (not (is_int_program tree)) _ _ (λ e. inl (not_false (is_int_program tree) e, refl))
-    (λ i. chained _ (heads_judged (number_of texts main_text) (known_before texts) tree) (λ f h. inr (inl (not_true (is_int_program tree) i, h)))
+    (λ i. chained _ (heads_judged (number_of texts main_text) (regions_before texts) (known_before texts) tree) (λ f h. inr (inl (not_true (is_int_program tree) i, h)))
     (λ u h. tested (not (declares (number_of texts main_text) tree)) _ _ (λ e. inr (inr (inl (not_true (is_int_program tree) i, h, not_false (declares (number_of texts main_text) tree) e, refl))))
     (λ m. chained _ (functions_judged (declared texts tree) tree) (λ f k. inr (inr (inr (not_true (is_int_program tree) i, h, not_true (declares (number_of texts main_text) tree) m, k))))
     (λ fs k. good (record {

@@ -1,13 +1,12 @@
-pub mod Judged
+-- what the crates above cite
 pub mod Answered
 pub mod FlowAnswered
-pub mod FlowLemmas
 pub mod TypedTreeViewLemmas
 pub mod NumberedLemmas
+pub mod WeightLemmas
+-- what the proofs of this crate cite
+pub mod Judged
 pub mod RegionLemmas
 pub mod ClosureLemmas
 pub mod TableLemmas
 pub mod SearchLemmas
-pub mod WeightLemmas
-pub mod CodeLemmas
-pub mod FlowCodeLemmas

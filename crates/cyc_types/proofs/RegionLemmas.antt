@@ -6,7 +6,7 @@ use Rattle.std.proofs.lemmas.Bool.{eqb-true, eq-eqb}
 use Rattle.cyc_types.specs.declared.region.Region.{Region}
 use Rattle.cyc_types.specs.declared.region.Region.TheVariants.{Heap, Unique, Variable}
 use Rattle.cyc_types.specs.contracts.region.RegionPartialEq.TheImpl.{ghosts}
-use Rattle.cyc_types.specs.Regions.{region_eq, is_among}
+use Rattle.cyc_types.specs.Regions.{region_eq, is_region_among}
 
 pub region_eq-refl : (a : Region) → region_eq a a ≡ true
 region_eq-refl Heap = refl
@@ -41,6 +41,6 @@ derived-Decides a b = (
   λ e. derived-region_eq a b ∙ subst (λ z. region_eq a z ≡ true) e (region_eq-refl a),
 )
 
-pub derived-is_among : (a : Region) (regions : List Region) → list_any (λ y. ghosts.eq y a) regions ≡ is_among a regions
-derived-is_among a [] = refl
-derived-is_among a (r ∷ rs) = rw (derived-region_eq r a, derived-is_among a rs)
+pub derived-is_region_among : (a : Region) (regions : List Region) → list_any (λ y. ghosts.eq y a) regions ≡ is_region_among a regions
+derived-is_region_among a [] = refl
+derived-is_region_among a (r ∷ rs) = rw (derived-region_eq r a, derived-is_region_among a rs)

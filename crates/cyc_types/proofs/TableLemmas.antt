@@ -5,7 +5,7 @@ use Rattle.std.proofs.lemmas.Bool.{or_left, or_right, true≢false, false_from_n
 use Rattle.std.proofs.lemmas.List.{take_more, map-append}
 use Rattle.cyc_types.specs.declared.region.Region.{Region}
 use Rattle.cyc_types.specs.declared.constraints.Constraint.{Constraint}
-use Rattle.cyc_types.specs.Regions.{region_eq, is_among}
+use Rattle.cyc_types.specs.Regions.{region_eq, is_region_among}
 use Rattle.cyc_types.specs.Closure.{entry_leads, table_leads, has_entry, written_in}
 use Rattle.cyc_types.proofs.RegionLemmas.{region_eq-refl, region_eq-true}
 
@@ -58,7 +58,7 @@ open-leads (c ∷ cs) h a b =
     elim (cases_Bool (region_eq c.longer a)) [
       | inl e ↦
           let same : c.longer ≡ a = region_eq-true c.longer a e in
-          table_leads-here c cs a b same ∙ ap (λ xs. region_eq c.longer b || is_among b xs) h.0 ∙ or_false (region_eq c.longer b)
+          table_leads-here c cs a b same ∙ ap (λ xs. region_eq c.longer b || is_region_among b xs) h.0 ∙ or_false (region_eq c.longer b)
           ∙ ap (λ z. region_eq z b) same
       | inr n ↦ rw n (open-leads cs h.1 a b)
     ]
@@ -83,7 +83,7 @@ push_open cs w i d c new h e o n l m t =
 pub record EntryStep (via : Region) (below : List Region) (old new : Constraint) : Type 0 where
   pub longer : new.longer ≡ old.longer
   pub shorter : new.shorter ≡ old.shorter
-  pub leads : (b : Region) → entry_leads new b ≡ (entry_leads old b || (entry_leads old via && is_among b below))
+  pub leads : (b : Region) → entry_leads new b ≡ (entry_leads old b || (entry_leads old via && is_region_among b below))
 
 -- the first n entries have been extended
 abbrev pub SteppedTo : Region → List Region → ℕ → List Constraint → List Constraint → Type 0
@@ -147,7 +147,7 @@ has_entry-stepped via below (c ∷ cs) (k ∷ ks) a s =
 -- where a region has an entry, that was extended
 stepped-entry : (via : Region) (below : List Region) (old new : List Constraint) (a b : Region) →
     SteppedTo via below (length old) old new → has_entry old a ≡ true →
-    table_leads new a b ≡ (table_leads old a b || (table_leads old a via && is_among b below))
+    table_leads new a b ≡ (table_leads old a b || (table_leads old a via && is_region_among b below))
 stepped-entry via below [] new a b s h = cc
 stepped-entry via below (c ∷ cs) [] a b s h = absurd s
 stepped-entry via below (c ∷ cs) (k ∷ ks) a b s h =
@@ -156,20 +156,20 @@ stepped-entry via below (c ∷ cs) (k ∷ ks) a b s h =
           let same : c.longer ≡ a = region_eq-true c.longer a e in
           let l = s.0.longer in
           table_leads-here k ks a b (l ∙ same) ∙ s.0.leads b
-          ∙ ap (λ z. z || (entry_leads c via && is_among b below)) (sym (table_leads-here c cs a b same))
-          ∙ ap (λ z. table_leads (c ∷ cs) a b || (z && is_among b below)) (sym (table_leads-here c cs a via same))
+          ∙ ap (λ z. z || (entry_leads c via && is_region_among b below)) (sym (table_leads-here c cs a b same))
+          ∙ ap (λ z. table_leads (c ∷ cs) a b || (z && is_region_among b below)) (sym (table_leads-here c cs a via same))
       | inr n ↦
           let apart : c.longer ≡ a → ⊥ = λ q. true≢false (sym (eq_true_at c.longer a q) ∙ n) in
           let l = s.0.longer in
           let more : has_entry cs a ≡ true = let g : (region_eq c.longer a || has_entry cs a) ≡ true = h in rw n at g in
           table_leads-there k ks a b (λ q. apart (sym l ∙ q)) ∙ stepped-entry via below cs ks a b s.1 more
-          ∙ ap (λ z. z || (table_leads cs a via && is_among b below)) (sym (table_leads-there c cs a b apart))
-          ∙ ap (λ z. table_leads (c ∷ cs) a b || (z && is_among b below)) (sym (table_leads-there c cs a via apart))
+          ∙ ap (λ z. z || (table_leads cs a via && is_region_among b below)) (sym (table_leads-there c cs a b apart))
+          ∙ ap (λ z. table_leads (c ∷ cs) a b || (z && is_region_among b below)) (sym (table_leads-there c cs a via apart))
     ]
 
 pub stepped-leads : (via : Region) (below : List Region) (old new : List Constraint) → SteppedTo via below (length old) old new →
     has_entry old via ≡ true → (a b : Region) →
-    table_leads new a b ≡ (table_leads old a b || (table_leads old a via && is_among b below))
+    table_leads new a b ≡ (table_leads old a b || (table_leads old a via && is_region_among b below))
 stepped-leads via below old new s has a b =
     elim (cases_Bool (has_entry old a)) [
       | inl h ↦ stepped-entry via below old new a b s h
@@ -178,7 +178,7 @@ stepped-leads via below old new s has a b =
           no_entry new a b (has_entry-stepped via below old new a s ∙ n)
           ∙ sym (or_false (region_eq a b))
           ∙ ap (λ z. z || false) (sym (no_entry old a b n))
-          ∙ ap (λ z. table_leads old a b || (z && is_among b below)) (sym (no_entry old a via n ∙ apart))
+          ∙ ap (λ z. table_leads old a b || (z && is_region_among b below)) (sym (no_entry old a via n ∙ apart))
     ]
 
 -- ---- all rounds, from the last constraint to the first

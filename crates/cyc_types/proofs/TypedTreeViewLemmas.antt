@@ -5,7 +5,6 @@ use Rattle.std.specs.declared.boxed.Box.{Box}
 use Rattle.std.specs.declared.alloc.Global.{Global as Heap}
 use Rattle.cyc_types.specs.declared.ty.Ty.{Ty as TyCode}
 use Rattle.cyc_types.specs.declared.typed.Callee.{Callee}
-use Rattle.cyc_types.specs.declared.typed.Lvalue.{Lvalue as LvalueCode}
 use Rattle.cyc_types.specs.declared.typed.Expr.{Expr, Row_of-Converted, end_of-Converted, more_of-Converted, items-the_row-Converted, Row_of-Operation, end_of-Operation, more_of-Operation, items-the_row-Operation}
 use Rattle.cyc_types.specs.declared.typed.Expr.TheBlock.{hidden-the_row-Converted-0, items_hidden-the_row-Converted-0, hidden-the_row-Operation-1, items_hidden-the_row-Operation-1}
 use Rattle.cyc_types.specs.declared.typed.Expr.TheVariants as expr
@@ -17,8 +16,8 @@ use Rattle.cyc_types.specs.declared.typed.Item.TheBlock.{hidden-the_row-Item-0, 
 use Rattle.cyc_types.specs.declared.typed.Stmt.TheVariants as stmt
 use Rattle.cyc_types.specs.declared.typed.Item.{Item as ItemCode}
 use Rattle.cyc_types.specs.TypeView.{view_ty}
-use Rattle.cyc_types.specs.TypedTrees.{Call, Binary, Assign, Convert, MoreArguments, ThenCompute, ThenTest, Block, MoreItems}
-use Rattle.cyc_types.specs.TypedTreeView.{view_lvalue, view_expression, view_arguments, view_operations, view_converted, arguments_of, operations_of, view_statement, view_items, view_item, items_of}
+use Rattle.cyc_types.specs.TypedTrees.{Call, Binary, Convert, MoreArguments, ThenCompute, ThenTest, Block, MoreItems}
+use Rattle.cyc_types.specs.TypedTreeView.{view_expression, view_arguments, view_operations, arguments_of, operations_of, view_statement, view_items, view_item, items_of}
 
 view_arguments-items : {m : _} (row : Row_of-Converted m) → view_arguments row ≡ arguments_of (items-the_row-Converted m row)
 view_arguments-items end_of-Converted = refl
@@ -49,9 +48,6 @@ view_call f v t = ap (λ cs. Call f cs (option_map view_ty t)) (arguments_view v
 
 pub view_binary : (b : Box Expr Heap) (v : Vec Operation Heap) (t : TyCode) → view_expression (expr.Binary b v t) ≡ Binary (view_expression b.value) (operations_of v.items) (view_ty t)
 view_binary b v t = ap (λ os. Binary (view_expression b.value) os (view_ty t)) (operations_view v)
-
-pub view_assign : (l : LvalueCode) (b : Box ConvertedCode Heap) (t : Option TyCode) → view_expression (expr.Assign l b t) ≡ Assign (view_lvalue l) (view_converted b.value) (option_map view_ty t)
-view_assign l b t = refl
 
 pub view_block : (r : ℕ) (v : Vec ItemCode Heap) → view_statement (stmt.Block r v) ≡ Block r (items_of v.items)
 view_block r v = ap (Block r) (items_view v)

@@ -1,6 +1,7 @@
 -- The typing rules as a function: the typed tree, or the fault. `proofs/` shows that it answers exactly what the rules derive and
 -- exactly what they refuse; the checker's code computes it.
 use Rattle.std.specs.Prelude.{ℕ, Bool, true, false, not, nat_eq, ◌&&◌, if◌then◌else◌, List, [], ◌∷◌, Option, Some, None, Result, Ok, Err, length}
+use Rattle.std.specs.List.{list_any}
 use Rattle.cyc_words.specs.declared.fault.Code.TheVariants as codes
 use Rattle.cyc_words.specs.declared.fault.Fault.{Fault}
 use Rattle.cyc_syntax.specs.Names.{number_of}
@@ -15,7 +16,7 @@ use Rattle.cyc_types.specs.TypedTrees as typed
 use Rattle.cyc_types.specs.IntPart.{is_int_program}
 use Rattle.cyc_types.specs.Scopes.{Signature, Meaning, Unknown, Routine, Declared, Scope, meaning_of, is_declared, behind, in_block, in_body, with_local}
 use Rattle.cyc_types.specs.Scopes as scopes
-use Rattle.cyc_types.specs.TypingRules.{type_written, unary_operator, then_operation, name_in, members_of, is_among, is_main_head, with_names, declares, main_text, declared, known_before, body_scope, function_of, globals_of, function_number}
+use Rattle.cyc_types.specs.TypingRules.{type_written, unary_operator, then_operation, name_in, members_of, is_main_head, is_taken, with_names, declares, main_text, declared, known_before, regions_before, body_scope, function_of, globals_of, function_number}
 use Rattle.cyc_types.specs.Refusals.{fault_at, not_built, no_main}
 
 abbrev pub Checked : Type 0 → Type 0
@@ -164,18 +165,19 @@ abbrev mutual
 
 abbrev pub check_distinct : List ℕ → List Member → Checked (Unit {0})
 check_distinct known [] = Ok tt
-check_distinct known (m ∷ ms) = unless (is_among m.name.name known) (fault_at codes.DeclaredTwice m.name.place) (check_distinct (m.name.name ∷ known) ms)
+check_distinct known (m ∷ ms) = unless (list_any (nat_eq m.name.name) known) (fault_at codes.DeclaredTwice m.name.place) (check_distinct (m.name.name ∷ known) ms)
 
-abbrev pub check_head : ℕ → List ℕ → Declaration → Checked (Unit {0})
-check_head main known (StructType s rs fs) = Err not_built
-check_head main known (Exceptions cs) = Err not_built
-check_head main known (Global w x v) = unless (is_among x.name known) (fault_at codes.DeclaredTwice x.place) (unless (nat_eq x.name main) (fault_at codes.BadMain x.place) (Ok tt))
-check_head main known (Function r x ps b) =
-    unless (is_among x.name known) (fault_at codes.DeclaredTwice x.place) (unless (nat_eq x.name main && not (is_main_head r ps)) (fault_at codes.BadMain x.place) (check_distinct [] (members_of ps.list)))
+abbrev pub check_head : (main : ℕ) (regions known : List ℕ) → Declaration → Checked (Unit {0})
+check_head main regions known (StructType s rs fs) = Err not_built
+check_head main regions known (Exceptions cs) = Err not_built
+check_head main regions known (Global w x v) =
+    unless (list_any (nat_eq x.name) known) (fault_at codes.DeclaredTwice x.place) (unless (nat_eq x.name main) (fault_at codes.BadMain x.place) (Ok tt))
+check_head main regions known (Function r x ps b) =
+    unless (is_taken regions known x.name) (fault_at codes.DeclaredTwice x.place) (unless (nat_eq x.name main && not (is_main_head r ps)) (fault_at codes.BadMain x.place) (check_distinct [] (members_of ps.list)))
 
-abbrev pub check_heads : ℕ → List ℕ → List Declaration → Checked (Unit {0})
-check_heads main known [] = Ok tt
-check_heads main known (d ∷ ds) = and_then (check_head main known d) (λ u. check_heads main (with_names d known) ds)
+abbrev pub check_heads : (main : ℕ) (regions known : List ℕ) → List Declaration → Checked (Unit {0})
+check_heads main regions known [] = Ok tt
+check_heads main regions known (d ∷ ds) = and_then (check_head main regions known d) (λ u. check_heads main regions (with_names d known) ds)
 
 abbrev pub check_functions : List Declared → List Declaration → Checked (List typed.Function)
 check_functions ds [] = Ok []
@@ -192,6 +194,6 @@ program_of main tree fs = record { globals = globals_of tree; functions = fs; ma
 abbrev pub check_of : List (List ℕ) → List Declaration → Checked typed.Program
 check_of texts tree =
     unless (not (is_int_program tree)) not_built
-    (and_then (check_heads (number_of texts main_text) (known_before texts) tree)
+    (and_then (check_heads (number_of texts main_text) (regions_before texts) (known_before texts) tree)
     (λ u. unless (not (declares (number_of texts main_text) tree)) no_main
     (and_then (check_functions (declared texts tree) tree) (λ fs. Ok (program_of (number_of texts main_text) tree fs)))))

@@ -5,7 +5,7 @@ use Rattle.cyc_types.specs.declared.region.Region.{Region}
 use Rattle.cyc_types.specs.declared.region.Region.TheVariants.{Heap, Unique}
 use Rattle.cyc_types.specs.declared.scope.Scope.{Scope}
 use Rattle.cyc_types.specs.declared.constraints.Constraint.{Constraint}
-use Rattle.cyc_types.specs.Regions.{region_eq, is_among}
+use Rattle.cyc_types.specs.Regions.{region_eq, is_region_among}
 use Rattle.cyc_types.specs.Outlives.{RegionContext, live_regions, is_outlived_by_live, names_no_unique}
 
 -- whether the pairs lead from a to b: a path that uses the first pair goes to it, over it, and on from it
@@ -43,7 +43,7 @@ is_outliving c a b =
 
 -- whether an entry says that its longer-lived region outlives b
 abbrev pub entry_leads : Constraint → Region → Bool
-entry_leads c b = region_eq c.longer b || is_among b c.outlived.items
+entry_leads c b = region_eq c.longer b || is_region_among b c.outlived.items
 
 -- whether the table says that a outlives b: the first entry of a decides
 abbrev pub table_leads : List Constraint → Region → Region → Bool

@@ -1,3 +1,4 @@
+-- what the contracts of the checker, of the flow check and of later phases rest on
 pub mod Regions
 pub mod Types
 pub mod TypeView
@@ -7,14 +8,15 @@ pub mod IntPart
 pub mod Scopes
 pub mod TypingRules
 pub mod Refusals
-pub mod Checking
 pub mod FlowRules
 pub mod FlowRefusals
-pub mod FlowChecking
 pub mod Numbered
 pub mod Weight
-pub mod Codes
-pub mod RuleExamples
 pub mod Outlives
+-- what the functions inside these crates promise each other: the rules as functions, and the table of constraints
+pub mod Checking
+pub mod FlowChecking
 pub mod Closure
+-- examples
+pub mod RuleExamples
 pub mod OutlivesExamples

@@ -1,12 +1,12 @@
--- The outlives relation between the regions of a function (Grossman et al., Region-Based Memory Management in Cyclone, PLDI
--- 2002): where the first outlives the second, what points into the first may stand where a pointer into the second is wanted.
--- Which pairs the scopes add is this project's own choice.
+-- The outlives relation between the regions of a function: where the first outlives the second, what points into the first may
+-- stand where a pointer into the second is wanted. (The relation is Cyclone's; which pairs the scopes add is this project's own
+-- choice.)
 use Rattle.std.specs.Prelude.{◌≡◌, ◌≢◌, ◌⊎◌, Bool, true, false, not, ◌&&◌, List, [], ◌∷◌, ◌++◌, map, Contains}
 use Rattle.std.specs.List.{list_all}
 use Rattle.cyc_types.specs.declared.region.Region.{Region}
 use Rattle.cyc_types.specs.declared.region.Region.TheVariants.{Heap, Unique}
-use Rattle.cyc_types.specs.declared.scope.Kind.{Kind}
-use Rattle.cyc_types.specs.declared.scope.Kind.TheVariants.{Block, Lexical, Dynamic, Alias}
+use Rattle.cyc_types.specs.declared.scope.ScopeKind.{ScopeKind}
+use Rattle.cyc_types.specs.declared.scope.ScopeKind.TheVariants.{Block, Lexical, Dynamic, Alias}
 use Rattle.cyc_types.specs.declared.scope.Scope.{Scope}
 use Rattle.cyc_types.specs.Regions.{region_eq}
 
@@ -25,7 +25,7 @@ live_regions live opened = map (λ s. s.region) opened ++ live
 
 -- whether what is live when a scope opens outlives its region: an opened dynamic region and an alias block's are older than
 -- their scopes
-abbrev pub is_outlived_by_live : Kind → Bool
+abbrev pub is_outlived_by_live : ScopeKind → Bool
 is_outlived_by_live Block = true
 is_outlived_by_live Lexical = true
 is_outlived_by_live Dynamic = false

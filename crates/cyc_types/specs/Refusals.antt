@@ -3,6 +3,7 @@
 -- functions in order; statements in order; operands in order of evaluation, and before the expression that they are operands of.
 -- Where one construct breaks several rules, the lowest code counts, and of these the first. (The order is this project's own choice.)
 use Rattle.std.specs.Prelude.{◌≡◌, ◌≢◌, ℕ, true, false, not, nat_eq, ◌&&◌, ◌⊎◌, List, [], ◌∷◌, Option, Some, None, length}
+use Rattle.std.specs.List.{list_any}
 use Rattle.cyc_words.specs.declared.fault.Code.{Code}
 use Rattle.cyc_words.specs.declared.fault.Code.TheVariants as codes
 use Rattle.cyc_words.specs.declared.fault.Fault.{Fault}
@@ -16,7 +17,7 @@ use Rattle.cyc_types.specs.TypedTrees as typed
 use Rattle.cyc_types.specs.IntPart.{is_int_program}
 use Rattle.cyc_types.specs.Scopes.{Signature, Meaning, Unknown, Routine, Declared, Scope, meaning_of, is_declared, behind, in_block, in_body, with_local}
 use Rattle.cyc_types.specs.Scopes as scopes
-use Rattle.cyc_types.specs.TypingRules.{type_written, IsConverted, unary_operator, name_in, IsTyped, AreTyped, IsInitial, IsTypedStatement, AreTypedItems, members_of, is_among, is_main_head, IsHead, with_names, AreHeads, declares, main_text, declared, known_before, body_scope, IsTarget}
+use Rattle.cyc_types.specs.TypingRules.{type_written, IsConverted, unary_operator, name_in, IsTyped, AreTyped, IsInitial, IsTypedStatement, AreTypedItems, members_of, is_main_head, is_taken, IsHead, with_names, AreHeads, declares, main_text, declared, known_before, regions_before, body_scope, IsTarget}
 
 abbrev pub fault_at : Code → Place → Fault
 fault_at c p = record { code = c; line = p.line; column = p.column }
@@ -186,25 +187,25 @@ abbrev mutual
 abbrev pub IsRepeated : List ℕ → List Member → Fault → Type 0
 IsRepeated known [] f = ⊥
 IsRepeated known (m ∷ ms) f =
-    ((is_among m.name.name known ≡ true) × (f ≡ fault_at codes.DeclaredTwice m.name.place))
-    ⊎ ((is_among m.name.name known ≡ false) × IsRepeated (m.name.name ∷ known) ms f)
+    ((list_any (nat_eq m.name.name) known ≡ true) × (f ≡ fault_at codes.DeclaredTwice m.name.place))
+    ⊎ ((list_any (nat_eq m.name.name) known ≡ false) × IsRepeated (m.name.name ∷ known) ms f)
 
-abbrev pub IsRefusedHead : ℕ → List ℕ → Declaration → Fault → Type 0
-IsRefusedHead main known (StructType s rs fs) f = f ≡ not_built
-IsRefusedHead main known (Exceptions cs) f = f ≡ not_built
-IsRefusedHead main known (Global w x v) f =
-    ((is_among x.name known ≡ true) × (f ≡ fault_at codes.DeclaredTwice x.place))
-    ⊎ ((is_among x.name known ≡ false) × (nat_eq x.name main ≡ true) × (f ≡ fault_at codes.BadMain x.place))
-IsRefusedHead main known (Function r x ps b) f =
-    ((is_among x.name known ≡ true) × (f ≡ fault_at codes.DeclaredTwice x.place))
-    ⊎ ((is_among x.name known ≡ false) × (nat_eq x.name main && not (is_main_head r ps) ≡ true) × (f ≡ fault_at codes.BadMain x.place))
-    ⊎ ((is_among x.name known ≡ false) × (nat_eq x.name main && not (is_main_head r ps) ≡ false) × IsRepeated [] (members_of ps.list) f)
+abbrev pub IsRefusedHead : (main : ℕ) (regions known : List ℕ) → Declaration → Fault → Type 0
+IsRefusedHead main regions known (StructType s rs fs) f = f ≡ not_built
+IsRefusedHead main regions known (Exceptions cs) f = f ≡ not_built
+IsRefusedHead main regions known (Global w x v) f =
+    ((list_any (nat_eq x.name) known ≡ true) × (f ≡ fault_at codes.DeclaredTwice x.place))
+    ⊎ ((list_any (nat_eq x.name) known ≡ false) × (nat_eq x.name main ≡ true) × (f ≡ fault_at codes.BadMain x.place))
+IsRefusedHead main regions known (Function r x ps b) f =
+    ((is_taken regions known x.name ≡ true) × (f ≡ fault_at codes.DeclaredTwice x.place))
+    ⊎ ((is_taken regions known x.name ≡ false) × (nat_eq x.name main && not (is_main_head r ps) ≡ true) × (f ≡ fault_at codes.BadMain x.place))
+    ⊎ ((is_taken regions known x.name ≡ false) × (nat_eq x.name main && not (is_main_head r ps) ≡ false) × IsRepeated [] (members_of ps.list) f)
 
-abbrev pub AreRefusedHeads : ℕ → List ℕ → List Declaration → Fault → Type 0
-AreRefusedHeads main known [] f = ⊥
-AreRefusedHeads main known (d ∷ ds) f =
-    IsRefusedHead main known d f
-    ⊎ (IsHead main known d × AreRefusedHeads main (with_names d known) ds f)
+abbrev pub AreRefusedHeads : (main : ℕ) (regions known : List ℕ) → List Declaration → Fault → Type 0
+AreRefusedHeads main regions known [] f = ⊥
+AreRefusedHeads main regions known (d ∷ ds) f =
+    IsRefusedHead main regions known d f
+    ⊎ (IsHead main regions known d × AreRefusedHeads main regions (with_names d known) ds f)
 
 -- ---- programs
 
@@ -225,6 +226,6 @@ no_main = record { code = codes.BadMain; line = 1; column = 1 }
 abbrev pub IsRefusedProgram : List (List ℕ) → List Declaration → Fault → Type 0
 IsRefusedProgram texts tree f =
     ((is_int_program tree ≡ false) × (f ≡ not_built))
-    ⊎ ((is_int_program tree ≡ true) × AreRefusedHeads (number_of texts main_text) (known_before texts) tree f)
-    ⊎ ((is_int_program tree ≡ true) × AreHeads (number_of texts main_text) (known_before texts) tree × (declares (number_of texts main_text) tree ≡ false) × (f ≡ no_main))
-    ⊎ ((is_int_program tree ≡ true) × AreHeads (number_of texts main_text) (known_before texts) tree × (declares (number_of texts main_text) tree ≡ true) × AreRefusedFunctions (declared texts tree) tree f)
+    ⊎ ((is_int_program tree ≡ true) × AreRefusedHeads (number_of texts main_text) (regions_before texts) (known_before texts) tree f)
+    ⊎ ((is_int_program tree ≡ true) × AreHeads (number_of texts main_text) (regions_before texts) (known_before texts) tree × (declares (number_of texts main_text) tree ≡ false) × (f ≡ no_main))
+    ⊎ ((is_int_program tree ≡ true) × AreHeads (number_of texts main_text) (regions_before texts) (known_before texts) tree × (declares (number_of texts main_text) tree ≡ true) × AreRefusedFunctions (declared texts tree) tree f)

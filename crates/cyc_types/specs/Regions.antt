@@ -21,5 +21,5 @@ region_eq (Variable m) Heap = false
 region_eq (Variable m) Unique = false
 region_eq (Variable m) (Variable n) = m == n
 
-abbrev pub is_among : Region → List Region → Bool
-is_among a regions = list_any (λ r. region_eq r a) regions
+abbrev pub is_region_among : Region → List Region → Bool
+is_region_among a regions = list_any (λ r. region_eq r a) regions

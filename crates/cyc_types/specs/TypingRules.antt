@@ -1,8 +1,8 @@
 -- THE TYPING RULES, for the int language: which typed tree a tree has. The rules follow the tree: what a rule guesses stands in
 -- front of its premises. A form of the language that no rule speaks of has no typed tree yet.
--- (Names, scopes and types are those of the Cyclone manual, sections on declarations and expressions; the numbers that locals and
--- regions get are this project's own choice.)
+-- (Names, scopes and types are Cyclone's; the numbers that locals and regions get are this project's own choice.)
 use Rattle.std.specs.Prelude.{◌≡◌, ℕ, suc, ◌-◌, ◌%◌, ◌^◌, Bool, true, false, not, nat_eq, ◌&&◌, ◌||◌, if◌then◌else◌, List, [], ◌∷◌, ◌++◌, Option, Some, None, codes, length}
+use Rattle.std.specs.List.{list_any}
 use Rattle.cyc_syntax.specs.declared.tree.PrefixOperator.{PrefixOperator}
 use Rattle.cyc_syntax.specs.declared.tree.PrefixOperator.TheVariants as prefixes
 use Rattle.cyc_syntax.specs.declared.tree.BinaryOperator.{BinaryOperator}
@@ -192,25 +192,26 @@ abbrev pub types_of : List Member → List Ty
 types_of [] = []
 types_of (m ∷ ms) = type_written m.of_type ∷ types_of ms
 
-abbrev pub is_among : ℕ → List ℕ → Bool
-is_among x [] = false
-is_among x (y ∷ ys) = nat_eq x y || is_among x ys
-
 -- the names of parameters differ from each other and from those before
-abbrev pub AreDistinct : List ℕ → List Member → Type 0
-AreDistinct known [] = Unit {0}
-AreDistinct known (m ∷ ms) = (is_among m.name.name known ≡ false) × AreDistinct (m.name.name ∷ known) ms
+abbrev pub AreNewNames : List ℕ → List Member → Type 0
+AreNewNames known [] = Unit {0}
+AreNewNames known (m ∷ ms) = (list_any (nat_eq m.name.name) known ≡ false) × AreNewNames (m.name.name ∷ known) ms
 
 -- `main` is `int main()` or `int main(void)`
 abbrev pub is_main_head : Option WrittenType → Parameters → Bool
 is_main_head r ps = not (is_left_out r) && is_empty (members_of ps.list)
 
--- a declaration's head, where these names are declared before it and `main` has this number among the names
-abbrev pub IsHead : ℕ → List ℕ → Declaration → Type 0
-IsHead main known (StructType s rs fs) = ⊥
-IsHead main known (Exceptions cs) = ⊥
-IsHead main known (Global w x v) = (is_among x.name known ≡ false) × (nat_eq x.name main ≡ false)
-IsHead main known (Function r x ps b) = (is_among x.name known ≡ false) × (nat_eq x.name main && not (is_main_head r ps) ≡ false) × AreDistinct [] (members_of ps.list)
+-- A function declares its name, and a region of that name: here one of them is declared already. No global declares a region.
+abbrev pub is_taken : (regions known : List ℕ) → ℕ → Bool
+is_taken regions known x = list_any (nat_eq x) known || list_any (nat_eq x) regions
+
+-- a declaration's head, where these names are declared before it, these regions before the program, and `main` has this number
+-- among the names
+abbrev pub IsHead : (main : ℕ) (regions known : List ℕ) → Declaration → Type 0
+IsHead main regions known (StructType s rs fs) = ⊥
+IsHead main regions known (Exceptions cs) = ⊥
+IsHead main regions known (Global w x v) = (list_any (nat_eq x.name) known ≡ false) × (nat_eq x.name main ≡ false)
+IsHead main regions known (Function r x ps b) = (is_taken regions known x.name ≡ false) × (nat_eq x.name main && not (is_main_head r ps) ≡ false) × AreNewNames [] (members_of ps.list)
 
 -- the names of functions and globals that a declaration adds
 abbrev pub with_names : Declaration → List ℕ → List ℕ
@@ -219,9 +220,9 @@ with_names (Exceptions cs) known = known
 with_names (Global w x v) known = x.name ∷ known
 with_names (Function r x ps b) known = x.name ∷ known
 
-abbrev pub AreHeads : ℕ → List ℕ → List Declaration → Type 0
-AreHeads main known [] = Unit {0}
-AreHeads main known (d ∷ ds) = IsHead main known d × AreHeads main (with_names d known) ds
+abbrev pub AreHeads : (main : ℕ) (regions known : List ℕ) → List Declaration → Type 0
+AreHeads main regions known [] = Unit {0}
+AreHeads main regions known (d ∷ ds) = IsHead main regions known d × AreHeads main regions (with_names d known) ds
 
 -- a function or a global of this name is declared
 abbrev pub declares : ℕ → List Declaration → Bool
@@ -252,6 +253,13 @@ getchar_text = codes "getchar"
 abbrev pub main_text : List ℕ
 main_text = codes "main"
 
+-- and of the regions: that of the heap, and that of unique pointers
+abbrev pub heap_text : List ℕ
+heap_text = codes "H"
+
+abbrev pub unique_text : List ℕ
+unique_text = codes "U"
+
 -- `int putchar(int)` and `int getchar()`
 abbrev pub putchar_declared : List (List ℕ) → Declared
 putchar_declared texts = record { name = number_of texts putchar_text; meaning = Routine callees.Putchar (record { parameters = Int ∷ []; result = Some Int }) }
@@ -265,6 +273,9 @@ declared texts tree = putchar_declared texts ∷ getchar_declared texts ∷ decl
 
 abbrev pub known_before : List (List ℕ) → List ℕ
 known_before texts = number_of texts putchar_text ∷ number_of texts getchar_text ∷ []
+
+abbrev pub regions_before : List (List ℕ) → List ℕ
+regions_before texts = number_of texts heap_text ∷ number_of texts unique_text ∷ []
 
 -- ---- bodies of functions
 
@@ -351,7 +362,7 @@ function_number main (Function r x ps b ∷ tree) = if nat_eq x.name main then 0
 -- The program is well typed, and this is its typed tree; its names have the numbers of their texts in the list.
 pub record IsTypedProgram (texts : List (List ℕ)) (tree : List Declaration) (p : typed.Program) : Type 0 where
   pub int_part : is_int_program tree ≡ true
-  pub heads : AreHeads (number_of texts main_text) (known_before texts) tree
+  pub heads : AreHeads (number_of texts main_text) (regions_before texts) (known_before texts) tree
   pub has_main : declares (number_of texts main_text) tree ≡ true
   pub functions : AreFunctions (declared texts tree) tree p.functions
   pub globals : p.globals ≡ globals_of tree

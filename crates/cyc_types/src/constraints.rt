@@ -1,7 +1,7 @@
 //! The outlives constraints of a function, closed under transitivity once and for all.
 ghost use Rattle.std.specs.Prelude.{◌≡◌, ◌||◌, ◌&&◌, [], IfOk, OnOk, MatchOption, IfSome, IsTrue};
 ghost use Rattle.cyc_types.specs.declared.region.Region.{Region};
-ghost use Rattle.cyc_types.specs.Regions.{region_eq, is_among};
+ghost use Rattle.cyc_types.specs.Regions.{region_eq, is_region_among};
 ghost use Rattle.cyc_types.specs.Closure.{above, entry_leads, table_leads, written_in, IsClosed, has_entry};
 
 use crate::Region;
@@ -16,8 +16,8 @@ pub struct Constraint {
 }
 
 /// Whether the list has the region.
-pub(crate) fn is_among(region: Region, regions: &[Region]) -> bool
-    ensures { result ≡ is_among region regions.now }
+pub(crate) fn is_region_among(region: Region, regions: &[Region]) -> bool
+    ensures { result ≡ is_region_among region regions.now }
 {
     regions.contains(&region)
 }
@@ -40,7 +40,7 @@ impl Constraint {
     fn leads_to(&self, region: Region) -> bool
         ensures { result ≡ entry_leads self.now region }
     {
-        self.longer == region || is_among(region, &self.outlived)
+        self.longer == region || is_region_among(region, &self.outlived)
     }
 
     /// Adds one region to those that the longer-lived one outlives.
@@ -59,7 +59,7 @@ impl Constraint {
     fn extend(&mut self, via: Region, below: &[Region]) -> Result<(), AllocError>
         ensures longer { OnOk result (self.new.longer ≡ self.old.longer) }
         ensures shorter { OnOk result (self.new.shorter ≡ self.old.shorter) }
-        ensures leads { OnOk result ((b : Region) → entry_leads self.new b ≡ (entry_leads self.old b || (entry_leads self.old via && is_among b below.now))) }
+        ensures leads { OnOk result ((b : Region) → entry_leads self.new b ≡ (entry_leads self.old b || (entry_leads self.old via && is_region_among b below.now))) }
     {
         if self.leads_to(via) {
             for region in below {
@@ -99,7 +99,7 @@ fn all_below(
     constraints: &[Constraint],
     region: Region,
 ) -> Result<Vec<Region>, AllocError>
-    ensures { IfOk result (λ below. (b : Region) → is_among b below.items ≡ table_leads constraints.now region b) }
+    ensures { IfOk result (λ below. (b : Region) → is_region_among b below.items ≡ table_leads constraints.now region b) }
 {
     let mut below = match entry_of(constraints, region) {
         Some(constraint) => Vec::from_slice(alloc, &constraint.outlived)?,
@@ -117,7 +117,7 @@ fn extend_all(
 ) -> Result<(), AllocError>
     requires { IsTrue (has_entry constraints.old via) }
     ensures written { OnOk result (written_in constraints.new ≡ written_in constraints.old) }
-    ensures leads { OnOk result ((a b : Region) → table_leads constraints.new a b ≡ (table_leads constraints.old a b || (table_leads constraints.old a via && is_among b below.now))) }
+    ensures leads { OnOk result ((a b : Region) → table_leads constraints.new a b ≡ (table_leads constraints.old a b || (table_leads constraints.old a via && is_region_among b below.now))) }
 {
     for constraint in constraints.iter_mut() {
         constraint.extend(via, below)?;

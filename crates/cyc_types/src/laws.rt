@@ -12,7 +12,6 @@ ghost use Rattle.cyc_types.specs.FlowRefusals.{IsStoppedProgram};
 ghost use Rattle.cyc_types.specs.FlowChecking.{flow_of};
 ghost use Rattle.cyc_types.specs.Numbered.{IsNumberedProgram};
 ghost use Rattle.cyc_types.specs.Weight.{else_weight, statement_weight, function_weight, program_weight};
-ghost use Rattle.cyc_types.specs.Codes.{is_typing_code, is_flow_code};
 
 /// The typing rules leave no choice: a tree has at most one typed tree.
 pub fn one_typed_tree()
@@ -75,14 +74,4 @@ pub fn programs_outweigh_their_parts()
 /// A function weighs at least two tokens for each parameter, three for each local that it declares, and two for each region.
 pub fn functions_outweigh_their_locals()
     ensures { (texts : List (List ℕ)) (tree : List Declaration) (p : Program) (n : ℕ) (h : Function) → IsTypedProgram texts tree p → slice_get p.functions n ≡ Some h → 2 * length h.parameters + 3 * length h.locals + 2 * h.regions + 4 ≤ function_weight h }
-{}
-
-/// The typing rules refuse for an unknown name, one declared twice, a type, a left side that is no place, `main`, a `break` or `continue` outside a loop, or what is not built.
-pub fn typing_refuses_for_few_reasons()
-    ensures { (texts : List (List ℕ)) (tree : List Declaration) (f : Fault) → IsRefusedProgram texts tree f → is_typing_code f.code ≡ true }
-{}
-
-/// A typed tree breaks a flow rule for an empty variable or a missing result alone: no local is ever locked, and no loop empties one.
-pub fn flow_refuses_for_two_reasons()
-    ensures { (texts : List (List ℕ)) (tree : List Declaration) (p : Program) (f : Fault) → IsTypedProgram texts tree p → IsStoppedProgram p f → is_flow_code f.code ≡ true }
 {}

@@ -3,7 +3,7 @@
 
 pub use outlives::Outlives;
 pub use region::Region;
-pub use scope::{Kind, Scope};
+pub use scope::{Scope, ScopeKind};
 pub use ty::Ty;
 pub use typed::TypedTree;
 

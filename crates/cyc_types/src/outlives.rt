@@ -7,7 +7,7 @@ ghost use Rattle.cyc_types.specs.Closure.{IsClosed, above, above_one_of, above_o
 
 use crate::Region;
 use crate::constraints::{Constraint, closed, table_leads};
-use crate::scope::{Kind, Scope, is_outlived_by_live};
+use crate::scope::{Scope, ScopeKind, is_outlived_by_live};
 use std::alloc::{AllocError, Global};
 use std::marker::Model;
 
@@ -64,7 +64,7 @@ impl Outlives {
 
     /// Opens a scope. Its region, which is not the unique one, is live until the scope is closed. It may be a region that the
     /// constraints name or that is live already, as the region of a key is.
-    pub fn open_scope(&mut self, region: Region, kind: Kind) -> Result<(), AllocError>
+    pub fn open_scope(&mut self, region: Region, kind: ScopeKind) -> Result<(), AllocError>
         requires { region ≢ Region.Unique }
         ensures opened { OnOk result (self.new ≡ record self.old { opened = record { region = region; kind = kind } ∷ self.old.opened }) }
         ensures unchanged { OnErr result (self.new ≡ self.old) }

@@ -1,41 +1,33 @@
-use Rattle.std.proofs.Common.{◌≡◌, map, Err, inr}
+use Rattle.std.proofs.Common.{◌≡◌, ◌⊎◌, ℕ, List, map, Ok, Err, inl, inr, refl}
+use Rattle.std.proofs.lemmas.Result.{err_from_is_err_and}
+use Rattle.cyc_words.specs.Fault.{memory_fault}
+use Rattle.cyc_words.proofs.Decisions.{decides_by_view}
+use Rattle.cyc_syntax.specs.Trees.{Declaration}
 use Rattle.cyc_syntax.specs.TreeView.{view_declaration}
 use Rattle.cyc_types.specs.TypedTreeView.{view_program}
+use Rattle.cyc_types.specs.Refusals.{IsRefusedProgram}
 use Rattle.cyc_types.specs.Checking.{check_of}
-use Rattle.cyc_types.proofs.Answered.{answers_typed, answers_fault, one_typed_tree, one_fault, typed_or_refused}
+use Rattle.cyc_types.proofs.Answered.{answers_typed, answers_fault, typing_is_decided}
+use Rattle.cyc_check.specs.declared.stop.Stop.{Stop}
+use Rattle.cyc_check.specs.declared.stop.Stop.TheVariants as stops
+use Rattle.cyc_check.specs.Code.{fault_of, Stops}
 use Rattle.cyc_check.proofs.tree.check.Goals as goal
-use Rattle.cyc_check.proofs.tree.check.Goals.{In-Err-Refused}
 
-pub returns-in-Ok-clause-accepted : goal.returns-in-Ok-clause-accepted
-returns-in-Ok-clause-accepted c = answers_typed c.args.tree.now.names (map view_declaration c.args.tree.now.declarations.items) (view_program c.in-Ok.typed) c.in-Ok.ensures
+fails : (texts : List (List ℕ)) (tree : List Declaration) (e : Stop) → Stops e (check_of texts tree) → (fault_of e ≡ memory_fault) ⊎ IsRefusedProgram texts tree (fault_of e)
+fails texts tree stops.Memory h = inl refl
+fails texts tree (stops.Refused f) h = inr (answers_fault texts tree f h)
 
-pub returns-in-Ok-clause-accepts : goal.returns-in-Ok-clause-accepts
-returns-in-Ok-clause-accepts c = λ program typed.
+pub returns-in_err-typed_tree : goal.returns-in_err-typed_tree
+returns-in_err-typed_tree c =
     let texts = c.args.tree.now.names in
     let tree = map view_declaration c.args.tree.now.declarations.items in
-    one_typed_tree texts tree (view_program c.in-Ok.typed) program (answers_typed texts tree (view_program c.in-Ok.typed) c.in-Ok.ensures) typed
+    let e = c.in_err-typed_tree.field-0.0 in
+    let p = err_from_is_err_and c.from_residual.result c.from_residual.ensures.1 in
+    record { decides = rw (p.1, p.2) (decides_by_view view_program _ _ _ (typing_is_decided texts tree) (Err (fault_of e)) tt (fails texts tree e c.in_err-typed_tree.ensures)) }
 
-pub returns-in-Ok-clause-refuses : goal.returns-in-Ok-clause-refuses
-returns-in-Ok-clause-refuses c = λ fault refused.
+pub returns : goal.returns
+returns c =
     let texts = c.args.tree.now.names in
     let tree = map view_declaration c.args.tree.now.declarations.items in
-    typed_or_refused texts tree (view_program c.in-Ok.typed) fault (answers_typed texts tree (view_program c.in-Ok.typed) c.in-Ok.ensures) refused
-
--- the checking function refuses with this fault
-refuses : (c : In-Err-Refused) → check_of c.args.tree.now.names (map view_declaration c.args.tree.now.declarations.items) ≡ Err c.in-Err-Refused.fault
-refuses c = rw c.in-Err-Refused.field-0-is at c.in-Err-Refused.ensures
-
-pub returns-in-Err-Refused-clause-refused : goal.returns-in-Err-Refused-clause-refused
-returns-in-Err-Refused-clause-refused c = inr (answers_fault c.args.tree.now.names (map view_declaration c.args.tree.now.declarations.items) c.in-Err-Refused.fault (refuses c))
-
-pub returns-in-Err-Refused-clause-accepts : goal.returns-in-Err-Refused-clause-accepts
-returns-in-Err-Refused-clause-accepts c = λ program typed.
-    let texts = c.args.tree.now.names in
-    let tree = map view_declaration c.args.tree.now.declarations.items in
-    absurd (typed_or_refused texts tree program c.in-Err-Refused.fault typed (answers_fault texts tree c.in-Err-Refused.fault (refuses c)))
-
-pub returns-in-Err-Refused-clause-refuses : goal.returns-in-Err-Refused-clause-refuses
-returns-in-Err-Refused-clause-refuses c = λ fault refused.
-    let texts = c.args.tree.now.names in
-    let tree = map view_declaration c.args.tree.now.declarations.items in
-    inr (one_fault texts tree c.in-Err-Refused.fault fault (answers_fault texts tree c.in-Err-Refused.fault (refuses c)) refused)
+    let typed = c.in_ok-typed_tree.field-0 in
+    record { decides = decides_by_view view_program _ _ _ (typing_is_decided texts tree) (Ok typed) (answers_typed texts tree (view_program typed) c.in_ok-typed_tree.ensures) tt }

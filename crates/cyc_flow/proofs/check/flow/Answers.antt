@@ -1,43 +1,37 @@
-use Rattle.std.proofs.Common.{◌≡◌, List, map, Ok, Err, inr, refl, sym, ap, ◌∙◌}
+use Rattle.std.proofs.Common.{◌≡◌, ◌⊎◌, List, map, Ok, Err, inl, inr, refl, sym, ap, ◌∙◌}
+use Rattle.std.proofs.lemmas.Result.{err_from_is_err_and}
+use Rattle.cyc_words.specs.Fault.{memory_fault}
+use Rattle.cyc_words.proofs.Decisions.{decides}
 use Rattle.cyc_types.specs.declared.typed.Function.{Function}
 use Rattle.cyc_types.specs.declared.typed.TypedTree.{TypedTree}
 use Rattle.cyc_types.specs.TypedTreeView.{view_function, view_program}
-use Rattle.cyc_types.specs.FlowChecking.{Kept, keep_functions, flow_of}
-use Rattle.cyc_types.proofs.FlowAnswered.{answers_allowed, answers_stopped, allowed_or_stopped, one_flow_fault}
+use Rattle.cyc_types.specs.FlowRules.{IsAllowedProgram}
+use Rattle.cyc_types.specs.FlowRefusals.{IsStoppedProgram}
+use Rattle.cyc_types.specs.FlowChecking.{keep_functions}
+use Rattle.cyc_types.proofs.FlowAnswered.{answers_allowed, answers_stopped, flow_is_decided}
+use Rattle.cyc_flow.specs.declared.check.Flowed.{Flowed}
+use Rattle.cyc_flow.specs.declared.stop.Stop.{Stop}
+use Rattle.cyc_flow.specs.declared.stop.Stop.TheVariants as stops
+use Rattle.cyc_flow.specs.Code.{fault_of, Stops}
 use Rattle.cyc_flow.proofs.check.flow.Goals as goal
 
 -- what is said of the functions is said of the program
-of_program : (t : TypedTree) (fs : List Function) (o : Kept) → fs ≡ t.functions.items → keep_functions (map view_function fs) ≡ o → flow_of (view_program t) ≡ o
-of_program t fs o same h = ap (λ (gs : List Function). keep_functions (map view_function gs)) (sym same) ∙ h
+allows : (t : TypedTree) (fs : List Function) → fs ≡ t.functions.items → keep_functions (map view_function fs) ≡ Ok tt → IsAllowedProgram (view_program t)
+allows t fs same h = answers_allowed (view_program t) (ap (λ (gs : List Function). keep_functions (map view_function gs)) (sym same) ∙ h)
+
+fails : (t : TypedTree) (fs : List Function) (e : Stop) → fs ≡ t.functions.items → Stops e (keep_functions (map view_function fs)) → (fault_of e ≡ memory_fault) ⊎ IsStoppedProgram (view_program t) (fault_of e)
+fails t fs stops.Memory same h = inl refl
+fails t fs (stops.Refused x) same h = inr (answers_stopped (view_program t) x (ap (λ (gs : List Function). keep_functions (map view_function gs)) (sym same) ∙ h))
 
 pub invariant_of-result : goal.invariant_of-result
-invariant_of-result c =
-    let kept = of_program c.args.tree c.deref.result.now (Ok tt) c.deref.ensures.value c.in-Ok.ensures in
-    record { allowed = ∣ answers_allowed (view_program c.args.tree) kept ∣₁ }
+invariant_of-result c = record { allowed = ∣ allows c.args.tree c.deref.result.now c.deref.ensures.value c.in_ok-check_functions.ensures ∣₁ }
 
-pub returns-in-Ok-clause-accepted : goal.returns-in-Ok-clause-accepted
-returns-in-Ok-clause-accepted c =
-    let kept = of_program c.args.tree c.deref.result.now (Ok tt) c.deref.ensures.value c.in-Ok.ensures in
-    (refl, answers_allowed (view_program c.args.tree) kept)
+pub returns-in_err-check_functions : goal.returns-in_err-check_functions
+returns-in_err-check_functions c =
+    let e = c.in_err-check_functions.field-0.0 in
+    let p = err_from_is_err_and c.from_residual.result c.from_residual.ensures.1 in
+    record { decides = rw (p.1, p.2) (decides {X = Flowed} _ _ _ _ (flow_is_decided (view_program c.args.tree)) (Err (fault_of e)) tt (fails c.args.tree c.deref.result.now e c.deref.ensures.value c.in_err-check_functions.ensures)) }
 
-pub returns-in-Ok-clause-refuses : goal.returns-in-Ok-clause-refuses
-returns-in-Ok-clause-refuses c = λ fault stopped.
-    let kept = of_program c.args.tree c.deref.result.now (Ok tt) c.deref.ensures.value c.in-Ok.ensures in
-    allowed_or_stopped (view_program c.args.tree) fault (answers_allowed (view_program c.args.tree) kept) stopped
-
-pub returns-clause-refused : goal.returns-clause-refused
-returns-clause-refused c =
-    let h : keep_functions (map view_function c.deref.result.now) ≡ Err c.in-Err-Refused.fault = rw c.in-Err-Refused.field-0-is at c.in-Err-Refused.ensures in
-    inr (answers_stopped (view_program c.args.tree) c.in-Err-Refused.fault (of_program c.args.tree c.deref.result.now (Err c.in-Err-Refused.fault) c.deref.ensures.value h))
-
-pub returns-clause-accepts : goal.returns-clause-accepts
-returns-clause-accepts c = λ allowed.
-    let h : keep_functions (map view_function c.deref.result.now) ≡ Err c.in-Err-Refused.fault = rw c.in-Err-Refused.field-0-is at c.in-Err-Refused.ensures in
-    let stopped = answers_stopped (view_program c.args.tree) c.in-Err-Refused.fault (of_program c.args.tree c.deref.result.now (Err c.in-Err-Refused.fault) c.deref.ensures.value h) in
-    absurd (allowed_or_stopped (view_program c.args.tree) c.in-Err-Refused.fault allowed stopped)
-
-pub returns-clause-refuses : goal.returns-clause-refuses
-returns-clause-refuses c = λ fault stops.
-    let h : keep_functions (map view_function c.deref.result.now) ≡ Err c.in-Err-Refused.fault = rw c.in-Err-Refused.field-0-is at c.in-Err-Refused.ensures in
-    let stopped = answers_stopped (view_program c.args.tree) c.in-Err-Refused.fault (of_program c.args.tree c.deref.result.now (Err c.in-Err-Refused.fault) c.deref.ensures.value h) in
-    inr (one_flow_fault (view_program c.args.tree) c.in-Err-Refused.fault fault stopped stops)
+pub returns : goal.returns
+returns c =
+    record { decides = decides {X = Flowed} _ _ _ _ (flow_is_decided (view_program c.args.tree)) (Ok _) (tt, allows c.args.tree c.deref.result.now c.deref.ensures.value c.in_ok-check_functions.ensures, refl) tt }

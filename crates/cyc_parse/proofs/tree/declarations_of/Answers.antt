@@ -6,5 +6,5 @@ use Rattle.cyc_parse.proofs.tree.declarations_of.Goals as goal
 
 pub returns-in-Err-Refused-clause-refused : goal.returns-in-Err-Refused-clause-refused
 returns-in-Err-Refused-clause-refused c =
-    let stopped = subst (λ (e : Stop). Stops e (whole_program c.new-parser.result) c.whole_program.new.self) c.in-Err-Refused.field-0-is c.in-Err-Refused.ensures in
-    inr (record { refusal = record { reason = view_reason c.in-Err-Refused.reason; left = c.whole_program.new.self }; refused = ap whole_program (sym c.new-parser.ensures) ∙ stopped; is = c.fault.ensures })
+    let stopped = subst (λ (e : Stop). Stops e (whole_program c.new-parser.result) c.parse_whole_program.new.self) c.in-Err-Refused.field-0-is c.in-Err-Refused.ensures in
+    inr (record { refusal = record { reason = view_reason c.in-Err-Refused.reason; left = c.parse_whole_program.new.self }; refused = ap whole_program (sym c.new-parser.ensures) ∙ stopped; is = c.fault.ensures })

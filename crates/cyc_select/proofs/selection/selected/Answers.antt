@@ -1,7 +1,6 @@
 use Rattle.std.proofs.Common.{◌≡◌, ℕ, ◌<◌, List, ◌++◌, length, ap, ◌∙◌, arith}
 use Rattle.std.specs.Prelude.{slice_index_or}
-use Rattle.std.proofs.lemmas.List.{length-map}
-use Rattle.cyc_plain.specs.Program.{program_of, routine_of}
+use Rattle.cyc_plain.specs.Program.{program_of}
 use Rattle.cyc_select.specs.declared.constants.TheConstants.{START_LINES}
 use Rattle.cyc_select.specs.Selection.{start_code, function_line, function_lines}
 use Rattle.cyc_select.specs.declared.code.Line.{Line}

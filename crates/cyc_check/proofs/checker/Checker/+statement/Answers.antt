@@ -19,20 +19,20 @@ use Rattle.cyc_check.proofs.Walks.{Walked, walk_goes_on, walk_fails, walk_gives}
 use Rattle.cyc_check.proofs.Nested.{stops_within, otherwise_stops}
 use Rattle.cyc_check.proofs.checker.Checker.+statement.Goals as goal
 
-pub block-returns-in_err-items-clause-gives : goal.block-returns-in_err-items-clause-gives
-block-returns-in_err-items-clause-gives t c =
+pub check_block-returns-in_err-items-clause-gives : goal.check_block-returns-in_err-items-clause-gives
+check_block-returns-in_err-items-clause-gives t c =
     let next : c.in-Some.next ≡ suc c.args.self.now.next_region = omega (arith, c.in-Some.ensures.1) in
     let p = err_from_is_err_and c.from_residual.result c.from_residual.ensures.1 in
     rw (p.1, p.2)
     (stops_within c.in_err-items.field-0.0 (check_items (scope_of (in_block c.args.self.now)) (items_of c.args.items.now)) (λ js. Ok (nodes.Block c.args.self.now.next_region js))
     (subst (λ (k : ℕ). Stops c.in_err-items.field-0.0 (check_items (scope_of (record (in_block c.args.self.now) { next_region = k })) (items_of c.args.items.now))) next c.in_err-items.ensures.gives))
 
-pub item-returns-in-Local-clause-gives : goal.item-returns-in-Local-clause-gives
-item-returns-in-Local-clause-gives t c =
-    subst (λ i. Gives typed_view.view_item c.local.result (one_item i (scope_of c.args.self.now))) (sym (ap view_item c.in-Local.is)) c.local.ensures.gives
+pub check_item-returns-in-Local-clause-gives : goal.check_item-returns-in-Local-clause-gives
+check_item-returns-in-Local-clause-gives t c =
+    subst (λ i. Gives typed_view.view_item c.declare_local.result (one_item i (scope_of c.args.self.now))) (sym (ap view_item c.in-Local.is)) c.declare_local.ensures.gives
 
-pub items-returns-in_err-item-clause-gives : goal.items-returns-in_err-item-clause-gives
-items-returns-in_err-item-clause-gives t c =
+pub check_items-returns-in_err-item-clause-gives : goal.check_items-returns-in_err-item-clause-gives
+check_items-returns-in_err-item-clause-gives t c =
     let there : get_or c.args.items.now c.loop-item.item-index c.item-item.result ≡ c.item-item.result = search rules in
     let is : drop c.loop-item.item-index c.args.items.now ≡ c.item-item.result ∷ drop (c.loop-item.item-index + 1) c.args.items.now =
     drop_more c.args.items.now c.loop-item.item-index c.item-item.result c.loop-item-test.true ∙ ap (λ x. x ∷ drop (c.loop-item.item-index + 1) c.args.items.now) there in
@@ -41,8 +41,8 @@ items-returns-in_err-item-clause-gives t c =
     (walk_fails c.in_err-item.field-0.0 c.args.self.now c.loop-item.self c.loop-item.all.items (view_item c.item-item.result) (items_of (drop (c.loop-item.item-index + 1) c.args.items.now)) (items_of c.args.items.now)
     (subst (λ xs. Walked c.args.self.now c.loop-item.self c.loop-item.all.items (items_of xs) (items_of c.args.items.now)) is c.loop-item.invariant) c.in_err-item.ensures.gives)
 
-pub items-loop-item-preserved : goal.items-loop-item-preserved
-items-loop-item-preserved t c =
+pub check_items-loop-item-preserved : goal.check_items-loop-item-preserved
+check_items-loop-item-preserved t c =
     let there : get_or c.args.items.now c.loop-item.item-index c.item-item.result ≡ c.item-item.result = search rules in
     let is : drop c.loop-item.item-index c.args.items.now ≡ c.item-item.result ∷ drop (c.loop-item.item-index + 1) c.args.items.now =
     drop_more c.args.items.now c.loop-item.item-index c.item-item.result c.loop-item-test.true ∙ ap (λ x. x ∷ drop (c.loop-item.item-index + 1) c.args.items.now) there in
@@ -50,14 +50,14 @@ items-loop-item-preserved t c =
     (walk_goes_on c.args.self.now c.loop-item.self c.loop-item.all.items (view_item c.item-item.result) (items_of (drop (c.loop-item.item-index + 1) c.args.items.now)) (items_of c.args.items.now) c.in_ok-item.item
     (subst (λ xs. Walked c.args.self.now c.loop-item.self c.loop-item.all.items (items_of xs) (items_of c.args.items.now)) is c.loop-item.invariant) c.in_ok-item.ensures.gives)
 
-pub items-returns-clause-gives : goal.items-returns-clause-gives
-items-returns-clause-gives t c =
+pub check_items-returns-clause-gives : goal.check_items-returns-clause-gives
+check_items-returns-clause-gives t c =
     let le : length c.args.items.now ≤ c.loop-item.item-index = search rules in
     walk_gives c.args.self.now c.loop-item.self c.loop-item.all.items (items_of c.args.items.now)
     (subst (λ xs. Walked c.args.self.now c.loop-item.self c.loop-item.all.items (items_of xs) (items_of c.args.items.now)) (drop_all c.args.items.now c.loop-item.item-index le) c.loop-item.invariant)
 
-pub statement-returns-in_err-otherwise-in-If-default-default-default-Some-clause-gives : goal.statement-returns-in_err-otherwise-in-If-default-default-default-Some-clause-gives
-statement-returns-in_err-otherwise-in-If-default-default-default-Some-clause-gives t c =
+pub check_statement-returns-in_err-otherwise-in-If-default-default-default-Some-clause-gives : goal.check_statement-returns-in_err-otherwise-in-If-default-default-default-Some-clause-gives
+check_statement-returns-in_err-otherwise-in-If-default-default-default-Some-clause-gives t c =
     let taken = rw c.in-If-default-default-default-Some.is at c.in-If-default-default-default-Some.otherwise-is in
     let held : c.in-If-default-default-default-Some.otherwise' ≡ Some c.in-If-default-default-default-Some.otherwise = sym (ap (λ (v : ValuesAt enum.parts 5). v.1.1.1.0) (values_d_at enum 5 _ (c.in-If-default-default-default-Some.span, (c.in-If-default-default-default-Some.condition, (c.in-If-default-default-default-Some.then, (c.in-If-default-default-default-Some.otherwise', tt)))))) ∙ taken in
     let other = rw c.in-If-default-default-default-Some.otherwise-is at c.deref-in-If-default-default-default-Some-2.ensures in
@@ -73,14 +73,14 @@ statement-returns-in_err-otherwise-in-If-default-default-default-Some-clause-giv
     c.in_ok-condition-in-If-default-default-default-Some.ensures c.in_ok-then-in-If-default-default-default-Some.ensures.gives
     (subst (λ (k : Checker). Stops e (check_statement (scope_of k) (view_statement c.deref-in-If-default-default-default-Some-2.result.now))) c.in_ok-then-in-If-default-default-default-Some.ensures.behind c.in_err-otherwise-in-If-default-default-default-Some.ensures.gives)))
 
-pub statement-returns-in-Block-clause-gives : goal.statement-returns-in-Block-clause-gives
-statement-returns-in-Block-clause-gives t c =
-    subst (λ s. Gives typed_view.view_statement c.block.result (check_statement (scope_of c.args.self.now) s))
+pub check_statement-returns-in-Block-clause-gives : goal.check_statement-returns-in-Block-clause-gives
+check_statement-returns-in-Block-clause-gives t c =
+    subst (λ s. Gives typed_view.view_statement c.check_block.result (check_statement (scope_of c.args.self.now) s))
     (sym (ap view_statement c.in-Block.is ∙ view_statement_block c.in-Block.block))
-    (subst (λ is. Gives typed_view.view_statement c.block.result (and_then (check_items (scope_of (in_block c.args.self.now)) (items_of is)) (λ js. Ok (nodes.Block c.args.self.now.next_region js)))) c.deref.ensures.value c.block.ensures.gives)
+    (subst (λ is. Gives typed_view.view_statement c.check_block.result (and_then (check_items (scope_of (in_block c.args.self.now)) (items_of is)) (λ js. Ok (nodes.Block c.args.self.now.next_region js)))) c.deref.ensures.value c.check_block.ensures.gives)
 
-pub statement-returns-in-Block-clause-behind : goal.statement-returns-in-Block-clause-behind
-statement-returns-in-Block-clause-behind t c =
-    subst (λ s. OnOk c.block.result (c.block.new.self ≡ behind_statement c.args.self.now s))
+pub check_statement-returns-in-Block-clause-behind : goal.check_statement-returns-in-Block-clause-behind
+check_statement-returns-in-Block-clause-behind t c =
+    subst (λ s. OnOk c.check_block.result (c.check_block.new.self ≡ behind_statement c.args.self.now s))
     (sym (ap view_statement c.in-Block.is ∙ view_statement_block c.in-Block.block))
-    (subst (λ is. OnOk c.block.result (c.block.new.self ≡ behind_block c.args.self.now (items_of is))) c.deref.ensures.value c.block.ensures.behind)
+    (subst (λ is. OnOk c.check_block.result (c.check_block.new.self ≡ behind_block c.args.self.now (items_of is))) c.deref.ensures.value c.check_block.ensures.behind)

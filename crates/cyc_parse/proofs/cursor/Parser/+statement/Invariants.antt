@@ -6,56 +6,56 @@ use Rattle.cyc_parse.specs.StatementSteps.{then_clause}
 use Rattle.cyc_parse.proofs.Loops.{with_front}
 use Rattle.cyc_parse.proofs.cursor.Parser.+statement.Given as goal
 
-abbrev pub decreases-statement : goal.decreases-statement
-decreases-statement l = 16 * l.room
+abbrev pub decreases-parse_statement : goal.decreases-parse_statement
+decreases-parse_statement l = 16 * l.room
 
-abbrev pub decreases-items : goal.decreases-items
-decreases-items l = 16 * l.room
+abbrev pub decreases-parse_items : goal.decreases-parse_items
+decreases-parse_items l = 16 * l.room
 
-abbrev pub decreases-body : goal.decreases-body
-decreases-body l = 16 * l.room + 1
+abbrev pub decreases-parse_block : goal.decreases-parse_block
+decreases-parse_block l = 16 * l.room + 1
 
-abbrev pub decreases-statement_from_name : goal.decreases-statement_from_name
-decreases-statement_from_name l = 16 * l.room + 2
+abbrev pub decreases-parse_statement_from_name : goal.decreases-parse_statement_from_name
+decreases-parse_statement_from_name l = 16 * l.room + 2
 
-abbrev pub decreases-else_part : goal.decreases-else_part
-decreases-else_part l = 16 * l.room + 1
+abbrev pub decreases-parse_else_part : goal.decreases-parse_else_part
+decreases-parse_else_part l = 16 * l.room + 1
 
-abbrev pub decreases-if_statement : goal.decreases-if_statement
-decreases-if_statement l = 16 * l.room + 2
+abbrev pub decreases-parse_if : goal.decreases-parse_if
+decreases-parse_if l = 16 * l.room + 2
 
-abbrev pub decreases-while_statement : goal.decreases-while_statement
-decreases-while_statement l = 16 * l.room + 1
+abbrev pub decreases-parse_while : goal.decreases-parse_while
+decreases-parse_while l = 16 * l.room + 1
 
-abbrev pub decreases-clause : goal.decreases-clause
-decreases-clause l = 16 * l.room + 1
+abbrev pub decreases-parse_clause : goal.decreases-parse_clause
+decreases-parse_clause l = 16 * l.room + 1
 
-abbrev pub decreases-default_clause : goal.decreases-default_clause
-decreases-default_clause l = 16 * l.room + 1
+abbrev pub decreases-parse_default_clause : goal.decreases-parse_default_clause
+decreases-parse_default_clause l = 16 * l.room + 1
 
-abbrev pub decreases-handlers : goal.decreases-handlers
-decreases-handlers l = 16 * l.room + 2
+abbrev pub decreases-parse_handlers : goal.decreases-parse_handlers
+decreases-parse_handlers l = 16 * l.room + 2
 
-abbrev pub decreases-clauses : goal.decreases-clauses
-decreases-clauses l = 16 * l.room + 3
+abbrev pub decreases-parse_clauses : goal.decreases-parse_clauses
+decreases-parse_clauses l = 16 * l.room + 3
 
-abbrev pub decreases-try_statement : goal.decreases-try_statement
-decreases-try_statement l = 16 * l.room + 4
+abbrev pub decreases-parse_try : goal.decreases-parse_try
+decreases-parse_try l = 16 * l.room + 4
 
-abbrev pub decreases-statement_here : goal.decreases-statement_here
-decreases-statement_here l = 16 * l.room + 5
+abbrev pub decreases-parse_statement_here : goal.decreases-parse_statement_here
+decreases-parse_statement_here l = 16 * l.room + 5
 
-abbrev pub decreases-item : goal.decreases-item
-decreases-item l = 16 * l.room + 6
+abbrev pub decreases-parse_item : goal.decreases-parse_item
+decreases-parse_item l = 16 * l.room + 6
 
-abbrev pub decreases-next_item : goal.decreases-next_item
-decreases-next_item l = 16 * l.room + 7
+abbrev pub decreases-parse_next_item : goal.decreases-parse_next_item
+decreases-parse_next_item l = 16 * l.room + 7
 
-abbrev pub decreases-items_here : goal.decreases-items_here
-decreases-items_here l = 16 * l.room + 8
+abbrev pub decreases-parse_items_here : goal.decreases-parse_items_here
+decreases-parse_items_here l = 16 * l.room + 8
 
-abbrev pub invariant-handlers-loop : goal.invariant-handlers-loop
-invariant-handlers-loop l = with_front then_clause (λ f cs. f cs) l.clauses.items (clauses_in l.room (nested_statements l.room) (l.most - l.counter) l.self) ≡ clauses_in l.room (nested_statements l.room) (length l.fn.self) l.fn.self
+abbrev pub invariant-parse_handlers-loop : goal.invariant-parse_handlers-loop
+invariant-parse_handlers-loop l = with_front then_clause (λ f cs. f cs) l.clauses.items (clauses_in l.room (nested_statements l.room) (l.most - l.counter) l.self) ≡ clauses_in l.room (nested_statements l.room) (length l.fn.self) l.fn.self
 
-abbrev pub invariant-items_here-loop : goal.invariant-items_here-loop
-invariant-items_here-loop l = with_front view_item MoreItems l.items.items (items_in l.room (nested_statements l.room) (l.most - l.counter) l.self) ≡ items l.room (nested_statements l.room) l.fn.self
+abbrev pub invariant-parse_items_here-loop : goal.invariant-parse_items_here-loop
+invariant-parse_items_here-loop l = with_front view_item MoreItems l.items.items (items_in l.room (nested_statements l.room) (l.most - l.counter) l.self) ≡ items l.room (nested_statements l.room) l.fn.self

@@ -1,4 +1,4 @@
-use Rattle.std.proofs.Common.{ℕ, ◌<◌, length, arith, rules}
+use Rattle.std.proofs.Common.{◌<◌, length, arith, rules}
 use Rattle.std.proofs.lemmas.List.{length-map}
 use Rattle.cyc_plain.specs.Program.{program_of, routine_of, routine_at}
 use Rattle.cyc_frame.specs.Layout.{frame_at}

@@ -1,9 +1,0 @@
-use Rattle.std.proofs.Common.{◌≡◌, ℕ, suc, ◌-◌, ◌∷◌}
-use Rattle.cyc_syntax.specs.TreeView.{view_constraint}
-use Rattle.cyc_parse.specs.Parsing.{begins_region, more_items, separated}
-use Rattle.cyc_parse.specs.Declarations.{constraint}
-use Rattle.cyc_parse.proofs.Loops.{with_front}
-use Rattle.cyc_parse.proofs.cursor.Parser.constraint_list.Given as goal
-
-abbrev pub invariant-loop : goal.invariant-loop
-invariant-loop l = (room : ℕ) → with_front view_constraint (λ x xs. x ∷ xs) l.constraints.items (more_items (suc room) begins_region (constraint (suc room)) (64 - l.counter) l.self) ≡ separated (suc room) begins_region (constraint (suc room)) l.fn.self

@@ -1,0 +1,10 @@
+use Rattle.std.proofs.Common.{◌≡◌, ℕ, suc, ◌-◌, ◌∷◌}
+use Rattle.cyc_syntax.specs.TreeView.{view_member}
+use Rattle.cyc_parse.specs.Parsing.{more_items, separated}
+use Rattle.cyc_parse.specs.Types.{begins_type}
+use Rattle.cyc_parse.specs.Declarations.{member}
+use Rattle.cyc_parse.proofs.Loops.{with_front}
+use Rattle.cyc_parse.proofs.cursor.Parser.parse_members.Given as goal
+
+abbrev pub invariant-loop : goal.invariant-loop
+invariant-loop l = (room : ℕ) → with_front view_member (λ x xs. x ∷ xs) l.members.items (more_items (suc room) begins_type (member (suc room)) (64 - l.counter) l.self) ≡ separated (suc room) begins_type (member (suc room)) l.fn.self

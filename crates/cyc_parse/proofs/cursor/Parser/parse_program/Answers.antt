@@ -1,0 +1,28 @@
+use Rattle.std.proofs.Common.{◌≡◌, List, [], map, Ok, refl}
+use Rattle.std.proofs.lemmas.Result.{err_from_is_err_and}
+use Rattle.cyc_syntax.specs.Symbols.{Symbol}
+use Rattle.cyc_syntax.specs.TreeView.{view_declaration}
+use Rattle.cyc_parse.specs.Declarations.{declarations_in}
+use Rattle.cyc_parse.proofs.Loops.{goes_on, fails, ends_as, is_full_as, onto-map, declarations_steps}
+use Rattle.cyc_parse.proofs.cursor.Parser.parse_program.Goals as goal
+
+pub returns-in_err-declaration : goal.returns-in_err-declaration
+returns-in_err-declaration c =
+    let p = err_from_is_err_and c.from_residual-in_err-declaration.result c.from_residual-in_err-declaration.ensures.1 in
+    rw (p.1, p.2) (fails view_declaration _ _ _ _ (declarations_steps 200) c.in_err-declaration.field-0.0 c.loop.declarations.items c.len-most.result c.loop.counter c.loop.self c.parse_next_declaration.new.self _ c.loop-test.true c.in_err-declaration.ensures c.loop.invariant)
+
+pub returns-in_default : goal.returns-in_default
+returns-in_default c =
+    ends_as view_declaration _ [] (map view_declaration) (onto-map view_declaration) _ _ (declarations_steps 200) c.loop.declarations.items c.len-most.result c.loop.counter c.loop.self c.parse_next_declaration.new.self c.in_ok-declaration.field-0 _ c.loop-test.true c.in_ok-declaration.ensures c.in_default.is c.loop.invariant
+
+pub loop-preserved : goal.loop-preserved
+loop-preserved c =
+    rw c.in_ok-push-2.ensures.items (goes_on view_declaration _ _ _ _ (declarations_steps 200) c.loop.declarations.items c.len-most.result c.loop.counter c.loop.self c.parse_next_declaration.new.self c.in_ok-declaration.field-0 c.in-Some.declaration _ c.loop-test.true c.in_ok-declaration.ensures c.in-Some.is c.loop.invariant)
+
+no_more : (ts : List Symbol) → declarations_in 200 0 ts ≡ Ok ([], ts)
+unfolding declarations_in
+no_more ts = refl
+
+pub returns : goal.returns
+returns c =
+    is_full_as view_declaration _ [] (map view_declaration) (onto-map view_declaration) _ _ (declarations_steps 200) c.loop.declarations.items c.len-most.result c.loop.counter c.loop.self c.loop.self _ c.loop-test.false (no_more c.loop.self) c.loop.invariant
