@@ -8,6 +8,7 @@ use crate::number;
 use clap::error::ErrorKind;
 use clap::{Arg, ArgAction, ArgMatches, Command, Error};
 use cyc_machine::Limits;
+use cyc_machine::constants::{MAX_CALLS, MAX_PAGES, MIN_CALLS, MIN_PAGES};
 use std::alloc::{AllocError, Global};
 
 /// What the words of a command line ask for.
@@ -33,10 +34,6 @@ pub enum Request<'a> {
         image: &'a str,
     },
 }
-
-const MOST_PAGES: u64 = 65_536;
-
-const MOST_CALLS: u64 = 4096;
 
 const MOST_STEPS: u64 = 1_000_000_000_000;
 
@@ -206,8 +203,22 @@ fn run_request<'a>(
     ensures { IfOk result (IsRunRequest (first_value (found_of matches.now))) }
 {
     let image = file_of(program, matches, "image")?;
-    let pages = number_of(alloc, program, matches, "pages", 3, MOST_PAGES)?;
-    let calls = number_of(alloc, program, matches, "calls", 1, MOST_CALLS)?;
+    let pages = number_of(
+        alloc,
+        program,
+        matches,
+        "pages",
+        u64::from(MIN_PAGES),
+        u64::from(MAX_PAGES),
+    )?;
+    let calls = number_of(
+        alloc,
+        program,
+        matches,
+        "calls",
+        u64::from(MIN_CALLS),
+        u64::from(MAX_CALLS),
+    )?;
     let budget = number_of(alloc, program, matches, "steps", 1, MOST_STEPS)?;
     let limits = Limits::new(pages as u32, calls as u32).unwrap();
     Ok(Request::Run {
