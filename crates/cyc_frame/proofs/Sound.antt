@@ -1,6 +1,6 @@
 -- Frames are frames, and what is refused is the first that is too large.
-use Rattle.std.proofs.Common.{◌≡◌, ℕ, zero, suc, ◌+◌, ◌<◌, ◌≤◌, Bool, true, false, List, [], ◌∷◌, length, map, Some, None, Result, Ok, Err, refl, sym, ap, subst, ◌∙◌, arith, inl, inr}
-use Rattle.std.specs.Prelude.{nat_lt, if◌then◌else◌, slice_index_or, ◌⊎◌, Option}
+use Rattle.std.proofs.Common.{◌≡◌, ℕ, zero, suc, ◌+◌, ◌<◌, ◌≤◌, Bool, false, List, [], ◌∷◌, length, map, Some, None, Result, Err, refl, sym, ap, subst, ◌∙◌, arith, inl, inr}
+use Rattle.std.specs.Prelude.{if◌then◌else◌, slice_index_or, ◌⊎◌, Option}
 use Rattle.std.proofs.lemmas.Bool.{cases_lt, lt-ltb}
 use Rattle.std.proofs.lemmas.List.{length-map}
 use Rattle.cyc_frame.specs.declared.frame.Frame.{Frame}
@@ -173,18 +173,8 @@ module _ (program : Program) (functions : List Function) (are : map routine_of f
   too_large place fault some code line column =
       refused program fault (inr (some_large program place fault (ap first_too_large (sym are) ∙ some) code line column))
 
-  pub no_memory : (fault : Fault) → fault ≡ memory_fault → Answers program (Err fault)
-  no_memory fault is = refused program fault (inl is)
-
   -- the frames that were made
   pub are_frames : IsWellFormed program → (frames : List Frame) → frames ≡ map frame_of (map routine_of functions)
       → first_too_large (map routine_of functions) ≡ None → AreFrames program frames
   are_frames well frames made none =
       subst (AreFrames program) (sym (made ∙ ap (map frame_of) are)) (frames_stand program well (none_large program (ap first_too_large (sym are) ∙ none)))
-
-  pub framed : IsWellFormed program → (answer : FramedProgram) → answer.program ≡ program → answer.frames ≡ map frame_of (map routine_of functions)
-      → first_too_large (map routine_of functions) ≡ None → Answers program (Ok answer)
-  framed well answer same made none =
-      decides (IsAccepted program) IsFramed (IsTooLarge program) (IsTooLarge program) (is_decided program) (Ok answer)
-      (program, (refl, none_large program (ap first_too_large (sym are) ∙ none)), (same, are_frames well answer.frames made none))
-      tt

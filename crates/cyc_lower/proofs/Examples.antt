@@ -1,5 +1,5 @@
 -- Worked examples: small programs lowered and run on the plain machine, each proved by computation.
-use Rattle.std.proofs.Common.{◌≡◌, ℕ, ◌+◌, List, [], ◌∷◌, pos, negsuc, true, refl, Some, None}
+use Rattle.std.proofs.Common.{◌≡◌, ℕ, ◌+◌, List, [], ◌∷◌, pos, negsuc, refl, Some, None}
 use Rattle.cyc_words.specs.Word.{slt_of, div_of}
 use Rattle.cyc_words.specs.Ending.{Returned, Uncaught, Full}
 use Rattle.cyc_syntax.specs.Symbols.{Place}

@@ -1,8 +1,8 @@
-use Rattle.std.proofs.Common.{◌≡◌, ℕ, List, ◌∙◌, ap, map, subst, sym}
+use Rattle.std.proofs.Common.{◌≡◌, List, ◌∙◌, ap, map, subst, sym}
 use Rattle.cyc_types.specs.declared.typed.Function.{Function}
 use Rattle.cyc_types.specs.declared.typed.Global.{Global}
 use Rattle.cyc_types.specs.TypedTreeView.{view_function, view_global, view_program}
-use Rattle.cyc_plain.specs.Program.{Program as PlainProgram, Routine, program_of, routine_of}
+use Rattle.cyc_plain.specs.Program.{program_of, routine_of}
 use Rattle.cyc_plain.specs.WellFormed.{IsPlain}
 use Rattle.cyc_lower.specs.Lowering.{lower_function, lower_global, lower_program}
 use Rattle.cyc_lower.proofs.Lowerings.{is_plain}
