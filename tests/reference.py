@@ -275,6 +275,9 @@ class Program:
         for part in parts:
             if part.name in self.functions or part.name in self.globals or part.name in ("putchar", "getchar"):
                 raise Refused(21, part.place)
+            # the block of a function is a region of its name, and the heap and the unique region are there already
+            if part.kind != "global" and part.name in ("H", "U"):
+                raise Refused(21, part.place)
             if part.name == "main" and (part.kind == "global" or part.is_void or part.parameters):
                 raise Refused(30, part.place)
             if part.kind == "global":
