@@ -1,5 +1,5 @@
 -- A text leaves no choice: it is accepted with one list of tokens, or refused with one fault.
-use Rattle.std.proofs.Common.{◌≡◌, ℕ, List}
+use Rattle.std.proofs.Common.{ℕ, List}
 use Rattle.cyc_words.proofs.Decisions.{IsDecided}
 use Rattle.cyc_lex.specs.Refusals.{IsAccepted, IsRefused}
 use Rattle.cyc_lex.proofs.FaultLemmas.{accepted_once, refused_once, not_both}

@@ -10,7 +10,7 @@ use Rattle.cyc_syntax.specs.declared.tree.BinaryOperator.{BinaryOperator}
 use Rattle.cyc_syntax.specs.declared.tree.BinaryOperator.TheVariants as operators
 use Rattle.cyc_syntax.specs.Symbols.{Place, Terminal, Identifier, Word, Mark, Symbol}
 use Rattle.cyc_syntax.specs.Symbols as terminals
-use Rattle.cyc_syntax.specs.Trees.{Named, Expression, Number, Character, Null, HeapRegion, UniqueRegion, NumberOfElements, FreeUnique, FreeKey, Prefixed, New, RegionNew, Assign, Plain, MoreExpressions, Postfixes, NoPostfixes, ThenIndex, ThenField, Operations, NoOperations, ThenOperation}
+use Rattle.cyc_syntax.specs.Trees.{Named, Expression, NumberOfElements, FreeUnique, Prefixed, New, RegionNew, Assign, Plain, MoreExpressions, Postfixes, NoPostfixes, ThenIndex, ThenField, Operations, NoOperations, ThenOperation}
 use Rattle.cyc_syntax.specs.Yields.{Leaf, Yield, operator_sign}
 use Rattle.cyc_syntax.specs.Yields as yields
 use Rattle.cyc_syntax.specs.Grammar.{level, is_primary, IsExpression, IsInitial, AreExpressions, ArePostfixes, AreOperations, IsSomeExpression, max_nesting, max_items}
