@@ -14,7 +14,6 @@ use Rattle.cyc_words.specs.Simulation as simulation
 use Rattle.cyc_plain.specs.Program.{Routine, Program, size, places_of}
 use Rattle.cyc_plain.specs.State.{State, output_of, input_of, status_of, depth}
 use Rattle.cyc_plain.specs.Step.{run, start}
-use Rattle.cyc_plain.specs.Checking.{is_well_formed}
 use Rattle.cyc_plain.proofs.RunLaws.{zeros}
 
 -- a function with four slots that takes so many words and returns one
@@ -171,12 +170,6 @@ full_prints = refl
 
 recursion_depth : depth (after 9 5 recursion []) ≡ 3
 recursion_depth = refl
-
-recursion_is_well_formed : is_well_formed recursion ≡ true
-recursion_is_well_formed = refl
-
-one_more_argument_is_not : is_well_formed (record recursion { functions = function 1 (Return 0 ∷ []) ∷ [] }) ≡ false
-one_more_argument_is_not = refl
 
 call_counts_its_argument : size (function 0 (Constant 0 3 ∷ Call 1 0 1 0 ∷ Return 0 ∷ [])) ≡ 4
 call_counts_its_argument = refl

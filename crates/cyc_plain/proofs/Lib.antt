@@ -3,5 +3,4 @@ pub mod Placed
 pub mod RunLaws
 pub mod SlotLaws
 pub mod Steps
-pub mod WellFormed
 pub mod WordLaws

@@ -1,4 +1,3 @@
-pub mod Checking
 pub mod Operators
 pub mod Program
 pub mod State

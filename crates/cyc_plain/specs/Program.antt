@@ -6,7 +6,6 @@ use Rattle.cyc_words.specs.declared.span.Span.{Span}
 use Rattle.cyc_plain.specs.declared.instruction.Instruction.{Instruction}
 use Rattle.cyc_plain.specs.declared.instruction.Instruction.TheVariants.{Call}
 use Rattle.cyc_plain.specs.declared.program.Function.{Function}
-use Rattle.cyc_plain.specs.declared.program.Plain.{Plain}
 
 -- a function: where its name stands, how many words it takes and returns, its slots, the words of its frame, its code
 pub record Routine : Type 0 where
@@ -33,8 +32,9 @@ routine_of f = record {
   code = f.code.items;
 }
 
-abbrev pub program_of : Plain → Program
-program_of p = record { functions = map routine_of p.functions.items; globals = p.globals.items; main = p.main }
+abbrev pub program_of : (functions : List Function) → (globals : List ℕ) → (main : ℕ) → Program
+program_of functions globals main =
+    record { functions = map routine_of functions; globals = globals; main = main }
 
 -- The function of this index; where there is none, one without code.
 abbrev pub no_routine : Routine
@@ -57,18 +57,6 @@ instruction_size instruction = 1
 
 abbrev pub size : Routine → ℕ
 size r = sum_by instruction_size r.code
-
--- How many words of a frame are kept for what `layout` adds to a function's slots, such as the return address.
-abbrev pub layout_words : ℕ
-layout_words = 8
-
--- A value has at most so many words: a fat pointer has three.
-abbrev pub greatest_value : ℕ
-greatest_value = 3
-
--- so many words of globals can be addressed: 4 megabytes
-abbrev pub most_globals : ℕ
-most_globals = 1048576
 
 -- where an instruction stands: its function, and its index in the code
 pub record CodePlace : Type 0 where

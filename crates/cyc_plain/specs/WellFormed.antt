@@ -1,5 +1,5 @@
 -- A well-formed plain program: all that it names is there, and its frames have room.
-use Rattle.std.specs.Prelude.{◌≡◌, ℕ, ◌+◌, ◌-◌, ◌<◌, ◌≤◌, Bool, true, false, length, All, IsSomeAnd, Some, slice_get}
+use Rattle.std.specs.Prelude.{◌≡◌, ℕ, ◌+◌, ◌-◌, ◌<◌, ◌≤◌, Bool, true, false, length, sum_by, All, IsSomeAnd, Some, slice_get}
 use Rattle.cyc_words.specs.Word.{IsWord}
 use Rattle.cyc_plain.specs.declared.instruction.Instruction.{Instruction}
 use Rattle.cyc_plain.specs.declared.instruction.Instruction.TheVariants as instructions
@@ -7,7 +7,8 @@ use Rattle.cyc_plain.specs.Operators.{has_no_result}
 use Rattle.cyc_plain.specs.declared.instruction.BinaryOperator.{BinaryOperator}
 use Rattle.cyc_plain.specs.State.{State, Running, Ended, Stuck, place_of}
 use Rattle.cyc_plain.specs.Step.{instruction_at}
-use Rattle.cyc_plain.specs.Program.{Routine, Program, routine_at, layout_words, greatest_value, most_globals}
+use Rattle.cyc_plain.specs.Program.{Routine, Program, routine_at, size}
+use Rattle.cyc_plain.specs.declared.limits.TheConstants.{LAYOUT_WORDS, GREATEST_VALUE, MOST_GLOBALS, MOST_SIZE}
 
 -- the words from a slot on are slots of the function
 abbrev pub HasSlots : Routine → (first count : ℕ) → Type 0
@@ -54,8 +55,8 @@ leaves instruction = false
 -- what `layout` adds, all that its instructions name is there, and its code does not run off its end.
 pub record IsRoutine (program : Program) (r : Routine) : Type 0 where
   pub parameters : r.parameters ≤ r.slots
-  pub results : r.results ≤ greatest_value
-  pub frame : r.slots + layout_words ≤ r.frame_count
+  pub results : r.results ≤ GREATEST_VALUE
+  pub frame : r.slots + LAYOUT_WORDS ≤ r.frame_count
   pub instructions : All (IsInRange program r) r.code
   pub last : IsSomeAnd (slice_get r.code (length r.code - 1)) (λ i. leaves i ≡ true)
 
@@ -66,7 +67,7 @@ pub record IsWellFormed (program : Program) : Type 0 where
   pub main : program.main < length program.functions
   pub main_parameters : (routine_at program program.main).parameters ≡ 0
   pub main_results : (routine_at program program.main).results ≡ 1
-  pub globals : length program.globals ≤ most_globals
+  pub globals : length program.globals ≤ MOST_GLOBALS
 
 -- Numbers are words wherever a program has some: its constants, its tags, and what its globals hold at the start.
 abbrev pub HasWord : Instruction → Type 0
@@ -77,6 +78,12 @@ HasWord instruction = Unit {0}
 pub record HasWords (program : Program) : Type 0 where
   pub functions : All (λ r. All HasWord r.code) program.functions
   pub globals : All IsWord program.globals
+
+-- What is true of each program that the code holds as a `Plain`.
+pub record IsPlain (program : Program) : Type 0 where
+  pub well_formed : IsWellFormed program
+  pub words : HasWords program
+  pub small : sum_by size program.functions ≤ MOST_SIZE
 
 -- the instruction to be executed next divides by 0
 abbrev pub DividesByZero : Program → State → Type 0

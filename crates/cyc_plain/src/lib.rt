@@ -2,13 +2,11 @@
 //! words, three-address instructions, and every check as a branch; its meaning stands in `specs/`.
 #![tactic(auto)]
 
-mod checking;
 pub mod instruction;
 pub mod laws;
+mod limits;
 pub mod program;
-#[cfg(test)]
-mod tests;
 
-pub use checking::{GREATEST_VALUE, LAYOUT_WORDS, MOST_GLOBALS, well_formed};
 pub use instruction::{BinaryOperator, Instruction, UnaryOperator};
+pub use limits::{GREATEST_VALUE, LAYOUT_WORDS, MOST_GLOBALS, MOST_SIZE};
 pub use program::{Function, Plain};

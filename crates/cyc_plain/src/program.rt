@@ -1,7 +1,11 @@
 //! A plain program: its functions and its globals.
+ghost use Rattle.std.specs.Prelude.{◌≡◌, ◌<◌, length, map};
+ghost use Rattle.cyc_plain.specs.Program.{program_of, routine_at, routine_of};
+ghost use Rattle.cyc_plain.specs.WellFormed.{IsPlain};
 
 use crate::instruction::Instruction;
 use cyc_words::Span;
+use std::marker::Model;
 
 /// A function. Its first slots are its parameters.
 #[derive(Drop)]
@@ -19,12 +23,68 @@ pub struct Function {
     pub code: Vec<Instruction>,
 }
 
-/// A plain program.
+/// A plain program. It is well formed, its numbers are words, and its code is not too large: who makes one proves it, and
+/// who is given one knows it.
 #[derive(Drop)]
 pub struct Plain {
-    pub functions: Vec<Function>,
+    functions: Vec<Function>,
+    globals: Vec<u32>,
+    main: usize,
+}
+
+impl Model for Plain {
+    ghost use Rattle.cyc_plain.specs.Program.{Program, program_of};
+    ghost use Rattle.cyc_plain.specs.WellFormed.{IsPlain};
+
+    ghost Value = { Program };
+
+    ghost view = { λ a. program_of a.functions.items a.globals.items a.main };
+
+    ghost invariant = { λ a. IsPlain (program_of a.functions.items a.globals.items a.main) };
+}
+
+impl Plain {
+    /// A program of these functions, with what each global holds at the start and the number of the function that is called
+    /// first.
+    pub fn new(functions: Vec<Function>, globals: Vec<u32>, main: usize) -> Plain
+        requires { IsPlain (program_of functions.items globals.items main) }
+        ensures { result ≡ program_of functions.items globals.items main }
+    {
+        Plain {
+            functions,
+            globals,
+            main,
+        }
+    }
+
+    /// The functions, in the order of their numbers.
+    pub fn functions(&self) -> &[Function]
+        ensures value { map routine_of result.now ≡ self.now.functions }
+        ensures plain { IsPlain self.now }
+    {
+        &self.functions
+    }
+
+    /// The function of this number.
+    pub fn function(&self, number: usize) -> &Function
+        requires { number < length self.now.functions }
+        ensures { routine_of result.now ≡ routine_at self.now number }
+    {
+        &self.functions[number]
+    }
+
     /// What each global holds at the start.
-    pub globals: Vec<u32>,
-    /// The function that is called first.
-    pub main: usize,
+    pub fn globals(&self) -> &[u32]
+        ensures { result.now ≡ self.now.globals }
+    {
+        &self.globals
+    }
+
+    /// The number of the function that is called first.
+    pub fn main(&self) -> usize
+        ensures value { result ≡ self.now.main }
+        ensures in_range { result < length self.now.functions }
+    {
+        self.main
+    }
 }
