@@ -1,22 +1,18 @@
 -- Calls: a new frame below the caller's, or the end of a run that has no room for one.
-use Rattle.std.proofs.Common.{◌≡◌, ◌≢◌, ℕ, zero, suc, ◌+◌, ◌-◌, ◌*◌, ◌/◌, ◌%◌, ◌^◌, ◌<◌, ◌≤◌, Bool, true, false, not, ◌&&◌, List, [], ◌∷◌, ◌++◌, length, map, Some, None, slice_get, refl, sym, ap, subst, ◌∙◌, arith, inl, inr}
-use Rattle.std.specs.Prelude.{◌⊎◌, ◌==◌, if◌then◌else◌, nat_le}
-use Rattle.std.specs.List.{AllByRecursion}
+use Rattle.std.proofs.Common.{◌≡◌, ◌≢◌, ℕ, zero, suc, ◌+◌, ◌-◌, ◌*◌, ◌%◌, ◌<◌, ◌≤◌, Bool, false, not, List, [], ◌∷◌, ◌++◌, length, Some, slice_get, refl, sym, ap, subst, ◌∙◌, arith, inl, inr}
+use Rattle.std.specs.Prelude.{◌==◌, if◌then◌else◌, nat_le}
 use Rattle.std.proofs.lemmas.Bool.{cases_eq, cases_lt, eq-eqb, ne_eqb, and_right, lt-leb}
 use Rattle.cyc_words.specs.Ending.{Full}
-use Rattle.cyc_words.specs.Word.{IsWord, add_of, sign_extended}
-use Rattle.cyc_words.proofs.WordLemmas.{sign_extended_high}
-use Rattle.cyc_isa.specs.Effect.{memory_address}
+use Rattle.cyc_words.specs.Word.{add_of, sign_extended}
 use Rattle.cyc_isa.specs.declared.instr.Instr.{Instr}
 use Rattle.cyc_isa.specs.declared.instr.BranchOp.TheVariants as branch
 use Rattle.cyc_isa.specs.Decoding.{register_of}
-use Rattle.cyc_machine.specs.State.{data_base, stack_end, text_end, globals_length, words_per_call}
-use Rattle.cyc_plain.specs.declared.instruction.Instruction.{Instruction}
+use Rattle.cyc_machine.specs.State.{data_base, stack_end, globals_length, words_per_call}
 use Rattle.cyc_plain.specs.declared.instruction.Instruction.TheVariants as plain
-use Rattle.cyc_plain.specs.Program.{Program, CodePlace, no_routine, routine_at}
+use Rattle.cyc_plain.specs.Program.{Program, no_routine, routine_at}
 use Rattle.cyc_plain.specs.State as states
 use Rattle.cyc_plain.specs.State.{Words, AreWords, put, copied, Configuration}
-use Rattle.cyc_plain.specs.Step.{Choice, IsAllowed, instruction_at, performed, executed, advanced, step, is_within, Step}
+use Rattle.cyc_plain.specs.Step.{Choice, instruction_at, performed, executed, advanced, step, is_within}
 use Rattle.cyc_plain.specs.WellFormed.{IsWellFormed, IsCallInRange}
 use Rattle.cyc_plain.proofs.RunLaws.{zeros, zeros_allowed, limited-full}
 use Rattle.cyc_plain.proofs.SlotLaws.{put-same, copied-inside, copied-above}
@@ -31,10 +27,10 @@ use Rattle.cyc_select.specs.Selection.{slot_offset, small, minus, store, add_imm
 use Rattle.cyc_select.proofs.Cells.{IsCell}
 use Rattle.cyc_select.proofs.Lines.{line_first}
 use Rattle.cyc_select.proofs.Operations.{add_small, take_small}
-use Rattle.cyc_select.proofs.Walks.{Stands, stands_front, stands_back, after_r, after_w, Walk, Now, now_at, walk_end, walk_few, walk_from, walk_block, walk_branch, walk_call, walk_full}
+use Rattle.cyc_select.proofs.Walks.{Stands, stands_front, stands_back, after_r, after_w, Walk, now_at, walk_end, walk_few, walk_block, walk_branch, walk_call, walk_full}
 use Rattle.cyc_select.proofs.Copies.{Copied, copied_all}
-use Rattle.cyc_select.proofs.Standing.{Holds, Chain, Standing, behind_line, lies, chain_kept, word_cell, slot_cell, return_cell, return_address, standing_return}
-use Rattle.cyc_select.proofs.Matches.{At, Matches, Reached, reached, within}
+use Rattle.cyc_select.proofs.Standing.{Holds, Chain, Standing, behind_line, lies, chain_kept, word_cell, return_cell, return_address, standing_return}
+use Rattle.cyc_select.proofs.Matches.{At, Reached, reached, within}
 
 pub length_ordinary : (is : List Instr) → length (ordinary is) ≡ length is
 length_ordinary [] = refl

@@ -1,10 +1,10 @@
 -- The memory as a function from addresses to words: what its words of data and stack hold.
-use Rattle.std.proofs.Common.{◌≡◌, ◌≢◌, ℕ, ◌+◌, ◌-◌, ◌*◌, ◌/◌, ◌%◌, ◌<◌, ◌≤◌, Bool, true, false, ◌&&◌, List, [], length, None, refl, sym, ap, subst, ◌∙◌, arith, inl, inr}
+use Rattle.std.proofs.Common.{◌≡◌, ◌≢◌, ℕ, ◌+◌, ◌-◌, ◌*◌, ◌%◌, ◌<◌, ◌≤◌, Bool, true, false, List, [], length, None, refl, sym, ap, ◌∙◌, arith, inl, inr}
 use Rattle.std.specs.Prelude.{◌⊎◌, nat_le, nat_lt, if◌then◌else◌, is_some, Option, slice_index_or}
-use Rattle.std.proofs.lemmas.Bool.{cases_eq, le-leb, lt-ltb, le-ltb, lt-leb, and_from, and_left, and_right, cond-true, cond-false}
+use Rattle.std.proofs.lemmas.Bool.{cases_eq, le-leb, lt-ltb, le-ltb, and_from, and_right, cond-true, cond-false}
 use Rattle.cyc_machine.specs.State.{Memory, Place, InText, InGlobals, InStack, Nowhere, text_base, text_at, data_base, stack_end, stack_base, word_number, is_within, place_of, loaded, stored}
-use Rattle.cyc_machine.proofs.MemoryLaws.{place_of-stored, loaded-stored_globals, loaded-stored_stack, loaded-stored_other, length-globals-stored, length-stack-stored}
-use Rattle.cyc_plain.specs.State.{Words, put}
+use Rattle.cyc_machine.proofs.MemoryLaws.{place_of-stored, loaded-stored_globals, loaded-stored_stack, loaded-stored_other}
+use Rattle.cyc_plain.specs.State.{put}
 use Rattle.cyc_plain.proofs.SlotLaws.{put-same, put-other}
 
 -- the address of a word of the data range or the stack, where these have so many words

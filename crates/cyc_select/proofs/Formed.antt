@@ -1,10 +1,10 @@
 -- Each line of the code is formed, and each part has few words.
-use Rattle.std.proofs.Common.{◌≡◌, ◌≢◌, ℕ, zero, suc, ◌+◌, ◌-◌, ◌*◌, ◌/◌, ◌%◌, ◌^◌, ◌<◌, ◌≤◌, Bool, true, false, List, [], ◌∷◌, ◌++◌, length, map, take, Some, None, slice_get, refl, sym, ap, subst, ◌∙◌, arith, inl, inr, length-append}
+use Rattle.std.proofs.Common.{◌≡◌, ℕ, zero, suc, ◌+◌, ◌*◌, ◌/◌, ◌%◌, ◌^◌, ◌<◌, ◌≤◌, Bool, true, false, List, [], ◌∷◌, ◌++◌, length, take, Some, slice_get, refl, sym, ap, subst, ◌∙◌, arith, inl, inr, length-append}
 use Rattle.std.specs.Prelude.{All, sum_by, ◌==◌, if◌then◌else◌, slice_index_or}
 use Rattle.std.specs.List.{AllByRecursion}
-use Rattle.std.proofs.lemmas.Bool.{cases_lt, cases_Bool, eqb-true}
+use Rattle.std.proofs.lemmas.Bool.{cases_lt, eqb-true}
 use Rattle.std.proofs.lemmas.List.{get_or_past}
-use Rattle.std.proofs.lemmas.List.Sums.{sum_by-cons, sum_by-append}
+use Rattle.std.proofs.lemmas.List.Sums.{sum_by-cons}
 use Rattle.cyc_words.specs.Word.{IsWord}
 use Rattle.cyc_isa.specs.declared.instr.Instr.{Instr}
 use Rattle.cyc_machine.specs.State.{data_base}
@@ -14,7 +14,7 @@ use Rattle.cyc_plain.specs.declared.instruction.UnaryOperator.{UnaryOperator}
 use Rattle.cyc_plain.specs.declared.instruction.UnaryOperator.TheVariants as unary
 use Rattle.cyc_plain.specs.declared.instruction.BinaryOperator.{BinaryOperator}
 use Rattle.cyc_plain.specs.declared.instruction.BinaryOperator.TheVariants as binary
-use Rattle.cyc_plain.specs.Program.{Routine, Program, no_routine, routine_at, instruction_size, size}
+use Rattle.cyc_plain.specs.Program.{Routine, Program, no_routine, routine_at}
 use Rattle.cyc_plain.specs.Step.{instruction_at}
 use Rattle.cyc_plain.specs.WellFormed.{IsInRange, IsWellFormed, HasWords, HasWord}
 use Rattle.cyc_plain.proofs.Placed.{holds_at, routine_in, below_of_get, has_code}
@@ -24,9 +24,8 @@ use Rattle.cyc_frame.specs.declared.frame.Frame.{Frame}
 use Rattle.cyc_select.specs.declared.constants.TheConstants.{START_LINES}
 use Rattle.cyc_select.specs.declared.code.Line.{Line}
 use Rattle.cyc_select.specs.declared.code.Line.TheVariants as lines
-use Rattle.cyc_select.specs.Labelled.{Labelled, IsFormed, IsFormedLine, words_of, all_words}
-use Rattle.cyc_select.specs.Selection.{slot_offset, ordinary, copies, load_all, store_all, pop_frame, result_registers, ending_code, ending_count, operator_code, operator_count, body, behind, body_count, behind_count, count_of, function_count, functions_count, function_line, instruction_line, code_lines, function_lines, start_lines, select_of}
-use Rattle.cyc_select.proofs.Calls.{length-copies}
+use Rattle.cyc_select.specs.Labelled.{Labelled, IsFormed, IsFormedLine}
+use Rattle.cyc_select.specs.Selection.{slot_offset, ordinary, copies, load_all, store_all, pop_frame, result_registers, ending_code, ending_count, operator_code, operator_count, body, behind, body_count, count_of, function_count, functions_count, function_line, instruction_line, code_lines, function_lines, start_lines, select_of}
 use Rattle.cyc_select.proofs.Lines.{line_first}
 use Rattle.cyc_select.proofs.Returns.{loaded, length_loaded, length_stores, length_registers}
 use Rattle.cyc_select.proofs.Structure.{length_body, length_behind, stand, starts}

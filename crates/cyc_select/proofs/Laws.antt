@@ -1,13 +1,11 @@
 -- The labelled machine is lawful: what was printed stays printed, and a run that has ended stays as it is.
-use Rattle.std.proofs.Common.{◌≡◌, ℕ, ◌+◌, Bool, true, false, List, [], ◌∷◌, ◌++◌, Option, Some, None, slice_get, refl, sym, ap, subst, ◌∙◌, inl, inr}
-use Rattle.std.specs.Prelude.{◌⊎◌}
+use Rattle.std.proofs.Common.{◌≡◌, ℕ, ◌+◌, Bool, true, false, List, [], ◌∷◌, Option, Some, None, slice_get, refl, sym, ap, subst, ◌∙◌, inl, inr}
 use Rattle.cyc_words.specs.Ending.{Ending}
 use Rattle.cyc_words.specs.Prefix.{IsPrefix}
 use Rattle.cyc_words.proofs.PrefixLemmas.{IsPrefix-refl, IsPrefix-append}
 use Rattle.cyc_isa.specs.declared.instr.Instr.{Instr}
 use Rattle.cyc_machine.specs.State as machines
 use Rattle.cyc_machine.specs.Run.{World, told, ending_of}
-use Rattle.cyc_machine.specs.declared.event.End.{End}
 use Rattle.cyc_machine.specs.declared.event.Event.{Event}
 use Rattle.cyc_machine.specs.declared.event.Event.TheVariants.{Ran, WantsByte, Puts, Ended}
 use Rattle.cyc_machine.specs.declared.phase.Phase.{Phase}

@@ -1,14 +1,14 @@
 -- When a state of the labelled machine matches one of the plain machine.
-use Rattle.std.proofs.Common.{◌≡◌, ◌≢◌, ℕ, zero, suc, ◌+◌, ◌-◌, ◌*◌, ◌%◌, ◌^◌, ◌<◌, ◌≤◌, Bool, true, false, List, [], ◌∷◌, ◌++◌, length, Some, None, refl, sym, ap, subst, ◌∙◌, arith, inl, inr}
+use Rattle.std.proofs.Common.{◌≡◌, ℕ, suc, ◌+◌, ◌*◌, ◌<◌, ◌≤◌, true, List, [], ◌∷◌, length, Some, refl, sym, ap, subst, ◌∙◌, inl}
 use Rattle.std.specs.Prelude.{◌⊎◌, slice_index}
 use Rattle.std.specs.List.{AllByRecursion}
 use Rattle.std.proofs.lemmas.Bool.{and_from, le-leb}
 use Rattle.cyc_words.specs.Word.{IsWord}
 use Rattle.cyc_isa.specs.Effect.{memory_address}
-use Rattle.cyc_machine.specs.State.{data_base, globals_length, words_per_call}
+use Rattle.cyc_machine.specs.State.{globals_length, words_per_call}
 use Rattle.cyc_plain.specs.declared.instruction.Instruction.{Instruction}
 use Rattle.cyc_plain.specs.declared.instruction.Instruction.TheVariants as plain
-use Rattle.cyc_plain.specs.Program.{Program, CodePlace, routine_at}
+use Rattle.cyc_plain.specs.Program.{Program, routine_at}
 use Rattle.cyc_plain.specs.State as states
 use Rattle.cyc_plain.specs.State.{Words, AreWords, put, copied, Configuration}
 use Rattle.cyc_plain.specs.Step.{Choice, IsAllowed, instruction_at, performed, executed, gives, step, is_within, Step}
@@ -16,7 +16,7 @@ use Rattle.cyc_plain.specs.WellFormed.{IsWellFormed}
 use Rattle.cyc_plain.proofs.RunLaws.{limited-within, zeros, zeros_allowed}
 use Rattle.cyc_frame.specs.Layout.{AreFrames, frame_at}
 use Rattle.cyc_frame.specs.declared.frame.Frame.{Frame}
-use Rattle.cyc_select.specs.Labelled.{Labelled, IsFormed, AreAddresses}
+use Rattle.cyc_select.specs.Labelled.{Labelled, IsFormed}
 use Rattle.cyc_select.specs.Machine as labelled
 use Rattle.cyc_select.specs.Machine.{State, Running, Ended}
 use Rattle.cyc_select.specs.Selection.{slot_offset, instruction_line, count_of}

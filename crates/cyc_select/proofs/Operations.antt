@@ -1,14 +1,14 @@
 -- What the machine's operations make of words, against what the plain program's operators are.
-use Rattle.std.proofs.Common.{◌≡◌, ◌≢◌, ℕ, zero, suc, ◌+◌, ◌-◌, ◌*◌, ◌/◌, ◌%◌, ◌^◌, ◌<◌, ◌≤◌, ℤ, pos, negsuc, neg_ℤ, ◌+ℤ◌, ◌-ℤ◌, ◌*ℤ◌, ◌≤ℤ◌, ◌<ℤ◌, Bool, true, false, not, refl, sym, ap, subst, ◌∙◌, arith, lit<, inl, inr}
+use Rattle.std.proofs.Common.{◌≡◌, ◌≢◌, ℕ, zero, suc, ◌+◌, ◌-◌, ◌*◌, ◌/◌, ◌%◌, ◌^◌, ◌<◌, ◌≤◌, ℤ, pos, negsuc, neg_ℤ, ◌-ℤ◌, ◌*ℤ◌, ◌≤ℤ◌, ◌<ℤ◌, Bool, true, false, not, sym, ap, subst, ◌∙◌, arith, inl, inr}
 use Rattle.std.proofs.lemmas.Int.{ints}
 use Rattle.std.proofs.lemmas.Nat.{mul-le}
 use Rattle.std.proofs.Math.IntN.{pos-*ℤ-pos, pos-*ℤ-negsuc, negsuc-*ℤ-pos, negsuc-*ℤ-negsuc}
-use Rattle.std.specs.Prelude.{◌⊎◌, ◌==◌, if◌then◌else◌, nat_lt, int_lt, int_le, int_div, int_rem, bit_or, FitsSigned}
-use Rattle.std.specs.Int.{w32, w64, bit_not, cast_unsigned}
-use Rattle.std.proofs.lemmas.Bool.{cases_eq, cases_Bool, eq-eqb, ne_eqb, lt-ltb, le-ltb}
-use Rattle.cyc_words.specs.Word.{IsWord, IsHalf, signed, unsigned, sign_extended, add_of, sub_of, mul_of, shl_of, slt_of, sltu_of, div_of, rem_of}
+use Rattle.std.specs.Prelude.{◌==◌, int_le, int_div, int_rem, bit_or, FitsSigned}
+use Rattle.std.specs.Int.{w32, w64, cast_unsigned}
+use Rattle.std.proofs.lemmas.Bool.{cases_eq, eq-eqb, ne_eqb}
+use Rattle.cyc_words.specs.Word.{IsWord, signed, unsigned, sign_extended, add_of, sub_of, mul_of, shl_of, slt_of, sltu_of, div_of, rem_of}
 use Rattle.cyc_words.proofs.WordLemmas.{unsigned-signed, FitsSigned-signed, sign_extended_low, sign_extended_high, bit_or-halves, mul_of-signed, sub_of-signed, slt_of_cases, sltu_of-one, sltu_of-zero, IsWord-sub_of}
-use Rattle.cyc_isa.specs.Effect.{load_upper_result, memory_address, product_of, low_result}
+use Rattle.cyc_isa.specs.Effect.{load_upper_result, memory_address, low_result}
 use Rattle.cyc_isa.specs.declared.instr.MultiplyDivideOp.TheVariants.{Multiply}
 use Rattle.cyc_plain.specs.Operators.{truth}
 

@@ -1,21 +1,19 @@
 -- Returns, and what stands behind a call.
-use Rattle.std.proofs.Common.{◌≡◌, ◌≢◌, ℕ, zero, suc, ◌+◌, ◌-◌, ◌*◌, ◌/◌, ◌%◌, ◌^◌, ◌<◌, ◌≤◌, Bool, true, false, not, ◌&&◌, List, [], ◌∷◌, ◌++◌, length, map, Some, None, slice_get, refl, sym, ap, subst, ◌∙◌, arith, inl, inr, length-append}
-use Rattle.std.specs.Prelude.{◌⊎◌, ◌==◌, if◌then◌else◌, nat_le}
-use Rattle.std.specs.List.{AllByRecursion}
-use Rattle.std.proofs.lemmas.Bool.{cases_eq, cases_lt, cases_Bool, eq-eqb, ne_eqb, eqb-true, and_right, lt-leb}
-use Rattle.cyc_words.specs.Ending.{Ending, Returned}
-use Rattle.cyc_words.specs.Word.{IsWord, signed, add_of, sign_extended}
+use Rattle.std.proofs.Common.{◌≡◌, ◌≢◌, ℕ, zero, suc, ◌+◌, ◌-◌, ◌*◌, ◌%◌, ◌<◌, ◌≤◌, Bool, true, false, not, List, [], ◌∷◌, ◌++◌, length, Some, slice_get, refl, sym, ap, subst, ◌∙◌, arith, inl, inr}
+use Rattle.std.specs.Prelude.{◌==◌, if◌then◌else◌}
+use Rattle.std.proofs.lemmas.Bool.{cases_eq, cases_lt, cases_Bool, eq-eqb, ne_eqb}
+use Rattle.cyc_words.specs.Ending.{Returned}
+use Rattle.cyc_words.specs.Word.{signed, add_of, sign_extended}
 use Rattle.cyc_isa.specs.Effect.{memory_address}
 use Rattle.cyc_isa.specs.declared.instr.Instr.{Instr}
 use Rattle.cyc_isa.specs.declared.instr.BranchOp.TheVariants as branch
 use Rattle.cyc_isa.specs.Decoding.{register_of}
-use Rattle.cyc_machine.specs.State.{data_base, stack_end, text_base, text_end, globals_length, words_per_call}
-use Rattle.cyc_plain.specs.declared.instruction.Instruction.{Instruction}
+use Rattle.cyc_machine.specs.State.{globals_length, words_per_call}
 use Rattle.cyc_plain.specs.declared.instruction.Instruction.TheVariants as plain
-use Rattle.cyc_plain.specs.Program.{Program, CodePlace, no_routine, routine_at}
+use Rattle.cyc_plain.specs.Program.{Program, no_routine, routine_at}
 use Rattle.cyc_plain.specs.State as states
 use Rattle.cyc_plain.specs.State.{Words, AreWords, put, copied, Configuration}
-use Rattle.cyc_plain.specs.Step.{Choice, IsAllowed, instruction_at, performed, returns, Step}
+use Rattle.cyc_plain.specs.Step.{instruction_at, performed, returns}
 use Rattle.cyc_plain.specs.WellFormed.{IsWellFormed, HasSlots}
 use Rattle.cyc_plain.proofs.RunLaws.{zeros, zeros_allowed, over_within}
 use Rattle.cyc_plain.proofs.SlotLaws.{put-same, put-other, copied-inside, copied-above, copied-below}
@@ -31,9 +29,9 @@ use Rattle.cyc_select.proofs.Calls.{length_ordinary}
 use Rattle.cyc_select.proofs.Cells.{IsCell}
 use Rattle.cyc_select.proofs.Lines.{line_next}
 use Rattle.cyc_select.proofs.Operations.{add_small}
-use Rattle.cyc_select.proofs.Walks.{Stands, stands_front, stands_back, after_r, after_w, AreSafe, Walk, Now, now_at, now_is, walk_end, walk_few, walk_from, walk_block, walk_branch, walk_return, walk_returned}
-use Rattle.cyc_select.proofs.Standing.{Holds, Chain, Standing, behind_line, lies, slot_address, slot_cell, slot_word_is, return_cell, return_address, standing_registers, standing_at, standing_slot}
-use Rattle.cyc_select.proofs.Matches.{At, Ready, Back, Matches, Reached, reached, within, result_register}
+use Rattle.cyc_select.proofs.Walks.{Stands, stands_front, stands_back, after_r, after_w, AreSafe, Walk, now_at, now_is, walk_end, walk_few, walk_from, walk_block, walk_branch, walk_return, walk_returned}
+use Rattle.cyc_select.proofs.Standing.{Chain, Standing, behind_line, lies, slot_address, slot_cell, slot_word_is, return_cell, return_address, standing_slot}
+use Rattle.cyc_select.proofs.Matches.{At, Ready, Back, Reached, reached, within, result_register}
 
 -- ---- what a function returns, from slots into registers
 

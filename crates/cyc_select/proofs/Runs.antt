@@ -1,8 +1,8 @@
 -- Each step of the plain machine is matched by steps of the labelled machine through the place's own lines.
-use Rattle.std.proofs.Common.{◌≡◌, ◌≢◌, ℕ, zero, suc, ◌+◌, ◌-◌, ◌*◌, ◌^◌, ◌<◌, ◌≤◌, Bool, true, false, List, [], ◌∷◌, ◌++◌, length, Option, Some, None, slice_get, refl, sym, ap, subst, ◌∙◌, arith, inl, inr}
-use Rattle.std.specs.Prelude.{◌⊎◌, ◌==◌, if◌then◌else◌, All}
-use Rattle.std.specs.List.{AllByRecursion, range_with_len}
-use Rattle.std.proofs.lemmas.Bool.{cases_lt, cases_eq, eq-eqb, ne_eqb}
+use Rattle.std.proofs.Common.{◌≡◌, ◌≢◌, ℕ, zero, suc, ◌+◌, ◌-◌, ◌*◌, ◌<◌, ◌≤◌, Bool, true, List, ◌++◌, length, Option, Some, None, slice_get, refl, sym, ap, subst, ◌∙◌, arith, inl, inr}
+use Rattle.std.specs.Prelude.{if◌then◌else◌}
+use Rattle.std.specs.List.{range_with_len}
+use Rattle.std.proofs.lemmas.Bool.{cases_lt, eq-eqb, ne_eqb}
 use Rattle.cyc_words.specs.Ending.{Ending}
 use Rattle.std.proofs.lemmas.List.{get_or_past}
 use Rattle.cyc_words.specs.Word.{div_of, rem_of}
@@ -20,7 +20,7 @@ use Rattle.cyc_plain.specs.State as states
 use Rattle.cyc_plain.specs.State.{Words, Configuration}
 use Rattle.cyc_plain.specs.Step as steps
 use Rattle.cyc_plain.specs.Step.{instruction_at, performed, executed, gives, step, is_within, Step}
-use Rattle.cyc_plain.specs.WellFormed.{IsWellFormed, IsInRange, IsRoutine, HasWords, HasWord}
+use Rattle.cyc_plain.specs.WellFormed.{IsWellFormed, IsInRange, HasWords, HasWord}
 use Rattle.cyc_words.proofs.Matching.{way_before}
 use Rattle.cyc_plain.proofs.Placed.{holds_at, routine_in, below_of_get}
 use Rattle.cyc_plain.proofs.RunLaws.{limited-within, zeros, zeros_allowed, stuck_within}
@@ -33,9 +33,9 @@ use Rattle.cyc_select.specs.Machine.{State, Running, Ended, machine}
 use Rattle.cyc_select.specs.Selection.{body, behind, body_count, behind_count, count_of, operator_count, instruction_line}
 use Rattle.cyc_select.proofs.Lines.{line_next}
 use Rattle.cyc_select.proofs.Operations.{negated_quotient, negated_remainder}
-use Rattle.cyc_select.proofs.Walks.{Stands, stands_front, stands_back, Rises, rising_distinct, rising_inside, comes_map, Quiet, Walk, walk_few}
+use Rattle.cyc_select.proofs.Walks.{Stands, stands_front, stands_back, Rises, rising_distinct, rising_inside, comes_map, Quiet, Walk}
 use Rattle.cyc_select.proofs.Standing.{Standing, behind_line}
-use Rattle.cyc_select.proofs.Matches.{At, Ready, Back, Matches, Reached}
+use Rattle.cyc_select.proofs.Matches.{At, Ready, Matches, Reached}
 use Rattle.cyc_select.proofs.Simple.{constant_goes, move_goes, unary_goes, add_goes, subtract_goes, multiply_goes, and_goes, or_goes, xor_goes, shift_left_goes, shift_right_goes, equal_goes, not_equal_goes, less_goes, less_or_equal_goes, greater_goes, greater_or_equal_goes, divide_goes, jump_goes, jump_if_zero_goes, jump_if_nonzero_goes, read_goes, write_goes, load_global_goes, store_global_goes, uncaught_goes}
 use Rattle.cyc_select.proofs.Calls.{call_goes}
 use Rattle.cyc_select.proofs.Returns.{return_goes, behind_goes}

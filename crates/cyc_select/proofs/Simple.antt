@@ -1,11 +1,11 @@
 -- The instructions that neither call nor return.
-use Rattle.std.proofs.Common.{◌≡◌, ◌≢◌, ℕ, zero, suc, ◌+◌, ◌-◌, ◌*◌, ◌/◌, ◌%◌, ◌^◌, ◌<◌, ◌≤◌, Bool, true, false, not, List, [], ◌∷◌, ◌++◌, length, map, drop, Some, None, slice_get, refl, sym, ap, subst, ◌∙◌, arith, inl, inr}
-use Rattle.std.specs.Prelude.{◌⊎◌, ◌==◌, if◌then◌else◌, bit_and, bit_or, bit_xor, unwrap_or}
+use Rattle.std.proofs.Common.{◌≡◌, ◌≢◌, ℕ, suc, ◌+◌, ◌-◌, ◌*◌, ◌/◌, ◌%◌, ◌^◌, ◌<◌, ◌≤◌, Bool, true, false, not, List, [], ◌∷◌, ◌++◌, length, drop, Some, refl, sym, ap, subst, ◌∙◌, arith, inl, inr}
+use Rattle.std.specs.Prelude.{◌==◌, if◌then◌else◌, bit_or}
 use Rattle.std.specs.Int.{w32, bit_not}
 use Rattle.std.specs.List.{AllByRecursion}
-use Rattle.std.proofs.lemmas.Bool.{cases_eq, cases_Bool, eq-eqb, ne_eqb}
+use Rattle.std.proofs.lemmas.Bool.{cases_eq, eq-eqb, ne_eqb}
 use Rattle.cyc_words.specs.Ending.{Ending, Uncaught}
-use Rattle.cyc_words.specs.Word.{IsWord, signed, add_of, sub_of, slt_of, sltu_of, div_of, rem_of, sign_extended}
+use Rattle.cyc_words.specs.Word.{IsWord, signed, add_of, sub_of, sltu_of, div_of, rem_of, sign_extended}
 use Rattle.cyc_isa.specs.Effect.{branch_taken, load_upper_result, memory_address}
 use Rattle.cyc_isa.specs.declared.instr.Instr.{Instr}
 use Rattle.cyc_isa.specs.declared.instr.BranchOp.{BranchOp}
@@ -24,31 +24,30 @@ use Rattle.cyc_plain.specs.declared.instruction.UnaryOperator.{UnaryOperator}
 use Rattle.cyc_plain.specs.declared.instruction.UnaryOperator.TheVariants as unary
 use Rattle.cyc_plain.specs.declared.instruction.BinaryOperator.{BinaryOperator}
 use Rattle.cyc_plain.specs.declared.instruction.BinaryOperator.TheVariants as binary
-use Rattle.cyc_plain.specs.Operators.{truth, unary_result, binary_result, has_no_result}
-use Rattle.cyc_plain.specs.Program.{Program, CodePlace, routine_at}
+use Rattle.cyc_plain.specs.Operators.{truth, unary_result, binary_result}
+use Rattle.cyc_plain.specs.Program.{Program, routine_at}
 use Rattle.cyc_plain.specs.State as states
 use Rattle.cyc_plain.specs.State.{Words, AreWords, put, Configuration}
-use Rattle.cyc_plain.specs.Step.{instruction_at, performed, gives, at, branches, advanced}
-use Rattle.cyc_plain.specs.WellFormed.{IsWellFormed, IsInRange, HasWord}
+use Rattle.cyc_plain.specs.Step.{instruction_at, performed, gives, at}
+use Rattle.cyc_plain.specs.WellFormed.{IsWellFormed}
 use Rattle.cyc_words.proofs.WordLemmas.{sign_extended_high}
 use Rattle.cyc_plain.proofs.SlotLaws.{put-other}
 use Rattle.cyc_plain.proofs.RunLaws.{zeros, over_within, zeros_allowed}
 use Rattle.cyc_frame.specs.Layout.{AreFrames, frame_at}
 use Rattle.cyc_frame.specs.declared.frame.Frame.{Frame}
-use Rattle.cyc_select.specs.declared.code.Line.{Line}
 use Rattle.cyc_select.specs.declared.code.Line.TheVariants as lines
-use Rattle.cyc_select.specs.Labelled.{Labelled, IsFormed, AreAddresses}
+use Rattle.cyc_select.specs.Labelled.{Labelled, IsFormed}
 use Rattle.cyc_select.specs.Machine as labelled
 use Rattle.cyc_select.specs.Machine.{State, Running, Ended}
 use Rattle.cyc_select.specs.Selection.{load_slot, store_slot, slot_offset, constant, small, minus, add_immediate, is_zero, unary_code, binary_code, ordinary, syscall, divide_code, operator_code, body, operator_count, body_count, count_of, instruction_line}
 use Rattle.cyc_select.proofs.Cells.{IsCell}
 use Rattle.cyc_select.proofs.Effects.{byte_of}
 use Rattle.cyc_select.proofs.Lines.{line_next}
-use Rattle.cyc_select.proofs.Operations.{two_halves, address_at, add_small, zero_test, equal_test, unequal_test, at_most_test, low_product, negated_quotient, negated_remainder}
-use Rattle.cyc_select.proofs.Views.{IsSafe, IsWritable}
-use Rattle.cyc_select.proofs.Walks.{Stands, stands_front, stands_back, after_r, after_w, AreSafe, Walk, Now, now_at, walk_end, walk_few, walk_from, walk_block, walk_branch, walk_jump, walk_get, walk_put, walk_uncaught}
-use Rattle.cyc_select.proofs.Standing.{Standing, slot_address, slot_cell, slot_word_is, global_cell, standing_global, standing_registers, standing_at}
-use Rattle.cyc_select.proofs.Matches.{At, Matches, Reached, reached, reached_gives, reached_at, within}
+use Rattle.cyc_select.proofs.Operations.{two_halves, address_at, add_small, zero_test, equal_test, unequal_test, at_most_test, low_product}
+use Rattle.cyc_select.proofs.Views.{IsWritable}
+use Rattle.cyc_select.proofs.Walks.{Stands, stands_front, stands_back, after_r, after_w, AreSafe, Walk, now_at, walk_end, walk_few, walk_from, walk_block, walk_branch, walk_jump, walk_get, walk_put, walk_uncaught}
+use Rattle.cyc_select.proofs.Standing.{Standing, slot_cell, slot_word_is, global_cell, standing_global, standing_registers, standing_at}
+use Rattle.cyc_select.proofs.Matches.{At, Reached, reached, reached_gives, reached_at, within}
 
 module _ (program : Program) (well : IsWellFormed program) (frames : List Frame) (fit : AreFrames program frames) (code : Labelled) (formed : IsFormed code) (addresses : ℕ → ℕ) (pages calls : ℕ) (few : calls ≤ 4096)
     (c : Configuration)

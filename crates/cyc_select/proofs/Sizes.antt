@@ -1,6 +1,6 @@
 -- The code has few words for each unit of the program's size.
-use Rattle.std.proofs.Common.{◌≡◌, ℕ, zero, suc, ◌+◌, ◌-◌, ◌*◌, ◌<◌, ◌≤◌, Bool, true, false, List, [], ◌∷◌, ◌++◌, length, map, take, Some, None, slice_get, refl, sym, ap, subst, ◌∙◌, arith, inl, inr}
-use Rattle.std.specs.Prelude.{sum_by, ◌==◌, if◌then◌else◌, slice_index_or, flat_map}
+use Rattle.std.proofs.Common.{◌≡◌, ℕ, suc, ◌+◌, ◌*◌, ◌≤◌, Bool, true, false, List, [], ◌∷◌, ◌++◌, length, refl, ap, arith}
+use Rattle.std.specs.Prelude.{sum_by, ◌==◌}
 use Rattle.std.specs.List.{range_with_len}
 use Rattle.std.proofs.lemmas.List.Sums.{sum_by-cons, sum_by-append}
 use Rattle.std.proofs.lemmas.Option.{get_or_from_slice_get}
@@ -10,14 +10,13 @@ use Rattle.cyc_plain.specs.declared.instruction.Instruction.TheVariants as plain
 use Rattle.cyc_plain.specs.declared.instruction.BinaryOperator.{BinaryOperator}
 use Rattle.cyc_plain.specs.declared.instruction.BinaryOperator.TheVariants as binary
 use Rattle.cyc_plain.specs.Program.{Routine, Program, routine_at, instruction_size, size}
-use Rattle.cyc_plain.specs.WellFormed.{IsWellFormed}
 use Rattle.cyc_frame.specs.Layout.{frame_at}
 use Rattle.cyc_frame.specs.declared.frame.Frame.{Frame}
 use Rattle.cyc_select.specs.declared.code.Line.{Line}
 use Rattle.cyc_select.specs.declared.code.Line.TheVariants as lines
 use Rattle.cyc_select.specs.Labelled.{Labelled, words_of, all_words}
 use Rattle.cyc_select.specs.Selected.{words_at}
-use Rattle.cyc_select.specs.Selection.{ordinary, copies, store_all, result_registers, ending_code, operator_code, body, behind, count_of, function_count, function_line, code_lines, function_lines, start_lines, select_of, small, syscall, store, add_immediate, minus, push_frame, load}
+use Rattle.cyc_select.specs.Selection.{ordinary, copies, store_all, result_registers, ending_code, operator_code, body, behind, count_of, function_count, function_line, code_lines, function_lines, small, syscall, store, add_immediate, minus, push_frame, load}
 use Rattle.cyc_isa.specs.Decoding.{register_of}
 use Rattle.cyc_isa.specs.declared.instr.BranchOp.TheVariants as branch
 use Rattle.cyc_select.proofs.Calls.{length-copies}

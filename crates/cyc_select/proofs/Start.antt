@@ -1,18 +1,15 @@
 -- From the start the code calls `main`, and so a whole run of it follows a run of the program.
-use Rattle.std.proofs.Common.{◌≡◌, ◌≢◌, ℕ, zero, suc, ◌+◌, ◌-◌, ◌*◌, ◌/◌, ◌%◌, ◌^◌, ◌<◌, ◌≤◌, Bool, true, false, List, [], ◌∷◌, ◌++◌, length, replicate, Some, slice_get, refl, sym, ap, subst, ◌∙◌, arith, inl, inr, length-append}
-use Rattle.std.specs.Prelude.{◌⊎◌, All, slice_index, slice_set, slice_index_or, unwrap_or, Option, None, ◌==◌, if◌then◌else◌}
+use Rattle.std.proofs.Common.{◌≡◌, ℕ, zero, suc, ◌+◌, ◌-◌, ◌*◌, ◌%◌, ◌^◌, ◌<◌, ◌≤◌, Bool, true, false, List, [], ◌∷◌, ◌++◌, length, replicate, Some, refl, sym, ap, subst, ◌∙◌, arith, inl, inr, length-append}
+use Rattle.std.specs.Prelude.{All, slice_index, slice_set, slice_index_or, unwrap_or, Option, None, ◌==◌, if◌then◌else◌}
 use Rattle.std.specs.List.{AllByRecursion, range_with_len}
 use Rattle.std.proofs.lemmas.Bool.{cases_lt, cases_eq}
 use Rattle.std.proofs.lemmas.List.{get_or-set_same, get_or-set_other, get_or_append_left, get_or-append_right, get_or-replicate, get_or_past, length-replicate}
-use Rattle.cyc_words.specs.Word.{IsWord, add_of, sign_extended}
-use Rattle.cyc_words.proofs.PrefixLemmas.{IsPrefix-refl}
-use Rattle.cyc_isa.specs.Effect.{memory_address}
+use Rattle.cyc_words.specs.Word.{IsWord}
 use Rattle.cyc_isa.specs.declared.instr.Instr.{Instr}
 use Rattle.cyc_machine.specs.Bounds.{AreAllowed}
-use Rattle.cyc_machine.specs.State.{Memory, Place, InText, InGlobals, InStack, Nowhere, loaded, place_of, data_base, stack_base, stack_end, word_number, globals_length, words_per_call}
+use Rattle.cyc_machine.specs.State.{Place, InText, InGlobals, InStack, Nowhere, loaded, place_of, data_base, stack_base, stack_end, word_number, globals_length, words_per_call}
 use Rattle.cyc_plain.specs.declared.instruction.Instruction.{Instruction}
-use Rattle.cyc_plain.specs.Program.{Program, CodePlace, routine_at}
-use Rattle.cyc_words.specs.Simulation as simulation
+use Rattle.cyc_plain.specs.Program.{Program}
 use Rattle.cyc_words.specs.Simulation.{Comes, Follows, IsOnTheWay, NeverFails}
 use Rattle.cyc_plain.specs.State as states
 use Rattle.cyc_plain.specs.State.{Words, AreWords, Configuration}
@@ -23,7 +20,6 @@ use Rattle.cyc_words.proofs.Matching.{way_before}
 use Rattle.cyc_words.proofs.Simulation.{simulates}
 use Rattle.cyc_frame.specs.Layout.{AreFrames, frame_at, slot_word}
 use Rattle.cyc_frame.specs.declared.frame.Frame.{Frame}
-use Rattle.cyc_select.specs.declared.code.Line.{Line}
 use Rattle.cyc_select.specs.declared.code.Line.TheVariants as lines
 use Rattle.cyc_select.specs.Labelled.{Labelled, IsFormed, AreAddresses}
 use Rattle.cyc_select.specs.Machine as labelled
@@ -36,7 +32,7 @@ use Rattle.cyc_select.proofs.Operations.{take_small}
 use Rattle.cyc_select.proofs.Views.{View}
 use Rattle.cyc_select.proofs.Walks.{Stands, stands_front, stands_back, Rises, comes_map, Quiet, Walk, Now, now_at, walk_end, walk_few, walk_block, walk_jump, after_r}
 use Rattle.cyc_select.proofs.Standing.{Standing}
-use Rattle.cyc_select.proofs.Matches.{At, Ready, Matches}
+use Rattle.cyc_select.proofs.Matches.{Matches}
 use Rattle.cyc_select.proofs.Runs.{own_of, matching, all_steps}
 
 -- ---- rising places that are as many as there are

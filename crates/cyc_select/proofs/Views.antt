@@ -1,28 +1,22 @@
 -- What an ordinary instruction does to registers and memory, where both are seen as functions from numbers to words.
-use Rattle.std.proofs.Common.{◌≡◌, ◌≢◌, ℕ, ◌+◌, ◌-◌, ◌*◌, ◌%◌, ◌^◌, ◌<◌, ◌≤◌, Bool, true, false, not, ◌&&◌, ◌||◌, List, [], ◌∷◌, length, Option, None, Some, refl, sym, ap, subst, ◌∙◌, arith, inl, inr}
-use Rattle.std.specs.Prelude.{◌⊎◌, ◌==◌, if◌then◌else◌, slice_set, slice_index}
-use Rattle.std.proofs.lemmas.Bool.{cases_eq, eq-eqb, ne_eqb, cond-true, cond-false, eqb-true}
+use Rattle.std.proofs.Common.{◌≡◌, ◌≢◌, ℕ, ◌+◌, ◌-◌, ◌^◌, ◌<◌, ◌≤◌, false, List, [], length, refl, sym, ap, subst, ◌∙◌, arith, inl, inr}
+use Rattle.std.specs.Prelude.{◌==◌, if◌then◌else◌, slice_set, slice_index}
+use Rattle.std.proofs.lemmas.Bool.{cases_eq, cond-false}
 use Rattle.std.proofs.lemmas.List.{get_or-set_same, get_or-set_other, length-set}
 use Rattle.cyc_isa.specs.declared.instr.Instr.{Instr}
-use Rattle.cyc_isa.specs.declared.instr.Instr.TheVariants.{Immediate, LoadUpper, Memory, Branch, BranchZero, Jump, Shift, ShiftVariable, JumpRegister, JumpRegisterLink, Exception, MoveFrom, MultiplyDivide, Arithmetic}
+use Rattle.cyc_isa.specs.declared.instr.Instr.TheVariants.{Immediate, LoadUpper, Memory, ShiftVariable, MoveFrom, MultiplyDivide, Arithmetic}
 use Rattle.cyc_isa.specs.declared.instr.MemoryOp.TheVariants.{LoadWord, StoreWord}
 use Rattle.cyc_isa.specs.declared.instr.MoveFromOp.TheVariants.{High, Low}
 use Rattle.cyc_isa.specs.declared.instr.MultiplyDivideOp.TheVariants.{Multiply, Divide}
 use Rattle.cyc_isa.specs.Effect.{immediate_result, load_upper_result, arithmetic_result, shift_result, high_result, low_result, memory_address}
-use Rattle.cyc_machine.specs.declared.event.Cause.{Cause}
-use Rattle.cyc_machine.specs.declared.event.Event.{Event}
-use Rattle.cyc_machine.specs.declared.event.Event.TheVariants.{Ran}
-use Rattle.cyc_machine.specs.declared.phase.Phase.{Phase}
-use Rattle.cyc_machine.specs.declared.phase.Phase.TheVariants as phases
 use Rattle.cyc_machine.specs.State as machines
 use Rattle.cyc_machine.specs.State.{Core, Place, InText, InGlobals, InStack, Nowhere, register, with_register, place_of, loaded, stored, data_base, stack_base, word_number}
-use Rattle.cyc_machine.specs.Step.{Action, Does, Acts, executes, after, cause_of, first_of, is_nowhere, is_text, is_aligned, refuses_or_performs, performs}
-use Rattle.cyc_machine.specs.Run.{World, told}
+use Rattle.cyc_machine.specs.Step.{after}
 use Rattle.cyc_machine.proofs.MemoryLaws.{length-globals-stored, length-stack-stored}
 use Rattle.cyc_plain.specs.State.{Words, put}
 use Rattle.cyc_plain.proofs.SlotLaws.{put-same, put-other}
-use Rattle.cyc_select.specs.Machine.{Configuration, State, Running, core_of, memory_of, machine_of, world_of, from_world, settled, Performs, word_in}
-use Rattle.cyc_select.proofs.Cells.{IsCell, cell, place_of-data, place_of-stack, cell-stored}
+use Rattle.cyc_select.specs.Machine.{Configuration, core_of, memory_of, machine_of, from_world, word_in}
+use Rattle.cyc_select.proofs.Cells.{IsCell, cell, cell-stored}
 
 -- The registers, with HI and LO as 32 and 33, and the memory of a configuration are these. The ranges have so many words.
 pub record View (globals stack : ℕ) (c : Configuration) (r w : Words) : Type 0 where

@@ -1,19 +1,17 @@
 -- The code that is selected is the program's.
-use Rattle.std.proofs.Common.{◌≡◌, ℕ, zero, suc, ◌+◌, ◌-◌, ◌*◌, ◌<◌, ◌≤◌, List, [], ◌∷◌, ◌++◌, length, map, Some, slice_get, refl, sym, ap, subst, ◌∙◌, arith, inl, inr}
-use Rattle.std.specs.Prelude.{sum_by, flat_map, Contains, slice_index_or}
-use Rattle.std.specs.List.{range_with_len, AllByRecursion}
+use Rattle.std.proofs.Common.{◌≡◌, ℕ, ◌+◌, ◌*◌, ◌<◌, ◌≤◌, List, [], ◌∷◌, length, map, refl, sym, ap, arith}
+use Rattle.std.specs.Prelude.{sum_by, flat_map}
+use Rattle.std.specs.List.{range_with_len}
 use Rattle.std.proofs.lemmas.List.Sums.{sum_by-cons, sum_by-append}
-use Rattle.std.proofs.lemmas.List.FromFn.{length-range_with_len}
-use Rattle.cyc_plain.specs.declared.instruction.Instruction.{Instruction}
-use Rattle.cyc_plain.specs.Program.{Routine, Program, CodePlace, no_routine, routine_at, places_from, places_of, size}
+use Rattle.cyc_plain.specs.Program.{Program, CodePlace, routine_at, size}
 use Rattle.cyc_plain.specs.WellFormed.{IsWellFormed, HasWords}
 use Rattle.cyc_words.proofs.Prices.{sum_by-flat_map}
 use Rattle.cyc_frame.specs.declared.frame.Frame.{Frame}
 use Rattle.cyc_frame.specs.Layout.{AreFrames}
 use Rattle.cyc_select.specs.declared.constants.TheConstants.{WORDS_FOR_EACH, MAX_START_WORDS, START_LINES}
-use Rattle.cyc_select.specs.Labelled.{Labelled, words_of, all_words}
+use Rattle.cyc_select.specs.Labelled.{words_of, all_words}
 use Rattle.cyc_select.specs.Selected.{IsCodeOf, words_at}
-use Rattle.cyc_select.specs.Selection.{count_of, function_count, function_line, code_lines, function_lines, start_lines, select_of}
+use Rattle.cyc_select.specs.Selection.{function_count, function_line, code_lines, function_lines, start_lines, select_of}
 use Rattle.cyc_select.proofs.Formed.{few_results, formed}
 use Rattle.cyc_select.proofs.Parts.{place_in, own_function, own_some, parts}
 use Rattle.cyc_select.proofs.Runs.{own_of}

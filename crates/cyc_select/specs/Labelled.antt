@@ -1,6 +1,6 @@
 -- Labelled code, as mathematical data: machine code before its addresses are known. This project's own choice, after the
 -- form that assemblers read.
-use Rattle.std.specs.Prelude.{◌≡◌, ◌≢◌, ℕ, ◌+◌, ◌*◌, ◌%◌, ◌<◌, ◌≤◌, Bool, true, false, List, length, All, sum_by}
+use Rattle.std.specs.Prelude.{◌≡◌, ℕ, ◌%◌, ◌<◌, ◌≤◌, Bool, true, false, List, length, All, sum_by}
 use Rattle.cyc_isa.specs.Encoding.{IsEncodable}
 use Rattle.cyc_isa.specs.declared.instr.Instr.{Instr}
 use Rattle.cyc_isa.specs.declared.instr.Instr.TheVariants.{Branch, BranchZero, Jump, JumpRegister, JumpRegisterLink}

@@ -5,7 +5,6 @@ use Rattle.std.specs.Prelude.{◌≡◌, ◌≢◌, ℕ, ◌+◌, ◌-◌, ◌*�
 use Rattle.cyc_words.specs.Ending.{Ending}
 use Rattle.cyc_isa.specs.Effect.{branch_taken}
 use Rattle.cyc_isa.specs.declared.instr.Instr.{Instr}
-use Rattle.cyc_isa.specs.declared.instr.BranchOp.{BranchOp}
 use Rattle.cyc_machine.specs.declared.constants.TheConstants.{ARGUMENT, RETURN_ADDRESS, STACK_POINTER}
 use Rattle.cyc_machine.specs.State as machines
 use Rattle.cyc_machine.specs.State.{register, with_register, globals_length, words_per_call, stack_end}

@@ -29,10 +29,7 @@ impl Emitter {
         requires words { frame.words ≤ MOST_FRAME_WORDS }
         ensures { AddsLines result self.old self.new (start_code frame label) }
     {
-        self.ordinary(&[
-            add_immediate(CALLS, ARGUMENT, minus(1)),
-            push_frame(frame),
-        ])?;
+        self.ordinary(&[add_immediate(CALLS, ARGUMENT, minus(1)), push_frame(frame)])?;
         self.line(Line::Jump { label })
     }
 
