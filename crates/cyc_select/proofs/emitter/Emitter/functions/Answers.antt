@@ -12,7 +12,7 @@ loop-function-preserved c =
     let program = c.args.program.now.plain.now in
     let frames = c.args.program.now.frames.now in
     let k = c.loop-function.function in
-    let below : k < length program.functions = omega (arith, length-map c.functions.result.now routine_of, ap length c.functions.ensures.value, c.len-count.ensures, c.loop-function-test.true) in
+    let below : k < length program.functions = omega (arith, length-map c.functions-count.result.now routine_of, ap length c.functions-count.ensures.value, c.loop-function-test.true) in
     goes_on (c.args.self.now.lines.items ++ function_lines program frames 0 START_LINES program.functions)
     c.loop-function.self.lines.items c.function.new.self.lines.items
     (code_lines program frames k (function_line program k) (routine_at program k).code)
