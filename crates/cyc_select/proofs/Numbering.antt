@@ -1,5 +1,5 @@
 -- Numbers of lines: sums over what stands before.
-use Rattle.std.proofs.Common.{◌≡◌, ℕ, zero, suc, ◌+◌, ◌*◌, ◌<◌, ◌≤◌, Bool, true, false, List, [], ◌∷◌, ◌++◌, length, drop, take, map, refl, ap, ◌∙◌, inl, inr, arith}
+use Rattle.std.proofs.Common.{◌≡◌, ℕ, zero, suc, ◌+◌, ◌*◌, ◌<◌, ◌≤◌, Bool, true, false, List, [], ◌∷◌, ◌++◌, length, drop, take, refl, ap, ◌∙◌, inl, inr, arith}
 use Rattle.std.specs.Prelude.{sum_by, slice_index_or, if◌then◌else◌}
 use Rattle.std.proofs.lemmas.List.{drop_more}
 use Rattle.std.proofs.lemmas.List.Sums.{sum_by-cons, sum_by-drop_more, sum_by-take-drop, sum_by-take-le}
@@ -7,14 +7,14 @@ use Rattle.cyc_plain.specs.declared.instruction.Instruction.{Instruction}
 use Rattle.cyc_plain.specs.declared.instruction.Instruction.TheVariants as plain
 use Rattle.cyc_plain.specs.declared.instruction.BinaryOperator.{BinaryOperator}
 use Rattle.cyc_plain.specs.declared.instruction.BinaryOperator.TheVariants as binary
-use Rattle.cyc_plain.specs.Program.{Program, Routine, no_routine, routine_of, routine_at, instruction_size, size}
-use Rattle.cyc_plain.specs.WellFormed.{IsRoutine, IsWellFormed, IsInRange}
+use Rattle.cyc_plain.specs.Program.{Program, Routine, no_routine, routine_at, instruction_size, size}
+use Rattle.cyc_plain.specs.WellFormed.{IsRoutine, IsWellFormed}
 use Rattle.cyc_plain.specs.declared.limits.TheConstants.{GREATEST_VALUE, MOST_SIZE}
 use Rattle.cyc_frame.specs.declared.frame.TheConstants.{MOST_FRAME_WORDS}
-use Rattle.cyc_frame.specs.Layout.{IsFrame, frame_at}
+use Rattle.cyc_frame.specs.Layout.{IsFrame}
 use Rattle.cyc_frame.specs.declared.frame.Frame.{Frame}
 use Rattle.cyc_select.specs.declared.constants.TheConstants.{LINES_FOR_EACH, START_LINES}
-use Rattle.cyc_select.specs.Selection.{operator_count, ending_count, body_count, behind_count, count_of, function_count, functions_count, function_line, instruction_line, code_lines, function_lines}
+use Rattle.cyc_select.specs.Selection.{operator_count, ending_count, count_of, function_count, functions_count, function_line, instruction_line, code_lines, function_lines}
 use Rattle.cyc_select.specs.Emission.{AreReached, AreFew, most_lines, instruction_lines, function_starts, AreReady, AreTables}
 
 -- ---- an instruction has few lines for each unit of its size

@@ -18,14 +18,14 @@ use Rattle.cyc_plain.specs.Step.{instruction_at}
 use Rattle.cyc_plain.specs.WellFormed.{IsWellFormed, HasWords}
 use Rattle.cyc_words.proofs.Matching.{way_before}
 use Rattle.cyc_words.proofs.Simulation.{simulates}
-use Rattle.cyc_frame.specs.Layout.{AreFrames, frame_at, slot_word}
+use Rattle.cyc_frame.specs.Layout.{AreFrames, frame_at}
 use Rattle.cyc_frame.specs.declared.frame.Frame.{Frame}
 use Rattle.cyc_select.specs.declared.code.Line.TheVariants as lines
 use Rattle.cyc_select.specs.Labelled.{Labelled, IsFormed, AreAddresses}
 use Rattle.cyc_select.specs.Machine as labelled
 use Rattle.cyc_select.specs.Machine.{State, Running, machine, memory_of, word_in, globals_of, start}
 use Rattle.cyc_select.specs.Selection.{slot_offset, body, behind, body_count, add_immediate, minus, push_frame, ordinary, start_lines, function_line, instruction_line}
-use Rattle.cyc_select.proofs.Cells.{IsCell, cell, place_of-data, place_of-stack}
+use Rattle.cyc_select.proofs.Cells.{cell, place_of-data, place_of-stack}
 use Rattle.cyc_select.proofs.Laws.{lawful}
 use Rattle.cyc_select.proofs.Lines.{line_first}
 use Rattle.cyc_select.proofs.Operations.{take_small}
