@@ -16,7 +16,7 @@ use Rattle.cyc_plain.specs.Step.{Choice, instruction_at, performed, executed, ad
 use Rattle.cyc_plain.specs.WellFormed.{IsWellFormed, IsCallInRange}
 use Rattle.cyc_plain.proofs.RunLaws.{zeros, zeros_allowed, limited-full}
 use Rattle.cyc_plain.proofs.SlotLaws.{put-same, copied-inside, copied-above}
-use Rattle.cyc_frame.specs.Layout.{frame_at, slot_word}
+use Rattle.cyc_frame.specs.Layout.{AreFrames, frame_at, slot_word}
 use Rattle.cyc_frame.specs.declared.frame.Frame.{Frame}
 use Rattle.cyc_select.specs.declared.code.Line.{Line}
 use Rattle.cyc_select.specs.declared.code.Line.TheVariants as lines
@@ -24,7 +24,6 @@ use Rattle.cyc_select.specs.Labelled.{Labelled, IsFormed, AreAddresses}
 use Rattle.cyc_select.specs.Machine as labelled
 use Rattle.cyc_select.specs.Machine.{State, Running, Ended}
 use Rattle.cyc_select.specs.Selection.{slot_offset, small, minus, store, add_immediate, push_frame, copies, ordinary, syscall, calling_code, function_line, instruction_line}
-use Rattle.cyc_select.specs.Emission.{AreFrames}
 use Rattle.cyc_select.proofs.Cells.{IsCell}
 use Rattle.cyc_select.proofs.Lines.{line_first}
 use Rattle.cyc_select.proofs.Operations.{add_small, take_small}
@@ -118,10 +117,10 @@ module _ (program : Program) (well : IsWellFormed program) (frames : List Frame)
   -- ---- a new frame
 
   room : 4 * its.words ≤ 1024
-  room = let frame = fit callee in_range.function_in_range in omega (arith, frame.within, frame.small)
+  room = let frame = fit.each callee in_range.function_in_range in omega (arith, frame.within, frame.small)
 
   some : 0 < its.words
-  some = let frame = fit callee in_range.function_in_range in omega (arith, frame.return_inside)
+  some = let frame = fit.each callee in_range.function_in_range in omega (arith, frame.return_inside)
 
   abbrev low : ℕ
   low = base - 4 * its.words
@@ -164,12 +163,12 @@ module _ (program : Program) (well : IsWellFormed program) (frames : List Frame)
     callee_cell word below = inr ((omega (arith, low_is, here_lies.2)), (omega (arith, low_is, here_lies.1, deeper, room)), (omega (arith, low_is, here_lies.0, below)))
 
     caller_cell : (slot : ℕ) → slot < (routine_at program c.active.function).slots → IsCell globals_length (words_per_call * calls) (base + slot_offset mine slot)
-    caller_cell slot below = word_cell program well frames fit addresses pages calls few c r w base (r 31) (suc (length c.frames)) c.active.slots s (slot_word mine slot) ((fit c.active.function s.known).inside slot below)
+    caller_cell slot below = word_cell program well frames fit addresses pages calls few c r w base (r 31) (suc (length c.frames)) c.active.slots s (slot_word mine slot) ((fit.each c.active.function s.known).inside slot below)
 
     copied_now : Copied globals_length (words_per_call * calls) mine its low base arguments 0 count r1 w1
     copied_now =
-        let frame = fit callee in_range.function_in_range in
-        let own = fit c.active.function s.known in
+        let frame = fit.each callee in_range.function_in_range in
+        let own = fit.each c.active.function s.known in
         copied_all globals_length (words_per_call * calls) mine its (routine_at program c.active.function).slots (routine_at program callee).slots low base low_is
         (omega (arith, frame.within, frame.small)) (omega (arith, own.within, own.small)) (omega (arith, here_lies.0)) own.inside frame.inside frame.apart
         caller_cell (λ slot below. callee_cell (slot_word its slot) (frame.inside slot below))

@@ -18,7 +18,7 @@ use Rattle.cyc_plain.specs.Program.{Routine, Program, no_routine, routine_at}
 use Rattle.cyc_plain.specs.Step.{instruction_at}
 use Rattle.cyc_plain.specs.WellFormed.{IsInRange, IsWellFormed, HasWords, HasWord}
 use Rattle.cyc_plain.proofs.Placed.{holds_at, routine_in, below_of_get, has_code}
-use Rattle.cyc_frame.specs.Layout.{frame_at, slot_word}
+use Rattle.cyc_frame.specs.Layout.{AreFrames, frame_at, slot_word}
 use Rattle.cyc_frame.specs.declared.frame.Frame.{Frame}
 use Rattle.cyc_select.specs.declared.constants.TheConstants.{START_LINES}
 use Rattle.cyc_select.specs.declared.code.Line.{Line}
@@ -27,7 +27,6 @@ use Rattle.cyc_select.specs.Labelled.{Labelled, IsFormed, IsFormedLine}
 use Rattle.cyc_select.specs.Selection.{slot_offset, ordinary, copies, load_all, store_all, pop_frame, result_registers, ending_code, ending_count, operator_code, operator_count, body, behind, body_count, count_of, function_count, functions_count, function_line, instruction_line, code_lines, function_lines, start_lines, select_of}
 use Rattle.cyc_select.proofs.Lines.{line_first}
 use Rattle.cyc_select.proofs.Returns.{loaded, length_registers}
-use Rattle.cyc_select.specs.Emission.{AreFrames}
 use Rattle.cyc_select.proofs.Structure.{length_body, stand}
 use Rattle.cyc_select.proofs.Walks.{Stands}
 
@@ -155,13 +154,13 @@ module _ (program : Program) (well : IsWellFormed program) (words : HasWords pro
     slots = (routine_at program function).slots
 
     slot_fits : (slot : ℕ) → slot < slots → slot_offset frame slot < 2 ^ 16
-    slot_fits slot below = let f = fit function known in omega (arith, f.inside slot below, f.within, f.small)
+    slot_fits slot below = let f = fit.each function known in omega (arith, f.inside slot below, f.within, f.small)
 
     frame_fits : 4 * frame.words < 2 ^ 16
-    frame_fits = let f = fit function known in omega (arith, f.within, f.small)
+    frame_fits = let f = fit.each function known in omega (arith, f.within, f.small)
 
     return_fits : 4 * frame.return_address < 2 ^ 16
-    return_fits = let f = fit function known in omega (arith, f.return_inside, f.within, f.small)
+    return_fits = let f = fit.each function known in omega (arith, f.return_inside, f.within, f.small)
 
     loads_formed : (slot : ℕ) (targets : List ℕ) → slot + length targets ≤ slots → Formed (ordinary (load_all frame slot targets))
     loads_formed slot [] fits = tt
@@ -175,7 +174,7 @@ module _ (program : Program) (well : IsWellFormed program) (words : HasWords pro
         → (source slot count : ℕ) → source + count ≤ slots → slot + count ≤ callee_slots → Formed (ordinary (copies frame callee source slot count))
     copies_formed callee callee_slots small inside source slot zero source_fits slot_fits = tt
     copies_formed callee callee_slots small inside source slot (suc count) source_fits slot_fits =
-        let f = fit function known in (
+        let f = fit.each function known in (
           (refl, omega (arith, f.inside source (omega (arith, source_fits)), f.within, f.small, small)),
           (
             (refl, omega (arith, inside slot (omega (arith, slot_fits)), small)),
@@ -235,7 +234,7 @@ module _ (program : Program) (well : IsWellFormed program) (words : HasWords pro
     body_formed (plain.JumpIfZero condition target) n (a, b) fits long = ((refl, slot_fits condition a), (target_known function target b, tt))
     body_formed (plain.JumpIfNonzero condition target) n (a, b) fits long = ((refl, slot_fits condition a), (target_known function target b, tt))
     body_formed (plain.Call callee arguments count result) n in_range fits long =
-        let its = fit callee in_range.function_in_range in (
+        let its = fit.each callee in_range.function_in_range in (
           (omega (arith, long)),
           (
             (refl, (omega arith)),
@@ -305,7 +304,7 @@ module _ (program : Program) (well : IsWellFormed program) (words : HasWords pro
       (behind_formed function known i in_range))
 
   main_some : 0 < (frame_at frames program.main).words
-  main_some = let f = fit program.main well.main in omega (arith, f.return_inside)
+  main_some = let f = fit.each program.main well.main in omega (arith, f.return_inside)
 
   pub formed : IsFormed (select_of program frames)
   formed =

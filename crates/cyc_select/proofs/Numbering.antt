@@ -1,5 +1,5 @@
 -- Numbers of lines: sums over what stands before.
-use Rattle.std.proofs.Common.{◌≡◌, ℕ, zero, suc, ◌+◌, ◌*◌, ◌<◌, ◌≤◌, Bool, true, false, List, [], ◌∷◌, ◌++◌, length, drop, take, map, refl, ap, ◌∙◌, inl, inr, arith}
+use Rattle.std.proofs.Common.{◌≡◌, ℕ, zero, suc, ◌+◌, ◌*◌, ◌<◌, ◌≤◌, Bool, true, false, List, [], ◌∷◌, ◌++◌, length, drop, take, refl, ap, ◌∙◌, inl, inr, arith}
 use Rattle.std.specs.Prelude.{sum_by, slice_index_or, if◌then◌else◌}
 use Rattle.std.proofs.lemmas.List.{drop_more}
 use Rattle.std.proofs.lemmas.List.Sums.{sum_by-cons, sum_by-drop_more, sum_by-take-drop, sum_by-take-le}
@@ -7,12 +7,13 @@ use Rattle.cyc_plain.specs.declared.instruction.Instruction.{Instruction}
 use Rattle.cyc_plain.specs.declared.instruction.Instruction.TheVariants as plain
 use Rattle.cyc_plain.specs.declared.instruction.BinaryOperator.{BinaryOperator}
 use Rattle.cyc_plain.specs.declared.instruction.BinaryOperator.TheVariants as binary
-use Rattle.cyc_plain.specs.Program.{Program, Routine, no_routine, routine_of, routine_at, instruction_size, size, greatest_value}
-use Rattle.cyc_plain.specs.declared.program.Function.{Function}
+use Rattle.cyc_plain.specs.Program.{Program, Routine, no_routine, routine_at, instruction_size, size}
 use Rattle.cyc_plain.specs.WellFormed.{IsRoutine, IsWellFormed}
-use Rattle.cyc_frame.specs.Layout.{IsFrame, frame_at, most_words}
+use Rattle.cyc_plain.specs.declared.limits.TheConstants.{GREATEST_VALUE, MOST_SIZE}
+use Rattle.cyc_frame.specs.declared.frame.TheConstants.{MOST_FRAME_WORDS}
+use Rattle.cyc_frame.specs.Layout.{IsFrame}
 use Rattle.cyc_frame.specs.declared.frame.Frame.{Frame}
-use Rattle.cyc_select.specs.declared.constants.TheConstants.{MAX_SIZE, LINES_FOR_EACH, START_LINES}
+use Rattle.cyc_select.specs.declared.constants.TheConstants.{LINES_FOR_EACH, START_LINES}
 use Rattle.cyc_select.specs.Selection.{operator_count, ending_count, count_of, function_count, functions_count, function_line, instruction_line, code_lines, function_lines}
 use Rattle.cyc_select.specs.Emission.{AreReached, AreFew, most_lines, instruction_lines, function_starts, AreReady, AreTables}
 
@@ -84,8 +85,8 @@ line_fits program few k below index =
 -- ---- what a well-formed program says of all its functions
 
 -- where there is none, nothing is returned
-routines_few : (routines : List Routine) → ((k : ℕ) → k < length routines → (slice_index_or routines k no_routine).results ≤ greatest_value)
-    → (k : ℕ) → (slice_index_or routines k no_routine).results ≤ greatest_value
+routines_few : (routines : List Routine) → ((k : ℕ) → k < length routines → (slice_index_or routines k no_routine).results ≤ GREATEST_VALUE)
+    → (k : ℕ) → (slice_index_or routines k no_routine).results ≤ GREATEST_VALUE
 routines_few [] few zero = omega arith
 routines_few [] few (suc k) = omega arith
 routines_few (r ∷ routines) few zero = few 0 (omega arith)
@@ -99,13 +100,6 @@ are_few program well = routines_few program.functions (λ k below. (routine_stan
 
 -- ---- frames
 
--- one that has a word is among them
-frame_inside : (frames : List Frame) (k : ℕ) → 0 < (frame_at frames k).words → k < length frames
-frame_inside [] zero some = absurd (omega arith)
-frame_inside [] (suc k) some = absurd (omega arith)
-frame_inside (f ∷ frames) zero some = omega arith
-frame_inside (f ∷ frames) (suc k) some = omega (arith, frame_inside frames k some)
-
 slots_below : (r : Routine) (frame : Frame) → IsFrame r frame → (n : ℕ) → n ≡ r.slots → AreReached frame 0 n
 slots_below r frame fit zero is = inl refl
 slots_below r frame fit (suc n) is = inr (omega (arith, fit.inside n (omega arith), fit.within, fit.small))
@@ -113,7 +107,7 @@ slots_below r frame fit (suc n) is = inr (omega (arith, fit.inside n (omega arit
 pub slots_reached : (r : Routine) (frame : Frame) → IsFrame r frame → AreReached frame 0 r.slots
 slots_reached r frame fit = slots_below r frame fit r.slots refl
 
-pub words_small : (r : Routine) (frame : Frame) → IsFrame r frame → frame.words ≤ most_words
+pub words_small : (r : Routine) (frame : Frame) → IsFrame r frame → frame.words ≤ MOST_FRAME_WORDS
 words_small r frame fit = omega (arith, fit.within, fit.small)
 
 -- ---- tables
@@ -141,16 +135,13 @@ starts_at program function here (r ∷ routines) (suc k) d below =
     omega (arith, starts_at program (suc function) (here + function_count program function r) routines k d (omega arith))
 
 module _ {program : Program} {frames : List Frame} {starts : List ℕ} (ready : AreReady program frames starts) where
-  pub ready_frames : (k : ℕ) → k < length program.functions → k < length frames
-  ready_frames k below = frame_inside frames k (omega (arith, (ready.fit k below).return_inside))
-
   pub ready_starts : length starts ≡ length program.functions
   ready_starts = ap length ready.starts_are ∙ starts_length program 0 START_LINES program.functions
 
   pub ready_start : (k : ℕ) → k < length program.functions → slice_index_or starts k 0 ≡ function_line program k
   ready_start k below = ap (λ (s : List ℕ). slice_index_or s k 0) ready.starts_are ∙ starts_at program 0 START_LINES program.functions k 0 below
 
-  pub ready_size : (k : ℕ) → k < length program.functions → size (routine_at program k) ≤ MAX_SIZE
+  pub ready_size : (k : ℕ) → k < length program.functions → size (routine_at program k) ≤ MOST_SIZE
   ready_size k below =
       omega (arith, ready.few, sum_by-drop_more size program.functions k no_routine below, sum_by-take-drop size program.functions k)
 
@@ -192,9 +183,3 @@ functions_next program frames k below =
     ap (λ (rs : List Routine). function_lines program frames k (function_line program k) rs) (drop_more program.functions k no_routine below)
     ∙ ap (λ (n : ℕ). own ++ function_lines program frames (suc k) n rest) (start_next program k below)
     ∙ ap (λ (n : ℕ). own ++ function_lines program frames n (function_line program n) rest) one
-
--- a function of the code, as data
-pub routine_is : (functions : List Function) (k : ℕ) (f : Function) → k < length functions → f ≡ slice_index_or functions k f → routine_of f ≡ slice_index_or (map routine_of functions) k no_routine
-routine_is [] k f below at = absurd (omega arith)
-routine_is (g ∷ functions) zero f below at = ap routine_of at
-routine_is (g ∷ functions) (suc k) f below at = routine_is functions k f (omega arith) at

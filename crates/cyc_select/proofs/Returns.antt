@@ -17,7 +17,7 @@ use Rattle.cyc_plain.specs.Step.{instruction_at, performed, returns}
 use Rattle.cyc_plain.specs.WellFormed.{IsWellFormed, HasSlots}
 use Rattle.cyc_plain.proofs.RunLaws.{zeros, zeros_allowed, over_within}
 use Rattle.cyc_plain.proofs.SlotLaws.{put-same, put-other, copied-inside, copied-above, copied-below}
-use Rattle.cyc_frame.specs.Layout.{frame_at}
+use Rattle.cyc_frame.specs.Layout.{AreFrames, frame_at}
 use Rattle.cyc_frame.specs.declared.frame.Frame.{Frame}
 use Rattle.cyc_select.specs.declared.code.Line.{Line}
 use Rattle.cyc_select.specs.declared.code.Line.TheVariants as lines
@@ -25,7 +25,6 @@ use Rattle.cyc_select.specs.Labelled.{Labelled, IsFormed, AreAddresses}
 use Rattle.cyc_select.specs.Machine as labelled
 use Rattle.cyc_select.specs.Machine.{State, Running, Ended}
 use Rattle.cyc_select.specs.Selection.{slot_offset, load, small, add_immediate, load_slot, load_all, store_all, pop_frame, result_registers, ordinary, syscall, ending_code, ending_count, returning_code, behind, instruction_line}
-use Rattle.cyc_select.specs.Emission.{AreFrames}
 use Rattle.cyc_select.proofs.Calls.{length_ordinary}
 use Rattle.cyc_select.proofs.Cells.{IsCell}
 use Rattle.cyc_select.proofs.Lines.{line_next}
@@ -186,7 +185,7 @@ module _ (program : Program) (well : IsWellFormed program) (frames : List Frame)
   back_goes line hi d f waiting under (arguments, count, index, known, at, next, is_back, holds, chain) stands_here far later =
       let size : ℕ = length (loaded frame value results) in
       let same_size = length_ordinary (loaded frame value results) in
-      let own = fit c.active.function s.known in
+      let own = fit.each c.active.function s.known in
       let l = lies program well frames fit addresses pages calls few c r w base (r 31) (suc (length c.frames)) c.active.slots s in
       let routine = well.functions c.active.function no_routine s.known in
       let load = are_loaded globals_length (words_per_call * calls) frame r w c.active.slots value (routine_at program c.active.function).slots cell word_is results routine.results in_range in

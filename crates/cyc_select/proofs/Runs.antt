@@ -25,12 +25,12 @@ use Rattle.cyc_words.proofs.Matching.{way_before}
 use Rattle.cyc_plain.proofs.Placed.{holds_at, routine_in, below_of_get}
 use Rattle.cyc_plain.proofs.RunLaws.{limited-within, zeros, zeros_allowed, stuck_within}
 use Rattle.cyc_plain.proofs.Steps.{function_known}
+use Rattle.cyc_frame.specs.Layout.{AreFrames}
 use Rattle.cyc_frame.specs.declared.frame.Frame.{Frame}
 use Rattle.cyc_select.specs.Labelled.{Labelled, IsFormed, AreAddresses}
 use Rattle.cyc_select.specs.Machine as labelled
 use Rattle.cyc_select.specs.Machine.{State, Running, Ended, machine}
 use Rattle.cyc_select.specs.Selection.{body, behind, body_count, behind_count, operator_count, instruction_line}
-use Rattle.cyc_select.specs.Emission.{AreFrames}
 use Rattle.cyc_select.proofs.Lines.{line_next}
 use Rattle.cyc_select.proofs.Operations.{negated_quotient, negated_remainder}
 use Rattle.cyc_select.proofs.Walks.{Stands, stands_front, stands_back, Rises, rising_distinct, rising_inside, comes_map, Quiet, Walk}

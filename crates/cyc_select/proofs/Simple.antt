@@ -33,14 +33,13 @@ use Rattle.cyc_plain.specs.WellFormed.{IsWellFormed}
 use Rattle.cyc_words.proofs.WordLemmas.{sign_extended_high}
 use Rattle.cyc_plain.proofs.SlotLaws.{put-other}
 use Rattle.cyc_plain.proofs.RunLaws.{zeros, over_within, zeros_allowed}
-use Rattle.cyc_frame.specs.Layout.{frame_at}
+use Rattle.cyc_frame.specs.Layout.{AreFrames, frame_at}
 use Rattle.cyc_frame.specs.declared.frame.Frame.{Frame}
 use Rattle.cyc_select.specs.declared.code.Line.TheVariants as lines
 use Rattle.cyc_select.specs.Labelled.{Labelled, IsFormed}
 use Rattle.cyc_select.specs.Machine as labelled
 use Rattle.cyc_select.specs.Machine.{State, Running, Ended}
 use Rattle.cyc_select.specs.Selection.{load_slot, store_slot, slot_offset, constant, small, minus, add_immediate, unary_code, binary_code, ordinary, syscall, divide_code, operator_code, body, operator_count, count_of, instruction_line}
-use Rattle.cyc_select.specs.Emission.{AreFrames}
 use Rattle.cyc_select.proofs.Cells.{IsCell}
 use Rattle.cyc_select.proofs.Effects.{byte_of}
 use Rattle.cyc_select.proofs.Lines.{line_next}

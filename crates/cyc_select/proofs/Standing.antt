@@ -13,10 +13,9 @@ use Rattle.cyc_plain.specs.Step.{instruction_at}
 use Rattle.cyc_plain.specs.WellFormed.{IsWellFormed}
 use Rattle.cyc_plain.proofs.SlotLaws.{put-same, put-other}
 use Rattle.std.proofs.lemmas.Bool.{cases_eq}
-use Rattle.cyc_frame.specs.Layout.{slot_word, frame_at}
+use Rattle.cyc_frame.specs.Layout.{AreFrames, slot_word, frame_at}
 use Rattle.cyc_frame.specs.declared.frame.Frame.{Frame}
 use Rattle.cyc_select.specs.Selection.{slot_offset, instruction_line, body_count}
-use Rattle.cyc_select.specs.Emission.{AreFrames}
 use Rattle.cyc_select.proofs.Cells.{IsCell}
 use Rattle.cyc_select.proofs.Operations.{address_at}
 
@@ -74,11 +73,11 @@ module _ (program : Program) (frames : List Frame) (fit : AreFrames program fram
   pub chain_lies : (w : Words) (base back function : ℕ) (waiting : List states.Frame) → function < length program.functions → Chain program frames addresses w base back function waiting
       → Lies base function (suc (length waiting))
   chain_lies w base back function [] known (last, is_back, is_main) =
-      let frame = fit function known in
+      let frame = fit.each function known in
       record { below_end = omega arith; above_low = omega (arith, frame.within, frame.small); aligned = omega arith }
   chain_lies w base back function (f ∷ waiting) known (arguments, count, index, caller_known, at, next, is_back, holds, chain) =
       let above : ℕ = base + size_of function in
-      let frame = fit function known in
+      let frame = fit.each function known in
       let lies = chain_lies w above (w (above + 4 * (frame_at frames f.caller.function).return_address)) f.caller.function waiting caller_known chain in
       record { below_end = omega (arith, lies.below_end); above_low = omega (arith, lies.above_low, frame.within, frame.small); aligned = omega (arith, lies.aligned) }
 
@@ -109,7 +108,7 @@ module _ (program : Program) (well : IsWellFormed program) (frames : List Frame)
     -- a word of the frame
     pub word_address : (word : ℕ) → word < (frame_at frames c.active.function).words → memory_address (r 29) (4 * word) ≡ base + 4 * word
     word_address word inside =
-        let frame = fit c.active.function s.known in
+        let frame = fit.each c.active.function s.known in
         ap (λ (x : ℕ). memory_address x (4 * word)) s.base_is
         ∙ address_at base (4 * word) (omega (arith, inside, frame.within, frame.small)) (omega (arith, inside, lies.below_end))
 
@@ -118,20 +117,20 @@ module _ (program : Program) (well : IsWellFormed program) (frames : List Frame)
         inr ((omega (arith, lies.aligned)), (omega (arith, lies.above_low, s.deep)), (omega (arith, inside, lies.below_end)))
 
     pub slot_address : (slot : ℕ) → slot < (routine_at program c.active.function).slots → memory_address (r 29) (slot_offset (frame_at frames c.active.function) slot) ≡ base + slot_offset (frame_at frames c.active.function) slot
-    slot_address slot below = word_address (slot_word (frame_at frames c.active.function) slot) ((fit c.active.function s.known).inside slot below)
+    slot_address slot below = word_address (slot_word (frame_at frames c.active.function) slot) ((fit.each c.active.function s.known).inside slot below)
 
     pub slot_cell : (slot : ℕ) → slot < (routine_at program c.active.function).slots → IsCell data_words stack_words (memory_address (r 29) (slot_offset (frame_at frames c.active.function) slot))
     slot_cell slot below =
-        subst (IsCell data_words stack_words) (sym (slot_address slot below)) (word_cell (slot_word (frame_at frames c.active.function) slot) ((fit c.active.function s.known).inside slot below))
+        subst (IsCell data_words stack_words) (sym (slot_address slot below)) (word_cell (slot_word (frame_at frames c.active.function) slot) ((fit.each c.active.function s.known).inside slot below))
 
     pub slot_word_is : (slot : ℕ) → slot < (routine_at program c.active.function).slots → w (memory_address (r 29) (slot_offset (frame_at frames c.active.function) slot)) ≡ slots slot
     slot_word_is slot below = ap w (slot_address slot below) ∙ s.holds slot below
 
     pub return_address : memory_address (r 29) (4 * (frame_at frames c.active.function).return_address) ≡ base + 4 * (frame_at frames c.active.function).return_address
-    return_address = word_address (frame_at frames c.active.function).return_address (fit c.active.function s.known).return_inside
+    return_address = word_address (frame_at frames c.active.function).return_address (fit.each c.active.function s.known).return_inside
 
     pub return_cell : IsCell data_words stack_words (memory_address (r 29) (4 * (frame_at frames c.active.function).return_address))
-    return_cell = subst (IsCell data_words stack_words) (sym return_address) (word_cell (frame_at frames c.active.function).return_address (fit c.active.function s.known).return_inside)
+    return_cell = subst (IsCell data_words stack_words) (sym return_address) (word_cell (frame_at frames c.active.function).return_address (fit.each c.active.function s.known).return_inside)
 
     -- the word of a global
     pub global_cell : (global : ℕ) → global < length program.globals → IsCell data_words stack_words (data_base + 4 * global)
@@ -179,7 +178,7 @@ module _ (program : Program) (well : IsWellFormed program) (frames : List Frame)
     other_slot : (a b : ℕ) → a < (routine_at program c.active.function).slots → b < (routine_at program c.active.function).slots → b ≢ a
         → base + slot_offset (frame_at frames c.active.function) b ≢ base + slot_offset (frame_at frames c.active.function) a
     other_slot a b a_below b_below apart same =
-        apart ((fit c.active.function s.known).apart b a b_below a_below (omega (arith, same)))
+        apart ((fit.each c.active.function s.known).apart b a b_below a_below (omega (arith, same)))
 
     abbrev slot_at : ℕ → ℕ
     slot_at slot = base + slot_offset (frame_at frames c.active.function) slot
@@ -208,9 +207,9 @@ module _ (program : Program) (well : IsWellFormed program) (frames : List Frame)
             ∙ (s.holds other other_below ∙ sym (put-other slots slot other word apart))
       ];
       chain = chain_kept program frames fit addresses w (put w (slot_at slot) word) base back c.active.function c.frames
-          (λ a from. put-other w (slot_at slot) a word (λ e. absurd (omega (arith, e, from, (fit c.active.function s.known).inside slot below)))) s.chain;
+          (λ a from. put-other w (slot_at slot) a word (λ e. absurd (omega (arith, e, from, (fit.each c.active.function s.known).inside slot below)))) s.chain;
       globals = λ global global_below.
-          put-other w (slot_at slot) (data_base + 4 * global) word (above_data (slot_word (frame_at frames c.active.function) slot) global ((fit c.active.function s.known).inside slot below) global_below)
+          put-other w (slot_at slot) (data_base + 4 * global) word (above_data (slot_word (frame_at frames c.active.function) slot) global ((fit.each c.active.function s.known).inside slot below) global_below)
           ∙ s.globals global global_below;
       input = s.input;
       paged = s.paged;
@@ -226,12 +225,12 @@ module _ (program : Program) (well : IsWellFormed program) (frames : List Frame)
       deep = s.deep;
       holds = λ slot below.
           put-other w return_at (base + slot_offset (frame_at frames c.active.function) slot) word
-          (λ e. (fit c.active.function s.known).beside slot below (omega (arith, e)))
+          (λ e. (fit.each c.active.function s.known).beside slot below (omega (arith, e)))
           ∙ s.holds slot below;
       chain = chain_kept program frames fit addresses w (put w return_at word) base back c.active.function c.frames
-          (λ a from. put-other w return_at a word (λ e. absurd (omega (arith, e, from, (fit c.active.function s.known).return_inside)))) s.chain;
+          (λ a from. put-other w return_at a word (λ e. absurd (omega (arith, e, from, (fit.each c.active.function s.known).return_inside)))) s.chain;
       globals = λ global below.
-          put-other w return_at (data_base + 4 * global) word (above_data (frame_at frames c.active.function).return_address global (fit c.active.function s.known).return_inside below)
+          put-other w return_at (data_base + 4 * global) word (above_data (frame_at frames c.active.function).return_address global (fit.each c.active.function s.known).return_inside below)
           ∙ s.globals global below;
       input = s.input;
       paged = s.paged;
@@ -248,7 +247,7 @@ module _ (program : Program) (well : IsWellFormed program) (frames : List Frame)
       deep = s.deep;
       holds = λ slot slot_below.
           put-other w (global_at global) (base + slot_offset (frame_at frames c.active.function) slot) word
-          (λ e. above_data (slot_word (frame_at frames c.active.function) slot) global ((fit c.active.function s.known).inside slot slot_below) below (sym e))
+          (λ e. above_data (slot_word (frame_at frames c.active.function) slot) global ((fit.each c.active.function s.known).inside slot slot_below) below (sym e))
           ∙ s.holds slot slot_below;
       chain = chain_kept program frames fit addresses w (put w (global_at global) word) base back c.active.function c.frames
           (λ a from. put-other w (global_at global) a word (λ e. absurd (omega (arith, e, from, below, well.globals, lies.above_low, s.deep)))) s.chain;

@@ -18,14 +18,13 @@ use Rattle.cyc_plain.specs.Step.{instruction_at}
 use Rattle.cyc_plain.specs.WellFormed.{IsWellFormed, HasWords}
 use Rattle.cyc_words.proofs.Matching.{way_before}
 use Rattle.cyc_words.proofs.Simulation.{simulates}
-use Rattle.cyc_frame.specs.Layout.{frame_at}
+use Rattle.cyc_frame.specs.Layout.{AreFrames, frame_at}
 use Rattle.cyc_frame.specs.declared.frame.Frame.{Frame}
 use Rattle.cyc_select.specs.declared.code.Line.TheVariants as lines
 use Rattle.cyc_select.specs.Labelled.{Labelled, IsFormed, AreAddresses}
 use Rattle.cyc_select.specs.Machine as labelled
 use Rattle.cyc_select.specs.Machine.{State, Running, machine, memory_of, word_in, globals_of, start}
 use Rattle.cyc_select.specs.Selection.{slot_offset, body, behind, body_count, add_immediate, minus, push_frame, ordinary, start_lines, function_line, instruction_line}
-use Rattle.cyc_select.specs.Emission.{AreFrames}
 use Rattle.cyc_select.proofs.Cells.{cell, place_of-data, place_of-stack}
 use Rattle.cyc_select.proofs.Laws.{lawful}
 use Rattle.cyc_select.proofs.Lines.{line_first}
@@ -213,7 +212,7 @@ module _ (program : Program) (well : IsWellFormed program) (words : HasWords pro
 
   base_is : q 29 ≡ base
   base_is =
-      let own = fit program.main well.main in
+      let own = fit.each program.main well.main in
       take_small stack_end (4 * frame.words) (omega arith) (omega (arith, own.return_inside)) (omega (arith, own.within, own.small)) (omega (arith, own.within, own.small))
 
   abbrev c : Configuration
@@ -234,9 +233,9 @@ module _ (program : Program) (well : IsWellFormed program) (words : HasWords pro
     left = left_one (q 30) left_is;
     deep = allowed.enough_calls;
     holds = λ slot below.
-        let own = fit program.main well.main in
+        let own = fit.each program.main well.main in
         stack_zero (base + slot_offset frame slot) (omega (arith, own.within, own.small)) (omega (arith, own.within, own.small, allowed.enough_calls)) (omega (arith, own.inside slot below, own.within, own.small));
-    chain = ((let own = fit program.main well.main in omega (arith, own.within, own.small)), refl, refl);
+    chain = ((let own = fit.each program.main well.main in omega (arith, own.within, own.small)), refl, refl);
     globals = global_word;
     input = bytes_words input bytes;
     paged = omega (arith, allowed.enough_pages);

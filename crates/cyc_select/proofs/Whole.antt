@@ -7,6 +7,7 @@ use Rattle.cyc_plain.specs.Program.{Program, CodePlace, routine_at, size}
 use Rattle.cyc_plain.specs.WellFormed.{IsWellFormed, HasWords}
 use Rattle.cyc_words.proofs.Prices.{sum_by-flat_map}
 use Rattle.cyc_frame.specs.declared.frame.Frame.{Frame}
+use Rattle.cyc_frame.specs.Layout.{AreFrames}
 use Rattle.cyc_select.specs.declared.constants.TheConstants.{WORDS_FOR_EACH, MAX_START_WORDS, START_LINES}
 use Rattle.cyc_select.specs.Labelled.{words_of, all_words}
 use Rattle.cyc_select.specs.Selected.{IsCodeOf, words_at}
@@ -15,7 +16,6 @@ use Rattle.cyc_select.proofs.Formed.{few_results, formed}
 use Rattle.cyc_select.proofs.Parts.{place_in, own_function, own_some, parts}
 use Rattle.cyc_select.proofs.Runs.{own_of}
 use Rattle.cyc_select.proofs.Sizes.{words_range, code_words, functions_words}
-use Rattle.cyc_select.specs.Emission.{AreFrames}
 use Rattle.cyc_select.proofs.Start.{follows}
 use Rattle.cyc_select.proofs.Structure.{length_body, length_code, stand, stand_function, starts}
 

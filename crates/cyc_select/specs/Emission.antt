@@ -5,11 +5,13 @@ use Rattle.std.specs.declared.alloc.AllocError.{AllocError}
 use Rattle.cyc_isa.specs.declared.instr.ArithmeticOp.TheVariants.{SetLess}
 use Rattle.cyc_machine.specs.declared.constants.TheConstants.{END_FULL, RETURN_ADDRESS, SERVICE}
 use Rattle.cyc_plain.specs.declared.instruction.Instruction.{Instruction}
-use Rattle.cyc_plain.specs.Program.{Routine, Program, program_of, routine_at, size, greatest_value}
+use Rattle.cyc_plain.specs.Program.{Routine, Program, routine_at, size}
 use Rattle.cyc_plain.specs.WellFormed.{IsWellFormed}
-use Rattle.cyc_frame.specs.Layout.{IsFrame, slot_word, frame_at, most_words}
+use Rattle.cyc_plain.specs.declared.limits.TheConstants.{GREATEST_VALUE, MOST_SIZE}
+use Rattle.cyc_frame.specs.declared.frame.TheConstants.{MOST_FRAME_WORDS}
+use Rattle.cyc_frame.specs.Layout.{AreFrames, slot_word}
 use Rattle.cyc_frame.specs.declared.frame.Frame.{Frame}
-use Rattle.cyc_select.specs.declared.constants.TheConstants.{FIRST, SECOND, CALLS, MAX_SIZE, LINES_FOR_EACH, START_LINES}
+use Rattle.cyc_select.specs.declared.constants.TheConstants.{FIRST, SECOND, CALLS, LINES_FOR_EACH, START_LINES}
 use Rattle.cyc_select.specs.declared.code.Line.{Line}
 use Rattle.cyc_select.specs.Selection.{store, add_immediate, minus, push_frame, load_slot, small, is_zero, syscall, arithmetic_of, ordinary, count_of, function_count, function_line}
 use Rattle.cyc_select.specs.declared.emitter.Emitter.{Emitter}
@@ -44,19 +46,19 @@ enter_code caller callee =
 
 -- a slot lies where an offset reaches
 abbrev pub IsReached : Frame → (slot : ℕ) → Type 0
-IsReached frame slot = slot_word frame slot < most_words
+IsReached frame slot = slot_word frame slot < MOST_FRAME_WORDS
 
 -- and so do so many slots from this one on, where there are any
 abbrev pub AreReached : Frame → (first count : ℕ) → Type 0
-AreReached frame first count = (count ≡ 0) ⊎ (slot_word frame first + count ≤ most_words)
+AreReached frame first count = (count ≡ 0) ⊎ (slot_word frame first + count ≤ MOST_FRAME_WORDS)
 
 -- so many lines a program has at most
 abbrev pub most_lines : ℕ
-most_lines = START_LINES + LINES_FOR_EACH * MAX_SIZE
+most_lines = START_LINES + LINES_FOR_EACH * MOST_SIZE
 
 -- no function returns more than a value has words
 abbrev pub AreFew : Program → Type 0
-AreFew program = (k : ℕ) → (routine_at program k).results ≤ greatest_value
+AreFew program = (k : ℕ) → (routine_at program k).results ≤ GREATEST_VALUE
 
 -- the line numbers of the instructions of a function's code, of which the first has this one
 abbrev pub instruction_lines : Program → (function here : ℕ) → List Instruction → List ℕ
@@ -70,20 +72,16 @@ function_starts program function here [] = []
 function_starts program function here (r ∷ routines) =
     here ∷ function_starts program (suc function) (here + function_count program function r) routines
 
--- each function of the program has a frame
-abbrev pub AreFrames : Program → List Frame → Type 0
-AreFrames program frames = (k : ℕ) → k < length program.functions → IsFrame (routine_at program k) (frame_at frames k)
-
 -- What the lines of a program are made from: its functions are not too large together, these are their frames, and these the
 -- numbers of their first lines.
 pub record AreReady (program : Program) (frames : List Frame) (starts : List ℕ) : Type 0 where
   pub well_formed : IsWellFormed program
-  pub few : sum_by size program.functions ≤ MAX_SIZE
+  pub few : sum_by size program.functions ≤ MOST_SIZE
   pub fit : AreFrames program frames
   pub starts_are : starts ≡ function_starts program 0 START_LINES program.functions
 
 abbrev pub IsReady : Ready → Type 0
-IsReady ready = AreReady (program_of ready.plain.now) ready.frames.now ready.starts.now
+IsReady ready = AreReady ready.plain.now ready.frames.now ready.starts.now
 
 -- The same for a function of the program, with the numbers of the first lines of its instructions.
 pub record AreTables (program : Program) (frames : List Frame) (starts lines : List ℕ) (function : ℕ) : Type 0 where
@@ -93,4 +91,4 @@ pub record AreTables (program : Program) (frames : List Frame) (starts lines : L
 
 abbrev pub IsKnown : Tables → Type 0
 IsKnown tables =
-    AreTables (program_of tables.plain.now) tables.frames.now tables.starts.now tables.lines.now tables.function
+    AreTables tables.plain.now tables.frames.now tables.starts.now tables.lines.now tables.function

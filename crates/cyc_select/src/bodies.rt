@@ -1,6 +1,6 @@
 //! The lines of an instruction.
 ghost use Rattle.std.specs.Prelude.{◌≡◌, ◌+◌, ◌<◌, ◌≤◌, ◌++◌, OnOk, length};
-ghost use Rattle.cyc_plain.specs.Program.{program_of, routine_at};
+ghost use Rattle.cyc_plain.specs.Program.{routine_at};
 ghost use Rattle.cyc_plain.specs.WellFormed.{IsInRange};
 ghost use Rattle.cyc_select.specs.Selection.{test_code, body, behind};
 ghost use Rattle.cyc_select.specs.Emission.{AddsLines, IsReached, IsKnown, most_lines};
@@ -40,9 +40,9 @@ impl Emitter {
         instruction: Instruction,
     ) -> Result<(), AllocError>
         requires known { IsKnown tables.now }
-        requires in_range { IsInRange (program_of tables.now.plain.now) (routine_at (program_of tables.now.plain.now) tables.now.function) instruction }
+        requires in_range { IsInRange tables.now.plain.now (routine_at tables.now.plain.now tables.now.function) instruction }
         requires fits { here ≤ most_lines }
-        ensures { AddsLines result self.old self.new (body (program_of tables.now.plain.now) tables.now.frames.now tables.now.function here instruction) }
+        ensures { AddsLines result self.old self.new (body tables.now.plain.now tables.now.frames.now tables.now.function here instruction) }
     {
         let frame = tables.frame(tables.function);
         match instruction {
@@ -113,8 +113,8 @@ impl Emitter {
     /// Behind a call, the lines that are executed after it returned.
     fn behind(&mut self, tables: &Tables, instruction: Instruction) -> Result<(), AllocError>
         requires known { IsKnown tables.now }
-        requires in_range { IsInRange (program_of tables.now.plain.now) (routine_at (program_of tables.now.plain.now) tables.now.function) instruction }
-        ensures { AddsLines result self.old self.new (behind (program_of tables.now.plain.now) tables.now.frames.now tables.now.function instruction) }
+        requires in_range { IsInRange tables.now.plain.now (routine_at tables.now.plain.now tables.now.function) instruction }
+        ensures { AddsLines result self.old self.new (behind tables.now.plain.now tables.now.frames.now tables.now.function instruction) }
     {
         let frame = tables.frame(tables.function);
         match instruction {
@@ -135,9 +135,9 @@ impl Emitter {
         instruction: Instruction,
     ) -> Result<(), AllocError>
         requires known { IsKnown tables.now }
-        requires in_range { IsInRange (program_of tables.now.plain.now) (routine_at (program_of tables.now.plain.now) tables.now.function) instruction }
+        requires in_range { IsInRange tables.now.plain.now (routine_at tables.now.plain.now tables.now.function) instruction }
         requires fits { here ≤ most_lines }
-        ensures { AddsLines result self.old self.new (body (program_of tables.now.plain.now) tables.now.frames.now tables.now.function here instruction ++ behind (program_of tables.now.plain.now) tables.now.frames.now tables.now.function instruction) }
+        ensures { AddsLines result self.old self.new (body tables.now.plain.now tables.now.frames.now tables.now.function here instruction ++ behind tables.now.plain.now tables.now.frames.now tables.now.function instruction) }
     {
         self.body(tables, here, instruction)?;
         self.behind(tables, instruction)

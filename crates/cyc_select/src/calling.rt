@@ -1,7 +1,5 @@
 //! The lines of calls and returns.
 ghost use Rattle.std.specs.Prelude.{◌≡◌, ◌+◌, ◌*◌, ◌<◌, ◌≤◌, [], ◌∷◌, ◌++◌, true, length, OnOk};
-ghost use Rattle.cyc_plain.specs.Program.{greatest_value};
-ghost use Rattle.cyc_frame.specs.Layout.{most_words};
 ghost use Rattle.cyc_select.specs.Selection.{load, store_slot, slot_offset, copies, ordinary, load_all, store_all, calling_code, returned_code, ending_code, returning_code};
 ghost use Rattle.cyc_select.specs.Emission.{AddsLines, IsReached, AreReached, most_lines, enter_code};
 
@@ -12,9 +10,10 @@ use crate::instructions::{
     add_immediate, load, load_slot, minus, offset_of, pop_frame, push_frame, small, store,
     store_slot, syscall,
 };
-use cyc_frame::Frame;
+use cyc_frame::{Frame, MOST_FRAME_WORDS};
 use cyc_isa::BranchOp;
 use cyc_machine::constants::{ARGUMENT, END_FULL, END_RETURNED, RETURN_ADDRESS, SERVICE};
+use cyc_plain::GREATEST_VALUE;
 use std::alloc::AllocError;
 
 /// The registers of what a function returns.
@@ -29,7 +28,7 @@ impl Emitter {
         source: usize,
         slot: usize,
     ) -> Result<(), AllocError>
-        requires words { callee.words ≤ most_words }
+        requires words { callee.words ≤ MOST_FRAME_WORDS }
         requires source { IsReached caller source }
         requires target { IsReached callee slot }
         ensures { AddsLines result self.old self.new (ordinary (load FIRST (4 * callee.words + slot_offset caller source) ∷ store_slot callee FIRST slot ∷ [])) }
@@ -46,7 +45,7 @@ impl Emitter {
         source: usize,
         count: usize,
     ) -> Result<(), AllocError>
-        requires words { callee.words ≤ most_words }
+        requires words { callee.words ≤ MOST_FRAME_WORDS }
         requires source { AreReached caller source count }
         requires target { AreReached callee 0 count }
         ensures { AddsLines result self.old self.new (ordinary (copies caller callee source 0 count)) }
@@ -59,9 +58,9 @@ impl Emitter {
 
     /// The end of a run where too many calls are under way, and the change to the callee's frame.
     fn enter(&mut self, caller: Frame, callee: Frame) -> Result<(), AllocError>
-        requires return_address { caller.return_address ≤ most_words }
+        requires return_address { caller.return_address ≤ MOST_FRAME_WORDS }
         requires some { 0 < callee.words }
-        requires words { callee.words ≤ most_words }
+        requires words { callee.words ≤ MOST_FRAME_WORDS }
         ensures { AddsLines result self.old self.new (enter_code caller callee) }
     {
         self.ordinary(&[
@@ -83,9 +82,9 @@ impl Emitter {
         count: usize,
     ) -> Result<(), AllocError>
         requires fits { here ≤ most_lines }
-        requires return_address { frames.0.return_address ≤ most_words }
+        requires return_address { frames.0.return_address ≤ MOST_FRAME_WORDS }
         requires some { 0 < frames.1.words }
-        requires words { frames.1.words ≤ most_words }
+        requires words { frames.1.words ≤ MOST_FRAME_WORDS }
         requires source { AreReached frames.0 arguments count }
         requires target { AreReached frames.1 0 count }
         ensures { AddsLines result self.old self.new (calling_code frames.0 frames.1 here label arguments count) }
@@ -130,8 +129,8 @@ impl Emitter {
         slot: usize,
         results: usize,
     ) -> Result<(), AllocError>
-        requires return_address { frame.return_address ≤ most_words }
-        requires few { results ≤ greatest_value }
+        requires return_address { frame.return_address ≤ MOST_FRAME_WORDS }
+        requires few { results ≤ GREATEST_VALUE }
         requires target { AreReached frame slot results }
         ensures { AddsLines result self.old self.new (returned_code frame slot results) }
     {
@@ -175,8 +174,8 @@ impl Emitter {
         results: usize,
     ) -> Result<(), AllocError>
         requires fits { here ≤ most_lines }
-        requires words { frame.words ≤ most_words }
-        requires few { results ≤ greatest_value }
+        requires words { frame.words ≤ MOST_FRAME_WORDS }
+        requires few { results ≤ GREATEST_VALUE }
         requires main { is_main ≡ true → IsReached frame value }
         requires source { AreReached frame value results }
         ensures { AddsLines result self.old self.new (returning_code is_main frame here value results) }

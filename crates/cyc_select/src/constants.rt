@@ -33,9 +33,6 @@ pub const CALLS: u8 = 30;
 /// How many lines the start has.
 pub const START_LINES: usize = 3;
 
-/// The functions of a program have at most this size together, and so line numbers fit.
-pub const MAX_SIZE: usize = 360_000;
-
 /// How many lines an instruction has at most for each unit of its size.
 pub const LINES_FOR_EACH: usize = 12;
 

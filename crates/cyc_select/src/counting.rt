@@ -1,20 +1,20 @@
 //! How many lines each instruction has, and which number the first of them has.
 ghost use Rattle.std.specs.Prelude.{◌≡◌, ◌+◌, ◌*◌, ◌<◌, ◌≤◌, length, map, sum_by, All, IfOk};
-ghost use Rattle.cyc_plain.specs.Program.{program_of, routine_of, routine_at, instruction_size, size, greatest_value};
-ghost use Rattle.cyc_plain.specs.WellFormed.{IsWellFormed, IsInRange};
+ghost use Rattle.cyc_plain.specs.Program.{routine_of, routine_at, instruction_size, size};
+ghost use Rattle.cyc_plain.specs.WellFormed.{IsPlain, IsInRange};
 ghost use Rattle.cyc_select.specs.Selection.{operator_count, ending_count, body_count, behind_count, count_of};
 ghost use Rattle.cyc_select.specs.Emission.{AreFew, most_lines, instruction_lines, function_starts};
 
-use crate::constants::{LINES_FOR_EACH, MAX_SIZE, START_LINES};
-use cyc_plain::{BinaryOperator, Instruction, Plain};
+use crate::constants::{LINES_FOR_EACH, START_LINES};
+use cyc_plain::{BinaryOperator, GREATEST_VALUE, Instruction, MOST_SIZE, Plain};
 use std::alloc::{AllocError, Global};
 
 /// How many words a function returns.
 pub(crate) fn results_of(plain: &Plain, function: usize) -> usize
-    requires { function < length plain.now.functions.items }
-    ensures { result ≡ (routine_at (program_of plain.now) function).results }
+    requires { function < length plain.now.functions }
+    ensures { result ≡ (routine_at plain.now function).results }
 {
-    plain.functions[function].results
+    plain.function(function).results
 }
 
 fn operator_count(operator: BinaryOperator) -> usize
@@ -33,20 +33,20 @@ fn operator_count(operator: BinaryOperator) -> usize
 
 /// The lines of a return.
 fn return_count(plain: &Plain, function: usize) -> usize
-    requires function { function < length plain.now.functions.items }
-    requires few { AreFew (program_of plain.now) }
-    ensures { result ≡ ending_count (program_of plain.now) function + (routine_at (program_of plain.now) function).results + 2 }
+    requires function { function < length plain.now.functions }
+    requires few { AreFew plain.now }
+    ensures { result ≡ ending_count plain.now function + (routine_at plain.now function).results + 2 }
 {
-    let ending = if function == plain.main { 4 } else { 0 };
+    let ending = if function == plain.main() { 4 } else { 0 };
     ending + results_of(plain, function) + 2
 }
 
 /// The lines of an instruction up to what it does.
 fn body_count(plain: &Plain, function: usize, instruction: Instruction) -> usize
-    requires function { function < length plain.now.functions.items }
-    requires few { AreFew (program_of plain.now) }
-    requires small { instruction_size instruction ≤ MAX_SIZE }
-    ensures { result ≡ body_count (program_of plain.now) function instruction }
+    requires function { function < length plain.now.functions }
+    requires few { AreFew plain.now }
+    requires small { instruction_size instruction ≤ MOST_SIZE }
+    ensures { result ≡ body_count plain.now function instruction }
 {
     match instruction {
         Instruction::Constant { .. } | Instruction::Unary { .. } => 3,
@@ -64,9 +64,9 @@ fn body_count(plain: &Plain, function: usize, instruction: Instruction) -> usize
 
 /// Behind a call, the lines that are executed after it returned.
 fn behind_count(plain: &Plain, function: usize, instruction: Instruction) -> usize
-    requires few { AreFew (program_of plain.now) }
-    requires in_range { IsInRange (program_of plain.now) (routine_at (program_of plain.now) function) instruction }
-    ensures { result ≡ behind_count (program_of plain.now) instruction }
+    requires few { AreFew plain.now }
+    requires in_range { IsInRange plain.now (routine_at plain.now function) instruction }
+    ensures { result ≡ behind_count plain.now instruction }
 {
     match instruction {
         Instruction::Call { function, .. } => 2 + results_of(plain, function),
@@ -76,22 +76,22 @@ fn behind_count(plain: &Plain, function: usize, instruction: Instruction) -> usi
 
 /// The lines of an instruction.
 fn count_of(plain: &Plain, function: usize, instruction: Instruction) -> usize
-    requires function { function < length plain.now.functions.items }
-    requires few { AreFew (program_of plain.now) }
-    requires in_range { IsInRange (program_of plain.now) (routine_at (program_of plain.now) function) instruction }
-    requires small { instruction_size instruction ≤ MAX_SIZE }
-    ensures { result ≡ count_of (program_of plain.now) function instruction }
+    requires function { function < length plain.now.functions }
+    requires few { AreFew plain.now }
+    requires in_range { IsInRange plain.now (routine_at plain.now function) instruction }
+    requires small { instruction_size instruction ≤ MOST_SIZE }
+    ensures { result ≡ count_of plain.now function instruction }
 {
     body_count(plain, function, instruction) + behind_count(plain, function, instruction)
 }
 
 /// The lines of a function's code.
 fn code_count(plain: &Plain, function: usize, code: &[Instruction]) -> usize
-    requires function { function < length plain.now.functions.items }
-    requires few { AreFew (program_of plain.now) }
-    requires in_range { All (IsInRange (program_of plain.now) (routine_at (program_of plain.now) function)) code.now }
-    requires small { sum_by instruction_size code.now ≤ MAX_SIZE }
-    ensures value { result ≡ sum_by (count_of (program_of plain.now) function) code.now }
+    requires function { function < length plain.now.functions }
+    requires few { AreFew plain.now }
+    requires in_range { All (IsInRange plain.now (routine_at plain.now function)) code.now }
+    requires small { sum_by instruction_size code.now ≤ MOST_SIZE }
+    ensures value { result ≡ sum_by (count_of plain.now function) code.now }
     ensures small { result ≤ LINES_FOR_EACH * sum_by instruction_size code.now }
 {
     let mut lines = 0;
@@ -109,12 +109,12 @@ pub(crate) fn instruction_lines(
     first: usize,
     code: &[Instruction],
 ) -> Result<Vec<usize>, AllocError>
-    requires function { function < length plain.now.functions.items }
-    requires few { AreFew (program_of plain.now) }
-    requires in_range { All (IsInRange (program_of plain.now) (routine_at (program_of plain.now) function)) code.now }
-    requires small { sum_by instruction_size code.now ≤ MAX_SIZE }
+    requires function { function < length plain.now.functions }
+    requires few { AreFew plain.now }
+    requires in_range { All (IsInRange plain.now (routine_at plain.now function)) code.now }
+    requires small { sum_by instruction_size code.now ≤ MOST_SIZE }
     requires fits { first + LINES_FOR_EACH * sum_by instruction_size code.now ≤ most_lines }
-    ensures { IfOk result (λ lines. lines.items ≡ instruction_lines (program_of plain.now) function first code.now) }
+    ensures { IfOk result (λ lines. lines.items ≡ instruction_lines plain.now function first code.now) }
 {
     let mut lines = Vec::new(alloc);
     let mut here = first;
@@ -127,13 +127,12 @@ pub(crate) fn instruction_lines(
 
 /// The number of the first line of each function.
 pub(crate) fn function_starts(alloc: Global, plain: &Plain) -> Result<Vec<usize>, AllocError>
-    requires well_formed { IsWellFormed (program_of plain.now) }
-    requires small { sum_by size (program_of plain.now).functions ≤ MAX_SIZE }
-    ensures { IfOk result (λ starts. starts.items ≡ function_starts (program_of plain.now) 0 START_LINES (program_of plain.now).functions) }
+    ensures starts { IfOk result (λ starts. starts.items ≡ function_starts plain.now 0 START_LINES plain.now.functions) }
+    ensures plain { IfOk result (λ _. IsPlain plain.now) }
 {
     let mut starts = Vec::new(alloc);
     let mut here = START_LINES;
-    for function in &plain.functions {
+    for function in plain.functions() {
         let lines = code_count(plain, starts.len(), &function.code);
         starts.push(here)?;
         here += lines;

@@ -1,12 +1,11 @@
 //! Single instructions of the machine, by what they are used for.
 ghost use Rattle.std.specs.Prelude.{◌≡◌, ◌+◌, ◌*◌, ◌<◌, ◌≤◌};
 ghost use Rattle.cyc_isa.specs.Decoding.{register_of, trap_code_of};
-ghost use Rattle.cyc_frame.specs.Layout.{most_words};
 ghost use Rattle.cyc_select.specs.Selection.{load, store, load_slot, store_slot, add_immediate, small, minus, is_zero, syscall, load_upper, or_lower, push_frame, pop_frame};
 ghost use Rattle.cyc_select.specs.Emission.{IsReached};
 
 use crate::constants::{FRAME, ZERO};
-use cyc_frame::Frame;
+use cyc_frame::{Frame, MOST_FRAME_WORDS};
 use cyc_isa::{ExceptionOp, ImmediateOp, Instr, MemoryOp, Register, TrapCode};
 
 /// The register of this number, which counts modulo 32.
@@ -20,7 +19,7 @@ pub(crate) fn register(number: u8) -> Register
 
 /// The offset of a word from a frame's lowest address on, in bytes.
 pub(crate) fn offset_of(word: usize) -> u16
-    requires { word ≤ 2 * most_words }
+    requires { word ≤ 2 * MOST_FRAME_WORDS }
     ensures { result ≡ 4 * word }
 {
     (4 * word) as u16
@@ -140,7 +139,7 @@ pub(crate) fn or_lower(target: u8, word: u32) -> Instr
 /// The frame of a function that is called comes below the current one.
 pub(crate) fn push_frame(frame: Frame) -> Instr
     requires some { 0 < frame.words }
-    requires small { frame.words ≤ most_words }
+    requires small { frame.words ≤ MOST_FRAME_WORDS }
     ensures { result ≡ push_frame frame }
 {
     add_immediate(FRAME, FRAME, minus(offset_of(frame.words)))
@@ -148,7 +147,7 @@ pub(crate) fn push_frame(frame: Frame) -> Instr
 
 /// The current frame is left.
 pub(crate) fn pop_frame(frame: Frame) -> Instr
-    requires { frame.words ≤ most_words }
+    requires { frame.words ≤ MOST_FRAME_WORDS }
     ensures { result ≡ pop_frame frame }
 {
     add_immediate(FRAME, FRAME, offset_of(frame.words))

@@ -1,6 +1,5 @@
 //! The lines of an operator, and of what else a function does with its own slots.
 ghost use Rattle.std.specs.Prelude.{◌≡◌, ◌+◌, ◌*◌, ◌<◌, ◌≤◌, ◌^◌, [], ◌∷◌, ◌++◌, OnOk};
-ghost use Rattle.cyc_plain.specs.Program.{most_globals};
 ghost use Rattle.cyc_select.specs.Selection.{load_slot, store_slot, constant, small, syscall, arithmetic_of, shift_of, multiply_divide_of, move_from_of, at_address, unary_code, binary_code, ordinary, quotient_code, divide_code, operator_code, load_global, store_global, uncaught_code};
 ghost use Rattle.cyc_select.specs.Emission.{AddsLines, IsReached, most_lines, order_code, operands_code};
 
@@ -15,7 +14,7 @@ use cyc_isa::{ArithmeticOp, BranchOp, Instr, MemoryOp, MoveFromOp, MultiplyDivid
 use cyc_machine::constants::{
     ARGUMENT, DATA_BASE, END_UNCAUGHT, GET_BYTE, PUT_BYTE, SECOND_ARGUMENT, SERVICE,
 };
-use cyc_plain::{BinaryOperator, UnaryOperator};
+use cyc_plain::{BinaryOperator, MOST_GLOBALS, UnaryOperator};
 use std::alloc::AllocError;
 
 /// What a binary operator works on, and where its result goes.
@@ -295,7 +294,7 @@ impl Emitter {
         destination: usize,
         global: usize,
     ) -> Result<(), AllocError>
-        requires global { global < most_globals }
+        requires global { global < MOST_GLOBALS }
         requires target { IsReached frame destination }
         ensures { AddsLines result self.old self.new (load_global frame destination global) }
     {
@@ -315,7 +314,7 @@ impl Emitter {
         global: usize,
         source: usize,
     ) -> Result<(), AllocError>
-        requires global { global < most_globals }
+        requires global { global < MOST_GLOBALS }
         requires source { IsReached frame source }
         ensures { AddsLines result self.old self.new (store_global frame global source) }
     {

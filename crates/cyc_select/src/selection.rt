@@ -1,21 +1,21 @@
 //! The labelled code of a plain program.
 ghost use Rattle.std.specs.Prelude.{◌≡◌, ℕ, ◌+◌, ◌<◌, ◌≤◌, ◌++◌, length, sum_by, IfOk, IfErr, OnOk};
-ghost use Rattle.cyc_plain.specs.Program.{program_of, routine_at, size};
-ghost use Rattle.cyc_plain.specs.WellFormed.{IsWellFormed, HasWords};
-ghost use Rattle.cyc_frame.specs.Layout.{IsFrame, frame_at, most_words};
+ghost use Rattle.cyc_plain.specs.Program.{routine_at};
+ghost use Rattle.cyc_plain.specs.WellFormed.{IsPlain};
+ghost use Rattle.cyc_frame.specs.Layout.{AreFrames};
 ghost use Rattle.cyc_words.specs.Fault.{memory_fault};
 ghost use Rattle.cyc_select.specs.Labelled.{labelled_of};
 ghost use Rattle.cyc_select.specs.Selected.{IsCodeOf};
 ghost use Rattle.cyc_select.specs.Selection.{start_code, code_lines, function_lines, function_line, select_of};
-ghost use Rattle.cyc_select.specs.Emission.{AddsLines, AreFrames, IsKnown, IsReady};
+ghost use Rattle.cyc_select.specs.Emission.{AddsLines, IsKnown, IsReady};
 
 use crate::code::{Code, Line};
-use crate::constants::{CALLS, MAX_SIZE, START_LINES};
+use crate::constants::{CALLS, START_LINES};
 use crate::counting::{function_starts, instruction_lines};
 use crate::emitter::Emitter;
 use crate::instructions::{add_immediate, minus, push_frame};
 use crate::tables::{Ready, Tables};
-use cyc_frame::{Frame, Frames};
+use cyc_frame::{Frame, Framed, MOST_FRAME_WORDS};
 use cyc_machine::constants::ARGUMENT;
 use cyc_plain::{Instruction, Plain};
 use cyc_words::Fault;
@@ -26,7 +26,7 @@ impl Emitter {
     /// the stack.
     fn start(&mut self, frame: Frame, label: usize) -> Result<(), AllocError>
         requires some { 0 < frame.words }
-        requires words { frame.words ≤ most_words }
+        requires words { frame.words ≤ MOST_FRAME_WORDS }
         ensures { AddsLines result self.old self.new (start_code frame label) }
     {
         self.ordinary(&[add_immediate(CALLS, ARGUMENT, minus(1)), push_frame(frame)])?;
@@ -36,8 +36,8 @@ impl Emitter {
     /// The lines of a function's code.
     fn code(&mut self, tables: &Tables, code: &[Instruction]) -> Result<(), AllocError>
         requires known { IsKnown tables.now }
-        requires code { code.now ≡ (routine_at (program_of tables.now.plain.now) tables.now.function).code }
-        ensures { AddsLines result self.old self.new (code_lines (program_of tables.now.plain.now) tables.now.frames.now tables.now.function (function_line (program_of tables.now.plain.now) tables.now.function) code.now) }
+        requires code { code.now ≡ (routine_at tables.now.plain.now tables.now.function).code }
+        ensures { AddsLines result self.old self.new (code_lines tables.now.plain.now tables.now.frames.now tables.now.function (function_line tables.now.plain.now tables.now.function) code.now) }
     {
         for index in 0..code.len() {
             self.instruction(tables, tables.line(index), code[index])?;
@@ -53,10 +53,11 @@ impl Emitter {
         function: usize,
     ) -> Result<(), AllocError>
         requires ready { IsReady program.now }
-        requires function { function < length program.now.plain.now.functions.items }
-        ensures { AddsLines result self.old self.new (code_lines (program_of program.now.plain.now) program.now.frames.now function (function_line (program_of program.now.plain.now) function) (routine_at (program_of program.now.plain.now) function).code) }
+        requires function { function < length program.now.plain.now.functions }
+        ensures { AddsLines result self.old self.new (code_lines program.now.plain.now program.now.frames.now function (function_line program.now.plain.now function) (routine_at program.now.plain.now function).code) }
     {
-        let code = &program.plain.functions[function].code;
+        let routine = program.plain.function(function);
+        let code = &routine.code;
         let first = program.starts[function];
         let lines = instruction_lines(alloc, program.plain, function, first, code)?;
         let tables = Tables {
@@ -72,9 +73,10 @@ impl Emitter {
     /// The lines of all functions.
     fn functions(&mut self, alloc: Global, program: &Ready) -> Result<(), AllocError>
         requires { IsReady program.now }
-        ensures { AddsLines result self.old self.new (function_lines (program_of program.now.plain.now) program.now.frames.now 0 START_LINES (program_of program.now.plain.now).functions) }
+        ensures { AddsLines result self.old self.new (function_lines program.now.plain.now program.now.frames.now 0 START_LINES program.now.plain.now.functions) }
     {
-        for function in 0..program.plain.functions.len() {
+        let count = program.plain.functions().len();
+        for function in 0..count {
             self.function(alloc, program, function)?;
         }
         Ok(())
@@ -82,16 +84,18 @@ impl Emitter {
 }
 
 /// The code, where memory suffices.
-fn selected(alloc: Global, plain: &Plain, frames: &[Frame]) -> Result<Code, AllocError>
-    requires well_formed { IsWellFormed (program_of plain.now) }
-    requires few { sum_by size (program_of plain.now).functions ≤ MAX_SIZE }
-    requires fit { AreFrames (program_of plain.now) frames.now }
-    ensures { IfOk result (λ code. labelled_of code ≡ select_of (program_of plain.now) frames.now) }
+fn selected(alloc: Global, framed: &Framed) -> Result<Code, AllocError>
+    ensures code { IfOk result (λ code. labelled_of code ≡ select_of framed.now.program framed.now.frames) }
+    ensures plain { IfOk result (λ _. IsPlain framed.now.program) }
+    ensures fit { IfOk result (λ _. AreFrames framed.now.program framed.now.frames) }
 {
+    let plain = framed.plain();
+    let frames = framed.frames();
     let starts = function_starts(alloc, plain)?;
-    let globals = Vec::from_slice(alloc, &plain.globals)?;
+    let globals = Vec::from_slice(alloc, plain.globals())?;
+    let main = plain.main();
     let mut emitter = Emitter::new(alloc);
-    emitter.start(frames[plain.main], starts[plain.main])?;
+    emitter.start(frames[main], starts[main])?;
     emitter.functions(
         alloc,
         &Ready {
@@ -108,20 +112,13 @@ fn selected(alloc: Global, plain: &Plain, frames: &[Frame]) -> Result<Code, Allo
 
 /// The labelled code of a plain program whose functions have these frames.
 ///
-/// The functions are at most 360,000 together in size, where an instruction counts one and a call one more for each word that it
-/// passes. Nothing is refused but for want of memory.
-pub fn select(alloc: Global, plain: &Plain, frames: &Frames) -> Result<Code, Fault>
-    requires well_formed { IsWellFormed (program_of plain.now) }
-    requires few { sum_by size (program_of plain.now).functions ≤ MAX_SIZE }
-    requires frames { (k : ℕ) → k < length plain.now.functions.items
-        → IsFrame (routine_at (program_of plain.now) k) (frame_at frames.now.functions.items k) }
-    requires words { HasWords (program_of plain.now) }
-
+/// Nothing is refused but for want of memory.
+pub fn select(alloc: Global, framed: &Framed) -> Result<Code, Fault>
     // Each line belongs to one instruction of the program or to the start, and the code does what the program does.
-    ensures selected { IfOk result (λ code. IsCodeOf (program_of plain.now) (labelled_of code)) }
+    ensures selected { IfOk result (λ code. IsCodeOf framed.now.program (labelled_of code)) }
     // The data range begins with the program's globals.
-    ensures globals { IfOk result (λ code. (labelled_of code).globals ≡ (program_of plain.now).globals) }
+    ensures globals { IfOk result (λ code. (labelled_of code).globals ≡ framed.now.program.globals) }
     ensures refused { IfErr result (λ fault. fault ≡ memory_fault) }
 {
-    Ok(selected(alloc, plain, &frames.functions)?)
+    Ok(selected(alloc, framed)?)
 }

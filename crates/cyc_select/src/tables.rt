@@ -1,13 +1,13 @@
 //! What the lines of a function are made from.
 ghost use Rattle.std.specs.Prelude.{◌≡◌, ◌+◌, ◌<◌, ◌≤◌, ◌==◌, length};
-ghost use Rattle.cyc_plain.specs.Program.{program_of, routine_at, greatest_value};
-ghost use Rattle.cyc_frame.specs.Layout.{frame_at, most_words};
+ghost use Rattle.cyc_plain.specs.Program.{routine_at};
+ghost use Rattle.cyc_frame.specs.Layout.{frame_at};
 ghost use Rattle.cyc_select.specs.Selection.{function_line, instruction_line};
 ghost use Rattle.cyc_select.specs.Emission.{AreReached, IsKnown};
 
 use crate::counting::results_of;
-use cyc_frame::Frame;
-use cyc_plain::Plain;
+use cyc_frame::{Frame, MOST_FRAME_WORDS};
+use cyc_plain::{GREATEST_VALUE, Plain};
 
 /// A program, its functions' frames, and the number of the first line of each function.
 #[derive(Clone, Copy)]
@@ -33,11 +33,11 @@ impl<'a> Tables<'a> {
     /// The frame of a function.
     pub(crate) fn frame(&self, function: usize) -> Frame
         requires known { IsKnown self.now }
-        requires function { function < length self.now.plain.now.functions.items }
+        requires function { function < length self.now.plain.now.functions }
         ensures value { result ≡ frame_at self.now.frames.now function }
-        ensures words { result.words ≤ most_words }
+        ensures words { result.words ≤ MOST_FRAME_WORDS }
         ensures return_address { result.return_address < result.words }
-        ensures slots { AreReached result 0 (routine_at (program_of self.now.plain.now) function).slots }
+        ensures slots { AreReached result 0 (routine_at self.now.plain.now function).slots }
     {
         self.frames[function]
     }
@@ -45,8 +45,8 @@ impl<'a> Tables<'a> {
     /// The number of the first line of a function.
     pub(crate) fn start(&self, function: usize) -> usize
         requires known { IsKnown self.now }
-        requires function { function < length self.now.plain.now.functions.items }
-        ensures { result ≡ function_line (program_of self.now.plain.now) function }
+        requires function { function < length self.now.plain.now.functions }
+        ensures { result ≡ function_line self.now.plain.now function }
     {
         self.starts[function]
     }
@@ -54,8 +54,8 @@ impl<'a> Tables<'a> {
     /// The number of the first line of an instruction.
     pub(crate) fn line(&self, index: usize) -> usize
         requires known { IsKnown self.now }
-        requires index { index < length (routine_at (program_of self.now.plain.now) self.now.function).code }
-        ensures { result ≡ instruction_line (program_of self.now.plain.now) self.now.function index }
+        requires index { index < length (routine_at self.now.plain.now self.now.function).code }
+        ensures { result ≡ instruction_line self.now.plain.now self.now.function index }
     {
         self.lines[index]
     }
@@ -63,17 +63,17 @@ impl<'a> Tables<'a> {
     /// How many words a function returns.
     pub(crate) fn results(&self, function: usize) -> usize
         requires known { IsKnown self.now }
-        requires function { function < length self.now.plain.now.functions.items }
-        ensures value { result ≡ (routine_at (program_of self.now.plain.now) function).results }
-        ensures few { result ≤ greatest_value }
+        requires function { function < length self.now.plain.now.functions }
+        ensures value { result ≡ (routine_at self.now.plain.now function).results }
+        ensures few { result ≤ GREATEST_VALUE }
     {
         results_of(self.plain, function)
     }
 
     /// Whether the function is called first.
     pub(crate) fn is_main(&self) -> bool
-        ensures { result ≡ (self.now.function == (program_of self.now.plain.now).main) }
+        ensures { result ≡ (self.now.function == self.now.plain.now.main) }
     {
-        self.function == self.plain.main
+        self.function == self.plain.main()
     }
 }

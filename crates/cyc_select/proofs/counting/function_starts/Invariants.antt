@@ -1,6 +1,6 @@
 use Rattle.std.proofs.Common.{◌≡◌, ◌+◌, ◌*◌, ◌≤◌, ◌++◌, drop, length, map}
 use Rattle.std.specs.Prelude.{sum_by}
-use Rattle.cyc_plain.specs.Program.{program_of, routine_of, size}
+use Rattle.cyc_plain.specs.Program.{routine_of, size}
 use Rattle.cyc_select.specs.declared.constants.TheConstants.{LINES_FOR_EACH, START_LINES}
 use Rattle.cyc_select.specs.Emission.{function_starts, most_lines}
 use Rattle.cyc_select.proofs.counting.function_starts.Given as goal
@@ -9,7 +9,7 @@ use Rattle.cyc_select.proofs.counting.function_starts.Given as goal
 abbrev pub invariant-loop-function : goal.invariant-loop-function
 invariant-loop-function l =
     (length l.starts.items ≡ l.function-index)
-    × (l.starts.items ++ function_starts (program_of l.plain) l.function-index l.here (map routine_of (drop l.function-index l.function-items))
-    ≡ function_starts (program_of l.plain) 0 START_LINES (map routine_of l.plain.functions.items))
+    × (l.starts.items ++ function_starts l.plain l.function-index l.here (map routine_of (drop l.function-index l.function-items))
+    ≡ function_starts l.plain 0 START_LINES l.plain.functions)
     × (l.here + LINES_FOR_EACH * sum_by size (map routine_of (drop l.function-index l.function-items)) ≤ most_lines)
-    × (l.function-items ≡ l.plain.functions.items)
+    × (map routine_of l.function-items ≡ l.plain.functions)

@@ -1,5 +1,4 @@
 use Rattle.std.proofs.Common.{◌≡◌, ◌++◌, drop}
-use Rattle.cyc_plain.specs.Program.{program_of}
 use Rattle.cyc_select.specs.Selection.{code_lines, function_line, instruction_line}
 use Rattle.cyc_select.proofs.emitter.Emitter.code.Given as goal
 
@@ -7,6 +6,6 @@ use Rattle.cyc_select.proofs.emitter.Emitter.code.Given as goal
 abbrev pub invariant-loop-index : goal.invariant-loop-index
 invariant-loop-index l =
     l.self.lines.items
-    ++ code_lines (program_of l.tables.plain.now) l.tables.frames.now l.tables.function (instruction_line (program_of l.tables.plain.now) l.tables.function l.index) (drop l.index l.code)
+    ++ code_lines l.tables.plain.now l.tables.frames.now l.tables.function (instruction_line l.tables.plain.now l.tables.function l.index) (drop l.index l.code)
     ≡ l.fn.self.lines.items
-    ++ code_lines (program_of l.tables.plain.now) l.tables.frames.now l.tables.function (function_line (program_of l.tables.plain.now) l.tables.function) l.code
+    ++ code_lines l.tables.plain.now l.tables.frames.now l.tables.function (function_line l.tables.plain.now l.tables.function) l.code

@@ -1,50 +1,46 @@
 use Rattle.std.proofs.Common.{◌≡◌, ℕ, ◌+◌, ◌*◌, ◌<◌, ◌≤◌, List, length, ap, sym, subst, ◌∙◌, arith, rules}
 use Rattle.std.specs.Prelude.{sum_by, slice_index_or}
-use Rattle.std.proofs.lemmas.List.{length-map}
 use Rattle.cyc_plain.specs.declared.instruction.Instruction.{Instruction}
-use Rattle.cyc_plain.specs.Program.{Routine, program_of, routine_of, routine_at, instruction_size, size}
-use Rattle.cyc_select.specs.declared.constants.TheConstants.{MAX_SIZE, LINES_FOR_EACH}
+use Rattle.cyc_plain.specs.declared.limits.TheConstants.{MOST_SIZE}
+use Rattle.cyc_plain.specs.Program.{Routine, routine_at, instruction_size, size}
+use Rattle.cyc_select.specs.declared.constants.TheConstants.{LINES_FOR_EACH}
 use Rattle.cyc_select.specs.Selection.{function_line}
 use Rattle.cyc_select.specs.Emission.{instruction_lines, most_lines}
-use Rattle.cyc_select.proofs.Numbering.{ready_starts, ready_start, ready_size, ready_fits, routine_is}
+use Rattle.cyc_select.proofs.Numbering.{ready_starts, ready_start, ready_size, ready_fits}
 use Rattle.cyc_select.proofs.emitter.Emitter.function.Goals as goal
 
 pub offset_bounds-program-function : goal.offset_bounds-program-function
 offset_bounds-program-function c =
-    let inside : c.args.function < length c.args.program.now.starts.now = omega (arith, length-map c.args.program.now.plain.now.functions.items routine_of, ready_starts c.requires.ready) in
+    let inside : c.args.function < length c.args.program.now.starts.now = omega (arith, c.requires.function, ready_starts c.requires.ready) in
     search rules
 
 pub bounds-program-function : goal.bounds-program-function
-bounds-program-function c =
-    omega (arith, length-map c.args.program.now.plain.now.functions.items routine_of, ready_starts c.requires.ready)
+bounds-program-function c = omega (arith, c.requires.function, ready_starts c.requires.ready)
 
 pub instruction_lines-requires-clause-small : goal.instruction_lines-requires-clause-small
 instruction_lines-requires-clause-small c =
-    let program = program_of c.args.program.now.plain.now in
-    let below : c.args.function < length program.functions = omega (arith, length-map c.args.program.now.plain.now.functions.items routine_of) in
-    let same : c.deref.result.now ≡ (routine_at program c.args.function).code = c.deref.ensures.value ∙ ap (λ (r : Routine). r.code) (routine_is c.args.program.now.plain.now.functions.items c.args.function c.index.result.now c.requires.function c.index.ensures) in
-    subst (λ (code : List Instruction). sum_by instruction_size code ≤ MAX_SIZE) (sym same) (ready_size c.requires.ready c.args.function below)
+    let program = c.args.program.now.plain.now in
+    let same : c.deref.result.now ≡ (routine_at program c.args.function).code = c.deref.ensures.value ∙ ap (λ (r : Routine). r.code) c.function-routine.ensures in
+    subst (λ (code : List Instruction). sum_by instruction_size code ≤ MOST_SIZE) (sym same) (ready_size c.requires.ready c.args.function c.requires.function)
 
 pub instruction_lines-requires-clause-fits : goal.instruction_lines-requires-clause-fits
 instruction_lines-requires-clause-fits c =
-    let program = program_of c.args.program.now.plain.now in
-    let below : c.args.function < length program.functions = omega (arith, length-map c.args.program.now.plain.now.functions.items routine_of) in
-    let same : c.deref.result.now ≡ (routine_at program c.args.function).code = c.deref.ensures.value ∙ ap (λ (r : Routine). r.code) (routine_is c.args.program.now.plain.now.functions.items c.args.function c.index.result.now c.requires.function c.index.ensures) in
+    let program = c.args.program.now.plain.now in
+    let same : c.deref.result.now ≡ (routine_at program c.args.function).code = c.deref.ensures.value ∙ ap (λ (r : Routine). r.code) c.function-routine.ensures in
     subst (λ (code : List Instruction). slice_index_or c.args.program.now.starts.now c.args.function 0 + LINES_FOR_EACH * sum_by instruction_size code ≤ most_lines) (sym same)
-    (subst (λ (n : ℕ). n + LINES_FOR_EACH * size (routine_at program c.args.function) ≤ most_lines) (sym (ready_start c.requires.ready c.args.function below))
-    (ready_fits c.requires.ready c.args.function below))
+    (subst (λ (n : ℕ). n + LINES_FOR_EACH * size (routine_at program c.args.function) ≤ most_lines) (sym (ready_start c.requires.ready c.args.function c.requires.function))
+    (ready_fits c.requires.ready c.args.function c.requires.function))
 
 pub code-requires-clause-known : goal.code-requires-clause-known
 code-requires-clause-known c =
-    let program = program_of c.args.program.now.plain.now in
-    let below : c.args.function < length program.functions = omega (arith, length-map c.args.program.now.plain.now.functions.items routine_of) in
-    let same : c.deref.result.now ≡ (routine_at program c.args.function).code = c.deref.ensures.value ∙ ap (λ (r : Routine). r.code) (routine_is c.args.program.now.plain.now.functions.items c.args.function c.index.result.now c.requires.function c.index.ensures) in
+    let program = c.args.program.now.plain.now in
+    let same : c.deref.result.now ≡ (routine_at program c.args.function).code = c.deref.ensures.value ∙ ap (λ (r : Routine). r.code) c.function-routine.ensures in
     record {
       ready = c.requires.ready;
-      function_in_range = below;
+      function_in_range = c.requires.function;
       lines_are =
           c.deref-2.ensures.value
           ∙ c.in_ok-lines.ensures
-          ∙ ap (λ (n : ℕ). instruction_lines program c.args.function n c.deref.result.now) (ready_start c.requires.ready c.args.function below)
+          ∙ ap (λ (n : ℕ). instruction_lines program c.args.function n c.deref.result.now) (ready_start c.requires.ready c.args.function c.requires.function)
           ∙ ap (λ (code : List Instruction). instruction_lines program c.args.function (function_line program c.args.function) code) same;
     }

@@ -1,6 +1,6 @@
-use Rattle.std.proofs.Common.{◌+◌, ◌<◌, ◌++◌, length, drop, arith}
+use Rattle.std.proofs.Common.{◌+◌, ◌<◌, ◌++◌, length, drop, ap, arith}
 use Rattle.std.proofs.lemmas.List.{length-map}
-use Rattle.cyc_plain.specs.Program.{program_of, routine_of, routine_at}
+use Rattle.cyc_plain.specs.Program.{routine_of, routine_at}
 use Rattle.cyc_select.specs.declared.constants.TheConstants.{START_LINES}
 use Rattle.cyc_select.specs.Selection.{code_lines, function_lines, function_line}
 use Rattle.cyc_select.proofs.Emitting.{goes_on}
@@ -9,10 +9,10 @@ use Rattle.cyc_select.proofs.emitter.Emitter.functions.Goals as goal
 
 pub loop-function-preserved : goal.loop-function-preserved
 loop-function-preserved c =
-    let program = program_of c.args.program.now.plain.now in
+    let program = c.args.program.now.plain.now in
     let frames = c.args.program.now.frames.now in
     let k = c.loop-function.function in
-    let below : k < length program.functions = omega (arith, length-map c.args.program.now.plain.now.functions.items routine_of, c.len-function-end.ensures, c.loop-function-test.true) in
+    let below : k < length program.functions = omega (arith, length-map c.functions-count.result.now routine_of, ap length c.functions-count.ensures.value, c.loop-function-test.true) in
     goes_on (c.args.self.now.lines.items ++ function_lines program frames 0 START_LINES program.functions)
     c.loop-function.self.lines.items c.function.new.self.lines.items
     (code_lines program frames k (function_line program k) (routine_at program k).code)

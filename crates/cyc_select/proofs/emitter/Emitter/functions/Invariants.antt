@@ -1,5 +1,4 @@
 use Rattle.std.proofs.Common.{◌≡◌, ◌++◌, drop}
-use Rattle.cyc_plain.specs.Program.{program_of}
 use Rattle.cyc_select.specs.declared.constants.TheConstants.{START_LINES}
 use Rattle.cyc_select.specs.Selection.{function_lines, function_line}
 use Rattle.cyc_select.proofs.emitter.Emitter.functions.Given as goal
@@ -8,6 +7,6 @@ use Rattle.cyc_select.proofs.emitter.Emitter.functions.Given as goal
 abbrev pub invariant-loop-function : goal.invariant-loop-function
 invariant-loop-function l =
     l.self.lines.items
-    ++ function_lines (program_of l.program.plain.now) l.program.frames.now l.function (function_line (program_of l.program.plain.now) l.function) (drop l.function (program_of l.program.plain.now).functions)
+    ++ function_lines l.program.plain.now l.program.frames.now l.function (function_line l.program.plain.now l.function) (drop l.function l.program.plain.now.functions)
     ≡ l.fn.self.lines.items
-    ++ function_lines (program_of l.program.plain.now) l.program.frames.now 0 START_LINES (program_of l.program.plain.now).functions
+    ++ function_lines l.program.plain.now l.program.frames.now 0 START_LINES l.program.plain.now.functions
