@@ -1,16 +1,23 @@
 -- Frames are frames, and what is refused is the first that is too large.
-use Rattle.std.proofs.Common.{◌≡◌, ℕ, zero, suc, ◌+◌, ◌<◌, ◌≤◌, Bool, true, false, List, [], ◌∷◌, length, map, Some, None, refl, sym, ap, subst, ◌∙◌, arith, inl, inr}
-use Rattle.std.specs.Prelude.{nat_lt, if◌then◌else◌, slice_index_or, ◌⊎◌, Option}
-use Rattle.std.proofs.lemmas.Bool.{cases_lt, ltb-true, lt-ltb}
+use Rattle.std.proofs.Common.{◌≡◌, ℕ, zero, suc, ◌+◌, ◌<◌, ◌≤◌, Bool, false, List, [], ◌∷◌, length, map, Some, None, Result, Err, refl, sym, ap, subst, ◌∙◌, arith, inl, inr}
+use Rattle.std.specs.Prelude.{if◌then◌else◌, slice_index_or, ◌⊎◌, Option}
+use Rattle.std.proofs.lemmas.Bool.{cases_lt, lt-ltb}
+use Rattle.std.proofs.lemmas.List.{length-map}
+use Rattle.cyc_frame.specs.declared.frame.Frame.{Frame}
 use Rattle.cyc_words.specs.declared.fault.Fault.{Fault}
 use Rattle.cyc_words.specs.declared.fault.Code.TheVariants as faults
 use Rattle.cyc_words.specs.declared.span.Span.{Span}
 use Rattle.cyc_plain.specs.declared.program.Function.{Function}
-use Rattle.cyc_plain.specs.Program.{Routine, Program, no_routine, routine_of, routine_at, layout_words}
+use Rattle.cyc_plain.specs.declared.limits.TheConstants.{LAYOUT_WORDS}
+use Rattle.cyc_plain.specs.Program.{Routine, Program, no_routine, routine_of, routine_at}
 use Rattle.cyc_plain.specs.WellFormed.{IsRoutine, IsWellFormed}
-use Rattle.cyc_frame.specs.Layout.{IsFrame, IsTooLarge, AreSmall, is_too_large, first_too_large, frame_of, frames_of, frame_at, most_words}
+use Rattle.cyc_words.specs.Decision.{Decides}
+use Rattle.cyc_words.specs.Fault.{memory_fault}
+use Rattle.cyc_words.proofs.Decisions.{IsDecided, decides}
+use Rattle.cyc_frame.specs.declared.frame.TheConstants.{MOST_FRAME_WORDS}
+use Rattle.cyc_frame.specs.Layout.{AreFrames, FramedProgram, HasSmallFrames, IsAccepted, IsFrame, IsFramed, IsTooLarge, first_too_large, frame_at, frame_of, is_too_large}
 
-pub is_frame : (r : Routine) → r.slots + layout_words ≤ r.frame_count → r.frame_count ≤ most_words → IsFrame r (frame_of r)
+pub is_frame : (r : Routine) → r.slots + LAYOUT_WORDS ≤ r.frame_count → r.frame_count ≤ MOST_FRAME_WORDS → IsFrame r (frame_of r)
 is_frame r fits small = record {
   apart = λ a b a_below b_below same. omega (arith, same);
   inside = λ slot below. omega (arith, below);
@@ -31,41 +38,41 @@ count_at routines k = (slice_index_or routines k no_routine).frame_count
 -- the function of this index is the first with a frame that is too large
 abbrev IsFirst : List Routine → ℕ → Type 0
 IsFirst routines k =
-    (k < length routines) × (most_words < count_at routines k) × ((j : ℕ) → j < k → count_at routines j ≤ most_words)
+    (k < length routines) × (MOST_FRAME_WORDS < count_at routines k) × ((j : ℕ) → j < k → count_at routines j ≤ MOST_FRAME_WORDS)
 
 -- what the search finds
 abbrev Found : List Routine → Option Span → Type 0
-Found routines None = (k : ℕ) → k < length routines → count_at routines k ≤ most_words
+Found routines None = (k : ℕ) → k < length routines → count_at routines k ≤ MOST_FRAME_WORDS
 Found routines (Some place) = (k : ℕ) × IsFirst routines k × ((slice_index_or routines k no_routine).name ≡ place)
 
-found_behind : (r : Routine) (routines : List Routine) → r.frame_count ≤ most_words → (o : Option Span) → Found routines o → Found (r ∷ routines) o
+found_behind : (r : Routine) (routines : List Routine) → r.frame_count ≤ MOST_FRAME_WORDS → (o : Option Span) → Found routines o → Found (r ∷ routines) o
 found_behind r routines small None all = go
   where
-    go : (k : ℕ) → k < length (r ∷ routines) → count_at (r ∷ routines) k ≤ most_words
+    go : (k : ℕ) → k < length (r ∷ routines) → count_at (r ∷ routines) k ≤ MOST_FRAME_WORDS
     go zero below = small
     go (suc k) below = all k (omega arith)
 found_behind r routines small (Some place) (k, (below, large, first), name) = (suc k, ((omega arith), large, go), name)
   where
-    go : (j : ℕ) → j < suc k → count_at (r ∷ routines) j ≤ most_words
+    go : (j : ℕ) → j < suc k → count_at (r ∷ routines) j ≤ MOST_FRAME_WORDS
     go zero before = small
     go (suc j) before = first j (omega arith)
 
 found : (routines : List Routine) → Found routines (first_too_large routines)
 found [] = λ k below. absurd (omega arith)
-found (r ∷ routines) = elim (cases_lt most_words r.frame_count) [
+found (r ∷ routines) = elim (cases_lt MOST_FRAME_WORDS r.frame_count) [
   | inl large ↦
       let here : first_too_large (r ∷ routines) ≡ Some r.name =
-      ap (λ (b : Bool). if b then Some r.name else first_too_large routines) (lt-ltb most_words r.frame_count large) in
+      ap (λ (b : Bool). if b then Some r.name else first_too_large routines) (lt-ltb MOST_FRAME_WORDS r.frame_count large) in
       subst (Found (r ∷ routines)) (sym here) (0, ((omega arith), large, (λ j before. absurd (omega arith))), refl)
   | inr small ↦
       let behind : first_too_large (r ∷ routines) ≡ first_too_large routines = ap (λ (b : Bool). if b then Some r.name else first_too_large routines) (not_large small) in
       subst (Found (r ∷ routines)) (sym behind) (found_behind r routines small (first_too_large routines) (found routines))
 ]
   where
-    not_large : r.frame_count ≤ most_words → is_too_large r ≡ false
+    not_large : r.frame_count ≤ MOST_FRAME_WORDS → is_too_large r ≡ false
     not_large small = grind arith
 
-pub none_large : (program : Program) → first_too_large program.functions ≡ None → AreSmall program
+pub none_large : (program : Program) → first_too_large program.functions ≡ None → HasSmallFrames program
 none_large program none = subst (Found program.functions) none (found program.functions)
 
 pub some_large : (program : Program) (place : Span) (fault : Fault) → first_too_large program.functions ≡ Some place
@@ -83,7 +90,7 @@ some_large program place fault some code line column =
     }
 
 -- a program with small frames has none that is too large
-pub not_both : (program : Program) (fault : Fault) → AreSmall program → IsTooLarge program fault → ⊥
+pub not_both : (program : Program) (fault : Fault) → HasSmallFrames program → IsTooLarge program fault → ⊥
 not_both program fault small large = omega (arith, small large.function large.is_function, large.large)
 
 same_fault : (f g : Fault) → f.code ≡ g.code → f.line ≡ g.line → f.column ≡ g.column → f ≡ g
@@ -111,26 +118,63 @@ frame_at-frames [] k below = absurd (omega arith)
 frame_at-frames (r ∷ routines) zero below = refl
 frame_at-frames (r ∷ routines) (suc k) below = frame_at-frames routines k (omega arith)
 
-pub frames_stand : (program : Program) → IsWellFormed program → AreSmall program → (k : ℕ) → k < length program.functions
-    → IsFrame (routine_at program k) (frame_at (frames_of program) k)
-frames_stand program well small k below =
-    let routine : IsRoutine program (routine_at program k) = well.functions k no_routine below in
-    subst (IsFrame (routine_at program k)) (sym (frame_at-frames program.functions k below))
-    (is_frame (routine_at program k) routine.frame (small k below))
+pub frames_stand : (program : Program) → IsWellFormed program → HasSmallFrames program → AreFrames program (map frame_of program.functions)
+frames_stand program well small = record { as_many = length-map program.functions frame_of; each = each }
+  where
+    each : (k : ℕ) → k < length program.functions → IsFrame (routine_at program k) (frame_at (map frame_of program.functions) k)
+    each k below =
+        let routine : IsRoutine program (routine_at program k) = well.functions k no_routine below in
+        subst (IsFrame (routine_at program k)) (sym (frame_at-frames program.functions k below))
+        (is_frame (routine_at program k) routine.frame (small k below))
 
 -- slots are few
-pub few_slots : (program : Program) → IsWellFormed program → AreSmall program → (k : ℕ) → k < length program.functions → (routine_at program k).slots ≤ most_words
+pub few_slots : (program : Program) → IsWellFormed program → HasSmallFrames program → (k : ℕ) → k < length program.functions → (routine_at program k).slots ≤ MOST_FRAME_WORDS
 few_slots program well small k below =
     let routine : IsRoutine program (routine_at program k) = well.functions k no_routine below in
     omega (arith, routine.frame, small k below)
 
 -- the same of the code's functions
-pub slots_fit : (functions : List Function) → ((k : ℕ) → k < length (map routine_of functions) → (slice_index_or (map routine_of functions) k no_routine).slots ≤ most_words)
-    → (k : ℕ) (d : Function) → k < length functions → (slice_index_or functions k d).slots ≤ most_words
+pub slots_fit : (functions : List Function) → ((k : ℕ) → k < length (map routine_of functions) → (slice_index_or (map routine_of functions) k no_routine).slots ≤ MOST_FRAME_WORDS)
+    → (k : ℕ) (d : Function) → k < length functions → (slice_index_or functions k d).slots ≤ MOST_FRAME_WORDS
 slots_fit [] few k d below = absurd (omega arith)
 slots_fit (f ∷ functions) few zero d below = few 0 (omega arith)
 slots_fit (f ∷ functions) few (suc k) d below = slots_fit functions (λ j j_below. few (suc j) (omega arith)) k d (omega arith)
 
-pub length_functions : (functions : List Function) → length (map routine_of functions) ≡ length functions
-length_functions [] = refl
-length_functions (f ∷ functions) = ap suc (length_functions functions)
+-- what `frames_of` asks of the code's functions
+pub all_slots_fit : (program : Program) (functions : List Function) → IsWellFormed program → map routine_of functions ≡ program.functions
+    → first_too_large (map routine_of functions) ≡ None → (k : ℕ) (d : Function) → k < length functions → (slice_index_or functions k d).slots ≤ MOST_FRAME_WORDS
+all_slots_fit program functions well are none =
+    let small : HasSmallFrames program = none_large program (ap first_too_large (sym are) ∙ none) in
+    slots_fit functions (
+    subst (λ (routines : List Routine). (k : ℕ) → k < length routines → (slice_index_or routines k no_routine).slots ≤ MOST_FRAME_WORDS) (sym are)
+    (few_slots program well small))
+
+-- ---- answers
+
+is_decided : (program : Program) → IsDecided (IsAccepted program) (IsTooLarge program) (IsTooLarge program)
+is_decided program =
+    record {
+      one = λ a b first second. first.0 ∙ sym second.0;
+      same = one_first program;
+      never_refused = λ a fault accepted large. not_both program fault (subst HasSmallFrames accepted.0 accepted.1) large;
+      never_faulty = λ a fault accepted large. not_both program fault (subst HasSmallFrames accepted.0 accepted.1) large;
+    }
+
+abbrev Answers : Program → Result FramedProgram Fault → Type 0
+Answers program result = Decides (IsAccepted program) IsFramed (IsTooLarge program) (IsTooLarge program) result
+
+refused : (program : Program) (fault : Fault) → (fault ≡ memory_fault) ⊎ IsTooLarge program fault → Answers program (Err fault)
+refused program fault why =
+    decides (IsAccepted program) IsFramed (IsTooLarge program) (IsTooLarge program) (is_decided program) (Err fault) tt why
+
+module _ (program : Program) (functions : List Function) (are : map routine_of functions ≡ program.functions) where
+  pub too_large : (place : Span) (fault : Fault) → first_too_large (map routine_of functions) ≡ Some place
+      → fault.code ≡ faults.FrameTooLarge → fault.line ≡ place.line → fault.column ≡ place.column → Answers program (Err fault)
+  too_large place fault some code line column =
+      refused program fault (inr (some_large program place fault (ap first_too_large (sym are) ∙ some) code line column))
+
+  -- the frames that were made
+  pub are_frames : IsWellFormed program → (frames : List Frame) → frames ≡ map frame_of (map routine_of functions)
+      → first_too_large (map routine_of functions) ≡ None → AreFrames program frames
+  are_frames well frames made none =
+      subst (AreFrames program) (sym (made ∙ ap (map frame_of) are)) (frames_stand program well (none_large program (ap first_too_large (sym are) ∙ none)))

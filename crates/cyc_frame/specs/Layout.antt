@@ -1,15 +1,13 @@
 -- Where a function's words lie in its frame. The System V ABI has a frame grow downward from the caller's; how its words
 -- are used, and how many there may be, is this project's own choice.
-use Rattle.std.specs.Prelude.{◌≡◌, ◌≢◌, ℕ, ◌+◌, ◌<◌, ◌≤◌, Bool, nat_lt, if◌then◌else◌, List, [], ◌∷◌, length, map, Option, Some, None, slice_index_or}
+use Rattle.std.specs.Prelude.{◌≡◌, ◌≢◌, ℕ, ◌+◌, ◌<◌, ◌≤◌, Bool, nat_lt, if◌then◌else◌, List, [], ◌∷◌, length, Option, Some, None, slice_index_or}
 use Rattle.cyc_words.specs.declared.fault.Code.TheVariants as faults
 use Rattle.cyc_words.specs.declared.fault.Fault.{Fault}
 use Rattle.cyc_words.specs.declared.span.Span.{Span}
-use Rattle.cyc_plain.specs.Program.{Routine, Program, routine_at, layout_words}
+use Rattle.cyc_plain.specs.declared.limits.TheConstants.{LAYOUT_WORDS}
+use Rattle.cyc_plain.specs.Program.{Routine, Program, routine_at}
 use Rattle.cyc_frame.specs.declared.frame.Frame.{Frame}
-
--- a frame has at most so many words, since the machine's stack has so many for each call
-abbrev pub most_words : ℕ
-most_words = 256
+use Rattle.cyc_frame.specs.declared.frame.TheConstants.{MOST_FRAME_WORDS}
 
 -- the word of a frame that holds a slot
 abbrev pub slot_word : Frame → ℕ → ℕ
@@ -23,39 +21,53 @@ pub record IsFrame (r : Routine) (frame : Frame) : Type 0 where
   pub beside : (slot : ℕ) → slot < r.slots → slot_word frame slot ≢ frame.return_address
   pub return_inside : frame.return_address < frame.words
   pub within : frame.words ≤ r.frame_count
-  pub small : r.frame_count ≤ most_words
-
--- The frame of a function: the words that are kept for the layout, of which the first is for the return address, and
--- then the slots in order.
-abbrev pub frame_of : Routine → Frame
-frame_of r = record { words = layout_words + r.slots; return_address = 0; first_slot = layout_words }
-
-abbrev pub frames_of : Program → List Frame
-frames_of program = map frame_of program.functions
+  pub small : r.frame_count ≤ MOST_FRAME_WORDS
 
 -- the frame of the function of this index; where there is none, an empty one
 abbrev pub frame_at : List Frame → ℕ → Frame
 frame_at frames function =
     slice_index_or frames function (record { words = 0; return_address = 0; first_slot = 0 })
 
+-- there is a frame for each function
+pub record AreFrames (program : Program) (frames : List Frame) : Type 0 where
+  pub as_many : length frames ≡ length program.functions
+  pub each : (k : ℕ) → k < length program.functions → IsFrame (routine_at program k) (frame_at frames k)
+
+-- a program with the frames of its functions
+pub record FramedProgram : Type 0 where
+  pub program : Program
+  pub frames : List Frame
+
+-- The frame of a function: the words that are kept for the layout, of which the first is for the return address, and
+-- then the slots in order.
+abbrev pub frame_of : Routine → Frame
+frame_of r = record { words = LAYOUT_WORDS + r.slots; return_address = 0; first_slot = LAYOUT_WORDS }
+
 -- where the name stands of the first function whose frame is too large
 abbrev pub is_too_large : Routine → Bool
-is_too_large r = nat_lt most_words r.frame_count
+is_too_large r = nat_lt MOST_FRAME_WORDS r.frame_count
 
 abbrev pub first_too_large : List Routine → Option Span
 first_too_large [] = None
 first_too_large (r ∷ routines) = if is_too_large r then Some r.name else first_too_large routines
 
 -- each function's frame may be as large as the function says
-abbrev pub AreSmall : Program → Type 0
-AreSmall program = (k : ℕ) → k < length program.functions → (routine_at program k).frame_count ≤ most_words
+abbrev pub HasSmallFrames : Program → Type 0
+HasSmallFrames program = (k : ℕ) → k < length program.functions → (routine_at program k).frame_count ≤ MOST_FRAME_WORDS
 
 -- the refusal of the first function that says more
 pub record IsTooLarge (program : Program) (fault : Fault) : Type 0 where
   pub function : ℕ
   pub is_function : function < length program.functions
-  pub large : most_words < (routine_at program function).frame_count
-  pub first : (k : ℕ) → k < function → (routine_at program k).frame_count ≤ most_words
+  pub large : MOST_FRAME_WORDS < (routine_at program function).frame_count
+  pub first : (k : ℕ) → k < function → (routine_at program k).frame_count ≤ MOST_FRAME_WORDS
   pub code : fault.code ≡ faults.FrameTooLarge
   pub line : fault.line ≡ (routine_at program function).name.line
   pub column : fault.column ≡ (routine_at program function).name.column
+
+-- what is accepted, and with which answer
+abbrev pub IsAccepted : (given program : Program) → Type 0
+IsAccepted given program = (program ≡ given) × HasSmallFrames program
+
+abbrev pub IsFramed : Program → FramedProgram → Type 0
+IsFramed program framed = (framed.program ≡ program) × AreFrames program framed.frames

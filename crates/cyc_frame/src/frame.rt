@@ -1,5 +1,8 @@
 //! The frames of a program's functions.
 
+/// A frame has at most so many words, since the machine's stack has so many for each call.
+pub const MOST_FRAME_WORDS: usize = 256;
+
 /// How the words of a function's frame are used. A word is named by its number from the frame's lowest address on.
 #[derive(Clone, Copy, Debug, PartialEq, Eq)]
 pub struct Frame {
@@ -9,10 +12,4 @@ pub struct Frame {
     pub return_address: usize,
     /// The word of the function's slot 0. The other slots follow it in order.
     pub first_slot: usize,
-}
-
-/// The frame of each function of a program, in order.
-#[derive(Drop)]
-pub struct Frames {
-    pub functions: Vec<Frame>,
 }

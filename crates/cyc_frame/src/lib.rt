@@ -2,7 +2,9 @@
 #![tactic(auto)]
 
 mod frame;
+mod framed;
 mod layouts;
 
-pub use frame::{Frame, Frames};
+pub use frame::{Frame, MOST_FRAME_WORDS};
+pub use framed::Framed;
 pub use layouts::layout;

@@ -1,5 +1,5 @@
 -- Worked examples: small programs lowered and run on the plain machine, each proved by computation.
-use Rattle.std.proofs.Common.{◌≡◌, ℕ, ◌+◌, List, [], ◌∷◌, pos, negsuc, true, refl, Some, None}
+use Rattle.std.proofs.Common.{◌≡◌, ℕ, ◌+◌, List, [], ◌∷◌, pos, negsuc, refl, Some, None}
 use Rattle.cyc_words.specs.Word.{slt_of, div_of}
 use Rattle.cyc_words.specs.Ending.{Returned, Uncaught, Full}
 use Rattle.cyc_syntax.specs.Symbols.{Place}
@@ -21,7 +21,6 @@ use Rattle.cyc_words.specs.Simulation.{Status, Ended}
 use Rattle.cyc_words.specs.Simulation as simulation
 use Rattle.cyc_plain.specs.State.{State, output_of, status_of}
 use Rattle.cyc_plain.specs.Step.{run, start}
-use Rattle.cyc_plain.specs.Checking.{is_well_formed}
 use Rattle.cyc_plain.proofs.RunLaws.{zeros}
 use Rattle.cyc_meaning.specs.State.{status_of as status_of_source}
 use Rattle.cyc_meaning.specs.Run.{limited_run}
@@ -191,9 +190,6 @@ calls_are_limited = refl
 
 arguments_in_order : ends 12 (program (all (returns (call (Calls 1) (Number 50 ∷ Number 8 ∷ [])) ∷ [])) (function ints [] (all (returns (two (local 0) (ThenCompute Subtract (local 1) NoOperations)) ∷ [])) ∷ [])) [] ≡ Ended (Returned (pos 42))
 arguments_in_order = refl
-
-is_sound : is_well_formed (lower_program (program counting (factorial ∷ []))) ≡ true
-is_sound = refl
 
 -- ---- beside the source
 

@@ -1,26 +1,32 @@
+-- what is accepted can be lowered
 pub mod Accepted
-pub mod Accesses
-pub mod Branching
-pub mod Bridge
-pub mod Calls
-pub mod Data
-pub mod Emitting
-pub mod Evaluations
-pub mod Examples
-pub mod Lowerings
-pub mod Matched
-pub mod NeedBounds
-pub mod Needs
-pub mod NeedsFound
-pub mod Relation
-pub mod Routines
-pub mod Sizes
-pub mod Stands
-pub mod StatementSteps
 pub mod TreeConstants
 pub mod TypedConstants
+-- the answers of `lower`
+pub mod Lowerings
+pub mod Routines
+-- a run of the plain program is one of the source
+pub mod Relation
+pub mod Matched
+pub mod Stands
+pub mod Bridge
+pub mod Data
 pub mod Values
-pub mod Weights
-pub mod WellFormed
+pub mod Evaluations
+pub mod Accesses
+pub mod Branching
+pub mod Calls
+pub mod StatementSteps
 pub mod Whole
+-- the rest of the promise: it is well formed, of words, and small
+pub mod WellFormed
 pub mod WordLemmas
+pub mod Sizes
+pub mod Weights
+pub mod Needs
+pub mod NeedBounds
+-- the code that emits, and that counts
+pub mod Emitting
+pub mod NeedsFound
+-- worked examples
+pub mod Examples

@@ -1,10 +1,22 @@
 -- The lowered program is one that the lowering promises.
-use Rattle.std.proofs.Common.{◌≡◌, ℕ, zero, suc, ◌<◌, List, [], ◌∷◌, map, Some, refl, arith, length, slice_get}
+use Rattle.std.proofs.Common.{◌≡◌, ◌⊎◌, ℕ, zero, suc, ◌<◌, ◌≤◌, ◌*◌, List, [], ◌∷◌, map, Some, Result, Ok, Err, refl, sym, ap, subst, ◌∙◌, arith, length, slice_get}
+use Rattle.std.specs.Prelude.{sum_by}
+use Rattle.std.proofs.lemmas.List.Sums.{sum_by-cons}
 use Rattle.std.proofs.lemmas.Option.{none-some}
 use Rattle.cyc_words.specs.declared.fault.Fault.{Fault}
+use Rattle.cyc_words.specs.Decision.{Decides}
+use Rattle.cyc_words.specs.Fault.{memory_fault}
+use Rattle.cyc_words.proofs.Decisions.{IsDecided, decides}
+use Rattle.cyc_syntax.specs.Weight.{sum_of}
 use Rattle.cyc_types.specs.TypedTrees.{Function, Program}
+use Rattle.cyc_types.specs.Weight.{function_weight, program_weight}
+use Rattle.cyc_plain.specs.Program.{Program as PlainProgram, size}
+use Rattle.cyc_plain.specs.WellFormed.{IsPlain}
+use Rattle.cyc_lower.specs.Emission.{most_weight}
 use Rattle.cyc_lower.specs.Lowering.{lower_function, lower_program}
-use Rattle.cyc_lower.specs.Lowered.{most_functions, HasTooMany, AreLoweredFunctions, IsLowered, CanBeLowered}
+use Rattle.cyc_lower.specs.declared.limits.TheConstants.{MOST_FUNCTIONS}
+use Rattle.cyc_lower.specs.Lowered.{AreLoweredFunctions, CanBeLowered, HasTooMany, IsAccepted, IsLowered, size_per_weight}
+use Rattle.cyc_lower.proofs.Routines.{one_too_many}
 use Rattle.cyc_lower.proofs.Sizes.{function_size}
 use Rattle.cyc_lower.proofs.WellFormed.{well_formed}
 use Rattle.cyc_lower.proofs.WordLemmas.{has_words}
@@ -22,11 +34,51 @@ is_lowered source fit = record {
   follows = λ pages calls input some_page some_call. follows source fit.is_numbered pages calls input some_page some_call;
 }
 
+functions_small : (hs : List Function) → sum_by size (map lower_function hs) ≤ size_per_weight * sum_of function_weight hs
+functions_small [] = omega arith
+functions_small (h ∷ hs) = omega (arith, sum_by-cons size (lower_function h) (map lower_function hs), function_size h, functions_small hs)
+
+-- what is true of every plain program is true of this one
+pub is_plain : (source : Program) → CanBeLowered source → program_weight source ≤ most_weight → IsPlain (lower_program source)
+is_plain source fit light = record {
+  well_formed = well_formed source fit.is_numbered fit.few_globals;
+  words = has_words source fit.of_words;
+  small = omega (arith, functions_small source.functions, light);
+}
+
 numbered_below : {X : Type 0} (xs : List X) (n : ℕ) (x : X) → slice_get xs n ≡ Some x → n < length xs
 numbered_below [] n x there = absurd (none-some x there)
 numbered_below (y ∷ xs) zero x there = omega arith
 numbered_below (y ∷ xs) (suc n) x there = omega (arith, numbered_below xs n x there)
 
 -- too many functions are more than there may be
-pub too_many : (source : Program) (fault : Fault) → HasTooMany source fault → most_functions < length source.functions
-too_many source fault (h, there, is) = numbered_below source.functions most_functions h there
+pub too_many : (source : Program) (fault : Fault) → HasTooMany source fault → MOST_FUNCTIONS < length source.functions
+too_many source fault (h, there, is) = numbered_below source.functions MOST_FUNCTIONS h there
+
+-- ---- answers
+
+is_decided : (source : Program) → IsDecided (IsAccepted source) (HasTooMany source) (HasTooMany source)
+is_decided source =
+    record {
+      one = λ a b first second. first.0 ∙ sym second.0;
+      same = one_too_many source;
+      never_refused = never;
+      never_faulty = never;
+    }
+  where
+    never : (a : Program) (f : Fault) → IsAccepted source a → HasTooMany source f → ⊥
+    never a f (same, few) many = absurd (omega (arith, ap (λ (p : Program). length p.functions) same, few, too_many source f many))
+
+abbrev Answers : Program → Result PlainProgram Fault → Type 0
+Answers source result = Decides (IsAccepted source) IsLowered (HasTooMany source) (HasTooMany source) result
+
+pub refused : (source : Program) (fault : Fault) → (fault ≡ memory_fault) ⊎ HasTooMany source fault → Answers source (Err fault)
+refused source fault why =
+    decides (IsAccepted source) IsLowered (HasTooMany source) (HasTooMany source) (is_decided source) (Err fault) tt why
+
+pub lowered : (source : Program) (plain : PlainProgram) → CanBeLowered source → length source.functions ≤ MOST_FUNCTIONS
+    → plain ≡ lower_program source → Answers source (Ok plain)
+lowered source plain fit few is =
+    decides (IsAccepted source) IsLowered (HasTooMany source) (HasTooMany source) (is_decided source) (Ok plain)
+    (source, (refl, few), subst (IsLowered source) (sym is) (is_lowered source fit))
+    tt

@@ -1,15 +1,15 @@
 -- The frame of a function of a short program has few words.
-use Rattle.std.proofs.Common.{◌≡◌, ℕ, ◌+◌, ◌*◌, ◌≤◌, max, List, [], ◌∷◌, Option, Some, None, arith, length, slice_get}
+use Rattle.std.proofs.Common.{ℕ, ◌+◌, ◌*◌, ◌≤◌, List, [], ◌∷◌, Option, Some, None, arith, length}
 use Rattle.cyc_syntax.specs.declared.tree.PointerKind.TheVariants as marks
 use Rattle.cyc_types.specs.declared.typed.Kind.{Kind}
 use Rattle.cyc_types.specs.declared.typed.Kind.TheVariants as kinds
 use Rattle.cyc_types.specs.Types.{Ty, Int, Pointer, Handle, Key, Struct, words_of}
-use Rattle.cyc_types.specs.TypedTrees.{Expression, Number, Copy, Call, Unary, Binary, Assign, Converted, Convert, Arguments, NoArguments, MoreArguments, Operations, NoOperations, ThenCompute, ThenTest, type_of, Statement, Block, Empty, Evaluate, If, While, Return, Break, Continue, Items, NoItems, MoreItems, Execute, Declare, Function, Program}
-use Rattle.cyc_types.specs.Weight.{expression_weight, converted_weight, arguments_weight, more_arguments_weight, operations_weight, else_weight, statement_weight, items_weight, function_weight, program_weight}
+use Rattle.cyc_types.specs.TypedTrees.{Expression, Number, Copy, Call, Unary, Binary, Assign, Converted, Convert, Arguments, NoArguments, MoreArguments, Operations, NoOperations, ThenCompute, ThenTest, type_of, Statement, Block, Empty, Evaluate, If, While, Return, Break, Continue, Items, NoItems, MoreItems, Execute, Declare, Program}
+use Rattle.cyc_types.specs.Weight.{expression_weight, converted_weight, arguments_weight, more_arguments_weight, operations_weight, statement_weight, items_weight, function_weight, program_weight}
 use Rattle.cyc_types.proofs.WeightLemmas.{else_written, function_outweighs, function_of_program}
 use Rattle.cyc_meaning.specs.Values.{words_of_kind}
-use Rattle.cyc_meaning.specs.FrameCount.{result_words, operand_words, converted_words, argument_words, expression_need, converted_need, arguments_need, operations_need, initial_need, statement_need, items_need, words_of_all, frame_count}
-use Rattle.cyc_lower.specs.Emission.{most_words, most_weight, IsTyped, AreSmall}
+use Rattle.cyc_meaning.specs.FrameCount.{result_words, operand_words, converted_words, argument_words, expression_need, converted_need, arguments_need, operations_need, statement_need, items_need, words_of_all}
+use Rattle.cyc_lower.specs.Emission.{most_weight, IsTyped, HaveFewWords}
 
 -- ---- values
 
@@ -113,7 +113,7 @@ pub words_of_types : (ts : List Ty) → (length ts ≤ words_of_all ts) × (word
 words_of_types [] = (omega arith, omega arith)
 words_of_types (t ∷ ts) = let w = words_few t in let r = words_of_types ts in (omega (arith, w.0, r.0), omega (arith, w.1, r.1))
 
-pub small_frames : (p : Program) → IsTyped p → program_weight p ≤ most_weight → AreSmall p.functions
+pub small_frames : (p : Program) → IsTyped p → program_weight p ≤ most_weight → HaveFewWords p.functions
 small_frames p (texts, tree, typed) light n h at =
     let part : function_weight h ≤ program_weight p = function_of_program p n h at in
     let locals : 2 * length h.parameters + 3 * length h.locals + 2 * h.regions + 4 ≤ function_weight h = function_outweighs texts tree p n h typed at in

@@ -17,7 +17,7 @@ use Rattle.cyc_types.specs.declared.typed.Item.{Item as ItemCode}
 use Rattle.cyc_types.specs.declared.typed.Item.TheVariants as item
 use Rattle.cyc_types.specs.Types.{Ty, words_of}
 use Rattle.cyc_types.specs.TypeView.{view_ty}
-use Rattle.cyc_types.specs.TypedTrees.{Expression, Statement, Call, Binary, Block, type_of}
+use Rattle.cyc_types.specs.TypedTrees.{type_of}
 use Rattle.cyc_types.specs.TypedTreeView.{view_expression, view_converted, view_statement, arguments_of, operations_of, items_of}
 use Rattle.cyc_types.proofs.TypedTreeViewLemmas.{view_call, view_binary, view_block}
 use Rattle.cyc_meaning.specs.FrameCount.{operand_words, converted_words, expression_need, converted_need, argument_words, arguments_need, operations_need, statement_need, items_need, words_of_all}

@@ -1,5 +1,5 @@
 -- Functions and globals that are lowered one after the other.
-use Rattle.std.proofs.Common.{◌≡◌, ℕ, zero, suc, ◌+◌, ◌<◌, ◌≤◌, List, [], ◌∷◌, ◌++◌, length, get_or, map, Option, Some, None, option_map, refl, sym, ap, ◌∙◌, arith, slice_get}
+use Rattle.std.proofs.Common.{◌≡◌, ℕ, zero, suc, ◌+◌, ◌<◌, ◌≤◌, List, [], ◌∷◌, ◌++◌, length, get_or, map, Some, option_map, refl, sym, ap, ◌∙◌, arith, slice_get}
 use Rattle.cyc_words.specs.declared.fault.Code.{Code}
 use Rattle.cyc_words.specs.declared.fault.Code.TheVariants.{TooManyFunctions}
 use Rattle.cyc_words.specs.declared.fault.Fault.{Fault}
@@ -13,8 +13,9 @@ use Rattle.cyc_plain.specs.declared.instruction.Instruction.TheVariants as instr
 use Rattle.cyc_plain.specs.Program.{Routine}
 use Rattle.cyc_meaning.specs.FrameCount.{items_need, frame_count}
 use Rattle.cyc_lower.specs.Lowering.{results_of, items_code, lower_function}
-use Rattle.cyc_lower.specs.Lowered.{most_functions, HasTooMany}
-use Rattle.cyc_lower.specs.Emission.{most_words, most_locals}
+use Rattle.cyc_lower.specs.declared.limits.TheConstants.{MOST_FUNCTIONS}
+use Rattle.cyc_lower.specs.Lowered.{HasTooMany}
+use Rattle.cyc_lower.specs.Emission.{most_frame_count, most_locals}
 use Rattle.cyc_lower.proofs.NeedBounds.{words_of_types}
 
 pub counted : {A B : Type 0} (f : A → B) (xs : List A) → length (map f xs) ≡ length xs
@@ -27,13 +28,8 @@ numbered_at f [] n x inside at = absurd (omega arith)
 numbered_at f (y ∷ ys) zero x inside at = ap (λ z. Some (f z)) (sym at)
 numbered_at f (y ∷ ys) (suc n) x inside at = numbered_at f ys n x (omega arith) at
 
-pub numbered_past : {A B : Type 0} (f : A → B) (xs : List A) (n : ℕ) → length xs ≤ n → slice_get (map f xs) n ≡ None
-numbered_past f [] n past = refl
-numbered_past f (y ∷ ys) zero past = absurd (omega arith)
-numbered_past f (y ∷ ys) (suc n) past = numbered_past f ys n (omega arith)
-
 -- a frame has a word for each local at least
-pub few_locals : (f : FunctionCode) → frame_count (view_function f) ≤ most_words → length f.parameters.items + length f.locals.items ≤ most_locals
+pub few_locals : (f : FunctionCode) → frame_count (view_function f) ≤ most_frame_count → length f.parameters.items + length f.locals.items ≤ most_locals
 few_locals f small =
     omega (arith, small, counted view_ty f.parameters.items, counted view_ty f.locals.items, (words_of_types (map view_ty f.parameters.items)).0, (words_of_types (map view_ty f.locals.items)).0)
 
@@ -74,16 +70,12 @@ fault_is f c l k a b d =
     ∙ ap (λ (x : ℕ). record { code = c; line = x; column = f.column }) b
     ∙ ap (λ (x : ℕ). record { code = c; line = l; column = x }) d
 
-pub too_many : (t : TypedTree) (x : FunctionCode) (f : Fault) → most_functions < length t.functions.items → x ≡ get_or t.functions.items most_functions x
+pub too_many : (t : TypedTree) (x : FunctionCode) (f : Fault) → MOST_FUNCTIONS < length t.functions.items → x ≡ get_or t.functions.items MOST_FUNCTIONS x
     → f.code ≡ TooManyFunctions → f.line ≡ x.span.line → f.column ≡ x.span.column → HasTooMany (view_program t) f
-too_many t x f more at a b d = (view_function x, numbered_at view_function t.functions.items most_functions x more at, fault_is f TooManyFunctions x.span.line x.span.column a b d)
+too_many t x f more at a b d = (view_function x, numbered_at view_function t.functions.items MOST_FUNCTIONS x more at, fault_is f TooManyFunctions x.span.line x.span.column a b d)
 
 pub one_too_many : (p : Program) (f g : Fault) → HasTooMany p f → HasTooMany p g → f ≡ g
 one_too_many p f g (h, e, a) (k, d, b) =
     let same : h ≡ k = let s : Some h ≡ Some k = sym e ∙ d in cc in
-    a ∙ ap (λ (x : Function). record { code = TooManyFunctions; line = x.place.line; column = x.place.column }) same ∙ sym b
-
-pub not_too_many : (t : TypedTree) (f : Fault) → length t.functions.items ≤ most_functions → HasTooMany (view_program t) f → ⊥
-not_too_many t f few (h, e, a) =
-    let none : None ≡ Some h = sym (numbered_past view_function t.functions.items most_functions few) ∙ e in
-    absurd (cc)
+    let fault : Function → Fault = λ x. record { code = TooManyFunctions; line = x.place.line; column = x.place.column } in
+    a ∙ ap fault same ∙ sym b

@@ -19,7 +19,8 @@ use Rattle.cyc_types.specs.Scopes.{Signature}
 use Rattle.cyc_types.specs.Numbered.{Bounds, signature_of, signatures_of, IsSignature, argument_count, IsWithin, IsNumbered, IsNumberedConverted, AreNumberedArguments, AreNumberedOperations, IsNumberedReturn, IsNumberedInitial, IsNumberedStatement, AreNumberedItems, bounds_of, AreNumberedFunctions, IsNumberedProgram}
 use Rattle.cyc_plain.specs.declared.instruction.Instruction.{Instruction}
 use Rattle.cyc_plain.specs.declared.instruction.Instruction.TheVariants as instructions
-use Rattle.cyc_plain.specs.Program.{Routine, Program as PlainProgram, no_routine, routine_at, most_globals}
+use Rattle.cyc_plain.specs.Program.{Routine, Program as PlainProgram, no_routine, routine_at}
+use Rattle.cyc_plain.specs.declared.limits.TheConstants.{MOST_GLOBALS}
 use Rattle.cyc_plain.specs.WellFormed.{IsInRange, IsRoutine, IsWellFormed, leaves}
 use Rattle.cyc_meaning.specs.Values.{words_of_kind}
 use Rattle.cyc_meaning.specs.FrameCount.{result_words, operand_words, converted_words, argument_words, expression_need, converted_need, arguments_need, operations_need, initial_need, statement_need, items_need, words_of_all}
@@ -340,7 +341,7 @@ module _ (source : Program) (is_numbered : IsNumberedProgram source) where
   functions_well [] numbered_all = tt
   functions_well (h ∷ hs) (first, rest) = (function_well h first, functions_well hs rest)
 
-  pub well_formed : length source.globals ≤ most_globals → IsWellFormed (lower_program source)
+  pub well_formed : length source.globals ≤ MOST_GLOBALS → IsWellFormed (lower_program source)
   well_formed few =
       let main = known_functions source.main _ is_numbered.main in
       record {

@@ -16,8 +16,8 @@ use Rattle.cyc_meaning.specs.FrameCount.{result_words, operand_words, argument_w
 use Rattle.cyc_lower.specs.declared.emitter.Emitter.{Emitter}
 
 -- this code is added behind what there was
-abbrev pub Emits : {T : Type 0} → Result T AllocError → (old new : Emitter) → List Instruction → Type 0
-Emits result old new code = OnOk result (new.code.items ≡ old.code.items ++ code)
+abbrev pub Appends : {T : Type 0} → Result T AllocError → (old new : Emitter) → List Instruction → Type 0
+Appends result old new code = OnOk result (new.code.items ≡ old.code.items ++ code)
 
 -- Slots are numbers that a word holds: a function has fewer locals than this, and of its temporaries no more are in use than
 -- there are instructions before.
@@ -40,8 +40,8 @@ loop_code a s p d =
     while_code (expression_code a (p + 2) d) (statement_code s (p + 2 + length (expression_code a (p + 2) d) + 1) p d) p d
 
 -- So many words a frame has at most, where its function is one of a program that is short enough to be read.
-abbrev pub most_words : ℕ
-most_words = 2 ^ 32
+abbrev pub most_frame_count : ℕ
+most_frame_count = 2 ^ 32
 
 -- the need of a call, by its arguments and the type of its result
 abbrev pub call_need : Arguments → Option Ty → ℕ
@@ -70,5 +70,5 @@ abbrev pub most_weight : ℕ
 most_weight = 60000
 
 -- the frame of each function has few enough words
-abbrev pub AreSmall : List Function → Type 0
-AreSmall hs = (n : ℕ) (h : Function) → slice_get hs n ≡ Some h → frame_count h ≤ most_words
+abbrev pub HaveFewWords : List Function → Type 0
+HaveFewWords hs = (n : ℕ) (h : Function) → slice_get hs n ≡ Some h → frame_count h ≤ most_frame_count

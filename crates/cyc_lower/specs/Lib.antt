@@ -1,4 +1,6 @@
-pub mod Emission
+-- what the contract of `lower` rests on
 pub mod Lowered
-pub mod Lowering
 pub mod Words
+-- what the functions inside the crate promise each other
+pub mod Lowering
+pub mod Emission

@@ -1,14 +1,13 @@
 -- What the lowering promises of the plain program that it makes, and which texts it refuses.
-use Rattle.std.specs.Prelude.{◌≡◌, ℕ, ◌*◌, ◌≤◌, ◌⊎◌, List, [], ◌∷◌, Result, Ok, Err, Some, length, slice_get}
+use Rattle.std.specs.Prelude.{◌≡◌, ℕ, ◌*◌, ◌≤◌, List, [], ◌∷◌, Some, length, slice_get}
 use Rattle.cyc_words.specs.declared.fault.Code.TheVariants.{TooManyFunctions}
 use Rattle.cyc_words.specs.declared.fault.Fault.{Fault}
-use Rattle.cyc_words.specs.Fault.{memory_fault}
 use Rattle.cyc_types.specs.TypedTrees.{Function, Program}
 use Rattle.cyc_types.specs.Numbered.{IsNumberedProgram}
 use Rattle.cyc_types.specs.Weight.{function_weight}
 use Rattle.cyc_words.specs.Simulation.{NeverFails, Follows}
-use Rattle.cyc_plain.specs.declared.program.Plain.{Plain}
-use Rattle.cyc_plain.specs.Program.{Routine, Program as PlainProgram, program_of, size, most_globals, places_of}
+use Rattle.cyc_plain.specs.declared.limits.TheConstants.{MOST_GLOBALS}
+use Rattle.cyc_plain.specs.Program.{Routine, Program as PlainProgram, size, places_of}
 use Rattle.cyc_plain.specs.Step.{machine}
 use Rattle.cyc_plain.specs.Step as plain
 use Rattle.cyc_plain.specs.WellFormed.{IsWellFormed, HasWords}
@@ -17,16 +16,13 @@ use Rattle.cyc_meaning.specs.SourceMachine.{source_machine}
 use Rattle.cyc_meaning.specs.FrameCount.{frame_count}
 use Rattle.cyc_lower.specs.Lowering.{span_of_place}
 use Rattle.cyc_lower.specs.Words.{IsOfWordsProgram}
+use Rattle.cyc_lower.specs.declared.limits.TheConstants.{MOST_FUNCTIONS}
 
 -- ---- refusals
 
--- a program has at most so many functions
-abbrev pub most_functions : ℕ
-most_functions = 4096
-
 -- there are more, and this is the name of the first one too many
 abbrev pub HasTooMany : Program → Fault → Type 0
-HasTooMany p f = (h : Function) × (slice_get p.functions most_functions ≡ Some h)
+HasTooMany p f = (h : Function) × (slice_get p.functions MOST_FUNCTIONS ≡ Some h)
     × (f ≡ record { code = TooManyFunctions; line = h.place.line; column = h.place.column })
 
 -- ---- what the plain program does
@@ -69,9 +65,8 @@ pub record IsLowered (source : Program) (lowered : PlainProgram) : Type 0 where
 pub record CanBeLowered (source : Program) : Type 0 where
   pub is_numbered : IsNumberedProgram source
   pub of_words : IsOfWordsProgram source
-  pub few_globals : length source.globals ≤ most_globals
+  pub few_globals : length source.globals ≤ MOST_GLOBALS
 
--- The answer: a plain program where there are not too many functions, and else the fault. Memory may be wanting for either.
-abbrev pub IsAnswer : Program → Result Plain Fault → Type 0
-IsAnswer source (Ok lowered) = (length source.functions ≤ most_functions) × IsLowered source (program_of lowered)
-IsAnswer source (Err fault) = (fault ≡ memory_fault) ⊎ HasTooMany source fault
+-- What is accepted: a program with no more functions than there may be.
+abbrev pub IsAccepted : (given program : Program) → Type 0
+IsAccepted given program = (program ≡ given) × (length program.functions ≤ MOST_FUNCTIONS)

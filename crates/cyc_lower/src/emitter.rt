@@ -2,7 +2,7 @@
 ghost use Rattle.std.specs.Prelude.{◌≡◌, ◌<◌, [], ◌∷◌, ◌++◌, length, set, IfOk};
 ghost use Rattle.cyc_types.specs.TypedTreeView.{view_lvalue};
 ghost use Rattle.cyc_lower.specs.Lowering.{load_code, store_code};
-ghost use Rattle.cyc_lower.specs.Emission.{Emits};
+ghost use Rattle.cyc_lower.specs.Emission.{Appends};
 
 use cyc_plain::Instruction;
 use cyc_types::typed::Lvalue;
@@ -32,7 +32,7 @@ impl Emitter {
 
     /// One instruction more.
     pub(crate) fn emit(&mut self, instruction: Instruction) -> Result<(), AllocError>
-        ensures { Emits result self.old self.new (instruction ∷ []) }
+        ensures { Appends result self.old self.new (instruction ∷ []) }
     {
         self.code.push(instruction)?;
         Ok(())
@@ -81,7 +81,7 @@ impl Emitter {
 
     /// The value of a place comes into a slot.
     pub(crate) fn load(&mut self, source: Lvalue, slot: usize) -> Result<(), AllocError>
-        ensures { Emits result self.old self.new (load_code (view_lvalue source) slot) }
+        ensures { Appends result self.old self.new (load_code (view_lvalue source) slot) }
     {
         self.emit(match source {
             Lvalue::Local { number, .. } => Instruction::Move {
@@ -97,7 +97,7 @@ impl Emitter {
 
     /// A place gets what is in a slot.
     pub(crate) fn store(&mut self, target: Lvalue, slot: usize) -> Result<(), AllocError>
-        ensures { Emits result self.old self.new (store_code (view_lvalue target) slot) }
+        ensures { Appends result self.old self.new (store_code (view_lvalue target) slot) }
     {
         self.emit(match target {
             Lvalue::Local { number, .. } => Instruction::Move {

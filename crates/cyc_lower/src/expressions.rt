@@ -4,7 +4,7 @@ ghost use Rattle.std.specs.Prelude.{◌≡◌, ◌+◌, ◌<◌, ◌≤◌, leng
 ghost use Rattle.cyc_types.specs.declared.typed.Callee.TheVariants as callees;
 ghost use Rattle.cyc_types.specs.TypedTreeView.{view_expression, view_converted, arguments_of, operations_of};
 ghost use Rattle.cyc_lower.specs.Lowering.{conversion_code, operator_code, truth_code, call_code, expression_code, converted_code, arguments_code, operations_code};
-ghost use Rattle.cyc_lower.specs.Emission.{Emits, most_locals, operation_code};
+ghost use Rattle.cyc_lower.specs.Emission.{Appends, most_locals, operation_code};
 
 use crate::emitter::Emitter;
 use crate::operators::{binary_operator, test_jump, unary_operator};
@@ -21,7 +21,7 @@ impl Emitter {
     /// An operator on the value in a slot and that in the slot behind it.
     fn operator(&mut self, operator: Operator, slot: usize) -> Result<(), AllocError>
         requires { slot < most_locals + length self.old.code.items }
-        ensures { Emits result self.old self.new (operator_code operator (length self.old.code.items) slot) }
+        ensures { Appends result self.old self.new (operator_code operator (length self.old.code.items) slot) }
     {
         let right = slot + 1;
         if matches!(operator, Operator::Divide | Operator::Remainder) {
@@ -45,7 +45,7 @@ impl Emitter {
 
     /// 0 stays 0, and any other word becomes 1.
     fn truth(&mut self, slot: usize) -> Result<(), AllocError>
-        ensures { Emits result self.old self.new (truth_code slot) }
+        ensures { Appends result self.old self.new (truth_code slot) }
     {
         let not = Instruction::Unary {
             operator: UnaryOperator::Not,
@@ -58,7 +58,7 @@ impl Emitter {
 
     /// A conversion of the value in a slot: where it may not be null, it is tested.
     fn conversion(&mut self, to: Kind, slot: usize) -> Result<(), AllocError>
-        ensures { Emits result self.old self.new (conversion_code to (length self.old.code.items) slot) }
+        ensures { Appends result self.old self.new (conversion_code to (length self.old.code.items) slot) }
     {
         if !matches!(to, Kind::NonNull) {
             return Ok(());
@@ -77,7 +77,7 @@ impl Emitter {
     /// `putchar` of the value in a slot, and its low 8 bits.
     fn putchar(&mut self, slot: usize) -> Result<(), AllocError>
         requires { slot ≤ most_locals + length self.old.code.items }
-        ensures { Emits result self.old self.new (call_code callees.Putchar 0 slot) }
+        ensures { Appends result self.old self.new (call_code callees.Putchar 0 slot) }
     {
         let mask = slot + 1;
         self.emit(Instruction::WriteByte { source: slot })?;
@@ -96,7 +96,7 @@ impl Emitter {
     /// A call whose arguments stand in the slots from this one on.
     fn call(&mut self, callee: Callee, count: usize, slot: usize) -> Result<(), AllocError>
         requires { slot ≤ most_locals + length self.old.code.items }
-        ensures { Emits result self.old self.new (call_code callee count slot) }
+        ensures { Appends result self.old self.new (call_code callee count slot) }
     {
         match callee {
             Callee::Putchar => self.putchar(slot),
@@ -113,7 +113,7 @@ impl Emitter {
     #[cycle(expression)]
     pub(crate) fn expression(&mut self, value: &Expr, slot: usize) -> Result<(), AllocError>
         requires { slot ≤ most_locals + length self.old.code.items }
-        ensures { Emits result self.old self.new (expression_code (view_expression value.now) (length self.old.code.items) slot) }
+        ensures { Appends result self.old self.new (expression_code (view_expression value.now) (length self.old.code.items) slot) }
     {
         match value {
             Expr::Number { value } => self.emit(Instruction::Constant {
@@ -151,7 +151,7 @@ impl Emitter {
     #[cycle(expression)]
     pub(crate) fn converted(&mut self, value: &Converted, slot: usize) -> Result<(), AllocError>
         requires { slot ≤ most_locals + length self.old.code.items }
-        ensures { Emits result self.old self.new (converted_code (view_converted value.now) (length self.old.code.items) slot) }
+        ensures { Appends result self.old self.new (converted_code (view_converted value.now) (length self.old.code.items) slot) }
     {
         self.expression(&value.value, slot)?;
         self.conversion(value.to, slot)
@@ -161,7 +161,7 @@ impl Emitter {
     #[cycle(expression)]
     fn arguments(&mut self, arguments: &[Converted], first: usize) -> Result<(), AllocError>
         requires { first ≤ most_locals + length self.old.code.items }
-        ensures { Emits result self.old self.new (arguments_code (arguments_of arguments.now) (length self.old.code.items) first) }
+        ensures { Appends result self.old self.new (arguments_code (arguments_of arguments.now) (length self.old.code.items) first) }
     {
         let mut slot = first;
         for argument in arguments {
@@ -175,7 +175,7 @@ impl Emitter {
     #[cycle(expression)]
     fn operation(&mut self, operation: &Operation, slot: usize) -> Result<(), AllocError>
         requires { slot < most_locals + length self.old.code.items }
-        ensures { Emits result self.old self.new (operation_code operation.now (length self.old.code.items) slot) }
+        ensures { Appends result self.old self.new (operation_code operation.now (length self.old.code.items) slot) }
     {
         match operation {
             Operation::Compute { operator, operand } => {
@@ -197,7 +197,7 @@ impl Emitter {
     #[cycle(expression)]
     fn operations(&mut self, operations: &[Operation], slot: usize) -> Result<(), AllocError>
         requires { slot < most_locals + length self.old.code.items }
-        ensures { Emits result self.old self.new (operations_code (operations_of operations.now) (length self.old.code.items) slot) }
+        ensures { Appends result self.old self.new (operations_code (operations_of operations.now) (length self.old.code.items) slot) }
     {
         for operation in operations {
             self.operation(operation, slot)?;

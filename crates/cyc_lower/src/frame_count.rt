@@ -6,7 +6,7 @@ ghost use Rattle.cyc_types.specs.TypeView.{view_ty};
 ghost use Rattle.cyc_types.specs.TypedTreeView.{view_expression, view_converted, view_statement, view_function, arguments_of, operations_of, items_of};
 ghost use Rattle.cyc_meaning.specs.Values.{words_of_kind};
 ghost use Rattle.cyc_meaning.specs.FrameCount.{result_words, operand_words, converted_words, expression_need, converted_need, operations_need, argument_words, initial_need, statement_need, items_need, words_of_all, frame_count};
-ghost use Rattle.cyc_lower.specs.Emission.{most_words, call_need, operation_need, item_need};
+ghost use Rattle.cyc_lower.specs.Emission.{most_frame_count, call_need, operation_need, item_need};
 
 use cyc_types::Ty;
 use cyc_types::typed::{Converted, Expr, Function, Item, Kind, Operation, Stmt};
@@ -76,7 +76,7 @@ fn converted_words(value: &Converted) -> usize
 /// The greatest of the words of an expression's operands and its own, and of the words before each operand with its need.
 #[cycle(need)]
 fn expression_need(value: &Expr) -> usize
-    requires { expression_need (view_expression value.now) ≤ most_words }
+    requires { expression_need (view_expression value.now) ≤ most_frame_count }
     ensures { result ≡ expression_need (view_expression value.now) }
 {
     match value {
@@ -106,7 +106,7 @@ fn expression_need(value: &Expr) -> usize
 /// The need of a call: each argument stands behind those before it.
 #[cycle(need)]
 fn call_need(arguments: &[Converted], of_type: &Option<Ty>) -> usize
-    requires { call_need (arguments_of arguments.now) (option_map view_ty of_type.now) ≤ most_words }
+    requires { call_need (arguments_of arguments.now) (option_map view_ty of_type.now) ≤ most_frame_count }
     ensures { result ≡ call_need (arguments_of arguments.now) (option_map view_ty of_type.now) }
 {
     let mut need = 0;
@@ -121,7 +121,7 @@ fn call_need(arguments: &[Converted], of_type: &Option<Ty>) -> usize
 /// The need of an operator of a chain of this type, where its left operand has so many words.
 #[cycle(need)]
 fn operation_need(operation: &Operation, of_type: &Ty, left: usize) -> usize
-    requires { operation_need operation.now (view_ty of_type.now) left ≤ most_words }
+    requires { operation_need operation.now (view_ty of_type.now) left ≤ most_frame_count }
     ensures { result ≡ operation_need operation.now (view_ty of_type.now) left }
 {
     match operation {
@@ -136,7 +136,7 @@ fn operation_need(operation: &Operation, of_type: &Ty, left: usize) -> usize
 /// the first operand alone.
 #[cycle(need)]
 fn operations_need(operations: &[Operation], of_type: &Ty, first: usize) -> usize
-    requires { operations_need (operations_of operations.now) (view_ty of_type.now) first ≤ most_words }
+    requires { operations_need (operations_of operations.now) (view_ty of_type.now) first ≤ most_frame_count }
     ensures { result ≡ operations_need (operations_of operations.now) (view_ty of_type.now) first }
 {
     let mut need = 0;
@@ -150,7 +150,7 @@ fn operations_need(operations: &[Operation], of_type: &Ty, first: usize) -> usiz
 
 /// The need of a value that may be there.
 fn initial_need(value: &Option<Converted>) -> usize
-    requires { initial_need (option_map view_converted value.now) ≤ most_words }
+    requires { initial_need (option_map view_converted value.now) ≤ most_frame_count }
     ensures { result ≡ initial_need (option_map view_converted value.now) }
 {
     match value {
@@ -162,7 +162,7 @@ fn initial_need(value: &Option<Converted>) -> usize
 /// The greatest need of the expressions in a statement.
 #[cycle(greatest)]
 fn statement_need(statement: &Stmt) -> usize
-    requires { statement_need (view_statement statement.now) ≤ most_words }
+    requires { statement_need (view_statement statement.now) ≤ most_frame_count }
     ensures { result ≡ statement_need (view_statement statement.now) }
 {
     match statement {
@@ -188,7 +188,7 @@ fn statement_need(statement: &Stmt) -> usize
 
 #[cycle(greatest)]
 fn item_need(item: &Item) -> usize
-    requires { item_need item.now ≤ most_words }
+    requires { item_need item.now ≤ most_frame_count }
     ensures { result ≡ item_need item.now }
 {
     match item {
@@ -200,7 +200,7 @@ fn item_need(item: &Item) -> usize
 /// The greatest need of the expressions in a block.
 #[cycle(greatest)]
 pub(crate) fn items_need(items: &[Item]) -> usize
-    requires { items_need (items_of items.now) ≤ most_words }
+    requires { items_need (items_of items.now) ≤ most_frame_count }
     ensures { result ≡ items_need (items_of items.now) }
 {
     let mut need = 0;
@@ -212,7 +212,7 @@ pub(crate) fn items_need(items: &[Item]) -> usize
 
 /// The words of variables of these types.
 fn words_of_all(types: &[Ty]) -> usize
-    requires { words_of_all (map view_ty types.now) ≤ most_words }
+    requires { words_of_all (map view_ty types.now) ≤ most_frame_count }
     ensures { result ≡ words_of_all (map view_ty types.now) }
 {
     let mut words = 0;
@@ -224,7 +224,7 @@ fn words_of_all(types: &[Ty]) -> usize
 
 /// The frame count of a function.
 pub(crate) fn frame_count(function: &Function) -> usize
-    requires { frame_count (view_function function.now) ≤ most_words }
+    requires { frame_count (view_function function.now) ≤ most_frame_count }
     ensures { result ≡ frame_count (view_function function.now) }
 {
     KEPT_WORDS

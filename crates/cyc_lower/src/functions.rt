@@ -2,10 +2,12 @@
 ghost use Rattle.std.specs.Prelude.{◌≡◌, ◌≤◌, map, option_map, IfOk};
 ghost use Rattle.cyc_types.specs.TypeView.{view_ty};
 ghost use Rattle.cyc_types.specs.TypedTreeView.{view_constant, view_global, view_function, view_program};
-ghost use Rattle.cyc_plain.specs.Program.{routine_of, program_of};
+ghost use Rattle.cyc_types.specs.Weight.{program_weight};
+ghost use Rattle.cyc_plain.specs.Program.{routine_of};
 ghost use Rattle.cyc_meaning.specs.FrameCount.{frame_count};
 ghost use Rattle.cyc_lower.specs.Lowering.{results_of, initial_word, lower_function, lower_global, lower_program};
-ghost use Rattle.cyc_lower.specs.Emission.{most_words, AreSmall};
+ghost use Rattle.cyc_lower.specs.Emission.{most_frame_count, most_weight, HaveFewWords};
+ghost use Rattle.cyc_lower.specs.Lowered.{CanBeLowered};
 
 use crate::emitter::Emitter;
 use crate::frame_count::{frame_count, items_need};
@@ -36,7 +38,7 @@ fn initial_word(value: Constant) -> u32
 
 /// A function. Its slots are its locals, and behind them the temporaries.
 fn lower_function(alloc: Global, function: &typed::Function) -> Result<Function, AllocError>
-    requires { frame_count (view_function function.now) ≤ most_words }
+    requires { frame_count (view_function function.now) ≤ most_frame_count }
     ensures { IfOk result (λ f. routine_of f ≡ lower_function (view_function function.now)) }
 {
     let locals = function.parameters.len() + function.locals.len();
@@ -57,7 +59,7 @@ fn lower_functions(
     alloc: Global,
     functions: &[typed::Function],
 ) -> Result<Vec<Function>, AllocError>
-    requires { AreSmall (map view_function functions.now) }
+    requires { HaveFewWords (map view_function functions.now) }
     ensures { IfOk result (λ fs. map routine_of fs.items ≡ map lower_function (map view_function functions.now)) }
 {
     let mut lowered = Vec::new(alloc);
@@ -78,15 +80,13 @@ fn lower_globals(alloc: Global, globals: &[typed::Global]) -> Result<Vec<u32>, A
 }
 
 /// The program, in which each function and each global keeps its number.
-pub(crate) fn lowered(alloc: Global, tree: &TypedTree) -> Result<Plain, AllocError>
-    requires { AreSmall (map view_function tree.now.functions.items) }
-    ensures { IfOk result (λ plain. program_of plain ≡ lower_program (view_program tree.now)) }
+pub(crate) fn lower_tree(alloc: Global, tree: &TypedTree) -> Result<Plain, AllocError>
+    requires few { HaveFewWords (map view_function tree.now.functions.items) }
+    requires small { program_weight (view_program tree.now) ≤ most_weight }
+    requires can_be { CanBeLowered (view_program tree.now) }
+    ensures { IfOk result (λ plain. plain ≡ lower_program (view_program tree.now)) }
 {
     let functions = lower_functions(alloc, &tree.functions)?;
     let globals = lower_globals(alloc, &tree.globals)?;
-    Ok(Plain {
-        functions,
-        globals,
-        main: tree.main,
-    })
+    Ok(Plain::new(functions, globals, tree.main))
 }

@@ -1,12 +1,14 @@
 //! The lowering: the plain program of a typed tree.
 #![tactic(auto)]
 
-pub use program::{MOST_FUNCTIONS, lower};
+pub use limits::MOST_FUNCTIONS;
+pub use program::lower;
 
 mod emitter;
 mod expressions;
 mod frame_count;
 mod functions;
+mod limits;
 mod operators;
 mod program;
 mod statements;

@@ -2,7 +2,7 @@
 ghost use Rattle.std.specs.Prelude.{◌≡◌, ◌+◌, ◌≤◌, [], ◌∷◌, length, option_map};
 ghost use Rattle.cyc_types.specs.TypedTreeView.{view_converted, view_expression, view_statement, items_of};
 ghost use Rattle.cyc_lower.specs.Lowering.{break_target, continue_target, return_code, declaration_code, statement_code, items_code};
-ghost use Rattle.cyc_lower.specs.Emission.{Emits, most_locals, item_code, loop_code};
+ghost use Rattle.cyc_lower.specs.Emission.{Appends, most_locals, item_code, loop_code};
 
 use crate::emitter::Emitter;
 use cyc_plain::Instruction;
@@ -13,7 +13,7 @@ impl Emitter {
     /// A return, which leaves its value in the slot.
     fn returned(&mut self, value: &Option<Converted>, slot: usize) -> Result<(), AllocError>
         requires { slot ≤ most_locals + length self.old.code.items }
-        ensures { Emits result self.old self.new (return_code (option_map view_converted value.now) (length self.old.code.items) slot) }
+        ensures { Appends result self.old self.new (return_code (option_map view_converted value.now) (length self.old.code.items) slot) }
     {
         if let Some(value) = value {
             self.converted(value, slot)?;
@@ -29,7 +29,7 @@ impl Emitter {
         slot: usize,
     ) -> Result<(), AllocError>
         requires { slot ≤ most_locals + length self.old.code.items }
-        ensures { Emits result self.old self.new (declaration_code number (option_map view_converted value.now) (length self.old.code.items) slot) }
+        ensures { Appends result self.old self.new (declaration_code number (option_map view_converted value.now) (length self.old.code.items) slot) }
     {
         let Some(value) = value else {
             return Ok(());
@@ -44,7 +44,7 @@ impl Emitter {
     /// A jump to the end of the loop that begins at this place, by the second of its two jumps.
     fn broken(&mut self, head: usize) -> Result<(), AllocError>
         requires { head ≤ length self.old.code.items }
-        ensures { Emits result self.old self.new (Instruction.Jump (break_target head) ∷ []) }
+        ensures { Appends result self.old self.new (Instruction.Jump (break_target head) ∷ []) }
     {
         self.emit(Instruction::Jump { target: head + 1 })
     }
@@ -52,7 +52,7 @@ impl Emitter {
     /// A jump to the condition of the loop that begins at this place.
     fn continued(&mut self, head: usize) -> Result<(), AllocError>
         requires { head ≤ length self.old.code.items }
-        ensures { Emits result self.old self.new (Instruction.Jump (continue_target head) ∷ []) }
+        ensures { Appends result self.old self.new (Instruction.Jump (continue_target head) ∷ []) }
     {
         self.emit(Instruction::Jump { target: head + 2 })
     }
@@ -62,7 +62,7 @@ impl Emitter {
     #[cycle(statement)]
     fn looped(&mut self, body: &Stmt, condition: &Expr, slot: usize) -> Result<(), AllocError>
         requires { slot ≤ most_locals + length self.old.code.items }
-        ensures { Emits result self.old self.new (loop_code (view_expression condition.now) (view_statement body.now) (length self.old.code.items) slot) }
+        ensures { Appends result self.old self.new (loop_code (view_expression condition.now) (view_statement body.now) (length self.old.code.items) slot) }
     {
         let head = self.place();
         self.continued(head)?;
@@ -83,7 +83,7 @@ impl Emitter {
     fn statement(&mut self, statement: &Stmt, head: usize, slot: usize) -> Result<(), AllocError>
         requires slots { slot ≤ most_locals + length self.old.code.items }
         requires begun { head ≤ length self.old.code.items }
-        ensures { Emits result self.old self.new (statement_code (view_statement statement.now) (length self.old.code.items) head slot) }
+        ensures { Appends result self.old self.new (statement_code (view_statement statement.now) (length self.old.code.items) head slot) }
     {
         match statement {
             Stmt::Block { items, .. } => self.items(items, head, slot),
@@ -118,7 +118,7 @@ impl Emitter {
     fn item(&mut self, item: &Item, head: usize, slot: usize) -> Result<(), AllocError>
         requires slots { slot ≤ most_locals + length self.old.code.items }
         requires begun { head ≤ length self.old.code.items }
-        ensures { Emits result self.old self.new (item_code item.now (length self.old.code.items) head slot) }
+        ensures { Appends result self.old self.new (item_code item.now (length self.old.code.items) head slot) }
     {
         match item {
             Item::Execute { statement } => self.statement(statement, head, slot),
@@ -136,7 +136,7 @@ impl Emitter {
     ) -> Result<(), AllocError>
         requires slots { slot ≤ most_locals + length self.old.code.items }
         requires begun { head ≤ length self.old.code.items }
-        ensures { Emits result self.old self.new (items_code (items_of items.now) (length self.old.code.items) head slot) }
+        ensures { Appends result self.old self.new (items_code (items_of items.now) (length self.old.code.items) head slot) }
     {
         for item in items {
             self.item(item, head, slot)?;

@@ -1,6 +1,8 @@
-pub mod Examples
-pub mod Placed
+-- laws of runs, slots and words, which `src/laws.rt` promises
 pub mod RunLaws
 pub mod SlotLaws
 pub mod Steps
+pub mod Placed
 pub mod WordLaws
+-- worked examples
+pub mod Examples

@@ -1,5 +1,7 @@
-pub mod Operators
+-- what the type `Plain` and its facts rest on
 pub mod Program
+pub mod WellFormed
+-- what a plain program means
+pub mod Operators
 pub mod State
 pub mod Step
-pub mod WellFormed

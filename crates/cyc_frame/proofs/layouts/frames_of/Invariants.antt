@@ -1,4 +1,4 @@
-use Rattle.std.proofs.Common.{◌≡◌, ◌++◌, map, take}
+use Rattle.std.proofs.Common.{◌≡◌, map, take}
 use Rattle.cyc_plain.specs.Program.{routine_of}
 use Rattle.cyc_frame.specs.Layout.{frame_of}
 use Rattle.cyc_frame.proofs.layouts.frames_of.Given as goal

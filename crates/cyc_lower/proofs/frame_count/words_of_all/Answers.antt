@@ -1,4 +1,4 @@
-use Rattle.std.proofs.Common.{◌+◌, ◌≤◌, arith}
+use Rattle.std.proofs.Common.{arith}
 use Rattle.cyc_lower.proofs.NeedsFound.{words_left}
 use Rattle.cyc_lower.proofs.frame_count.words_of_all.Goals as goal
 

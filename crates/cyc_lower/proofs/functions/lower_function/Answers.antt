@@ -1,4 +1,4 @@
-use Rattle.std.proofs.Common.{◌+◌, ◌≤◌, List, ap, arith}
+use Rattle.std.proofs.Common.{List, ap, arith}
 use Rattle.cyc_types.specs.declared.typed.Item.{Item}
 use Rattle.cyc_types.specs.TypedTreeView.{items_of}
 use Rattle.cyc_meaning.specs.FrameCount.{items_need}

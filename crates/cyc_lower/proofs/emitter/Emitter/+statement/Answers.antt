@@ -1,4 +1,3 @@
-use Rattle.std.proofs.Common.{◌≡◌, ◌+◌, ◌≤◌, length, arith}
 use Rattle.std.proofs.lemmas.Result.{on_ok_weaker}
 use Rattle.cyc_types.specs.TypedTreeView.{view_expression, view_statement}
 use Rattle.cyc_plain.specs.declared.instruction.Instruction.TheVariants.{Jump}
