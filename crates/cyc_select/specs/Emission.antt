@@ -54,7 +54,7 @@ AreReached frame first count = (count ≡ 0) ⊎ (slot_word frame first + count 
 abbrev pub most_lines : ℕ
 most_lines = START_LINES + LINES_FOR_EACH * MAX_SIZE
 
--- no function returns more than one value
+-- no function returns more than a value has words
 abbrev pub AreFew : Program → Type 0
 AreFew program = (k : ℕ) → (routine_at program k).results ≤ greatest_value
 
