@@ -7,6 +7,7 @@ use Rattle.std.proofs.lemmas.Option.{none-some}
 use Rattle.std.proofs.lemmas.List.FromFn.{length-range_with_len}
 use Rattle.std.proofs.lemmas.List.Sums.{sum_by-cons}
 use Rattle.cyc_words.specs.Word.{IsWord}
+use Rattle.cyc_elf.specs.Layout.{layout}
 use Rattle.cyc_elf.specs.Reading.{reading}
 use Rattle.cyc_isa.specs.declared.operand.Register.{Register}
 use Rattle.cyc_isa.specs.declared.instr.Instr.{Instr}
@@ -39,7 +40,7 @@ use Rattle.cyc_system.specs.FullPreservation.{text_words, DoesTheSame, IsImageOf
 use Rattle.cyc_system.specs.ProgramImage.{program_image}
 use Rattle.cyc_system.proofs.Composition.{chain_preserves}
 use Rattle.cyc_system.proofs.Preservation.{never_fails}
-use Rattle.cyc_system.proofs.ProgramImages.{text_words-image, image_loads, image_starts}
+use Rattle.cyc_system.proofs.ProgramImages.{text_words-image, image_form, image_loads, image_starts}
 
 -- ---- there is some text
 
@@ -123,10 +124,12 @@ module _ (p : Program) (lowered : PlainProgram) (code : Labelled) (addresses : �
       (subst (λ (w : World). Preserves (source_machine p pages calls) world_machine (length words) (start p input) w)
       (sym (image_starts words code.globals some text.inside few fit fit_globals code limits input refl)) together)
 
-  pub image_of_chain : (file : List ℕ) → reading file ≡ Ok (program_image words code.globals) → IsImageOf p file
-  image_of_chain file read = record {
+  pub image_of_chain : (file : List ℕ) → reading file ≡ Ok (program_image words code.globals) → file ≡ layout (program_image words code.globals) → IsImageOf p file
+  image_of_chain file read written = record {
     image = program_image words code.globals;
     read = read;
+    written = written;
+    form = image_form words code.globals;
     loads = image_loads words code.globals some text.inside few fit fit_globals;
     does = does;
   }
@@ -135,7 +138,8 @@ module _ (p : Program) (lowered : PlainProgram) (code : Labelled) (addresses : �
 pub image_made : (p : Program) (lowered : PlainProgram) (code : Labelled) (addresses : ℕ → ℕ) (words there globals : List ℕ) (file : List ℕ)
     → there ≡ words → globals ≡ code.globals → IsLowered p lowered → IsCodeOf lowered code → IsTextOf code addresses words → Runs code addresses words
     → length code.globals ≤ globals_length → AllByRecursion IsWord there → AllByRecursion IsWord globals → reading file ≡ Ok (program_image there globals)
-    → IsImageOf p file
-image_made p lowered code addresses words there globals file same same_globals is selected text runs few fit fit_globals read =
+    → file ≡ layout (program_image there globals) → IsImageOf p file
+image_made p lowered code addresses words there globals file same same_globals is selected text runs few fit fit_globals read written =
     image_of_chain p lowered code addresses words is selected text runs few (subst (AllByRecursion IsWord) same fit) (subst (AllByRecursion IsWord) same_globals fit_globals) file
     (subst (λ (ws : List ℕ). reading file ≡ Ok (program_image ws code.globals)) same (subst (λ (gs : List ℕ). reading file ≡ Ok (program_image there gs)) same_globals read))
+    (subst (λ (ws : List ℕ). file ≡ layout (program_image ws code.globals)) same (subst (λ (gs : List ℕ). file ≡ layout (program_image there gs)) same_globals written))

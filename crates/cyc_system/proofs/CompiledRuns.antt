@@ -78,13 +78,13 @@ module _ (p : Program) (image : ImageContents) (limits : Bounds) (input : List �
     so_far : (result : Result Report RunFault) → AnswersAs p limits input (text_words image) budget w.output result → RunsAs p limits input (text_words image) budget old new result
     unfolding started
     so_far result answers =
-        let (steps, printed, ends) = alike.behind count w run in
+        let (steps, (printed, ends)) = alike.behind count w run in
         record { output = w.output; written = x.written; steps = steps; printed = printed; answers = answers }
 
     is_end : (stop : Stop) → Stops stop budget count w → IsEndOf p limits input w.output stop
     unfolding started
     is_end (stops.End end) ended =
-        let (steps, printed, ends) = alike.behind count w run in
+        let (steps, (printed, ends)) = alike.behind count w run in
         let ((ending, shown, has), same) = ends end ended in
         (steps, ending, shown, has, sym same)
     is_end stops.Spent spent = tt
@@ -107,8 +107,8 @@ module _ (p : Program) (image : ImageContents) (limits : Bounds) (input : List �
   runs_as : old.remaining ≡ Some input → (result : Result Report RunFault) → Runs (start_world image limits) budget old new result → RunsAs p limits input (text_words image) budget old new result
   runs_as tells (Ok report) (w, x, few, stopped) =
       so_far tells report.count w x (Ok report) (is_end tells report.count w x report.stop stopped, is_as_far tells report.count w x report.stop few stopped)
-  runs_as tells (Err Read) (count, w, x, below, open, wants) = so_far tells count w x (Err Read) tt
-  runs_as tells (Err Write) (count, w, x, below, open, prints) = so_far tells count w x (Err Write) tt
+  runs_as tells (Err Read) (count, w, x, below, not_over, wants) = so_far tells count w x (Err Read) tt
+  runs_as tells (Err Write) (count, w, x, below, not_over, prints) = so_far tells count w x (Err Write) tt
   runs_as tells (Err (Elf f)) none = absurd none
   runs_as tells (Err (Load f)) none = absurd none
   runs_as tells (Err Memory) none = absurd none

@@ -15,21 +15,22 @@ use Rattle.cyc_elf.specs.declared.fault.ElfFault.{ElfFault}
 use Rattle.cyc_elf.specs.Image.{ImageContents}
 use Rattle.cyc_machine.specs.declared.fault.LoadFault.TheVariants as load
 use Rattle.cyc_machine.specs.Bounds.{Bounds}
+use Rattle.cyc_machine.specs.Shape.{phase_after}
 use Rattle.cyc_machine.specs.Start.{has_outside, start_state, start_world}
+use Rattle.cyc_machine.proofs.PhaseLaws.{Step-phase}
 use Rattle.cyc_system.specs.declared.report.Report.{Report}
 use Rattle.cyc_system.specs.declared.report.Stop.TheVariants as stops
 use Rattle.cyc_system.specs.declared.report.RunFault.{RunFault}
 use Rattle.cyc_system.specs.declared.report.RunFault.TheVariants.{Elf, Load, Read, Write, Memory}
 use Rattle.cyc_system.specs.Engine.{Devices, Rests, Tells, Leaves, Counted, Executes, Runs, Refuses, Starts, Answers}
 use Rattle.cyc_system.specs.Turn.{Asked, Turned}
-use Rattle.cyc_system.proofs.Phases.{Step-phase, phase_after}
 
 -- one more instruction at the end of a run
 pub Run-more : (count : ℕ) (u v w : World) → Run count u v → Goes v w → Run (suc count) u w
 Run-more zero u v w run goes = (w, subst (λ x. Goes x w) run goes, refl)
 Run-more (suc count) u v w (mid, first, rest) goes = (mid, first, Run-more count mid v w rest goes)
 
-counted_run : (count : ℕ) (u w : World) → Counted count u w → Run count u w
+pub counted_run : (count : ℕ) (u w : World) → Counted count u w → Run count u w
 counted_run zero u w counted = counted
 counted_run (suc count) u w (mid, run, none, goes) = Run-more count u mid w run goes
 
@@ -93,7 +94,7 @@ quiet start old now new count seen machine machine' event s more p step is on ke
   consumed = consumes_kept old.remaining now.remaining new.remaining p.read p.consumed kept;
   printed = Appends-append old.written now.written new.written p.output more p.printed appends;
   at_end = λ end. leaves_kept old.remaining now.remaining new.remaining [] (p.at_end end) kept;
-  running = ap (λ t. t.phase) is ∙ Step-phase machine s event p.running step ∙ on;
+  running = ap (λ t. t.phase) is ∙ Step-phase machine event s step ∙ on;
   runs = λ rest ended.
       counted_more count (start (p.read ++ rest)) (record { machine = machine; output = p.output; input = rest }) (record { machine = machine'; output = p.output ++ more; input = rest })
       (p.runs rest ended) p.running
@@ -122,7 +123,7 @@ wanting start old now new count seen seen' machine machine' s byte read p step i
   consumed = consumed;
   printed = appends_kept old.written now.written new.written p.output p.printed kept;
   at_end = at_end;
-  running = ap (λ t. t.phase) is ∙ given_running s byte (Step-phase machine s WantsByte p.running step);
+  running = ap (λ t. t.phase) is ∙ given_running s byte (Step-phase machine WantsByte s step);
   runs = λ rest ended.
       let t = took rest ended in
       let here : World = record { machine = machine; output = p.output; input = t.before } in
@@ -253,7 +254,7 @@ stops_at start old now new count budget seen seen' machine machine' end p below 
         written = x.written;
       },
       (omega arith),
-      ap end_in (Step-phase machine machine' (Ended end) p.running step),
+      ap end_in (Step-phase machine (Ended end) machine' step),
     )
 
 -- a device fails

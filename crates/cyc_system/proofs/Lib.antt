@@ -1,11 +1,15 @@
-pub mod Phases
-pub mod Engines
+-- the front half and what it refuses
 pub mod Fronts
-pub mod Listings
+pub mod Refusals
+-- the passes in a row, and the image that they make
 pub mod Composition
-pub mod Preservation
-pub mod ProgramImages
 pub mod Amounts
 pub mod Sizes
+pub mod ProgramImages
 pub mod Chains
-pub mod Refusals
+-- what the laws cite
+pub mod Preservation
+pub mod CompiledRuns
+-- running and listing
+pub mod Engines
+pub mod Listings

@@ -17,9 +17,8 @@ use Rattle.cyc_meaning.specs.State as meaning
 use Rattle.cyc_meaning.specs.Run.{start, limited_steps}
 use Rattle.cyc_words.specs.Simulation as simulation
 use Rattle.cyc_words.specs.Simulation.{NeverFails, Preserves}
-use Rattle.cyc_meaning.specs.SourceMachine.{source_machine, status_in}
-use Rattle.cyc_asm.specs.Machine as words
-use Rattle.cyc_machine.specs.WorldMachine.{world_machine, status_at, status_in}
+use Rattle.cyc_meaning.specs.SourceMachine.{source_machine, status_in as source_status}
+use Rattle.cyc_machine.specs.WorldMachine.{world_machine, status_at, status_in as world_status}
 use Rattle.cyc_system.specs.FullPreservation.{text_words, limited, NeverGoesWrong, DoesTheSame, IsAhead, IsBehind, AreAlike}
 
 -- ---- the runs
@@ -35,13 +34,13 @@ world_run (suc n) v w (mid, goes, rest) = (mid, goes, world_run n mid w rest)
 
 -- ---- statuses
 
-not_failed : (status : meaning.Status) → status ≢ meaning.IsDead → status ≢ meaning.IsWrong → status_in status ≡ simulation.Failed → ⊥
+not_failed : (status : meaning.Status) → status ≢ meaning.IsDead → status ≢ meaning.IsWrong → source_status status ≡ simulation.Failed → ⊥
 not_failed meaning.GoesOn alive right failed = cc
 not_failed (meaning.HasEnded ending) alive right failed = cc
 not_failed meaning.IsDead alive right failed = alive refl
 not_failed meaning.IsWrong alive right failed = right refl
 
-has_ended : (status : meaning.Status) (ending : Ending) → status_in status ≡ simulation.Ended ending → status ≡ meaning.HasEnded ending
+has_ended : (status : meaning.Status) (ending : Ending) → source_status status ≡ simulation.Ended ending → status ≡ meaning.HasEnded ending
 has_ended meaning.GoesOn ending ended = cc
 has_ended (meaning.HasEnded e) ending ended = cc
 has_ended meaning.IsDead ending ended = cc
@@ -51,7 +50,7 @@ closed : (found : Option Ending) (ending : Ending) → status_at found ≡ simul
 closed (Some e) ending ended = cc
 closed None ending ended = cc
 
-end_shown : (phase : Phase) (ending : Ending) → status_in phase ≡ simulation.Ended ending → (end : End) × (end_in phase ≡ Some end) × (ending_of end ≡ Some ending)
+end_shown : (phase : Phase) (ending : Ending) → world_status phase ≡ simulation.Ended ending → (end : End) × (end_in phase ≡ Some end) × (ending_of end ≡ Some ending)
 end_shown phases.Running ending ended = absurd (let e : simulation.Running ≡ simulation.Ended ending = ended in cc)
 end_shown phases.Waiting ending ended = absurd (let e : simulation.Running ≡ simulation.Ended ending = ended in cc)
 end_shown (phases.Over end) ending ended = (end, refl, closed (ending_of end) ending ended)
@@ -60,14 +59,14 @@ open_or_ended : (found : Option Ending) → (status_at found ≡ simulation.Fail
 open_or_ended (Some ending) fine = (ending, refl, refl)
 open_or_ended None fine = absurd (fine refl)
 
-ending_shown : (phase : Phase) (end : End) → end_in phase ≡ Some end → (status_in phase ≡ simulation.Failed → ⊥) → (ending : Ending) × (ending_of end ≡ Some ending) × (status_in phase ≡ simulation.Ended ending)
+ending_shown : (phase : Phase) (end : End) → end_in phase ≡ Some end → (world_status phase ≡ simulation.Failed → ⊥) → (ending : Ending) × (ending_of end ≡ Some ending) × (world_status phase ≡ simulation.Ended ending)
 ending_shown phases.Running end over fine = absurd (let e : None ≡ Some end = over in cc)
 ending_shown phases.Waiting end over fine = absurd (let e : None ≡ Some end = over in cc)
 ending_shown (phases.Over last) end over fine =
     let same : last ≡ end = cc in
     subst (λ e. (ending : Ending) × (ending_of e ≡ Some ending) × (status_at (ending_of last) ≡ simulation.Ended ending)) same (open_or_ended (ending_of last) fine)
 
-trap_fails : (phase : Phase) (cause : Cause) → end_in phase ≡ Some (Trap cause) → status_in phase ≡ simulation.Failed
+trap_fails : (phase : Phase) (cause : Cause) → end_in phase ≡ Some (Trap cause) → world_status phase ≡ simulation.Failed
 trap_fails phases.Running cause over = absurd (let e : None ≡ Some (Trap cause) = over in cc)
 trap_fails phases.Waiting cause over = absurd (let e : None ≡ Some (Trap cause) = over in cc)
 trap_fails (phases.Over end) cause over = ap (λ (e : End). status_at (ending_of e)) (let same : end ≡ Trap cause = cc in same)
@@ -78,7 +77,7 @@ pub never_fails : (p : Program) (limits : Bounds) (input : List ℕ) → NeverGo
 never_fails p limits input never n s run failed =
     let is = source_run p limits.pages limits.calls n (start p input) s run in
     let (alive, right) = never n in
-    not_failed (meaning.status_of (limited p limits input n)) alive right (sym (ap (λ (t : meaning.State). status_in (meaning.status_of t)) is) ∙ failed)
+    not_failed (meaning.status_of (limited p limits input n)) alive right (sym (ap (λ (t : meaning.State). source_status (meaning.status_of t)) is) ∙ failed)
 
 -- ---- and the two runs
 
@@ -91,11 +90,11 @@ module _ (p : Program) (image : ImageContents) (limits : Bounds) (input : List �
       subst (λ (s : meaning.State). IsAhead s w) is (
         prefix,
         λ ending ended.
-            let (over, output) = ends ending (ap status_in ended) in
+            let (over, output) = ends ending (ap source_status ended) in
             (end_shown w.machine.phase ending over, output),
       )
 
-  fine : (m : ℕ) (w : World) → Run m (start_world image limits input) w → status_in w.machine.phase ≡ simulation.Failed → ⊥
+  fine : (m : ℕ) (w : World) → Run m (start_world image limits input) w → world_status w.machine.phase ≡ simulation.Failed → ⊥
   fine m w run failed = does.never_fails m w (world_run m (start_world image limits input) w run) failed
 
   behind : (m : ℕ) (w : World) → Run m (start_world image limits input) w → (k : ℕ) × IsBehind w (limited p limits input k)

@@ -26,7 +26,8 @@ use Rattle.cyc_select.specs.Machine.{globals_of}
 use Rattle.cyc_asm.specs.Text.{text_of}
 use Rattle.cyc_asm.specs.Machine as assembled
 use Rattle.cyc_system.specs.FullPreservation.{text_words, IsLoadable}
-use Rattle.cyc_system.specs.ProgramImage.{bytes_of_words, segment_of, text_segment, data_segment, data_segments, program_image}
+use Rattle.cyc_system.specs.declared.image.TheConstants.{READ_AND_EXECUTE, READ_AND_WRITE}
+use Rattle.cyc_system.specs.ProgramImage.{bytes_of_words, segment_of, text_segment, data_segment, data_segments, program_image, HasForm}
 
 -- ---- words and their bytes
 
@@ -148,8 +149,8 @@ data_word [] k fit = sym (get_or_past [] k 0 (omega arith))
 data_word (g ∷ globals) k fit =
     let whole = g ∷ globals in
     elim (cases_lt k (length whole)) [
-      | inl below ↦ ap (λ (w : Option ℕ). unwrap_or (option_or w None) 0) (word_inside data_base 6 whole k fit below)
-      | inr past ↦ ap (λ (w : Option ℕ). unwrap_or (option_or w None) 0) (word_past data_base 6 whole (data_base + 4 * k) (omega (arith, past))) ∙ sym (get_or_past whole k 0 past)
+      | inl below ↦ ap (λ (w : Option ℕ). unwrap_or (option_or w None) 0) (word_inside data_base READ_AND_WRITE whole k fit below)
+      | inr past ↦ ap (λ (w : Option ℕ). unwrap_or (option_or w None) 0) (word_past data_base READ_AND_WRITE whole (data_base + 4 * k) (omega (arith, past))) ∙ sym (get_or_past whole k 0 past)
     ]
 
 zeros_behind : (globals : List ℕ) (count k : ℕ) → k < length globals + count → slice_index (globals ++ replicate count 0) k ≡ slice_index globals k
@@ -162,6 +163,16 @@ zeros_behind globals count k within = elim (cases_lt k (length globals)) [
 ]
 
 -- ---- the image
+
+pub image_form : (words globals : List ℕ) → HasForm (program_image words globals)
+image_form words [] = record { entry = refl; segments = record { address = refl; flags = refl; stored = refl } }
+image_form words (g ∷ globals) = record {
+  entry = refl;
+  segments = (
+    record { address = refl; flags = refl; stored = refl },
+    record { address = refl; flags = refl; stored = refl; some = omega (arith, length-bytes_of_words (g ∷ globals)) },
+  );
+}
 
 some_at : (words : List ℕ) (k : ℕ) → k < length words → get_or (text_of words) k None ≡ Some (slice_index words k)
 some_at [] k below = absurd (omega arith)
@@ -207,7 +218,7 @@ module _ (words globals : List ℕ) (some : 0 < length words) (inside : text_bas
   text_at_start =
       ap (λ count. map (λ k. image_word segments (text_base + 4 * k)) (range_with_len 0 count)) text_long
       ∙ sym (fill_by_all (λ k. image_word segments (text_base + 4 * k)) (text_of words) (length words) None (length-map words (λ (w : ℕ). Some w))
-      (λ k below. some_at words k below ∙ sym (ap (λ (w : Option ℕ). option_or w (image_word (data_segments globals) (text_base + 4 * k))) (word_inside text_base 5 words k fit below))))
+      (λ k below. some_at words k below ∙ sym (ap (λ (w : Option ℕ). option_or w (image_word (data_segments globals) (text_base + 4 * k))) (word_inside text_base READ_AND_EXECUTE words k fit below))))
 
   data_laid : (count : ℕ) → length globals ≤ count → map (λ (word : Option ℕ). unwrap_or word 0) (image_words segments data_base count) ≡ globals ++ replicate (count - length globals) 0
   unfolding image_words
@@ -217,7 +228,7 @@ module _ (words globals : List ℕ) (some : 0 < length words) (inside : text_bas
       (length-append globals (replicate (count - length globals) 0) ∙ (let e : length globals + length (replicate (count - length globals) 0) ≡ count = omega (arith, length-replicate {A = ℕ} (count - length globals) 0, enough) in e))
       (λ k below.
       zeros_behind globals (count - length globals) k (omega (arith, below, enough))
-      ∙ sym (ap (λ (w : Option ℕ). unwrap_or (option_or w (image_word (data_segments globals) (data_base + 4 * k))) 0) (word_past text_base 5 words (data_base + 4 * k) (omega (arith, inside)))
+      ∙ sym (ap (λ (w : Option ℕ). unwrap_or (option_or w (image_word (data_segments globals) (data_base + 4 * k))) 0) (word_past text_base READ_AND_EXECUTE words (data_base + 4 * k) (omega (arith, inside)))
       ∙ data_word globals k fit_globals)))
 
   data_at_start : map (λ (word : Option ℕ). unwrap_or word 0) (image_words segments data_base globals_length) ≡ globals_of globals

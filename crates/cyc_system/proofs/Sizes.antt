@@ -67,3 +67,8 @@ module _ (p : Program) (lowered : PlainProgram) (is : IsLowered p lowered) where
   small_below small = λ k below.
       let (h, at, made) = source_at p.functions lowered.functions k is.functions below in
       omega (arith, small.frames k h at, made.frame)
+
+  pub small_above : AreSmall lowered → (k : ℕ) (g : Function) → slice_get p.functions k ≡ Some g → frame_count g ≤ most_words
+  small_above small k g at =
+      let (below, made) = lowered_at p.functions lowered.functions k g is.functions at in
+      omega (arith, small k below, made.frame)

@@ -3,7 +3,6 @@
 use Rattle.std.specs.Prelude.{◌≡◌, ◌⊎◌, ℕ, ◌≤◌, ◌<◌, List, Some, length, slice_get}
 use Rattle.cyc_words.specs.declared.fault.Fault.{Fault}
 use Rattle.cyc_words.specs.declared.fault.Code.TheVariants.{FrameTooLarge}
-use Rattle.cyc_words.specs.Fault.{memory_fault}
 use Rattle.cyc_types.specs.TypedTrees.{Function, Program}
 use Rattle.cyc_meaning.specs.FrameCount.{frame_count}
 use Rattle.cyc_lower.specs.Lowered.{most_functions, HasTooMany}
@@ -32,9 +31,13 @@ pub record IsSmallEnough (p : Program) : Type 0 where
 abbrev pub IsTooLargeText : List ℕ → Fault → Type 0
 IsTooLargeText text f = (p : Program) × IsAcceptedText text p × IsTooLarge p f
 
--- A refusal is want of memory, or true of the text.
-abbrev pub Refuses : List ℕ → Fault → Type 0
-Refuses text f = (f ≡ memory_fault) ⊎ IsRefusedText text f ⊎ IsTooLargeText text f
+-- The text is compiled, and this is its typed program.
+abbrev pub IsCompiledText : List ℕ → Program → Type 0
+IsCompiledText text p = IsAcceptedText text p × IsSmallEnough p
+
+-- A refusal is true of the text, or of its program.
+abbrev pub IsRefusedAtLast : List ℕ → Fault → Type 0
+IsRefusedAtLast text f = IsRefusedText text f ⊎ IsTooLargeText text f
 
 -- The text has this fault, and is not refused with another.
 abbrev pub HasFaultAtLast : List ℕ → Fault → Type 0

@@ -2,16 +2,13 @@
 -- tokens have a tree, the tree has a typed program, and the typed program keeps the flow rules. Each phase says in words of its own what
 -- it accepts and what it refuses; here they stand together. (That the first phase to refuse a text names its fault is this project's
 -- own choice.)
-use Rattle.std.specs.Prelude.{◌≡◌, ◌⊎◌, ℕ, List}
+use Rattle.std.specs.Prelude.{◌⊎◌, ℕ, List}
 use Rattle.cyc_words.specs.declared.fault.Fault.{Fault}
 use Rattle.cyc_syntax.specs.Names.{distinct_texts}
 use Rattle.cyc_syntax.specs.Tokens.{Token}
-use Rattle.cyc_syntax.specs.Symbols.{texts_in, symbols_of}
+use Rattle.cyc_syntax.specs.Symbols.{texts_in}
 use Rattle.cyc_syntax.specs.Trees.{Declaration}
-use Rattle.cyc_syntax.specs.Grammar as grammar
 use Rattle.cyc_lex.specs.Refusals as lexer
-use Rattle.cyc_parse.specs.Answers.{end_of, fault_of}
-use Rattle.cyc_parse.specs.Parsing.{Refusal}
 use Rattle.cyc_parse.specs.Acceptance as parser
 use Rattle.cyc_types.specs.TypedTrees.{Program}
 use Rattle.cyc_types.specs.TypingRules.{IsTypedProgram}
@@ -23,16 +20,12 @@ use Rattle.cyc_types.specs.FlowRefusals.{IsStoppedProgram}
 abbrev pub names_in : List Token → List (List ℕ)
 names_in tokens = distinct_texts (texts_in tokens)
 
--- these tokens have this tree, within the limits
-abbrev pub HasTree : List Token → List Declaration → Type 0
-HasTree tokens tree = grammar.HasTree (symbols_of tokens) tree × grammar.IsWithinLimits tree
-
 -- The text is accepted, and this is its typed program.
 pub record IsAcceptedText (text : List ℕ) (p : Program) : Type 0 where
   pub tokens : List Token
   pub tree : List Declaration
   pub has_tokens : lexer.IsAccepted text tokens
-  pub has_tree : HasTree tokens tree
+  pub has_tree : parser.IsAccepted tokens tree
   pub typed : IsTypedProgram (names_in tokens) tree p
   pub allowed : IsAllowedProgram p
 
@@ -42,17 +35,13 @@ abbrev pub IsStoppedText : (OfGrammar : List ℕ → List Token → Fault → Ty
 IsStoppedText OfGrammar text f =
     lexer.IsRefused text f
     ⊎ ((tokens : List Token) × lexer.IsAccepted text tokens × OfGrammar text tokens f)
-    ⊎ ((tokens : List Token) × (tree : List Declaration) × lexer.IsAccepted text tokens × HasTree tokens tree × IsRefusedProgram (names_in tokens) tree f)
-    ⊎ ((tokens : List Token) × (tree : List Declaration) × (p : Program) × lexer.IsAccepted text tokens × HasTree tokens tree × IsTypedProgram (names_in tokens) tree p × IsStoppedProgram p f)
+    ⊎ ((tokens : List Token) × (tree : List Declaration) × lexer.IsAccepted text tokens × parser.IsAccepted tokens tree × IsRefusedProgram (names_in tokens) tree f)
+    ⊎ ((tokens : List Token) × (tree : List Declaration) × (p : Program) × lexer.IsAccepted text tokens × parser.IsAccepted tokens tree × IsTypedProgram (names_in tokens) tree p × IsStoppedProgram p f)
 
 -- A refusal of the text is true: what its code says holds at its place.
 abbrev pub IsRefusedText : List ℕ → Fault → Type 0
 IsRefusedText = IsStoppedText parser.IsRefused
 
--- the tokens have a tree, and this is the fault of the first that breaks a limit
-abbrev pub BreaksLimit : List ℕ → List Token → Fault → Type 0
-BreaksLimit text tokens f = (refusal : Refusal) × parser.BreaksLimit tokens refusal × (f ≡ fault_of (end_of text) refusal)
-
 -- The text has this fault, and is not refused with another. Of a text whose tokens have no tree that is not said, but that it is refused.
 abbrev pub HasFault : List ℕ → Fault → Type 0
-HasFault = IsStoppedText BreaksLimit
+HasFault = IsStoppedText parser.IsFaulty

@@ -8,6 +8,7 @@ use Rattle.std.specs.List.{AllByRecursion}
 use Rattle.cyc_words.specs.Ending.{Ending}
 use Rattle.cyc_words.specs.Prefix.{IsPrefix}
 use Rattle.cyc_elf.specs.Image.{ImageContents, padded}
+use Rattle.cyc_elf.specs.Layout.{layout}
 use Rattle.cyc_elf.specs.Reading.{reading}
 use Rattle.cyc_machine.specs.Bounds.{Bounds, AreAllowed}
 use Rattle.cyc_machine.specs.Run.{World, Run, end_of, ending_of}
@@ -22,6 +23,7 @@ use Rattle.cyc_meaning.specs.Run.{start, limited_run}
 use Rattle.cyc_words.specs.Simulation.{Preserves}
 use Rattle.cyc_meaning.specs.SourceMachine.{source_machine}
 use Rattle.cyc_machine.specs.WorldMachine.{world_machine}
+use Rattle.cyc_system.specs.ProgramImage.{HasForm}
 
 -- how many words of text an image has
 abbrev pub text_words : ImageContents → ℕ
@@ -51,10 +53,13 @@ DoesTheSame p image =
     → Preserves (source_machine p limits.pages limits.calls) world_machine (text_words image)
     (start p input) (start_world image limits input)
 
--- a file is an image that the machine can load, and that does what the program means
+-- A file is an image that the machine can load, and that does what the program means. The file is the one that is written of the
+-- image, and the image has the form of a program's, so there is nothing else in either.
 pub record IsImageOf (p : Program) (file : List ℕ) : Type 0 where
   pub image : ImageContents
   pub read : reading file ≡ Ok image
+  pub written : file ≡ layout image
+  pub form : HasForm image
   pub loads : IsLoadable image
   pub does : DoesTheSame p image
 

@@ -1,8 +1,13 @@
-pub mod FullPreservation
-pub mod ProgramImage
+-- what the contracts of `accept` and `compile` rest on
 pub mod Front
 pub mod Compiled
-pub mod Faults
+pub mod FullPreservation
+pub mod ProgramImage
+-- those of `run` and `disassemble`
 pub mod Engine
-pub mod Turn
+pub mod Faults
 pub mod Listing
+-- the two together
+pub mod CompiledRuns
+-- what the functions inside the crate promise each other
+pub mod Turn

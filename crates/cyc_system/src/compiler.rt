@@ -1,21 +1,22 @@
 //! Compiles a text to an image.
 
-ghost use Rattle.std.specs.Prelude.{◌≡◌, ◌⊎◌, ℕ, ◌<◌, ◌≤◌, IfOk, IfErr, MatchResult, length, sum_by};
+ghost use Rattle.std.specs.Prelude.{◌≡◌, ◌⊎◌, ℕ, ◌*◌, ◌<◌, ◌≤◌, IfOk, IfErr, MatchResult, length, sum_by};
+ghost use Rattle.cyc_words.specs.Decision.{Decides};
 ghost use Rattle.cyc_words.specs.Fault.{memory_fault};
+ghost use Rattle.cyc_syntax.specs.TokenRule.{max_tokens};
 ghost use Rattle.cyc_types.specs.TypedTrees.{Program};
 ghost use Rattle.cyc_types.specs.TypedTreeView.{view_program};
 ghost use Rattle.cyc_types.specs.Weight.{program_weight};
 ghost use Rattle.cyc_plain.specs.Program.{program_of, routine_at, size};
 ghost use Rattle.cyc_plain.specs.WellFormed.{IsWellFormed, HasWords};
 ghost use Rattle.cyc_lower.specs.Emission.{IsTyped, most_weight};
-ghost use Rattle.cyc_lower.specs.Lowered.{CanBeLowered, IsLowered};
-ghost use Rattle.cyc_frame.specs.Layout.{IsFrame, frames_of, frame_at};
-ghost use Rattle.cyc_system.specs.Front.{IsAcceptedText};
+ghost use Rattle.cyc_lower.specs.Lowered.{CanBeLowered, IsLowered, size_per_weight};
+ghost use Rattle.cyc_frame.specs.Layout.{IsFrame, frame_at};
 ghost use Rattle.cyc_system.specs.FullPreservation.{IsImageOf};
-ghost use Rattle.cyc_system.specs.Compiled.{IsTooLarge, IsSmallEnough, Refuses, HasFaultAtLast};
+ghost use Rattle.cyc_system.specs.Compiled.{IsTooLarge, IsSmallEnough, IsCompiledText, IsRefusedAtLast, HasFaultAtLast};
 
 use crate::front::accept;
-use crate::image::file_of;
+use crate::image::write_program;
 use cyc_asm::assemble;
 use cyc_flow::Flowed;
 use cyc_frame::{Frames, layout};
@@ -25,13 +26,12 @@ use cyc_select::select;
 use cyc_words::Fault;
 use std::alloc::Global;
 
-/// The image of a plain program whose functions have these frames, as the bytes of a file. It is one of each program that was
-/// lowered to the plain one.
-fn image_of(alloc: Global, plain: &Plain, frames: &Frames) -> Result<Vec<u8>, Fault>
+/// Compiles a plain program whose functions have these frames. The bytes are an image of each program that was lowered to the
+/// plain one.
+fn compile_plain(alloc: Global, plain: &Plain, frames: &Frames) -> Result<Vec<u8>, Fault>
     requires well_formed { IsWellFormed (program_of plain.now) }
     requires words { HasWords (program_of plain.now) }
-    requires few { sum_by size (program_of plain.now).functions ≤ 180000 }
-    requires laid { frames.now.functions.items ≡ frames_of (program_of plain.now) }
+    requires few { sum_by size (program_of plain.now).functions ≤ size_per_weight * max_tokens }
     requires frames { (k : ℕ) → k < length plain.now.functions.items
         → IsFrame (routine_at (program_of plain.now) k) (frame_at frames.now.functions.items k) }
     ensures image { IfOk result (λ file. (p : Program) → IsLowered p (program_of plain.now) → IsImageOf p file.items) }
@@ -39,10 +39,8 @@ fn image_of(alloc: Global, plain: &Plain, frames: &Frames) -> Result<Vec<u8>, Fa
 {
     let code = select(alloc, plain, frames)?;
     let words = assemble(alloc, &code)?;
-    match file_of(alloc, &words, &code.globals) {
-        Ok(file) => Ok(file),
-        Err(_) => Err(Fault::memory()),
-    }
+    let file = write_program(alloc, &words, &code.globals)?;
+    Ok(file)
 }
 
 /// The image of a typed program, as the bytes of a file.
@@ -50,7 +48,7 @@ fn build(alloc: Global, program: &Flowed) -> Result<Vec<u8>, Fault>
     requires typed { IsTyped (view_program program.now.tree) }
     requires small { program_weight (view_program program.now.tree) ≤ most_weight }
     requires can_be { CanBeLowered (view_program program.now.tree) }
-    ensures image { IfOk result (λ file. IsImageOf (view_program program.now.tree) file.items) }
+    ensures image { IfOk result (λ file. IsSmallEnough (view_program program.now.tree) × IsImageOf (view_program program.now.tree) file.items) }
     ensures refused { IfErr result (λ f. (f ≡ memory_fault) ⊎ IsTooLarge (view_program program.now.tree) f) }
     ensures accepts { IsSmallEnough (view_program program.now.tree) → MatchResult result (λ _. Unit {0}) (λ f. f ≡ memory_fault) }
     ensures refuses { (fault : Fault) → IsTooLarge (view_program program.now.tree) fault
@@ -64,7 +62,7 @@ fn build(alloc: Global, program: &Flowed) -> Result<Vec<u8>, Fault>
         Ok(frames) => frames,
         Err(fault) => return Err(fault),
     };
-    image_of(alloc, &plain, &frames)
+    compile_plain(alloc, &plain, &frames)
 }
 
 /// Compiles a text to an image, as the bytes of a file.
@@ -74,15 +72,9 @@ fn build(alloc: Global, program: &Flowed) -> Result<Vec<u8>, Fault>
 /// frame may need more than 256 words. Any growth may be refused for want of memory.
 pub fn compile(alloc: Global, text: &[u8]) -> Result<Vec<u8>, Fault>
     // What is answered is an image that the machine can load, and that does what the program of the text means: it
-    // prints and ends as the program does within its limits, and does nothing else.
-    ensures accepted { IfOk result (λ file. (p : Program) × IsAcceptedText text.now p × IsImageOf p file.items) }
-    // What is refused is refused by the front half, or too large.
-    ensures refused { IfErr result (Refuses text.now) }
-
-    // And the other way round, want of memory aside.
-    ensures accepts { (p : Program) → IsAcceptedText text.now p → IsSmallEnough p → MatchResult result (λ _. Unit {0}) (λ f. f ≡ memory_fault) }
-    ensures refuses { (fault : Fault) → HasFaultAtLast text.now fault
-        → MatchResult result (λ _. ⊥) (λ f. (f ≡ memory_fault) ⊎ (f ≡ fault)) }
+    // prints and ends as the program does within its limits, and does nothing else. What is refused is so by the front half, or
+    // its program is too large.
+    ensures decides { Decides (IsCompiledText text.now) (λ p file. IsImageOf p file.items) (IsRefusedAtLast text.now) (HasFaultAtLast text.now) result }
 {
     match accept(alloc, text) {
         Ok(program) => build(alloc, &program),

@@ -1,7 +1,6 @@
 //! The front half of the compiler: from the bytes of a text to its typed tree, or to its fault.
-ghost use Rattle.std.specs.Prelude.{◌≡◌, ◌⊎◌, IfOk, IfErr, MatchResult};
-ghost use Rattle.cyc_words.specs.Fault.{memory_fault};
-ghost use Rattle.cyc_types.specs.TypedTrees.{Program};
+ghost use Rattle.std.specs.Prelude.{◌≡◌};
+ghost use Rattle.cyc_words.specs.Decision.{Decides};
 ghost use Rattle.cyc_types.specs.TypedTreeView.{view_program};
 ghost use Rattle.cyc_system.specs.Front.{IsAcceptedText, IsRefusedText, HasFault};
 
@@ -16,14 +15,8 @@ use std::alloc::Global;
 ///
 /// The first phase that refuses the text names the fault. Any growth may be refused for want of memory.
 pub fn accept(alloc: Global, text: &[u8]) -> Result<Flowed, Fault>
-    // What is accepted is the typed program of the text. What is refused is so for what its code says at its place.
-    ensures accepted { IfOk result (λ v. IsAcceptedText text.now (view_program v.tree)) }
-    ensures refused { IfErr result (λ f. (f ≡ memory_fault) ⊎ IsRefusedText text.now f) }
-
-    // And the other way round, want of memory aside.
-    ensures accepts { (p : Program) → IsAcceptedText text.now p → MatchResult result (λ v. view_program v.tree ≡ p) (λ f. f ≡ memory_fault) }
-    ensures refuses { (fault : Fault) → HasFault text.now fault
-        → MatchResult result (λ _. ⊥) (λ f. (f ≡ memory_fault) ⊎ (f ≡ fault)) }
+    // What is accepted is answered as its typed program. What is refused is so for what its code says at its place.
+    ensures decides { Decides (IsAcceptedText text.now) (λ p v. view_program v.tree ≡ p) (IsRefusedText text.now) (HasFault text.now) result }
 {
     let tokens = lex(alloc, text)?;
     let tree = parse(alloc, &tokens, text)?;

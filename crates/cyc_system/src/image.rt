@@ -4,6 +4,7 @@ ghost use Rattle.std.specs.Prelude.{◌≡◌, ◌+◌, ◌*◌, ◌^◌, ◌<�
 ghost use Rattle.std.specs.List.{AllByRecursion};
 ghost use Rattle.cyc_words.specs.Word.{IsWord};
 ghost use Rattle.cyc_elf.specs.Image.{segment_contents, contents_of};
+ghost use Rattle.cyc_elf.specs.Layout.{layout};
 ghost use Rattle.cyc_elf.specs.Reading.{reading};
 ghost use Rattle.cyc_machine.specs.State.{text_base, text_end, globals_length};
 ghost use Rattle.cyc_system.specs.ProgramImage.{bytes_of_words, segment_of, program_image};
@@ -14,10 +15,10 @@ use cyc_words::bytes_of;
 use std::alloc::{AllocError, Global};
 
 /// The flags of a segment that is read (4) and executed (1).
-pub const READ_AND_EXECUTE: u32 = 5;
+pub(crate) const READ_AND_EXECUTE: u32 = 5;
 
 /// The flags of a segment that is read (4) and written (2).
-pub const READ_AND_WRITE: u32 = 6;
+pub(crate) const READ_AND_WRITE: u32 = 6;
 
 /// The bytes of words, one behind the other.
 fn bytes_of_words(alloc: Global, words: &[u32]) -> Result<Vec<u8>, AllocError>
@@ -48,7 +49,7 @@ fn segment_of(alloc: Global, vaddr: u32, flags: u32, words: &[u32]) -> Result<Se
 }
 
 /// The image of a program: a segment of text, and one of data where there are globals.
-fn image_of(alloc: Global, words: &[u32], globals: &[u32]) -> Result<Image, AllocError>
+fn image_of_program(alloc: Global, words: &[u32], globals: &[u32]) -> Result<Image, AllocError>
     requires fit { text_base + 4 * length words.now ≤ text_end }
     requires few { length globals.now ≤ globals_length }
     ensures image { IfOk result (λ image. contents_of image ≡ program_image words.now globals.now) }
@@ -68,15 +69,20 @@ fn image_of(alloc: Global, words: &[u32], globals: &[u32]) -> Result<Image, Allo
     })
 }
 
-/// The image of a program, as the bytes of a file.
-pub(crate) fn file_of(alloc: Global, words: &[u32], globals: &[u32]) -> Result<Vec<u8>, AllocError>
+/// Writes the image of a program as the bytes of a file.
+pub(crate) fn write_program(
+    alloc: Global,
+    words: &[u32],
+    globals: &[u32],
+) -> Result<Vec<u8>, AllocError>
     requires some { 0 < length words.now }
     requires fit { text_base + 4 * length words.now ≤ text_end }
     requires few { length globals.now ≤ globals_length }
+    ensures exact { IfOk result (λ file. file.items ≡ layout (program_image words.now globals.now)) }
     ensures read { IfOk result (λ file. reading file.items ≡ Ok (program_image words.now globals.now)) }
     ensures words { IfOk result (λ _. AllByRecursion IsWord words.now) }
     ensures globals { IfOk result (λ _. AllByRecursion IsWord globals.now) }
 {
-    let image = image_of(alloc, words, globals)?;
+    let image = image_of_program(alloc, words, globals)?;
     write_image(alloc, &image)
 }

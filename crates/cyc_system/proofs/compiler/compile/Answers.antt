@@ -1,41 +1,40 @@
-use Rattle.std.proofs.Common.{◌≡◌, ◌⊎◌, inl, inr, sym, subst, Ok, Err}
-use Rattle.std.specs.Prelude.{MatchResult}
-use Rattle.cyc_words.specs.declared.fault.Fault.{Fault}
-use Rattle.cyc_words.specs.Fault.{memory_fault}
-use Rattle.cyc_types.specs.TypedTrees.{Program}
+use Rattle.std.proofs.Common.{◌≡◌, sym, subst}
 use Rattle.cyc_types.specs.TypedTreeView.{view_program}
 use Rattle.cyc_lower.proofs.Accepted.{accepted_can_be_lowered}
-use Rattle.cyc_system.specs.Front.{names_in}
-use Rattle.cyc_system.specs.Compiled.{IsTooLarge, IsSmallEnough}
+use Rattle.cyc_system.specs.Front.{names_in, IsAcceptedText}
+use Rattle.cyc_system.specs.FullPreservation.{IsImageOf}
 use Rattle.cyc_system.proofs.Amounts.{accepted_light}
-use Rattle.cyc_system.proofs.Refusals.{front_refuses, front_is_refused}
+use Rattle.cyc_system.proofs.Refusals.{behind_answers, front_answers}
 use Rattle.cyc_system.proofs.compiler.compile.Goals as goal
 
+pub build-requires-clause-typed : goal.build-requires-clause-typed
+build-requires-clause-typed c =
+    let (p, is, same) = c.in-Ok.ensures.decides.accepted in
+    let a = subst (IsAcceptedText c.args.text.now) (sym same) is in
+    (names_in a.tokens, a.tree, a.typed)
+
 pub build-requires-clause-small : goal.build-requires-clause-small
-build-requires-clause-small c = accepted_light c.args.text.now (view_program c.in-Ok.program.tree) c.in-Ok.ensures.accepted
+build-requires-clause-small c =
+    let (p, is, same) = c.in-Ok.ensures.decides.accepted in
+    accepted_light c.args.text.now (view_program c.in-Ok.program.tree) (subst (IsAcceptedText c.args.text.now) (sym same) is)
 
 pub build-requires-clause-can_be : goal.build-requires-clause-can_be
 build-requires-clause-can_be c =
-    let a = c.in-Ok.ensures.accepted in
-    accepted_can_be_lowered (names_in a.tokens) c.args.text.now a.tokens a.tree (view_program c.in-Ok.program.tree) a.has_tokens.rule a.has_tokens.within a.has_tree.0 a.typed
+    let (p, is, same) = c.in-Ok.ensures.decides.accepted in
+    let a = subst (IsAcceptedText c.args.text.now) (sym same) is in
+    accepted_can_be_lowered (names_in a.tokens) c.args.text.now a.tokens a.tree (view_program c.in-Ok.program.tree) a.has_tokens.rule a.has_tokens.within a.has_tree.has a.typed
 
-pub returns-in-Ok-clause-accepts : goal.returns-in-Ok-clause-accepts
-returns-in-Ok-clause-accepts c = λ p accepted small.
-    c.build.ensures.accepts (subst IsSmallEnough (sym (c.in-Ok.ensures.accepts p accepted)) small)
+pub returns-in-Ok : goal.returns-in-Ok
+returns-in-Ok c =
+    let text = c.args.text.now in
+    let d = c.in-Ok.ensures.decides in
+    let (p, is, same) = d.accepted in
+    record {
+      decides =
+          behind_answers (λ p file. IsImageOf p file.items) text (view_program c.in-Ok.program.tree) (subst (IsAcceptedText text) (sym same) is) d.accepts d.refuses
+          c.build.result c.build.ensures.image c.build.ensures.refused c.build.ensures.accepts c.build.ensures.refuses;
+    }
 
-pub returns-in-Ok-clause-refuses : goal.returns-in-Ok-clause-refuses
-returns-in-Ok-clause-refuses c = λ fault has.
-    elim has [
-      | inl front ↦ absurd (c.in-Ok.ensures.refuses fault front)
-      | inr (p, a, large) ↦ c.build.ensures.refuses fault (subst (λ (q : Program). IsTooLarge q fault) (sym (c.in-Ok.ensures.accepts p a)) large)
-    ]
-
-pub returns-in-Err-clause-refused : goal.returns-in-Err-clause-refused
-returns-in-Err-clause-refused c = front_refuses c.args.text.now c.in-Err.fault c.in-Err.ensures.refused
-
-pub returns-in-Err-clause-accepts : goal.returns-in-Err-clause-accepts
-returns-in-Err-clause-accepts c = λ p accepted small. c.in-Err.ensures.accepts p accepted
-
-pub returns-in-Err-clause-refuses : goal.returns-in-Err-clause-refuses
-returns-in-Err-clause-refuses c = λ fault has.
-    front_is_refused c.args.text.now c.in-Err.fault fault c.in-Err.ensures.accepts (c.in-Err.ensures.refuses fault) has
+pub returns-in-Err : goal.returns-in-Err
+returns-in-Err c =
+    record { decides = front_answers (λ p file. IsImageOf p file.items) c.args.text.now (λ p v. view_program v.tree ≡ p) c.in-Err.fault c.in-Err.ensures.decides }

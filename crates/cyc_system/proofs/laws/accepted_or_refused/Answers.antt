@@ -15,8 +15,8 @@ returns-clause-one_program c = λ text p q a b.
     } in
     let r : Parsed parser.IsRefused text a.tokens a.tree = record {
       is = a.has_tree;
-      only = λ d h. c.one_tree.ensures (symbols_of a.tokens) a.tree d a.has_tree.0 a.has_tree.1 h.0;
-      no_fault = λ f h. c.refused_has_no_tree.ensures (symbols_of a.tokens) h.refusal a.tree h.refused a.has_tree.0 a.has_tree.1;
+      only = λ d h. c.one_tree.ensures (symbols_of a.tokens) a.tree d a.has_tree.has a.has_tree.within h.has;
+      no_fault = λ f h. c.refused_has_no_tree.ensures (symbols_of a.tokens) h.refusal a.tree h.refused a.has_tree.has a.has_tree.within;
     } in
     c.one_typed_tree.ensures (names_in a.tokens) a.tree p q a.typed (typed_here parser.IsRefused text a.tokens a.tree l r q b)
 
@@ -29,8 +29,8 @@ returns-clause-not_both c = λ text p f a h.
     } in
     let r : Parsed parser.IsRefused text a.tokens a.tree = record {
       is = a.has_tree;
-      only = λ d h. c.one_tree.ensures (symbols_of a.tokens) a.tree d a.has_tree.0 a.has_tree.1 h.0;
-      no_fault = λ f h. c.refused_has_no_tree.ensures (symbols_of a.tokens) h.refusal a.tree h.refused a.has_tree.0 a.has_tree.1;
+      only = λ d h. c.one_tree.ensures (symbols_of a.tokens) a.tree d a.has_tree.has a.has_tree.within h.has;
+      no_fault = λ f h. c.refused_has_no_tree.ensures (symbols_of a.tokens) h.refusal a.tree h.refused a.has_tree.has a.has_tree.within;
     } in
     elim (faulty_here parser.IsRefused text a.tokens a.tree l r f h) [
       | inl w ↦ c.typed_or_refused.ensures (names_in a.tokens) a.tree p f a.typed w

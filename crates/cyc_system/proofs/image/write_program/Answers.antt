@@ -1,5 +1,5 @@
 use Rattle.cyc_system.proofs.ProgramImages.{image_well_formed, image_fits}
-use Rattle.cyc_system.proofs.image.file_of.Goals as goal
+use Rattle.cyc_system.proofs.image.write_program.Goals as goal
 
 pub write_image-requires-clause-well_formed : goal.write_image-requires-clause-well_formed
 write_image-requires-clause-well_formed c =
