@@ -11,7 +11,7 @@ use Rattle.cyc_types.specs.declared.typed.Operator.TheVariants as operators
 use Rattle.cyc_types.specs.Types.{Ty}
 use Rattle.cyc_types.specs.TypedTrees.{Lvalue, Local, Global, Expression, Number, Copy, Call, Unary, Binary, Assign, Converted, Convert, Arguments, NoArguments, MoreArguments, Operations, NoOperations, ThenCompute, ThenTest, Statement, Block, Empty, Evaluate, If, While, Return, Break, Continue, Items, NoItems, MoreItems, Execute, Declare, Function, Program}
 use Rattle.cyc_types.specs.Scopes.{Signature}
-use Rattle.cyc_types.specs.Numbered.{Environment, argument_count, IsWithin, IsNumbered, IsNumberedConverted, AreNumberedArguments, AreNumberedOperations, IsNumberedReturn, IsNumberedInitial, IsNumberedStatement, AreNumberedItems, environment_of, signatures_of, AreNumberedFunctions, IsNumberedProgram}
+use Rattle.cyc_types.specs.Numbered.{Numbering, argument_count, IsWithin, IsNumbered, IsNumberedConverted, AreNumberedArguments, AreNumberedOperations, IsNumberedReturn, IsNumberedInitial, IsNumberedStatement, AreNumberedItems, numbering_of, signatures_of, AreNumberedFunctions, IsNumberedProgram}
 use Rattle.cyc_plain.specs.declared.instruction.Instruction.{Instruction}
 use Rattle.cyc_plain.specs.declared.instruction.Instruction.TheVariants as instructions
 use Rattle.cyc_plain.specs.Program.{Routine, no_routine, routine_at}
@@ -24,7 +24,7 @@ use Rattle.cyc_lower.proofs.Calls.{FunctionsStand}
 cut : (p q : ℕ) (a b : List Instruction) → p + length (a ++ b) ≡ q → p + length a + length b ≡ q
 cut p q a b end = omega (arith, end, length-append a b)
 
-module _ (code : List Instruction) (b : Environment) where
+module _ (code : List Instruction) (b : Numbering) where
   -- ---- expressions
 
   conversion_stands : (to : Kind) (d p q : ℕ) → p + length (conversion_code to p d) ≡ q → HasAt code p (conversion_code to p d) → ConversionAt code b to d p q
@@ -205,10 +205,10 @@ module _ (code : List Instruction) (b : Environment) where
 
 -- ---- functions
 
-numbered_function : (globals : ℕ) (signatures : List Signature) (hs : List Function) (n : ℕ) (h : Function) → AreNumberedFunctions globals signatures hs → slice_get hs n ≡ Some h → AreNumberedItems (environment_of globals signatures h) false h.body
+numbered_function : (globals : ℕ) (signatures : List Signature) (hs : List Function) (n : ℕ) (h : Function) → AreNumberedFunctions globals signatures hs → slice_get hs n ≡ Some h → AreNumberedItems (numbering_of globals signatures h) false h.body
 numbered_function globals signatures [] n h numbered there = absurd (none-some h there)
 numbered_function globals signatures (g ∷ hs) zero h (first, rest) there =
-    subst (λ (f : Function). AreNumberedItems (environment_of globals signatures f) false f.body) (same_Some g h there) first
+    subst (λ (f : Function). AreNumberedItems (numbering_of globals signatures f) false f.body) (same_Some g h there) first
 numbered_function globals signatures (g ∷ hs) (suc n) h (first, rest) there = numbered_function globals signatures hs n h rest there
 
 module _ (source : Program) where
@@ -217,7 +217,7 @@ module _ (source : Program) where
   routine_there n h there = get_or_from_slice_get (map lower_function source.functions) n (lower_function h) no_routine (slice_get-map lower_function source.functions n ∙ ap (option_map lower_function) there)
 
   -- the code of a function, with its body at the beginning and a return behind it
-  abbrev BodyStands : Function → List Instruction → Environment → Type 0
+  abbrev BodyStands : Function → List Instruction → Numbering → Type 0
   BodyStands h code bounds = (m : ℕ) × ItemsAt code bounds h.body 0 bounds.locals 0 m × At code m (instructions.Return bounds.locals)
 
   body_stands : (h : Function) → AreNumberedItems (bounds_in source (Some h)) false h.body → BodyStands h (function_code h) (bounds_in source (Some h))

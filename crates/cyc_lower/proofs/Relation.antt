@@ -2,7 +2,7 @@
 use Rattle.std.proofs.Common.{◌≡◌, ℕ, suc, ◌+◌, ◌≤◌, ◌<◌, List, [], ◌∷◌, ◌++◌, length, Option, None, Some, slice_get}
 use Rattle.std.specs.Prelude.{◌⊎◌}
 use Rattle.cyc_types.specs.TypedTrees.{Lvalue, Expression, Statement, Function, Program}
-use Rattle.cyc_types.specs.Numbered.{Environment, environment_of, signatures_of, argument_count}
+use Rattle.cyc_types.specs.Numbered.{Numbering, numbering_of, signatures_of, argument_count}
 use Rattle.cyc_plain.specs.declared.instruction.Instruction.{Instruction}
 use Rattle.cyc_plain.specs.declared.instruction.Instruction.TheVariants as instructions
 use Rattle.cyc_plain.specs.Program.{routine_at}
@@ -115,11 +115,11 @@ module _ (source : Program) where
   abbrev pub code_of : ℕ → List Instruction
   code_of g = (routine_at (lower_program source) g).code
 
-  abbrev pub bounds_in : Option Function → Environment
+  abbrev pub bounds_in : Option Function → Numbering
   bounds_in None = record { globals = length source.globals; functions = signatures_of source.functions; locals = 0; regions = 0; result = None }
-  bounds_in (Some h) = environment_of (length source.globals) (signatures_of source.functions) h
+  bounds_in (Some h) = numbering_of (length source.globals) (signatures_of source.functions) h
 
-  abbrev pub bounds_at : ℕ → Environment
+  abbrev pub bounds_at : ℕ → Numbering
   bounds_at g = bounds_in (slice_get source.functions g)
 
   -- the first slot behind the locals

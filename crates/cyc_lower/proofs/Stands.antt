@@ -7,7 +7,7 @@ use Rattle.cyc_types.specs.declared.typed.Callee.TheVariants as callees
 use Rattle.cyc_types.specs.declared.typed.Operator.{Operator}
 use Rattle.cyc_types.specs.declared.typed.Operator.TheVariants as operators
 use Rattle.cyc_types.specs.TypedTrees.{Lvalue, Local, Global, Expression, Number, Copy, Call, Unary, Binary, Assign, Converted, Convert, Arguments, NoArguments, MoreArguments, Operations, NoOperations, ThenCompute, ThenTest, Statement, Block, Empty, Evaluate, If, While, Return, Break, Continue, Items, NoItems, MoreItems, Execute, Declare}
-use Rattle.cyc_types.specs.Numbered.{Environment, argument_count}
+use Rattle.cyc_types.specs.Numbered.{Numbering, argument_count}
 use Rattle.cyc_plain.specs.declared.instruction.UnaryOperator.TheVariants as plain_unary
 use Rattle.cyc_plain.specs.declared.instruction.BinaryOperator.TheVariants as plain_binary
 use Rattle.cyc_plain.specs.declared.instruction.Instruction.{Instruction}
@@ -57,7 +57,7 @@ has_all code back = has_from [] code back
 -- ---- expressions
 
 -- In a code of a function with these bounds, from p to q stands the code of this, whose value comes to slot d or is there.
-module _ (code : List Instruction) (bounds : Environment) where
+module _ (code : List Instruction) (bounds : Numbering) where
   abbrev pub ConversionAt : Kind → (d p q : ℕ) → Type 0
   ConversionAt kinds.NonNull d p q = At code p (instructions.JumpIfNonzero d q) × At code (p + 1) (instructions.Uncaught null_exception d) × (p + 2 ≡ q)
   ConversionAt to d p q = p ≡ q

@@ -16,7 +16,7 @@ use Rattle.cyc_types.specs.Types.{Ty, words_of, words_of_mark}
 use Rattle.cyc_types.specs.Types as types
 use Rattle.cyc_types.specs.TypedTrees.{Lvalue, Local, Global, Expression, Number, Copy, Call, Unary, Binary, Assign, Converted, Convert, Arguments, NoArguments, MoreArguments, Operations, NoOperations, ThenCompute, ThenTest, type_of, Statement, Block, Empty, Evaluate, If, While, Return, Break, Continue, Items, NoItems, MoreItems, Execute, Declare, GlobalVariable, Function, Program}
 use Rattle.cyc_types.specs.Scopes.{Signature}
-use Rattle.cyc_types.specs.Numbered.{Environment, signature_of, signatures_of, IsSignature, argument_count, IsWithin, IsNumbered, IsNumberedConverted, AreNumberedArguments, AreNumberedOperations, IsNumberedReturn, IsNumberedInitial, IsNumberedStatement, AreNumberedItems, environment_of, AreNumberedFunctions, IsNumberedProgram}
+use Rattle.cyc_types.specs.Numbered.{Numbering, signature_of, signatures_of, IsSignature, argument_count, IsWithin, IsNumbered, IsNumberedConverted, AreNumberedArguments, AreNumberedOperations, IsNumberedReturn, IsNumberedInitial, IsNumberedStatement, AreNumberedItems, numbering_of, AreNumberedFunctions, IsNumberedProgram}
 use Rattle.cyc_plain.specs.declared.instruction.Instruction.{Instruction}
 use Rattle.cyc_plain.specs.declared.instruction.Instruction.TheVariants as instructions
 use Rattle.cyc_plain.specs.Program.{Routine, Program as PlainProgram, no_routine, routine_at}
@@ -98,7 +98,7 @@ record IsKnown (program : PlainProgram) (n : ℕ) (s : Signature) : Type 0 where
   pub parameters : (routine_at program n).parameters ≡ length s.parameters
   pub results : (routine_at program n).results ≡ results_of s.result
 
-module _ (program : PlainProgram) (r : Routine) (b : Environment) (locals : b.locals ≤ r.slots) (globals : b.globals ≡ length program.globals) (known : (n : ℕ) (s : Signature) → slice_get b.functions n ≡ Some s → IsKnown program n s) (results : r.results ≤ 1) where
+module _ (program : PlainProgram) (r : Routine) (b : Numbering) (locals : b.locals ≤ r.slots) (globals : b.globals ≡ length program.globals) (known : (n : ℕ) (s : Signature) → slice_get b.functions n ≡ Some s → IsKnown program n s) (results : r.results ≤ 1) where
   abbrev AreIn : List Instruction → Type 0
   AreIn code = AllByRecursion (IsInRange program r) code
 
@@ -317,11 +317,11 @@ module _ (source : Program) (is_numbered : IsNumberedProgram source) where
       let (few, parameters, results) = signatures_known source.functions n s there in
       record { there = few; parameters = parameters; results = results }
 
-  function_well : (h : Function) → AreNumberedItems (environment_of (length source.globals) (signatures_of source.functions) h) false h.body → IsRoutine (lower_program source) (lower_function h)
+  function_well : (h : Function) → AreNumberedItems (numbering_of (length source.globals) (signatures_of source.functions) h) false h.body → IsRoutine (lower_program source) (lower_function h)
   function_well h numbered_body =
       let d = first_temporary h in
       let r = lower_function h in
-      let b = environment_of (length source.globals) (signatures_of source.functions) h in
+      let b = numbering_of (length source.globals) (signatures_of source.functions) h in
       let body = items_code h.body 0 0 d in
       let end = instructions.Return d ∷ [] in
       let long = length-append body end in

@@ -13,11 +13,11 @@ use Rattle.cyc_types.specs.IntPart.{is_empty}
 use Rattle.cyc_types.specs.Scopes.{Signature, Meaning, Unknown, Routine, Declared, LocalVariable, Scope, meaning_in, meaning_among, meaning_of, locals_in, body_locals, item_locals, blocks_in, body_blocks, item_blocks, behind, in_block, in_body, with_local}
 use Rattle.cyc_types.specs.Scopes as scopes
 use Rattle.cyc_types.specs.TypingRules.{type_written, IsConverted, then_operation, name_in, IsRead, IsPlace, IsTarget, ArePassed, IsCalled, IsTyped, AreTyped, IsChain, IsInitial, IsReturned, IsTypedStatement, IsTypedBody, AreTypedItems, members_of, result_of, types_of, is_main_head, AreHeads, declares, declared_from, putchar_text, getchar_text, main_text, declared, known_before, regions_before, parameter_locals, body_scope, declared_types, item_types, AreFunctions, globals_of, function_number, IsTypedProgram}
-use Rattle.cyc_types.specs.Numbered.{signatures_of, Environment, IsSignature, argument_count, IsWithin, IsNumbered, IsNumberedConverted, AreNumberedArguments, AreNumberedOperations, IsNumberedReturn, IsNumberedInitial, IsNumberedStatement, AreNumberedItems, AreNumberedFunctions, IsNumberedProgram}
+use Rattle.cyc_types.specs.Numbered.{signatures_of, Numbering, IsSignature, argument_count, IsWithin, IsNumbered, IsNumberedConverted, AreNumberedArguments, AreNumberedOperations, IsNumberedReturn, IsNumberedInitial, IsNumberedStatement, AreNumberedItems, AreNumberedFunctions, IsNumberedProgram}
 
 -- ---- what names mean is in range
 
-abbrev IsMeant : Environment → Meaning → Type 0
+abbrev IsMeant : Numbering → Meaning → Type 0
 IsMeant b Unknown = Unit {0}
 IsMeant b (scopes.Variable l t) = IsWithin b l
 IsMeant b (Routine f s) = IsSignature b f s
@@ -27,20 +27,20 @@ AreBelow n [] = Unit {0}
 AreBelow n (v ∷ vs) = (v.number < n) × AreBelow n vs
 
 -- of a scope
-record Fits (b : Environment) (vs : List LocalVariable) (ds : List Declared) (result : Option Ty) : Type 0 where
+record Fits (b : Numbering) (vs : List LocalVariable) (ds : List Declared) (result : Option Ty) : Type 0 where
   pub locals : AreBelow b.locals vs
   pub program : (x : ℕ) → IsMeant b (meaning_in ds x)
   pub same : result ≡ b.result
 
-by_cond : (b : Environment) (c : Bool) (m n : Meaning) → IsMeant b m → IsMeant b n → IsMeant b (cond c m n)
+by_cond : (b : Numbering) (c : Bool) (m n : Meaning) → IsMeant b m → IsMeant b n → IsMeant b (cond c m n)
 by_cond b true m n h k = h
 by_cond b false m n h k = k
 
-among : (b : Environment) (vs : List LocalVariable) (ds : List Declared) (x : Named) → AreBelow b.locals vs → ((y : ℕ) → IsMeant b (meaning_in ds y)) → IsMeant b (meaning_among vs ds x)
+among : (b : Numbering) (vs : List LocalVariable) (ds : List Declared) (x : Named) → AreBelow b.locals vs → ((y : ℕ) → IsMeant b (meaning_in ds y)) → IsMeant b (meaning_among vs ds x)
 among b [] ds x below h = h x.name
 among b (v ∷ vs) ds x (less, below) h = by_cond b (nat_eq v.name x.name) (scopes.Variable (typed.Local x.place v.number) v.of_type) (meaning_among vs ds x) less (among b vs ds x below h)
 
-module _ (b : Environment) where
+module _ (b : Numbering) where
   -- ---- expressions
 
   converted_numbered : (a : typed.Expression) (t : Ty) (c : Converted) → IsNumbered b a → IsConverted a t c → IsNumberedConverted b c
@@ -222,10 +222,10 @@ signatures ds (Function r x ps (Braces p is q) ∷ tree) fs (js, gs, h, hs, eq) 
     ap signatures_of eq ∙ ap (λ ss. record { parameters = types_of (members_of ps.list); result = result_of r } ∷ ss) (signatures ds tree gs hs)
 
 -- the functions from this number on are these
-abbrev Holds : Environment → ℕ → List Signature → Type 0
+abbrev Holds : Numbering → ℕ → List Signature → Type 0
 Holds b m ss = (k j : ℕ) (s : Signature) → j ≡ m + k → slice_get ss k ≡ Some s → slice_get b.functions j ≡ Some s
 
-declared_meant : (b : Environment) (n m : ℕ) (tree : List Declaration) → n + length (globals_of tree) ≤ b.globals → Holds b m (signatures_in tree) → (x : ℕ) → IsMeant b (meaning_in (declared_from n m tree) x)
+declared_meant : (b : Numbering) (n m : ℕ) (tree : List Declaration) → n + length (globals_of tree) ≤ b.globals → Holds b m (signatures_in tree) → (x : ℕ) → IsMeant b (meaning_in (declared_from n m tree) x)
 declared_meant b n m [] l h x = tt
 declared_meant b n m (StructType s rs fs ∷ ds) l h x = declared_meant b n m ds l h x
 declared_meant b n m (Exceptions cs ∷ ds) l h x = declared_meant b n m ds l h x
@@ -234,7 +234,7 @@ declared_meant b n m (Function r y ps c ∷ ds) l h x =
     by_cond b (nat_eq y.name x) (Routine (callees.Function m) (record { parameters = types_of (members_of ps.list); result = result_of r })) _
     (h 0 m _ (omega arith) refl) (declared_meant b n (suc m) ds l (λ k j s e i. h (suc k) j s (omega arith) i) x)
 
-all_meant : (b : Environment) (texts : List (List ℕ)) (tree : List Declaration) → length (globals_of tree) ≤ b.globals → Holds b 0 (signatures_in tree) → (x : ℕ) → IsMeant b (meaning_in (declared texts tree) x)
+all_meant : (b : Numbering) (texts : List (List ℕ)) (tree : List Declaration) → length (globals_of tree) ≤ b.globals → Holds b 0 (signatures_in tree) → (x : ℕ) → IsMeant b (meaning_in (declared texts tree) x)
 all_meant b texts tree l h x =
     by_cond b (nat_eq (number_of texts putchar_text) x) (Routine callees.Putchar (record { parameters = Int ∷ []; result = Some Int })) _ refl
     (by_cond b (nat_eq (number_of texts getchar_text) x) (Routine callees.Getchar (record { parameters = []; result = Some Int })) _ refl (declared_meant b 0 0 tree (omega arith) h x))
@@ -247,7 +247,7 @@ pub types_counted : (ms : List Member) → length (types_of ms) ≡ length ms
 types_counted [] = refl
 types_counted (m ∷ ms) = ap suc (types_counted ms)
 
-functions_numbered : (globals : ℕ) (functions : List Signature) (ds : List Declared) → ((b : Environment) → b.globals ≡ globals → b.functions ≡ functions → (x : ℕ) → IsMeant b (meaning_in ds x))
+functions_numbered : (globals : ℕ) (functions : List Signature) (ds : List Declared) → ((b : Numbering) → b.globals ≡ globals → b.functions ≡ functions → (x : ℕ) → IsMeant b (meaning_in ds x))
     → (tree : List Declaration) (fs : List typed.Function) → AreFunctions ds tree fs → AreNumberedFunctions globals functions fs
 functions_numbered globals functions ds means [] fs eq = subst (AreNumberedFunctions globals functions) (sym eq) tt
 functions_numbered globals functions ds means (StructType s rs ms ∷ tree) fs h = absurd h
@@ -255,7 +255,7 @@ functions_numbered globals functions ds means (Exceptions cs ∷ tree) fs h = ab
 functions_numbered globals functions ds means (Global w x v ∷ tree) fs h = functions_numbered globals functions ds means tree fs h
 functions_numbered globals functions ds means (Function r x ps (Braces p is q) ∷ tree) fs (js, gs, h, hs, eq) =
     let ms : List Member = members_of ps.list in
-    let b : Environment = record { globals = globals; functions = functions; locals = length (types_of ms) + length (item_types js); regions = suc (item_blocks is); result = result_of r } in
+    let b : Numbering = record { globals = globals; functions = functions; locals = length (types_of ms) + length (item_types js); regions = suc (item_blocks is); result = result_of r } in
     let e : length (types_of ms) ≡ length ms = types_counted ms in
     let f : length (item_types js) ≡ item_locals is = items_counted (body_scope ds r ms) is js h in
     subst (AreNumberedFunctions globals functions) (sym eq) (

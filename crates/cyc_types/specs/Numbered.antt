@@ -15,7 +15,7 @@ signatures_of [] = []
 signatures_of (h ∷ hs) = signature_of h ∷ signatures_of hs
 
 -- what there is to name
-pub record Environment : Type 0 where
+pub record Numbering : Type 0 where
   pub globals : ℕ
   pub functions : List Signature
   -- of the function
@@ -24,7 +24,7 @@ pub record Environment : Type 0 where
   pub result : Option Ty
 
 -- the signature of what is called
-abbrev pub IsSignature : Environment → Callee → Signature → Type 0
+abbrev pub IsSignature : Numbering → Callee → Signature → Type 0
 IsSignature b callees.Putchar s = s ≡ record { parameters = Int ∷ []; result = Some Int }
 IsSignature b callees.Getchar s = s ≡ record { parameters = []; result = Some Int }
 IsSignature b (callees.Function n) s = slice_get b.functions n ≡ Some s
@@ -33,12 +33,12 @@ abbrev pub argument_count : Arguments → ℕ
 argument_count NoArguments = 0
 argument_count (MoreArguments c cs) = suc (argument_count cs)
 
-abbrev pub IsWithin : Environment → Lvalue → Type 0
+abbrev pub IsWithin : Numbering → Lvalue → Type 0
 IsWithin b (Local p n) = n < b.locals
 IsWithin b (Global n) = n < b.globals
 
 abbrev mutual
-  pub IsNumbered : Environment → Expression → Type 0
+  pub IsNumbered : Numbering → Expression → Type 0
   IsNumbered b (Number n) = Unit {0}
   IsNumbered b (Copy l t) = IsWithin b l
   IsNumbered b (Call f cs t) = (s : Signature) × IsSignature b f s × (argument_count cs ≡ length s.parameters) × (t ≡ s.result) × AreNumberedArguments b cs
@@ -46,31 +46,31 @@ abbrev mutual
   IsNumbered b (Binary a os t) = IsNumbered b a × AreNumberedOperations b os
   IsNumbered b (Assign l c t) = IsWithin b l × IsNumberedConverted b c
 
-  pub IsNumberedConverted : Environment → Converted → Type 0
+  pub IsNumberedConverted : Numbering → Converted → Type 0
   IsNumberedConverted b (Convert from to a) = IsNumbered b a
 
-  pub AreNumberedArguments : Environment → Arguments → Type 0
+  pub AreNumberedArguments : Numbering → Arguments → Type 0
   AreNumberedArguments b NoArguments = Unit {0}
   AreNumberedArguments b (MoreArguments c cs) = IsNumberedConverted b c × AreNumberedArguments b cs
 
-  pub AreNumberedOperations : Environment → Operations → Type 0
+  pub AreNumberedOperations : Numbering → Operations → Type 0
   AreNumberedOperations b NoOperations = Unit {0}
   AreNumberedOperations b (ThenCompute o a os) = IsNumbered b a × AreNumberedOperations b os
   AreNumberedOperations b (ThenTest o a os) = IsNumbered b a × AreNumberedOperations b os
 
 -- a value is returned exactly by a function with a result
-abbrev pub IsNumberedReturn : Environment → Option Ty → Option Converted → Type 0
+abbrev pub IsNumberedReturn : Numbering → Option Ty → Option Converted → Type 0
 IsNumberedReturn b None None = Unit {0}
 IsNumberedReturn b None (Some c) = ⊥
 IsNumberedReturn b (Some t) None = ⊥
 IsNumberedReturn b (Some t) (Some c) = IsNumberedConverted b c
 
-abbrev pub IsNumberedInitial : Environment → Option Converted → Type 0
+abbrev pub IsNumberedInitial : Numbering → Option Converted → Type 0
 IsNumberedInitial b None = Unit {0}
 IsNumberedInitial b (Some c) = IsNumberedConverted b c
 
 abbrev mutual
-  pub IsNumberedStatement : Environment → (in_loop : Bool) → Statement → Type 0
+  pub IsNumberedStatement : Numbering → (in_loop : Bool) → Statement → Type 0
   IsNumberedStatement b l (Block r js) = (r < b.regions) × AreNumberedItems b l js
   IsNumberedStatement b l Empty = Unit {0}
   IsNumberedStatement b l (Evaluate a) = IsNumbered b a
@@ -80,17 +80,17 @@ abbrev mutual
   IsNumberedStatement b l Break = l ≡ true
   IsNumberedStatement b l Continue = l ≡ true
 
-  pub AreNumberedItems : Environment → Bool → Items → Type 0
+  pub AreNumberedItems : Numbering → Bool → Items → Type 0
   AreNumberedItems b l NoItems = Unit {0}
   AreNumberedItems b l (MoreItems (Execute s) js) = IsNumberedStatement b l s × AreNumberedItems b l js
   AreNumberedItems b l (MoreItems (Declare n t v) js) = (n < b.locals) × IsNumberedInitial b v × AreNumberedItems b l js
 
-abbrev pub environment_of : ℕ → List Signature → Function → Environment
-environment_of globals functions h = record { globals = globals; functions = functions; locals = length h.parameters + length h.locals; regions = h.regions; result = h.result }
+abbrev pub numbering_of : ℕ → List Signature → Function → Numbering
+numbering_of globals functions h = record { globals = globals; functions = functions; locals = length h.parameters + length h.locals; regions = h.regions; result = h.result }
 
 abbrev pub AreNumberedFunctions : ℕ → List Signature → List Function → Type 0
 AreNumberedFunctions globals functions [] = Unit {0}
-AreNumberedFunctions globals functions (h ∷ hs) = AreNumberedItems (environment_of globals functions h) false h.body × AreNumberedFunctions globals functions hs
+AreNumberedFunctions globals functions (h ∷ hs) = AreNumberedItems (numbering_of globals functions h) false h.body × AreNumberedFunctions globals functions hs
 
 -- `main` is a function without parameters, whose result is an int
 pub record IsNumberedProgram (p : Program) : Type 0 where
