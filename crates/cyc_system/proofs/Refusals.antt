@@ -1,82 +1,96 @@
 -- What is refused behind the front half, said of the text's program.
-use Rattle.std.proofs.Common.{◌≡◌, ◌⊎◌, inl, inr, ⊎_elim, ℕ, zero, suc, ◌≤◌, ◌<◌, List, [], ◌∷◌, Some, Result, Ok, Err, refl, sym, subst, arith, length, slice_get}
+use Rattle.std.proofs.Common.{◌≡◌, ◌⊎◌, inl, inr, ⊎_elim, ℕ, ◌≤◌, List, Result, Ok, Err, refl, sym, subst, length}
 use Rattle.std.specs.Prelude.{IfOk, IfErr, MatchResult}
-use Rattle.std.proofs.lemmas.Bool.{cases_lt}
 use Rattle.cyc_words.specs.declared.fault.Fault.{Fault}
 use Rattle.cyc_words.specs.Decision.{Decides}
 use Rattle.cyc_words.specs.Fault.{memory_fault}
-use Rattle.cyc_types.specs.TypedTrees.{Function, Program}
+use Rattle.cyc_types.specs.TypedTrees.{Program}
 use Rattle.cyc_plain.specs.Program.{Program as PlainProgram}
-use Rattle.cyc_lower.specs.Lowered.{most_functions, HasTooMany, IsLowered}
+use Rattle.cyc_lower.specs.declared.limits.TheConstants.{MOST_FUNCTIONS}
+use Rattle.cyc_lower.specs.Lowered as lowering
+use Rattle.cyc_lower.specs.Lowered.{HasTooMany, IsLowered}
 use Rattle.cyc_frame.specs.Layout as frames
+use Rattle.cyc_frame.specs.Layout.{HasSmallFrames}
 use Rattle.cyc_system.specs.Front.{IsAcceptedText, IsRefusedText, HasFault}
-use Rattle.cyc_system.specs.Compiled.{IsTooLarge, IsSmallEnough, IsCompiledText, IsRefusedAtLast, HasFaultAtLast}
-use Rattle.cyc_system.proofs.Sizes.{large_above, large_below, small_above}
+use Rattle.cyc_system.specs.Compiled.{IsTooLarge, IsSmallEnough, IsSmall, IsCompiledText, IsRefusedAtLast, HasFaultAtLast}
+use Rattle.cyc_system.proofs.Sizes.{large_above, large_below, small_above, small_below}
 
-get_within : {X : Type 0} (xs : List X) (n : ℕ) → n < length xs → (x : X) × (slice_get xs n ≡ Some x)
-get_within [] n below = absurd (omega arith)
-get_within (x ∷ xs) zero below = (x, refl)
-get_within (x ∷ xs) (suc n) below = get_within xs n (omega arith)
+-- ---- what stands behind the front half, for a typed program
 
--- where no function is one too many there are not too many
-pub few_functions : (p : Program) → ((f : Fault) → HasTooMany p f → ⊥) → length p.functions ≤ most_functions
-few_functions p none = elim (cases_lt most_functions (length p.functions)) [
-  | inl more ↦ let (h, there) = get_within p.functions most_functions more in absurd (none _ (h, there, refl))
-  | inr few ↦ few
-]
+module _ {X : Type 0} (Image : Program → X → Type 0) (p : Program) where
+  -- what the lowering refuses
+  pub lowering_refuses : {Y : Type 0} (Gives : Program → Y → Type 0) (f : Fault) → Decides (lowering.IsAccepted p) Gives (HasTooMany p) (HasTooMany p) (Err f)
+      → Decides (IsSmall p) Image (IsTooLarge p) (IsTooLarge p) (Err f)
+  lowering_refuses Gives f d = record {
+    accepted = tt;
+    refused = ⊎_elim (λ memory. inl memory) (λ many. inr (inl many)) d.refused;
+    accepts = λ q. λ (same, small). d.accepts q (same, small.functions);
+    refuses = λ fault large. ⊎_elim (λ many. d.refuses fault many) (λ (few, frame). inl (d.accepts p (refl, few))) large;
+  }
 
-module _ (p : Program) (lowered : PlainProgram) (is : IsLowered p lowered) (none : (f : Fault) → HasTooMany p f → ⊥) where
-  pub layout_refuses : (f : Fault) → (f ≡ memory_fault) ⊎ frames.IsTooLarge lowered f → (f ≡ memory_fault) ⊎ IsTooLarge p f
-  layout_refuses f (inl memory) = inl memory
-  layout_refuses f (inr large) = inr (inr (few_functions p none, large_above p lowered is f large))
+  module _ (lowered : PlainProgram) (is : IsLowered p lowered) (few : length p.functions ≤ MOST_FUNCTIONS) (none : (f : Fault) → HasTooMany p f → ⊥) where
+    -- what the layout refuses
+    pub layout_refuses : {Y : Type 0} (Gives : PlainProgram → Y → Type 0) (f : Fault) → Decides (frames.IsAccepted lowered) Gives (frames.IsTooLarge lowered) (frames.IsTooLarge lowered) (Err f)
+        → Decides (IsSmall p) Image (IsTooLarge p) (IsTooLarge p) (Err f)
+    layout_refuses Gives f d = record {
+      accepted = tt;
+      refused = ⊎_elim (λ memory. inl memory) (λ large. inr (inr (few, large_above p lowered is f large))) d.refused;
+      accepts = λ q. λ (same, small). d.accepts lowered (refl, small_below p lowered is (subst IsSmallEnough same small));
+      refuses = λ fault large. ⊎_elim (λ many. absurd (none fault many)) (λ (enough, frame). d.refuses fault (large_below p lowered is fault frame)) large;
+    }
 
-  pub too_large_below : (f : Fault) → IsTooLarge p f → frames.IsTooLarge lowered f
-  too_large_below f (inl many) = absurd (none f many)
-  too_large_below f (inr (few, large)) = large_below p lowered is f large
+    -- and what is compiled from then on
+    module _ (small : HasSmallFrames lowered) (none_large : (f : Fault) → frames.IsTooLarge lowered f → ⊥) where
+      fits : IsSmallEnough p
+      fits = record { functions = few; frames = small_above p lowered is small }
 
-  -- what has frames is small enough
-  pub small_enough : frames.AreSmall lowered → IsSmallEnough p
-  small_enough small = record { functions = few_functions p none; frames = small_above p lowered is small }
+      image_accepted : (result : Result X Fault) → IfOk result (λ x. (q : Program) → IsLowered q lowered → Image q x) → IfOk result (λ x. (q : Program) × IsSmall p q × Image q x)
+      image_accepted (Ok x) image = (p, (refl, fits), image p is)
+      image_accepted (Err f) image = tt
 
--- ---- what stands behind the front half
+      memory_refused : (result : Result X Fault) → IfErr result (λ f. f ≡ memory_fault) → IfErr result (λ f. (f ≡ memory_fault) ⊎ IsTooLarge p f)
+      memory_refused (Ok x) h = tt
+      memory_refused (Err f) memory = inl memory
 
--- the program is small, and the answer its image
-pub small_and_image : {X : Type 0} (Image : Program → X → Type 0) (p : Program) (lowered : PlainProgram) (result : Result X Fault)
-    → IsLowered p lowered → IsSmallEnough p → IfOk result (λ x. (q : Program) → IsLowered q lowered → Image q x) → IfOk result (λ x. IsSmallEnough p × Image p x)
-small_and_image Image p lowered (Ok x) is small image = (small, image p is)
-small_and_image Image p lowered (Err f) is small image = tt
+      image_accepts : (result : Result X Fault) → IfOk result (λ x. (q : Program) → IsLowered q lowered → Image q x) → IfErr result (λ f. f ≡ memory_fault)
+          → (q : Program) → IsSmall p q → MatchResult result (Image q) (λ f. f ≡ memory_fault)
+      image_accepts (Ok x) image h q (same, enough) = subst (λ (r : Program). Image r x) (sym same) (image p is)
+      image_accepts (Err f) image memory q (same, enough) = memory
+
+      never_large : (fault : Fault) → IsTooLarge p fault → ⊥
+      never_large fault (inl many) = none fault many
+      never_large fault (inr (enough, frame)) = none_large fault (large_below p lowered is fault frame)
+
+      pub image_answers : (result : Result X Fault) → IfOk result (λ x. (q : Program) → IsLowered q lowered → Image q x) → IfErr result (λ f. f ≡ memory_fault)
+          → Decides (IsSmall p) Image (IsTooLarge p) (IsTooLarge p) result
+      image_answers result image memory = record {
+        accepted = image_accepted result image;
+        refused = memory_refused result memory;
+        accepts = image_accepts result image memory;
+        refuses = λ fault large. absurd (never_large fault large);
+      }
+
+-- ---- the same of a text
 
 module _ {X : Type 0} (Image : Program → X → Type 0) (text : List ℕ) where
   -- what the front half accepts
   module _ (p : Program) (accepted : IsAcceptedText text p) (only : (q : Program) → IsAcceptedText text q → p ≡ q) (no_fault : (f : Fault) → HasFault text f → ⊥) where
-    small_accepted : (result : Result X Fault) → IfOk result (λ x. IsSmallEnough p × Image p x) → IfOk result (λ x. (q : Program) × IsCompiledText text q × Image q x)
-    small_accepted (Ok x) (small, image) = (p, (accepted, small), image)
-    small_accepted (Err f) h = tt
+    built_accepted : (result : Result X Fault) → IfOk result (λ x. (q : Program) × IsSmall p q × Image q x) → IfOk result (λ x. (q : Program) × IsCompiledText text q × Image q x)
+    built_accepted (Ok x) (q, (same, small), image) = (q, (subst (IsAcceptedText text) (sym same) accepted, small), image)
+    built_accepted (Err f) h = tt
 
-    large_refused : (result : Result X Fault) → IfErr result (λ f. (f ≡ memory_fault) ⊎ IsTooLarge p f) → IfErr result (λ f. (f ≡ memory_fault) ⊎ IsRefusedAtLast text f)
-    large_refused (Ok x) h = tt
-    large_refused (Err f) (inl memory) = inl memory
-    large_refused (Err f) (inr large) = inr (inr (p, accepted, large))
+    built_refused : (result : Result X Fault) → IfErr result (λ f. (f ≡ memory_fault) ⊎ IsTooLarge p f) → IfErr result (λ f. (f ≡ memory_fault) ⊎ IsRefusedAtLast text f)
+    built_refused (Ok x) h = tt
+    built_refused (Err f) (inl memory) = inl memory
+    built_refused (Err f) (inr large) = inr (inr (p, accepted, large))
 
-    small_accepts : (result : Result X Fault) → IfOk result (λ x. IsSmallEnough p × Image p x) → (IsSmallEnough p → MatchResult result (λ _. Unit {0}) (λ f. f ≡ memory_fault))
-        → (q : Program) → IsCompiledText text q → MatchResult result (Image q) (λ f. f ≡ memory_fault)
-    small_accepts (Ok x) (fits, image) accepts q (is, small) = subst (λ (r : Program). Image r x) (only q is) image
-    small_accepts (Err f) h accepts q (is, small) = accepts (subst IsSmallEnough (sym (only q is)) small)
-
-    large_refuses : (result : Result X Fault) → ((fault : Fault) → IsTooLarge p fault → MatchResult result (λ _. ⊥) (λ f. (f ≡ memory_fault) ⊎ (f ≡ fault)))
-        → (fault : Fault) → HasFaultAtLast text fault → MatchResult result (λ _. ⊥) (λ f. (f ≡ memory_fault) ⊎ (f ≡ fault))
-    large_refuses result refuses fault (inl front) = absurd (no_fault fault front)
-    large_refuses result refuses fault (inr (q, is, large)) = refuses fault (subst (λ (r : Program). IsTooLarge r fault) (sym (only q is)) large)
-
-    pub behind_answers : (result : Result X Fault) → IfOk result (λ x. IsSmallEnough p × Image p x) → IfErr result (λ f. (f ≡ memory_fault) ⊎ IsTooLarge p f)
-        → (IsSmallEnough p → MatchResult result (λ _. Unit {0}) (λ f. f ≡ memory_fault))
-        → ((fault : Fault) → IsTooLarge p fault → MatchResult result (λ _. ⊥) (λ f. (f ≡ memory_fault) ⊎ (f ≡ fault)))
+    pub behind_answers : (result : Result X Fault) → Decides (IsSmall p) Image (IsTooLarge p) (IsTooLarge p) result
         → Decides (IsCompiledText text) Image (IsRefusedAtLast text) (HasFaultAtLast text) result
-    behind_answers result image refused accepts refuses = record {
-      accepted = small_accepted result image;
-      refused = large_refused result refused;
-      accepts = small_accepts result image accepts;
-      refuses = large_refuses result refuses;
+    behind_answers result d = record {
+      accepted = built_accepted result d.accepted;
+      refused = built_refused result d.refused;
+      accepts = λ q. λ (is, small). d.accepts q (sym (only q is), small);
+      refuses = λ fault has. ⊎_elim (λ front. absurd (no_fault fault front)) (λ (q, is, large). d.refuses fault (subst (λ (r : Program). IsTooLarge r fault) (sym (only q is)) large)) has;
     }
 
   -- and what it refuses

@@ -6,8 +6,9 @@ use Rattle.cyc_words.specs.declared.fault.Code.TheVariants.{FrameTooLarge}
 use Rattle.cyc_types.specs.TypedTrees.{Function, Program}
 use Rattle.cyc_plain.specs.Program.{Routine, Program as PlainProgram, no_routine, routine_at}
 use Rattle.cyc_meaning.specs.FrameCount.{frame_count}
-use Rattle.cyc_lower.specs.Lowered.{most_functions, IsLoweredFunction, AreLoweredFunctions, IsLowered}
-use Rattle.cyc_frame.specs.Layout.{most_words, AreSmall}
+use Rattle.cyc_lower.specs.Lowered.{IsLoweredFunction, AreLoweredFunctions, IsLowered}
+use Rattle.cyc_frame.specs.declared.frame.TheConstants.{MOST_FRAME_WORDS}
+use Rattle.cyc_frame.specs.Layout.{HasSmallFrames}
 use Rattle.cyc_frame.specs.Layout as frames
 use Rattle.cyc_system.specs.Compiled.{HasLargeFrame, IsTooLarge, IsSmallEnough}
 
@@ -63,12 +64,12 @@ module _ (p : Program) (lowered : PlainProgram) (is : IsLowered p lowered) where
       }
 
   -- and where no frame is too large above, none is below
-  pub small_below : IsSmallEnough p → AreSmall lowered
+  pub small_below : IsSmallEnough p → HasSmallFrames lowered
   small_below small = λ k below.
       let (h, at, made) = source_at p.functions lowered.functions k is.functions below in
       omega (arith, small.frames k h at, made.frame)
 
-  pub small_above : AreSmall lowered → (k : ℕ) (g : Function) → slice_get p.functions k ≡ Some g → frame_count g ≤ most_words
+  pub small_above : HasSmallFrames lowered → (k : ℕ) (g : Function) → slice_get p.functions k ≡ Some g → frame_count g ≤ MOST_FRAME_WORDS
   small_above small k g at =
       let (below, made) = lowered_at p.functions lowered.functions k g is.functions at in
       omega (arith, small k below, made.frame)

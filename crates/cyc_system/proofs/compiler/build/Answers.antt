@@ -1,36 +1,53 @@
-use Rattle.std.proofs.Common.{◌≡◌, ◌⊎◌, inl, inr, Ok, Err, length, arith}
-use Rattle.std.proofs.lemmas.List.{length-map}
+use Rattle.std.proofs.Common.{◌≡◌, ◌≤◌, length, sym, subst, ◌∙◌, arith}
+use Rattle.std.proofs.lemmas.Result.{err_from_is_err_and}
+use Rattle.cyc_types.specs.TypedTrees.{Program}
 use Rattle.cyc_types.specs.TypedTreeView.{view_program}
-use Rattle.cyc_plain.specs.Program.{program_of, routine_of}
+use Rattle.cyc_plain.specs.Program.{Program as PlainProgram}
+use Rattle.cyc_plain.specs.WellFormed.{IsWellFormed}
+use Rattle.cyc_lower.specs.declared.limits.TheConstants.{MOST_FUNCTIONS}
+use Rattle.cyc_lower.specs.Lowered.{IsLowered}
+use Rattle.cyc_frame.specs.Layout as frames
+use Rattle.cyc_frame.specs.Layout.{HasSmallFrames}
 use Rattle.cyc_system.specs.FullPreservation.{IsImageOf}
 use Rattle.cyc_system.proofs.Amounts.{lowered_small}
-use Rattle.cyc_system.proofs.Sizes.{small_below}
-use Rattle.cyc_system.proofs.Refusals.{layout_refuses, too_large_below, small_enough, small_and_image}
+use Rattle.cyc_system.proofs.Refusals.{lowering_refuses, layout_refuses, image_answers}
 use Rattle.cyc_system.proofs.compiler.build.Goals as goal
 
-pub returns-in-Err-layout-clause-refused : goal.returns-in-Err-layout-clause-refused
-returns-in-Err-layout-clause-refused c =
-    layout_refuses (view_program c.args.program.now.tree) (program_of c.in-Ok.plain) c.in-Ok.ensures.accepted c.in-Ok.ensures.refuses c.in-Err-layout.fault c.in-Err-layout.ensures.refused
+pub returns-in_err-plain : goal.returns-in_err-plain
+returns-in_err-plain c =
+    let e = err_from_is_err_and c.from_residual.result c.from_residual.ensures.1 in
+    rw (e.1, e.2) (lowering_refuses (λ p file. IsImageOf p file.items) (view_program c.args.program.now.tree) _ c.in_err-plain.field-0.0 c.in_err-plain.ensures)
 
-pub returns-in-Err-layout-clause-accepts : goal.returns-in-Err-layout-clause-accepts
-returns-in-Err-layout-clause-accepts c = λ small.
-    c.in-Err-layout.ensures.accepts (small_below (view_program c.args.program.now.tree) (program_of c.in-Ok.plain) c.in-Ok.ensures.accepted small)
+pub returns-in_err-framed : goal.returns-in_err-framed
+returns-in_err-framed c =
+    let p = view_program c.args.program.now.tree in
+    let (a, (same, few), is) = c.in_ok-plain.ensures.accepted in
+    let e = err_from_is_err_and c.from_residual-in_err-framed.result c.from_residual-in_err-framed.ensures.1 in
+    rw (e.1, e.2) (layout_refuses (λ q file. IsImageOf q file.items) p c.in_ok-plain.plain
+    (subst (λ (q : Program). IsLowered q c.in_ok-plain.plain) same is) (subst (λ (q : Program). length q.functions ≤ MOST_FUNCTIONS) same few)
+    c.in_ok-plain.ensures.refuses _ c.in_err-framed.field-0.0 c.in_err-framed.ensures)
 
-pub returns-in-Err-layout-clause-refuses : goal.returns-in-Err-layout-clause-refuses
-returns-in-Err-layout-clause-refuses c = λ fault large.
-    c.in-Err-layout.ensures.refuses fault (too_large_below (view_program c.args.program.now.tree) (program_of c.in-Ok.plain) c.in-Ok.ensures.accepted c.in-Ok.ensures.refuses fault large)
+pub compile_plain-requires-clause-well_formed : goal.compile_plain-requires-clause-well_formed
+compile_plain-requires-clause-well_formed c =
+    let (a, counted, is) = c.in_ok-plain.ensures.accepted in
+    let (l, (same, small), (of, are)) = c.in_ok-framed.ensures.accepted in
+    subst IsWellFormed (sym (of ∙ same)) is.well_formed
 
 pub compile_plain-requires-clause-few : goal.compile_plain-requires-clause-few
 compile_plain-requires-clause-few c =
-    lowered_small (view_program c.args.program.now.tree) (program_of c.in-Ok.plain) c.in-Ok.ensures.accepted c.requires.small
-
-pub returns-clause-image : goal.returns-clause-image
-returns-clause-image c =
     let p = view_program c.args.program.now.tree in
-    let small = small_enough p (program_of c.in-Ok.plain) c.in-Ok.ensures.accepted c.in-Ok.ensures.refuses (λ k below.
-    (c.in-Ok-layout.ensures.frames k (omega (arith, below, length-map c.in-Ok.plain.functions.items routine_of))).small) in
-    small_and_image (λ q file. IsImageOf q file.items) p (program_of c.in-Ok.plain) c.compile_plain.result c.in-Ok.ensures.accepted small c.compile_plain.ensures.image
+    let (a, (one, few), is) = c.in_ok-plain.ensures.accepted in
+    let (l, (same, small), (of, are)) = c.in_ok-framed.ensures.accepted in
+    let there = sym (of ∙ same) in
+    omega (arith, lowered_small p c.in_ok-framed.framed.program (subst (IsLowered p) there (subst (λ (q : Program). IsLowered q c.in_ok-plain.plain) one is)) c.requires.small)
 
-pub returns-clause-refuses : goal.returns-clause-refuses
-returns-clause-refuses c = λ fault large.
-    absurd (c.in-Ok-layout.ensures.refuses fault (too_large_below (view_program c.args.program.now.tree) (program_of c.in-Ok.plain) c.in-Ok.ensures.accepted c.in-Ok.ensures.refuses fault large))
+pub returns : goal.returns
+returns c =
+    let p = view_program c.args.program.now.tree in
+    let (a, (one, few), is) = c.in_ok-plain.ensures.accepted in
+    let (l, (same, small), (of, are)) = c.in_ok-framed.ensures.accepted in
+    let there = sym (of ∙ same) in
+    image_answers (λ q file. IsImageOf q file.items) p c.in_ok-framed.framed.program
+    (subst (IsLowered p) there (subst (λ (q : Program). IsLowered q c.in_ok-plain.plain) one is)) (subst (λ (q : Program). length q.functions ≤ MOST_FUNCTIONS) one few)
+    c.in_ok-plain.ensures.refuses (subst HasSmallFrames (sym of) small) (λ f large. c.in_ok-framed.ensures.refuses f (subst (λ (r : PlainProgram). frames.IsTooLarge r f) (of ∙ same) large))
+    c.compile_plain.result c.compile_plain.ensures.image c.compile_plain.ensures.refused

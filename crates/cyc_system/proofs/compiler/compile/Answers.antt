@@ -32,7 +32,7 @@ returns-in-Ok c =
     record {
       decides =
           behind_answers (λ p file. IsImageOf p file.items) text (view_program c.in-Ok.program.tree) (subst (IsAcceptedText text) (sym same) is) d.accepts d.refuses
-          c.build.result c.build.ensures.image c.build.ensures.refused c.build.ensures.accepts c.build.ensures.refuses;
+          c.build.result c.build.ensures;
     }
 
 pub returns-in-Err : goal.returns-in-Err
