@@ -1,8 +1,8 @@
-use Rattle.std.proofs.Common.{◌≡◌, ◌≤◌, length, ap, arith}
+use Rattle.std.proofs.Common.{◌≡◌, ℕ, ◌<◌, ◌≤◌, List, length, sym, ap, subst, arith}
 use Rattle.cyc_machine.specs.State.{globals_length}
 use Rattle.cyc_select.specs.Labelled.{labelled_of}
 use Rattle.cyc_asm.specs.Layout.{addresses_of}
-use Rattle.cyc_system.proofs.Chains.{image_made}
+use Rattle.cyc_system.proofs.Chains.{text_has_words, image_made}
 use Rattle.cyc_system.proofs.compiler.compile_plain.Goals as goal
 
 pub returns-clause-image : goal.returns-clause-image
@@ -12,3 +12,9 @@ returns-clause-image c = λ p is.
     image_made p c.args.framed.now.program code (addresses_of code) c.in_ok-words.words.items c.deref.result.now c.deref-2.result.now c.in_ok-file.file.items
     c.deref.ensures.value c.deref-2.ensures.value is c.in_ok-code.ensures.selected c.in_ok-words.ensures.means c.in_ok-words.ensures.runs
     few c.in_ok-file.ensures.words c.in_ok-file.ensures.globals c.in_ok-file.ensures.read c.in_ok-file.ensures.exact
+
+pub write_program-requires-clause-some : goal.write_program-requires-clause-some
+write_program-requires-clause-some c =
+    let code = labelled_of c.in_ok-code.code in
+    subst (λ (words : List ℕ). 0 < length words) (sym c.deref.ensures.value)
+    (text_has_words c.args.framed.now.program code (addresses_of code) c.in_ok-words.words.items c.requires.well_formed c.in_ok-code.ensures.selected c.in_ok-words.ensures.means)
