@@ -1,7 +1,7 @@
 //! Which region outlives which, worked out by hand, and types that are far deeper than any that a text can have.
 
 use cyc_syntax::PointerKind;
-use cyc_types::{ScopeKind, Outlives, Region, Ty};
+use cyc_types::{Outlives, Region, ScopeKind, Ty};
 use smallvec::SmallVec;
 use std::alloc::Global;
 use std::test::Fail;
