@@ -308,7 +308,7 @@ signatures_known (h ∷ hs) zero s there =
 signatures_known (h ∷ hs) (suc n) s there =
     let (few, parameters, results) = signatures_known hs n s there in (omega (arith, few), parameters, results)
 
-globals_counted : (gs : List GlobalVariable) → length gs ≡ length (map lower_global gs)
+pub globals_counted : (gs : List GlobalVariable) → length gs ≡ length (map lower_global gs)
 globals_counted [] = refl
 globals_counted (g ∷ gs) = ap suc (globals_counted gs)
 
