@@ -53,7 +53,7 @@ pub record IsData (globals : ℕ) (s : SegmentContents) : Type 0 where
 -- of a program with so many globals there is one segment of text, and one of data where there are globals, and nothing else
 abbrev pub AreOfProgram : (globals : ℕ) → List SegmentContents → Type 0
 AreOfProgram zero (text ∷ []) = IsText text
-AreOfProgram (suc globals) (text ∷ data ∷ []) = IsText text × IsData (suc globals) data
+AreOfProgram (suc globals) (text ∷ variables ∷ []) = IsText text × IsData (suc globals) variables
 AreOfProgram globals segments = ⊥
 
 -- the form of the image of a program with so many globals, which is entered where its text begins
