@@ -3,11 +3,13 @@
 
 pub mod constants;
 mod event;
+mod fast;
 mod fault;
 pub mod laws;
 mod limits;
 mod machine;
 mod memory;
+mod operation;
 mod phase;
 mod registers;
 mod results;
