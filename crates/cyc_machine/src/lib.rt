@@ -16,7 +16,7 @@ mod results;
 mod start;
 mod text;
 
-pub use event::{Cause, End, Event};
+pub use event::{Cause, End, Event, Stretch};
 pub use fault::LoadFault;
 pub use limits::Limits;
 pub use machine::Machine;
