@@ -96,11 +96,11 @@ mutual
         subst (λ z. sum_of (λ b. 1 + expression_weight b) z ≤ written.more_expressions_weight (MoreExpressions e es)) (sym eq) (omega arith),
       )
 
-  chain_lighter : (g : Scope) (left : Option Ty) (os : Operations) (bs : typed.Operations) → IsChain g left os bs → operations_weight bs ≤ written.operations_weight os
+  chain_lighter : (g : Scope) (left : types.ValueType) (os : Operations) (bs : typed.Operations) → IsChain g left os bs → operations_weight bs ≤ written.operations_weight os
   chain_lighter g left NoOperations bs (l, eq) = subst (λ z. operations_weight z ≤ 0) (sym eq) (omega arith)
   chain_lighter g left (ThenOperation o p e os) bs (a, cs, h, l, i, hs, eq) =
       let operand : expression_weight a ≤ written.expression_weight e = expression_lighter g e a h in
-      let rest : operations_weight cs ≤ written.operations_weight os = chain_lighter g (Some types.Int) os cs hs in
+      let rest : operations_weight cs ≤ written.operations_weight os = chain_lighter g (types.Value types.Int) os cs hs in
       let same : operations_weight (then_operation o a cs) ≡ 1 + expression_weight a + operations_weight cs = operation_same o a cs in
       subst (λ z. operations_weight z ≤ written.operations_weight (ThenOperation o p e os)) (sym eq) (omega arith)
 
