@@ -18,6 +18,17 @@ use Rattle.cyc_types.proofs.NumberedLemmas.{items_counted}
 
 -- ---- expressions
 
+-- an expression is a token at least
+pub some_token : (a : typed.Expression) → 1 ≤ expression_weight a
+some_token (typed.Binary a os t) = omega (arith, some_token a)
+some_token (typed.Load (typed.Target k a t)) = omega arith
+some_token (typed.Load (typed.Member k a s f t)) = omega arith
+some_token (typed.Load (typed.Element a i t)) = omega arith
+some_token (typed.New typed.OnHeap i t) = omega arith
+some_token (typed.New typed.AsUnique i t) = omega arith
+some_token (typed.New (typed.ByHandle a) i t) = omega arith
+some_token a = omega arith
+
 converted_same : (a : typed.Expression) (t : Ty) (c : Converted) → IsConverted a t c → converted_weight c ≡ expression_weight a
 converted_same a t c (from, to, k, eq) = ap converted_weight eq
 
