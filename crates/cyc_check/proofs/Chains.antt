@@ -10,7 +10,7 @@ use Rattle.cyc_types.specs.declared.typed.Kind.TheVariants as kinds
 use Rattle.cyc_types.specs.declared.typed.Converted.{Converted}
 use Rattle.cyc_types.specs.declared.typed.Operation.{Operation}
 use Rattle.cyc_types.specs.declared.typed.Operation.TheVariants as operation
-use Rattle.cyc_types.specs.Types.{Ty, Int, Pointer, Handle, Key, Struct}
+use Rattle.cyc_types.specs.Types.{Ty, Int, Pointer, Handle, Key, Struct, ValueType, Void, Null, Value}
 use Rattle.cyc_types.specs.TypedTrees as typed
 use Rattle.cyc_types.specs.TypedTreeView as view
 use Rattle.cyc_types.specs.TypingRules.{then_operation, name_in}
@@ -56,20 +56,21 @@ onto_arguments (c ∷ cs) = ap (typed.MoreArguments (view.view_converted c)) (on
 
 -- ---- chains
 
-module _ (p : Place) (left : Option Ty) where
+module _ (p : Place) (left : ValueType) where
   abbrev pub one_of_chain : OperationCode → Scope → Checked (typed.Operations → typed.Operations)
   one_of_chain o g = one_operation g p left o.operator (view_expression o.operand)
 
   abbrev pub many_of_chain : List OperationCode → Scope → Checked typed.Operations
   many_of_chain os g = check_chain g p left (operations_of os)
 
-  from_int : (left : Option Ty) → is_int left ≡ true → left ≡ Some Int
-  from_int None e = cc
-  from_int (Some Int) e = refl
-  from_int (Some (Pointer k t r)) e = cc
-  from_int (Some (Handle r)) e = cc
-  from_int (Some (Key r)) e = cc
-  from_int (Some (Struct n rs)) e = cc
+  from_int : (left : ValueType) → is_int left ≡ true → left ≡ Value Int
+  from_int Void e = cc
+  from_int Null e = cc
+  from_int (Value Int) e = refl
+  from_int (Value (Pointer k t r)) e = cc
+  from_int (Value (Handle r)) e = cc
+  from_int (Value (Key r)) e = cc
+  from_int (Value (Struct n rs)) e = cc
 
   pub chain_steps : Steps (λ f os. f os) one_of_chain same_scope many_of_chain
   chain_steps = record { step = λ o os g. by_operand o os g (check g (view_expression o.operand)) }
@@ -81,7 +82,7 @@ module _ (p : Place) (left : Option Ty) where
       by_right o a false r = refl
 
       by_left : (o : OperationCode) (os : List OperationCode) (g : Scope) (a : typed.Expression) (b : Bool) → is_int left ≡ b
-          → cond b (cond (is_int (typed.type_of a)) (and_then (check_chain g p (Some Int) (operations_of os)) (λ bs. Ok (then_operation o.operator a bs))) (Err (fault_at codes.TypeMismatch (place_of (view_expression o.operand))))) (Err (fault_at codes.TypeMismatch p))
+          → cond b (cond (is_int (typed.type_of a)) (and_then (check_chain g p (Value Int) (operations_of os)) (λ bs. Ok (then_operation o.operator a bs))) (Err (fault_at codes.TypeMismatch (place_of (view_expression o.operand))))) (Err (fault_at codes.TypeMismatch p))
           ≡ and_then (cond b (cond (is_int (typed.type_of a)) (Ok (then_operation o.operator a)) (Err (fault_at codes.TypeMismatch (place_of (view_expression o.operand))))) (Err (fault_at codes.TypeMismatch p))) (λ f. and_then (check_chain g p left (operations_of os)) (λ bs. Ok (f bs)))
       by_left o os g a true e =
           ap (λ l. cond (is_int (typed.type_of a)) (and_then (check_chain g p l (operations_of os)) (λ bs. Ok (then_operation o.operator a bs))) (Err (fault_at codes.TypeMismatch (place_of (view_expression o.operand))))) (sym (from_int left e))
@@ -89,7 +90,7 @@ module _ (p : Place) (left : Option Ty) where
       by_left o os g a false e = refl
 
       by_operand : (o : OperationCode) (os : List OperationCode) (g : Scope) (c : Checked typed.Expression)
-          → and_then c (λ a. want_int left p (want_int (typed.type_of a) (place_of (view_expression o.operand)) (and_then (check_chain g p (Some Int) (operations_of os)) (λ bs. Ok (then_operation o.operator a bs)))))
+          → and_then c (λ a. want_int left p (want_int (typed.type_of a) (place_of (view_expression o.operand)) (and_then (check_chain g p (Value Int) (operations_of os)) (λ bs. Ok (then_operation o.operator a bs)))))
           ≡ and_then (and_then c (λ a. want_int left p (want_int (typed.type_of a) (place_of (view_expression o.operand)) (Ok (then_operation o.operator a))))) (λ f. and_then (check_chain g p left (operations_of os)) (λ bs. Ok (f bs)))
       by_operand o os g (Ok a) = by_left o os g a (is_int left) refl
       by_operand o os g (Err f) = refl
@@ -99,7 +100,7 @@ onto_operations [] = refl
 onto_operations (operation.Compute o e ∷ os) = ap (typed.ThenCompute o (view.view_expression e)) (onto_operations os)
 onto_operations (operation.Test o e ∷ os) = ap (typed.ThenTest o (view.view_expression e)) (onto_operations os)
 
-pub last_of_chain : (p : Place) (left : Option Ty) (g : Scope) → is_int left ≡ true → many_of_chain p left [] g ≡ Ok typed.NoOperations
+pub last_of_chain : (p : Place) (left : ValueType) (g : Scope) → is_int left ≡ true → many_of_chain p left [] g ≡ Ok typed.NoOperations
 last_of_chain p left g e = ap (λ b. cond b (Ok typed.NoOperations) (Err (fault_at codes.TypeMismatch p))) e
 
 -- ---- an expression of its parts, where the code holds copies of them
@@ -113,10 +114,10 @@ chain_in g x e e1 e3 os os2 a is p q r h =
 
 pub assign_in : (g : Scope) (x : Expression) (t t1 v v2 v3 : Expr) (l : typed.Lvalue) (a : typed.Expression) → x ≡ Assign (view_expression t) (view_expression v) → t1 ≡ t → v2 ≡ v → v3 ≡ v
     → target g (name_in (view_expression t1)) (place_of (view_expression t1)) (check g (view_expression t1)) ≡ Ok (l, Int) → check g (view_expression v2) ≡ Ok a
-    → and_then (convert a Int (place_of (view_expression v3))) (λ c. Ok (typed.Assign l c (Some Int))) ≡ check g x
+    → and_then (convert a Int (place_of (view_expression v3))) (λ c. Ok (typed.Assign l c (Value Int))) ≡ check g x
 assign_in g x t t1 v v2 v3 l a is p q r h k =
-    ap (λ (y : Expr). and_then (convert a Int (place_of (view_expression y))) (λ c. Ok (typed.Assign l c (Some Int)))) r
+    ap (λ (y : Expr). and_then (convert a Int (place_of (view_expression y))) (λ c. Ok (typed.Assign l c (Value Int)))) r
     ∙ sym (ap (check g) is
-    ∙ ap (λ o. and_then o (λ m. and_then (check g (view_expression v)) (λ b. and_then (convert b m.1 (place_of (view_expression v))) (λ c. Ok (typed.Assign m.0 c (Some m.1))))))
+    ∙ ap (λ o. and_then o (λ m. and_then (check g (view_expression v)) (λ b. and_then (convert b m.1 (place_of (view_expression v))) (λ c. Ok (typed.Assign m.0 c (Value m.1))))))
     (ap (λ (y : Expr). target g (name_in (view_expression y)) (place_of (view_expression y)) (check g (view_expression y))) (sym p) ∙ h)
-    ∙ ap (λ o. and_then o (λ b. and_then (convert b Int (place_of (view_expression v))) (λ c. Ok (typed.Assign l c (Some Int))))) (ap (λ (y : Expr). check g (view_expression y)) (sym q) ∙ k))
+    ∙ ap (λ o. and_then o (λ b. and_then (convert b Int (place_of (view_expression v))) (λ c. Ok (typed.Assign l c (Value Int))))) (ap (λ (y : Expr). check g (view_expression y)) (sym q) ∙ k))

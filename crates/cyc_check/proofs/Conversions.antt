@@ -9,7 +9,7 @@ use Rattle.cyc_syntax.specs.TreeView.{view_expression, expressions_of}
 use Rattle.cyc_types.specs.declared.typed.Kind.TheVariants as kinds
 use Rattle.cyc_types.specs.declared.typed.Callee.{Callee}
 use Rattle.cyc_types.specs.declared.typed.Converted.{Converted}
-use Rattle.cyc_types.specs.Types.{Ty, Int, Pointer, Handle, Key, Struct}
+use Rattle.cyc_types.specs.Types.{Ty, Int, Pointer, Handle, Key, Struct, ValueType, Void, Null, Value, result_type}
 use Rattle.cyc_types.specs.TypedTrees as typed
 use Rattle.cyc_types.specs.TypedTreeView.{arguments_of}
 use Rattle.cyc_types.specs.Checking.{Checked, and_then, is_int, conversion, convert_by, convert, pass, call}
@@ -19,13 +19,14 @@ use Rattle.cyc_check.specs.declared.stop.Stop.{Stop}
 use Rattle.cyc_check.specs.declared.stop.Stop.TheVariants as stops
 use Rattle.cyc_check.specs.Code.{Stops, ints, result_if, value_of, as_ints, passed}
 
-by_type : (o : Option Ty) (a : typed.Expression) (p : Place) → convert_by (conversion o Int) a p ≡ cond (is_int o) (Ok (typed.Convert kinds.Int kinds.Int a)) (Err (fault_at codes.TypeMismatch p))
-by_type None a p = refl
-by_type (Some Int) a p = refl
-by_type (Some (Pointer k t r)) a p = refl
-by_type (Some (Handle r)) a p = refl
-by_type (Some (Key r)) a p = refl
-by_type (Some (Struct n rs)) a p = refl
+by_type : (o : ValueType) (a : typed.Expression) (p : Place) → convert_by (conversion o Int) a p ≡ cond (is_int o) (Ok (typed.Convert kinds.Int kinds.Int a)) (Err (fault_at codes.TypeMismatch p))
+by_type Void a p = refl
+by_type Null a p = refl
+by_type (Value Int) a p = refl
+by_type (Value (Pointer k t r)) a p = refl
+by_type (Value (Handle r)) a p = refl
+by_type (Value (Key r)) a p = refl
+by_type (Value (Struct n rs)) a p = refl
 
 pub converted_int : (a : typed.Expression) (p : Place) → is_int (typed.type_of a) ≡ true → convert a Int p ≡ Ok (typed.Convert kinds.Int kinds.Int a)
 converted_int a p e = by_type (typed.type_of a) a p ∙ ap (λ b. cond b (Ok (typed.Convert kinds.Int kinds.Int a)) (Err (fault_at codes.TypeMismatch p))) e
@@ -66,19 +67,19 @@ module _ (p : Place) (es : List Expr) (cs : List Converted) (f : Callee) (n : �
   routine = Routine f (record { parameters = ints n; result = result_if r })
 
   abbrev answer : Bool → Checked typed.Arguments → Checked typed.Expression
-  answer b o = cond b (and_then o (λ as'. Ok (typed.Call f as' (result_if r)))) (Err (fault_at codes.TypeMismatch p))
+  answer b o = cond b (and_then o (λ as'. Ok (typed.Call f as' (result_type (result_if r))))) (Err (fault_at codes.TypeMismatch p))
 
   counted : call routine p (expressions_of es) (map value_of cs) ≡ answer (nat_eq (length cs) n) (pass (expressions_of es) (map value_of cs) (ints n))
   counted = ap (λ b. answer b (pass (expressions_of es) (map value_of cs) (ints n))) (ap (λ k. nat_eq k (length (ints n))) (count_values cs) ∙ ap (nat_eq (length cs)) (count_ints n))
 
   pub called_well : (m : Meaning) → Routine f (record { parameters = ints n; result = result_if r }) ≡ m → length cs ≡ n → length es ≡ length cs → arguments_of cs ≡ as_ints (map value_of cs) → (o : Checked (Unit {0})) → passed es cs ≡ o
-      → call m p (expressions_of es) (map value_of cs) ≡ and_then o (λ _. Ok (typed.Call f (arguments_of cs) (result_if r)))
+      → call m p (expressions_of es) (map value_of cs) ≡ and_then o (λ _. Ok (typed.Call f (arguments_of cs) (result_type (result_if r))))
   called_well m is e same converted o passes =
       ap (λ k. call k p (expressions_of es) (map value_of cs)) (sym is) ∙ counted ∙ ap (λ b. answer b (pass (expressions_of es) (map value_of cs) (ints n))) (eq-eqb (length cs) n e)
       ∙ ap (λ k. answer true (pass (expressions_of es) (map value_of cs) (ints k))) (sym e)
       ∙ ap (answer true) (pass_ints es cs same ∙ ap (λ o. and_then o (λ _. Ok (as_ints (map value_of cs)))) passes) ∙ ap (λ as'. answer true (and_then o (λ _. Ok as'))) (sym converted) ∙ by_result o
     where
-      by_result : (o : Checked (Unit {0})) → answer true (and_then o (λ _. Ok (arguments_of cs))) ≡ and_then o (λ _. Ok (typed.Call f (arguments_of cs) (result_if r)))
+      by_result : (o : Checked (Unit {0})) → answer true (and_then o (λ _. Ok (arguments_of cs))) ≡ and_then o (λ _. Ok (typed.Call f (arguments_of cs) (result_type (result_if r))))
       by_result (Ok u) = refl
       by_result (Err e) = refl
 

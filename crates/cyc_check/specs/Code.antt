@@ -15,7 +15,7 @@ use Rattle.cyc_types.specs.declared.typed.Expr.{Expr as ExpressionCode}
 use Rattle.cyc_types.specs.declared.typed.Converted.{Converted as ConvertedCode}
 use Rattle.cyc_types.specs.declared.typed.Operation.{Operation}
 use Rattle.cyc_types.specs.declared.typed.Operation.TheVariants as operation
-use Rattle.cyc_types.specs.Types.{Ty, Int}
+use Rattle.cyc_types.specs.Types.{Ty, Int, ValueType, Value}
 use Rattle.cyc_types.specs.TypedTrees as typed
 use Rattle.cyc_types.specs.TypedTreeView as view
 use Rattle.cyc_types.specs.TypingRules.{then_operation}
@@ -82,5 +82,5 @@ put_operation (operation.Compute o e) = typed.ThenCompute o (view.view_expressio
 put_operation (operation.Test o e) = typed.ThenTest o (view.view_expression e)
 
 -- one operation of a chain whose first operand is at this place
-abbrev pub one_operation : Scope → Place → Option Ty → BinaryOperator → Expression → Checked (typed.Operations → typed.Operations)
+abbrev pub one_operation : Scope → Place → ValueType → BinaryOperator → Expression → Checked (typed.Operations → typed.Operations)
 one_operation g p left o e = and_then (check g e) (λ a. want_int left p (want_int (typed.type_of a) (place_of e) (Ok (then_operation o a))))

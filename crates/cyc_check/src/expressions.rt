@@ -9,7 +9,7 @@ ghost use Rattle.cyc_types.specs.declared.typed.Operation.{Operation as Operatio
 ghost use Rattle.cyc_types.specs.Types as types;
 ghost use Rattle.cyc_types.specs.TypedTrees.{type_of};
 ghost use Rattle.cyc_types.specs.TypedTrees as nodes;
-ghost use Rattle.cyc_types.specs.TypeView.{view_ty};
+ghost use Rattle.cyc_types.specs.TypeView.{view_ty, view_value_type};
 ghost use Rattle.cyc_types.specs.TypedTreeView as typed_view;
 ghost use Rattle.cyc_types.specs.Scopes.{meaning_of};
 ghost use Rattle.cyc_types.specs.TypingRules.{name_in, unary_operator, then_operation};
@@ -23,7 +23,9 @@ use crate::checker::Checker;
 use crate::declared::Meaning;
 use crate::stop::{Stop, not_built, refused};
 use cyc_syntax::{BinaryOperator, Expr, Ident, Operation, PrefixOperator};
-use cyc_types::typed::{Callee, Converted, Kind, LogicalOperator, Lvalue, Operator, UnaryOperator};
+use cyc_types::typed::{
+    Callee, Converted, Kind, LogicalOperator, Lvalue, Operator, UnaryOperator, ValueType,
+};
 use cyc_types::{Ty, typed};
 use cyc_words::{Code, Span};
 use std::alloc::{AllocError, Global};
@@ -72,7 +74,7 @@ pub(crate) fn mismatch(expression: &Expr) -> Stop
 }
 
 fn is_int_type(of_type: &Ty) -> bool
-    ensures { result ≡ is_int (Some (view_ty of_type.now)) }
+    ensures { result ≡ is_int (types.Value (view_ty of_type.now)) }
 {
     matches!(of_type, Ty::Int)
 }
@@ -95,8 +97,8 @@ pub(crate) fn is_int(value: &typed::Expr) -> bool
             ..
         } => {
             match of_type {
-                Some(of_type) => is_int_type(of_type),
-                None => false,
+                ValueType::Value { of_type } => is_int_type(of_type),
+                ValueType::Void | ValueType::Null => false,
             }
         }
     }
@@ -181,14 +183,21 @@ fn operation_of(operator: BinaryOperator, operand: typed::Expr) -> typed::Operat
     }
 }
 
-fn result_if(has_result: bool) -> Option<Ty>
-    ensures { option_map view_ty result ≡ result_if has_result }
+/// The type of an int.
+fn int_value() -> ValueType
+    ensures { view_value_type result ≡ types.Value types.Int }
 {
-    if has_result { Some(Ty::Int) } else { None }
+    ValueType::Value { of_type: Ty::Int }
+}
+
+fn result_if(has_result: bool) -> ValueType
+    ensures { view_value_type result ≡ types.result_type (result_if has_result) }
+{
+    if has_result { int_value() } else { ValueType::Void }
 }
 
 fn call_of(callee: Callee, arguments: Vec<Converted>, has_result: bool) -> typed::Expr
-    ensures { typed_view.view_expression result ≡ nodes.Call callee (typed_view.arguments_of arguments.items) (result_if has_result) }
+    ensures { typed_view.view_expression result ≡ nodes.Call callee (typed_view.arguments_of arguments.items) (types.result_type (result_if has_result)) }
 {
     let result = result_if(has_result);
     typed::Expr::Call {
@@ -258,13 +267,13 @@ fn push_operation(
 }
 
 fn assign_of(alloc: Global, target: Lvalue, value: Converted) -> Result<typed::Expr, AllocError>
-    ensures { IfOk result (λ e. typed_view.view_expression e ≡ nodes.Assign (typed_view.view_lvalue target) (typed_view.view_converted value) (Some types.Int)) }
+    ensures { IfOk result (λ e. typed_view.view_expression e ≡ nodes.Assign (typed_view.view_lvalue target) (typed_view.view_converted value) (types.Value types.Int)) }
 {
     let value = Box::new(alloc, value)?;
     Ok(typed::Expr::Assign {
         target,
         value,
-        result: Some(Ty::Int),
+        result: int_value(),
     })
 }
 
@@ -276,7 +285,7 @@ fn assign(
     right: &Expr,
     value: Box<typed::Expr>,
 ) -> Result<Box<typed::Expr>, Stop>
-    ensures { Gives view_boxed result (and_then (convert (view_boxed value) types.Int (place_of (view_expression right.now))) (λ c. Ok (nodes.Assign (typed_view.view_lvalue target) c (Some types.Int)))) }
+    ensures { Gives view_boxed result (and_then (convert (view_boxed value) types.Int (place_of (view_expression right.now))) (λ c. Ok (nodes.Assign (typed_view.view_lvalue target) c (types.Value types.Int)))) }
 {
     let value = convert(right, Box::into_inner(value))?;
     boxed(alloc, assign_of(alloc, target, value)?)

@@ -6,6 +6,7 @@ use Rattle.std.specs.declared.vec.Vec.{Vec}
 use Rattle.std.specs.declared.boxed.Box.{Box}
 use Rattle.std.specs.declared.alloc.Global.{Global as Heap}
 use Rattle.cyc_types.specs.declared.ty.Ty.{Ty as TyCode}
+use Rattle.cyc_types.specs.declared.typed.ValueType.{ValueType as ValueTypeCode}
 use Rattle.cyc_types.specs.declared.typed.Callee.{Callee}
 use Rattle.cyc_types.specs.declared.typed.Callee.TheVariants as callees
 use Rattle.cyc_types.specs.declared.typed.Operator.{Operator}
@@ -15,7 +16,7 @@ use Rattle.cyc_types.specs.declared.typed.Expr.TheVariants as expr
 use Rattle.cyc_types.specs.declared.typed.Converted.{Converted as ConvertedCode}
 use Rattle.cyc_types.specs.declared.typed.Operation.{Operation}
 use Rattle.cyc_types.specs.declared.typed.Operation.TheVariants as operation
-use Rattle.cyc_types.specs.TypeView.{view_ty}
+use Rattle.cyc_types.specs.TypeView.{view_ty, view_value_type}
 use Rattle.cyc_types.specs.TypedTrees.{Lvalue, Local, Global, Expression, Number, Copy, Call, Unary, Binary, Assign, Converted, Convert}
 use Rattle.cyc_types.specs.TypedTreeView.{view_expression, view_converted, arguments_of, operations_of}
 use Rattle.cyc_types.specs.Numbered.{argument_count}
@@ -52,6 +53,7 @@ mutual
   expression_some (Unary o a) p d = before (expression_code a p d) _ (expression_some a p d)
   expression_some (Binary a os t) p d = before (expression_code a p d) _ (expression_some a p d)
   expression_some (Assign l c t) p d = before (converted_code c p d) _ (converted_some c p d)
+  expression_some a p d = omega arith
 
   pub converted_some : (c : Converted) (p d : ℕ) → 0 < length (converted_code c p d)
   converted_some (Convert from to a) p d = before (expression_code a p d) _ (expression_some a p d)
@@ -121,11 +123,11 @@ pub argument_count_of : (cs : List ConvertedCode) → argument_count (arguments_
 argument_count_of [] = refl
 argument_count_of (c ∷ cs) = ap suc (argument_count_of cs)
 
-module _ (value : Expr) (f : Callee) (v : Vec ConvertedCode Heap) (t : Option TyCode) (is : value ≡ expr.Call f v t) (items : List ConvertedCode) (same : items ≡ v.items) (old middle new : List Instruction) (d n : ℕ) where
+module _ (value : Expr) (f : Callee) (v : Vec ConvertedCode Heap) (t : ValueTypeCode) (is : value ≡ expr.Call f v t) (items : List ConvertedCode) (same : items ≡ v.items) (old middle new : List Instruction) (d n : ℕ) where
   pub made_call : n ≡ length items → middle ≡ old ++ arguments_code (arguments_of items) (length old) d → new ≡ middle ++ call_code f n d → new ≡ old ++ expression_code (view_expression value) (length old) d
   made_call many passed called =
-      let e : view_expression value ≡ Call f (arguments_of items) (option_map view_ty t)
-      = ap view_expression is ∙ view_call f v t ∙ ap (λ (cs : List ConvertedCode). Call f (arguments_of cs) (option_map view_ty t)) (sym same) in
+      let e : view_expression value ≡ Call f (arguments_of items) (view_value_type t)
+      = ap view_expression is ∙ view_call f v t ∙ ap (λ (cs : List ConvertedCode). Call f (arguments_of cs) (view_value_type t)) (sym same) in
       called
       ∙ ap (λ (l : List Instruction). l ++ call_code f n d) passed
       ∙ append_assoc old (arguments_code (arguments_of items) (length old) d) (call_code f n d)
@@ -144,6 +146,19 @@ module _ (value : Expr) (b : Box Expr Heap) (v : Vec Operation Heap) (t : TyCode
       ∙ ap (λ (l : List Instruction). l ++ operations_code (operations_of items) (length old + length a) d) begun
       ∙ append_assoc old a (operations_code (operations_of items) (length old + length a) d)
       ∙ ap (λ (x : Expression). old ++ expression_code x (length old) d) (sym e)
+
+-- an operator with its right operand, which comes into the next slot
+module _ (value : Operation) (o : Operator) (e : Expr) (is : value ≡ operation.Compute o e) (old middle new : List Instruction) (d next : ℕ) where
+  pub made_compute : next ≡ suc d → middle ≡ old ++ expression_code (view_expression e) (length old) next → new ≡ middle ++ operator_code o (length middle) d → new ≡ old ++ operation_code value (length old) d
+  made_compute behind begun applied =
+      let a = expression_code (view_expression e) (length old) (suc d) in
+      let first : middle ≡ old ++ a = begun ∙ ap (λ (k : ℕ). old ++ expression_code (view_expression e) (length old) k) behind in
+      let long : length middle ≡ length old + length a = ap length first ∙ length-append old a in
+      applied
+      ∙ ap (λ (n : ℕ). middle ++ operator_code o n d) long
+      ∙ ap (λ (l : List Instruction). l ++ operator_code o (length old + length a) d) first
+      ∙ append_assoc old a (operator_code o (length old + length a) d)
+      ∙ ap (λ (y : Operation). old ++ operation_code y (length old) d) (sym is)
 
 -- ---- targets that are written back
 

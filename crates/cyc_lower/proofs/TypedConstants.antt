@@ -3,7 +3,7 @@ use Rattle.std.proofs.Common.{ℕ, List, [], ◌∷◌, Option, Some, None, sym,
 use Rattle.cyc_syntax.specs.declared.tree.BinaryOperator.{BinaryOperator}
 use Rattle.cyc_syntax.specs.declared.tree.BinaryOperator.TheVariants as operators
 use Rattle.cyc_syntax.specs.Trees.{Expression, Number, Character, Variable, Call, Bracketed, Prefixed, Binary, Assign, Expressions, NoExpressions, MoreExpressions, Operations, NoOperations, ThenOperation, Statement, Block, Empty, Evaluate, If, IfElse, While, Return, Break, Continue, Body, Braces, Items, NoItems, MoreItems, Execute, Local, Region, Alias, DynamicRegion, GlobalValue, Positive, Negative, Byte, NullPointer, Declaration, StructType, Exceptions, Global, Function}
-use Rattle.cyc_types.specs.Types.{Ty, Int}
+use Rattle.cyc_types.specs.Types.{Ty, Int, ValueType, Value}
 use Rattle.cyc_types.specs.TypedTrees.{Converted}
 use Rattle.cyc_types.specs.TypedTrees as typed
 use Rattle.cyc_types.specs.Scopes.{Meaning, Unknown, Routine, Declared, Scope, meaning_of, behind, in_block, in_body, with_local}
@@ -57,10 +57,10 @@ mutual
   expressions_constants g NoExpressions as' w h = subst AreOfWords (sym h) tt
   expressions_constants g (MoreExpressions e es) as' (w, ws) (a, bs, h, hs, eq) = subst AreOfWords (sym eq) (expression_constants g e a w h, expressions_constants g es bs ws hs)
 
-  chain_constants : (g : Scope) (left : Option Ty) (os : Operations) (as' : typed.Operations) → AreOfWordsChain os → IsChain g left os as' → AreOfWordsOperations as'
+  chain_constants : (g : Scope) (left : ValueType) (os : Operations) (as' : typed.Operations) → AreOfWordsChain os → IsChain g left os as' → AreOfWordsOperations as'
   chain_constants g left NoOperations as' w (l, eq) = subst AreOfWordsOperations (sym eq) tt
   chain_constants g left (ThenOperation o p e os) as' (w, ws) (a, bs, h, l, i, hs, eq) =
-      subst AreOfWordsOperations (sym eq) (operation_constants o a bs (expression_constants g e a w h) (chain_constants g (Some Int) os bs ws hs))
+      subst AreOfWordsOperations (sym eq) (operation_constants o a bs (expression_constants g e a w h) (chain_constants g (Value Int) os bs ws hs))
 
 -- ---- statements
 

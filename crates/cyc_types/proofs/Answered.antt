@@ -9,7 +9,7 @@ use Rattle.cyc_syntax.specs.Names.{number_of}
 use Rattle.cyc_syntax.specs.Symbols.{Place}
 use Rattle.cyc_syntax.specs.Trees.{Named, Expression, Number, Character, Null, HeapRegion, UniqueRegion, Variable, Call, Bracketed, NumberOfElements, FreeUnique, FreeKey, Chained, Prefixed, New, RegionNew, Binary, Assign, Expressions, NoExpressions, MoreExpressions, Operations, NoOperations, ThenOperation, Statement, Block, Labelled, Empty, Evaluate, Swap, If, IfElse, While, Return, Break, Continue, Throw, Try, Body, Braces, Items, NoItems, MoreItems, Execute, Local, Region, Alias, DynamicRegion, Member, Declaration, StructType, Exceptions, Global, Function, place_of}
 use Rattle.cyc_types.specs.declared.typed.Kind.{Kind}
-use Rattle.cyc_types.specs.Types.{Ty, Int}
+use Rattle.cyc_types.specs.Types.{Ty, Int, ValueType, Value}
 use Rattle.cyc_types.specs.TypedTrees.{Lvalue, Converted, Convert, type_of}
 use Rattle.cyc_types.specs.TypedTrees as typed
 use Rattle.cyc_types.specs.Scopes.{Signature, Meaning, Unknown, Routine, Declared, Scope, meaning_of, is_declared, behind, in_block, in_body, with_local}
@@ -37,17 +37,17 @@ unless_on {x = x} f next e h = subst (λ c. unless c f next ≡ x) (sym e) h
 pub unless_err : {A : Type 0} {b : Bool} (f : Fault) (next : Checked A) → b ≡ true → unless b f next ≡ Err f
 unless_err f next e = subst (λ c. unless c f next ≡ Err f) (sym e) refl
 
-want_on : {A : Type 0} {t : Option Ty} {x : Checked A} (p : Place) (next : Checked A) → t ≡ Some Int → next ≡ x → want_int t p next ≡ x
+want_on : {A : Type 0} {t : ValueType} {x : Checked A} (p : Place) (next : Checked A) → t ≡ Value Int → next ≡ x → want_int t p next ≡ x
 want_on {x = x} p next e h = subst (λ u. want_int u p next ≡ x) (sym e) h
 
-want_err : {A : Type 0} (t : Option Ty) (p : Place) (next : Checked A) → t ≢ Some Int → want_int t p next ≡ Err (fault_at codes.TypeMismatch p)
-want_err (Some Int) p next n = absurd (n refl)
+want_err : {A : Type 0} (t : ValueType) (p : Place) (next : Checked A) → t ≢ Value Int → want_int t p next ≡ Err (fault_at codes.TypeMismatch p)
+want_err (Value Int) p next n = absurd (n refl)
 want_err t p next n = refl
 
 -- ---- what is derived
 
-conversion_derived : (t : Option Ty) (u : Ty) (from to : Kind) → Converts t u from to → conversion t u ≡ Some (from, to)
-conversion_derived (Some Int) Int from to (f, g) = rw (f, g) refl
+conversion_derived : (t : ValueType) (u : Ty) (from to : Kind) → Converts t u from to → conversion t u ≡ Some (from, to)
+conversion_derived (Value Int) Int from to (f, g) = rw (f, g) refl
 conversion_derived t u from to h = absurd h
 
 convert_derived : (a : typed.Expression) (t : Ty) (p : Place) (c : Converted) → IsConverted a t c → convert a t p ≡ Ok c
@@ -113,12 +113,12 @@ mutual
   derived_all g NoExpressions as' h = ap Ok (sym h)
   derived_all g (MoreExpressions e es) as' (a, bs, h, hs, eq) = then_on _ (derived g e a h) (then_on _ (derived_all g es bs hs) (ap Ok (sym eq)))
 
-  derived_chain : (g : Scope) (p : Place) (left : Option Ty) (os : Operations) (as' : typed.Operations) → IsChain g left os as' → check_chain g p left os ≡ Ok as'
+  derived_chain : (g : Scope) (p : Place) (left : ValueType) (os : Operations) (as' : typed.Operations) → IsChain g left os as' → check_chain g p left os ≡ Ok as'
   derived_chain g p left NoOperations as' (l, eq) = want_on p (Ok typed.NoOperations) l (ap Ok (sym eq))
   derived_chain g p left (ThenOperation o q e os) as' (a, bs, h, l, i, hs, eq) =
-      then_on _ (derived g e a h) (want_on p _ l (want_on (place_of e) _ i (then_on _ (derived_chain g p (Some Int) os bs hs) (ap Ok (sym eq)))))
+      then_on _ (derived g e a h) (want_on p _ l (want_on (place_of e) _ i (then_on _ (derived_chain g p (Value Int) os bs hs) (ap Ok (sym eq)))))
 
-condition_derived : (g : Scope) (e : Expression) (a : typed.Expression) → IsTyped g e a → type_of a ≡ Some Int → check_condition g e ≡ Ok a
+condition_derived : (g : Scope) (e : Expression) (a : typed.Expression) → IsTyped g e a → type_of a ≡ Value Int → check_condition g e ≡ Ok a
 condition_derived g e a h i = then_on _ (derived g e a h) (want_on (place_of e) (Ok a) i refl)
 
 returned_derived : (g : Scope) (p : Place) (v : Option Expression) (c : Option Converted) → IsReturned g v c → check_returned g p v ≡ Ok c
@@ -181,14 +181,15 @@ functions_derived ds (Global w x v ∷ tree) fs h = functions_derived ds tree fs
 functions_derived ds (Function r x ps (Braces p is q) ∷ tree) fs (js, gs, h, hs, eq) =
     then_on _ (derived_items (body_scope ds r (members_of ps.list)) is js h) (then_on _ (functions_derived ds tree gs hs) (ap Ok (sym eq)))
 
-program-equal : (gs : List typed.GlobalVariable) (main : ℕ) (p : typed.Program) → p.globals ≡ gs → p.main ≡ main → ◌≡◌ {A = typed.Program} (record { globals = gs; functions = p.functions; main = main }) p
-program-equal gs main p g m = rw (sym g, sym m) refl
+program-equal : (gs : List typed.GlobalVariable) (main : ℕ) (p : typed.Program) → p.structs ≡ [] → p.exceptions ≡ [] → p.globals ≡ gs → p.main ≡ main
+    → ◌≡◌ {A = typed.Program} (record { structs = []; exceptions = []; globals = gs; functions = p.functions; main = main }) p
+program-equal gs main p s x g m = rw (sym s, sym x, sym g, sym m) refl
 
 pub derived_program : (texts : List (List ℕ)) (tree : List Declaration) (p : typed.Program) → IsTypedProgram texts tree p → check_of texts tree ≡ Ok p
 derived_program texts tree p h =
     unless_on _ _ (ap not h.int_part) (then_on _ (heads_derived (number_of texts main_text) (regions_before texts) (known_before texts) tree h.heads)
     (unless_on _ _ (ap not h.has_main) (then_on _ (functions_derived (declared texts tree) tree p.functions h.functions)
-    (ap Ok (program-equal (globals_of tree) (function_number (number_of texts main_text) tree) p h.globals h.main)))))
+    (ap Ok (program-equal (globals_of tree) (function_number (number_of texts main_text) tree) p h.structs h.exceptions h.globals h.main)))))
 
 -- ---- what is refused
 
@@ -267,14 +268,14 @@ mutual
   refused_all g (MoreExpressions e es) f (inl h) = then_err _ (refused g e f h)
   refused_all g (MoreExpressions e es) f (inr (a, h, k)) = then_on _ (derived g e a h) (then_err _ (refused_all g es f k))
 
-  refused_chain : (g : Scope) (p : Place) (left : Option Ty) (os : Operations) (f : Fault) → IsChainRefused g p left os f → check_chain g p left os ≡ Err f
+  refused_chain : (g : Scope) (p : Place) (left : ValueType) (os : Operations) (f : Fault) → IsChainRefused g p left os f → check_chain g p left os ≡ Err f
   refused_chain g p left NoOperations f (n, eq) = want_err left p (Ok typed.NoOperations) n ∙ ap Err (sym eq)
   refused_chain g p left (ThenOperation o q e os) f (inl h) = then_err _ (refused g e f h)
   refused_chain g p left (ThenOperation o q e os) f (inr (inl (a, h, n, eq))) = then_on _ (derived g e a h) (want_err left p _ n ∙ ap Err (sym eq))
   refused_chain g p left (ThenOperation o q e os) f (inr (inr (inl (a, h, l, n, eq)))) =
       then_on _ (derived g e a h) (want_on p _ l (want_err (type_of a) (place_of e) _ n ∙ ap Err (sym eq)))
   refused_chain g p left (ThenOperation o q e os) f (inr (inr (inr (a, h, l, i, k)))) =
-      then_on _ (derived g e a h) (want_on p _ l (want_on (place_of e) _ i (then_err _ (refused_chain g p (Some Int) os f k))))
+      then_on _ (derived g e a h) (want_on p _ l (want_on (place_of e) _ i (then_err _ (refused_chain g p (Value Int) os f k))))
 
 no_condition : (g : Scope) (e : Expression) (f : Fault) → IsNoCondition g e f → check_condition g e ≡ Err f
 no_condition g e f (inl h) = then_err _ (refused g e f h)

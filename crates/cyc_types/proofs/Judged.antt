@@ -12,7 +12,7 @@ use Rattle.cyc_syntax.specs.Trees.{Named, WrittenType, Expression, Number, Chara
 use Rattle.cyc_types.specs.declared.typed.Kind.{Kind}
 use Rattle.cyc_types.specs.declared.typed.Kind.TheVariants as kinds
 use Rattle.cyc_types.specs.declared.typed.UnaryOperator.{UnaryOperator}
-use Rattle.cyc_types.specs.Types.{Ty, Int}
+use Rattle.cyc_types.specs.Types.{Ty, Int, ValueType, Value, result_type}
 use Rattle.cyc_types.specs.TypedTrees.{Lvalue, Converted, Convert, type_of}
 use Rattle.cyc_types.specs.TypedTrees as typed
 use Rattle.cyc_types.specs.IntPart.{is_int_program}
@@ -40,15 +40,15 @@ tested : {A : Type 0} {R : A → Type 0} {S : Fault → Type 0} (b : Bool) (f : 
 tested true f next lose gain = bad (lose refl)
 tested false f next lose gain = gain refl
 
-wanted : {A : Type 0} {R : A → Type 0} {S : Fault → Type 0} (t : Option Ty) (p : Place) (next : Checked A)
-    → (t ≡ Some Int → Judges R S next) → (t ≢ Some Int → S (fault_at codes.TypeMismatch p)) → Judges R S (want_int t p next)
-wanted (Some Int) p next gain lose = gain refl
+wanted : {A : Type 0} {R : A → Type 0} {S : Fault → Type 0} (t : ValueType) (p : Place) (next : Checked A)
+    → (t ≡ Value Int → Judges R S next) → (t ≢ Value Int → S (fault_at codes.TypeMismatch p)) → Judges R S (want_int t p next)
+wanted (Value Int) p next gain lose = gain refl
 wanted t p next gain lose = bad (lose (λ e. cc))
 
 -- ---- conversions
 
-pub convert_cases : (t : Option Ty) (u : Ty) → ((k : Kind × Kind) × (conversion t u ≡ Some k) × Converts t u k.0 k.1) ⊎ ((conversion t u ≡ None) × ((from to : Kind) → Converts t u from to → ⊥))
-convert_cases (Some Int) Int = inl ((kinds.Int, kinds.Int), refl, (refl, refl))
+pub convert_cases : (t : ValueType) (u : Ty) → ((k : Kind × Kind) × (conversion t u ≡ Some k) × Converts t u k.0 k.1) ⊎ ((conversion t u ≡ None) × ((from to : Kind) → Converts t u from to → ⊥))
+convert_cases (Value Int) Int = inl ((kinds.Int, kinds.Int), refl, (refl, refl))
 convert_cases t u = inr (refl, λ from to h. h)
 
 converted : {B : Type 0} {R : B → Type 0} {S : Fault → Type 0} (next : Converted → Checked B) (a : typed.Expression) (t : Ty) (p : Place)
@@ -100,7 +100,7 @@ called (scopes.Variable l t) p es as' al = bad refl
 called (Routine r s) p es as' al = counted (nat_eq (length as') (length s.parameters)) refl
   where
     counted : (b : Bool) → nat_eq (length as') (length s.parameters) ≡ b
-        → Judges (IsCalled (Routine r s) as') (IsMiscalled (Routine r s) p es as') (cond b (and_then (pass es as' s.parameters) (λ cs. Ok (typed.Call r cs s.result))) (Err (fault_at codes.TypeMismatch p)))
+        → Judges (IsCalled (Routine r s) as') (IsMiscalled (Routine r s) p es as') (cond b (and_then (pass es as' s.parameters) (λ cs. Ok (typed.Call r cs (result_type s.result)))) (Err (fault_at codes.TypeMismatch p)))
     counted true e = chained _ (passed es as' s.parameters al (eqb-true _ _ e)) (λ f h. inr (eqb-true _ _ e, h)) (λ cs h. good (cs, h, refl))
     counted false e = bad (inl (eqb-false _ _ e, refl))
 
@@ -161,17 +161,17 @@ mutual
       chained _ (judged g e) (λ f h. inl h)
       (λ a h. chained _ (judged_all g es) (λ f k. inr (a, h, k)) (λ bs k. good (a, bs, h, k, refl)))
 
-  judged_chain : (g : Scope) (p : Place) (left : Option Ty) (os : Operations) → Judges (IsChain g left os) (IsChainRefused g p left os) (check_chain g p left os)
+  judged_chain : (g : Scope) (p : Place) (left : ValueType) (os : Operations) → Judges (IsChain g left os) (IsChainRefused g p left os) (check_chain g p left os)
   judged_chain g p left NoOperations = wanted left p (Ok typed.NoOperations) (λ i. good (i, refl)) (λ n. (n, refl))
   judged_chain g p left (ThenOperation o q e os) =
       chained _ (judged g e) (λ f h. inl h)
       (λ a h. wanted left p _ (λ l. wanted (type_of a) (place_of e) _
-      (λ i. chained _ (judged_chain g p (Some Int) os) (λ f k. inr (inr (inr (a, h, l, i, k)))) (λ bs k. good (a, bs, h, l, i, k, refl)))
+      (λ i. chained _ (judged_chain g p (Value Int) os) (λ f k. inr (inr (inr (a, h, l, i, k)))) (λ bs k. good (a, bs, h, l, i, k, refl)))
       (λ n. inr (inr (inl (a, h, l, n, refl))))) (λ n. inr (inl (a, h, n, refl))))
 
 -- ---- statements
 
-condition_judged : (g : Scope) (e : Expression) → Judges (λ (a : typed.Expression). IsTyped g e a × (type_of a ≡ Some Int)) (IsNoCondition g e) (check_condition g e)
+condition_judged : (g : Scope) (e : Expression) → Judges (λ (a : typed.Expression). IsTyped g e a × (type_of a ≡ Value Int)) (IsNoCondition g e) (check_condition g e)
 condition_judged g e = chained _ (judged g e) (λ f h. inl h) (λ a h. wanted (type_of a) (place_of e) (Ok a) (λ i. good (h, i)) (λ n. inr (a, h, n, refl)))
 
 return_judged : (g : Scope) (p : Place) (e : Expression) (a : typed.Expression) → IsTyped g e a → (t : Option Ty) → g.result ≡ t
@@ -299,6 +299,8 @@ judged_program texts tree =
     (λ m. chained _ (functions_judged (declared texts tree) tree) (λ f k. inr (inr (inr (not_true (is_int_program tree) i, h, not_true (declares (number_of texts main_text) tree) m, k))))
     (λ fs k. good (record {
       int_part = not_true (is_int_program tree) i;
+      structs = refl;
+      exceptions = refl;
       heads = h;
       has_main = not_true (declares (number_of texts main_text) tree) m;
       functions = k;

@@ -6,7 +6,7 @@ use Rattle.cyc_syntax.specs.declared.tree.BinaryOperator.TheVariants as operator
 use Rattle.cyc_syntax.specs.Names.{number_of}
 use Rattle.cyc_syntax.specs.Trees.{Named, WrittenType, Expression, Number, Character, Null, HeapRegion, UniqueRegion, Variable, Call, Bracketed, NumberOfElements, FreeUnique, FreeKey, Chained, Prefixed, New, RegionNew, Binary, Assign, Expressions, NoExpressions, MoreExpressions, Operations, NoOperations, ThenOperation, Statement, Block, Labelled, Empty, Evaluate, Swap, If, IfElse, While, Return, Break, Continue, Throw, Try, Body, Braces, Items, NoItems, MoreItems, Execute, Local, Region, Alias, DynamicRegion, Member, Parameters, Declaration, StructType, Exceptions, Global, Function}
 use Rattle.cyc_types.specs.declared.typed.Callee.TheVariants as callees
-use Rattle.cyc_types.specs.Types.{Ty, Int}
+use Rattle.cyc_types.specs.Types.{Ty, Int, ValueType, Value, result_type}
 use Rattle.cyc_types.specs.TypedTrees.{Lvalue, Converted}
 use Rattle.cyc_types.specs.TypedTrees as typed
 use Rattle.cyc_types.specs.IntPart.{is_empty}
@@ -111,10 +111,10 @@ module _ (b : Numbering) where
     expressions_numbered g fits NoExpressions as' h = subst AreNumbered (sym h) tt
     expressions_numbered g fits (MoreExpressions e es) as' (a, bs, h, hs, eq) = subst AreNumbered (sym eq) (expression_numbered g fits e a h, expressions_numbered g fits es bs hs)
 
-    chain_numbered : (g : Scope) → Fits b g.locals g.program g.result → (left : Option Ty) (os : Operations) (as' : typed.Operations) → IsChain g left os as' → AreNumberedOperations b as'
+    chain_numbered : (g : Scope) → Fits b g.locals g.program g.result → (left : ValueType) (os : Operations) (as' : typed.Operations) → IsChain g left os as' → AreNumberedOperations b as'
     chain_numbered g fits left NoOperations as' (l, eq) = subst (AreNumberedOperations b) (sym eq) tt
     chain_numbered g fits left (ThenOperation o p e os) as' (a, bs, h, l, i, hs, eq) =
-        subst (AreNumberedOperations b) (sym eq) (operation_numbered o a bs (expression_numbered g fits e a h) (chain_numbered g fits (Some Int) os bs hs))
+        subst (AreNumberedOperations b) (sym eq) (operation_numbered o a bs (expression_numbered g fits e a h) (chain_numbered g fits (Value Int) os bs hs))
 
   -- ---- statements
 

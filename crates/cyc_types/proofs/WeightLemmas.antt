@@ -18,6 +18,17 @@ use Rattle.cyc_types.proofs.NumberedLemmas.{items_counted}
 
 -- ---- expressions
 
+-- an expression is a token at least
+pub some_token : (a : typed.Expression) → 1 ≤ expression_weight a
+some_token (typed.Binary a os t) = omega (arith, some_token a)
+some_token (typed.Load (typed.Target k a t)) = omega arith
+some_token (typed.Load (typed.Member k a s f t)) = omega arith
+some_token (typed.Load (typed.Element a i t)) = omega arith
+some_token (typed.New typed.OnHeap i t) = omega arith
+some_token (typed.New typed.AsUnique i t) = omega arith
+some_token (typed.New (typed.ByHandle a) i t) = omega arith
+some_token a = omega arith
+
 converted_same : (a : typed.Expression) (t : Ty) (c : Converted) → IsConverted a t c → converted_weight c ≡ expression_weight a
 converted_same a t c (from, to, k, eq) = ap converted_weight eq
 
@@ -96,11 +107,11 @@ mutual
         subst (λ z. sum_of (λ b. 1 + expression_weight b) z ≤ written.more_expressions_weight (MoreExpressions e es)) (sym eq) (omega arith),
       )
 
-  chain_lighter : (g : Scope) (left : Option Ty) (os : Operations) (bs : typed.Operations) → IsChain g left os bs → operations_weight bs ≤ written.operations_weight os
+  chain_lighter : (g : Scope) (left : types.ValueType) (os : Operations) (bs : typed.Operations) → IsChain g left os bs → operations_weight bs ≤ written.operations_weight os
   chain_lighter g left NoOperations bs (l, eq) = subst (λ z. operations_weight z ≤ 0) (sym eq) (omega arith)
   chain_lighter g left (ThenOperation o p e os) bs (a, cs, h, l, i, hs, eq) =
       let operand : expression_weight a ≤ written.expression_weight e = expression_lighter g e a h in
-      let rest : operations_weight cs ≤ written.operations_weight os = chain_lighter g (Some types.Int) os cs hs in
+      let rest : operations_weight cs ≤ written.operations_weight os = chain_lighter g (types.Value types.Int) os cs hs in
       let same : operations_weight (then_operation o a cs) ≡ 1 + expression_weight a + operations_weight cs = operation_same o a cs in
       subst (λ z. operations_weight z ≤ written.operations_weight (ThenOperation o p e os)) (sym eq) (omega arith)
 

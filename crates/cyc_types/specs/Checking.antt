@@ -10,7 +10,7 @@ use Rattle.cyc_syntax.specs.Trees.{Named, Expression, Number, Character, Null, H
 use Rattle.cyc_types.specs.declared.typed.Kind.{Kind}
 use Rattle.cyc_types.specs.declared.typed.Kind.TheVariants as kinds
 use Rattle.cyc_types.specs.declared.typed.UnaryOperator.{UnaryOperator}
-use Rattle.cyc_types.specs.Types.{Ty, Int}
+use Rattle.cyc_types.specs.Types.{Ty, Int, ValueType, Value, result_type}
 use Rattle.cyc_types.specs.TypedTrees.{Lvalue, Converted, Convert, type_of}
 use Rattle.cyc_types.specs.TypedTrees as typed
 use Rattle.cyc_types.specs.IntPart.{is_int_program}
@@ -33,8 +33,8 @@ unless false f next = next
 
 -- ---- expressions
 
-abbrev pub conversion : Option Ty → Ty → Option (Kind × Kind)
-conversion (Some Int) Int = Some (kinds.Int, kinds.Int)
+abbrev pub conversion : ValueType → Ty → Option (Kind × Kind)
+conversion (Value Int) Int = Some (kinds.Int, kinds.Int)
 conversion t u = None
 
 abbrev pub convert_by : Option (Kind × Kind) → typed.Expression → Place → Checked Converted
@@ -45,12 +45,12 @@ convert_by (Some k) a p = Ok (Convert k.0 k.1 a)
 abbrev pub convert : typed.Expression → Ty → Place → Checked Converted
 convert a t p = convert_by (conversion (type_of a) t) a p
 
-abbrev pub is_int : Option Ty → Bool
-is_int (Some Int) = true
+abbrev pub is_int : ValueType → Bool
+is_int (Value Int) = true
 is_int t = false
 
 -- an int is wanted of the expression at this place
-abbrev pub want_int : Option Ty → Place → {A : Type 0} → Checked A → Checked A
+abbrev pub want_int : ValueType → Place → {A : Type 0} → Checked A → Checked A
 want_int t p next = if is_int t then next else Err (fault_at codes.TypeMismatch p)
 
 abbrev pub read : Meaning → Place → Checked typed.Expression
@@ -75,7 +75,7 @@ pass es as' ts = Ok typed.NoArguments
 abbrev pub call : Meaning → Place → Expressions → List typed.Expression → Checked typed.Expression
 call Unknown p es as' = Err (fault_at codes.UnknownName p)
 call (scopes.Variable l t) p es as' = Err (fault_at codes.TypeMismatch p)
-call (Routine f s) p es as' = if nat_eq (length as') (length s.parameters) then and_then (pass es as' s.parameters) (λ cs. Ok (typed.Call f cs s.result)) else Err (fault_at codes.TypeMismatch p)
+call (Routine f s) p es as' = if nat_eq (length as') (length s.parameters) then and_then (pass es as' s.parameters) (λ cs. Ok (typed.Call f cs (result_type s.result))) else Err (fault_at codes.TypeMismatch p)
 
 abbrev pub prefixed : Option UnaryOperator → typed.Expression → Place → Checked typed.Expression
 prefixed None a p = Err not_built
@@ -90,7 +90,7 @@ abbrev mutual
   check g (Bracketed p e) = check g e
   check g (Prefixed p o e) = and_then (check g e) (λ a. prefixed (unary_operator o) a (place_of e))
   check g (Binary e os) = and_then (check g e) (λ a. and_then (check_chain g (place_of e) (type_of a) os) (λ bs. Ok (typed.Binary a bs Int)))
-  check g (Assign e v) = and_then (target g (name_in e) (place_of e) (check g e)) (λ l. and_then (check g v) (λ b. and_then (convert b l.1 (place_of v)) (λ c. Ok (typed.Assign l.0 c (Some l.1)))))
+  check g (Assign e v) = and_then (target g (name_in e) (place_of e) (check g e)) (λ l. and_then (check g v) (λ b. and_then (convert b l.1 (place_of v)) (λ c. Ok (typed.Assign l.0 c (Value l.1)))))
   check g (Null p) = Err not_built
   check g (HeapRegion p) = Err not_built
   check g (UniqueRegion p) = Err not_built
@@ -105,10 +105,10 @@ abbrev mutual
   check_all g NoExpressions = Ok []
   check_all g (MoreExpressions e es) = and_then (check g e) (λ a. and_then (check_all g es) (λ bs. Ok (a ∷ bs)))
 
-  pub check_chain : Scope → Place → Option Ty → Operations → Checked typed.Operations
+  pub check_chain : Scope → Place → ValueType → Operations → Checked typed.Operations
   check_chain g p left NoOperations = want_int left p (Ok typed.NoOperations)
   check_chain g p left (ThenOperation o q e os) =
-      and_then (check g e) (λ a. want_int left p (want_int (type_of a) (place_of e) (and_then (check_chain g p (Some Int) os) (λ bs. Ok (then_operation o a bs)))))
+      and_then (check g e) (λ a. want_int left p (want_int (type_of a) (place_of e) (and_then (check_chain g p (Value Int) os) (λ bs. Ok (then_operation o a bs)))))
 
 -- ---- statements
 
@@ -188,7 +188,7 @@ check_functions ds (Function r x ps (Braces p is q) ∷ tree) =
     and_then (check_items (body_scope ds r (members_of ps.list)) is) (λ js. and_then (check_functions ds tree) (λ fs. Ok (function_of r x (members_of ps.list) is q js ∷ fs)))
 
 abbrev pub program_of : ℕ → List Declaration → List typed.Function → typed.Program
-program_of main tree fs = record { globals = globals_of tree; functions = fs; main = function_number main tree }
+program_of main tree fs = record { structs = []; exceptions = []; globals = globals_of tree; functions = fs; main = function_number main tree }
 
 -- the typed tree of a program, or its fault
 abbrev pub check_of : List (List ℕ) → List Declaration → Checked typed.Program

@@ -11,7 +11,7 @@ use Rattle.cyc_syntax.specs.Names.{number_of}
 use Rattle.cyc_syntax.specs.Symbols.{Place}
 use Rattle.cyc_syntax.specs.Trees.{Named, Expression, Number, Character, Null, HeapRegion, UniqueRegion, Variable, Call, Bracketed, NumberOfElements, FreeUnique, FreeKey, Chained, Prefixed, New, RegionNew, Binary, Assign, Expressions, NoExpressions, MoreExpressions, Operations, NoOperations, ThenOperation, Statement, Block, Labelled, Empty, Evaluate, Swap, If, IfElse, While, Return, Break, Continue, Throw, Try, Body, Braces, Items, NoItems, MoreItems, Execute, Local, Region, Alias, DynamicRegion, Member, Declaration, StructType, Exceptions, Global, Function, place_of}
 use Rattle.cyc_types.specs.declared.typed.UnaryOperator.{UnaryOperator}
-use Rattle.cyc_types.specs.Types.{Ty, Int}
+use Rattle.cyc_types.specs.Types.{Ty, Int, ValueType, Value}
 use Rattle.cyc_types.specs.TypedTrees.{Lvalue, Converted, type_of}
 use Rattle.cyc_types.specs.TypedTrees as typed
 use Rattle.cyc_types.specs.IntPart.{is_int_program}
@@ -71,7 +71,7 @@ abbrev mutual
   IsRefused g (Prefixed p o e) f =
       IsRefused g e f
       ⊎ ((a : typed.Expression) × IsTyped g e a × (unary_operator o ≡ None) × (f ≡ not_built))
-      ⊎ ((a : typed.Expression) × (u : UnaryOperator) × IsTyped g e a × (unary_operator o ≡ Some u) × (type_of a ≢ Some Int) × (f ≡ fault_at codes.TypeMismatch (place_of e)))
+      ⊎ ((a : typed.Expression) × (u : UnaryOperator) × IsTyped g e a × (unary_operator o ≡ Some u) × (type_of a ≢ Value Int) × (f ≡ fault_at codes.TypeMismatch (place_of e)))
   IsRefused g (Binary e os) f =
       IsRefused g e f
       ⊎ ((a : typed.Expression) × IsTyped g e a × IsChainRefused g (place_of e) (type_of a) os f)
@@ -99,13 +99,13 @@ abbrev mutual
       ⊎ ((a : typed.Expression) × IsTyped g e a × AreRefused g es f)
 
   -- the rest of a chain whose left operand begins at this place and has this type
-  pub IsChainRefused : Scope → Place → Option Ty → Operations → Fault → Type 0
-  IsChainRefused g p left NoOperations f = (left ≢ Some Int) × (f ≡ fault_at codes.TypeMismatch p)
+  pub IsChainRefused : Scope → Place → ValueType → Operations → Fault → Type 0
+  IsChainRefused g p left NoOperations f = (left ≢ Value Int) × (f ≡ fault_at codes.TypeMismatch p)
   IsChainRefused g p left (ThenOperation o q e os) f =
       IsRefused g e f
-      ⊎ ((a : typed.Expression) × IsTyped g e a × (left ≢ Some Int) × (f ≡ fault_at codes.TypeMismatch p))
-      ⊎ ((a : typed.Expression) × IsTyped g e a × (left ≡ Some Int) × (type_of a ≢ Some Int) × (f ≡ fault_at codes.TypeMismatch (place_of e)))
-      ⊎ ((a : typed.Expression) × IsTyped g e a × (left ≡ Some Int) × (type_of a ≡ Some Int) × IsChainRefused g p (Some Int) os f)
+      ⊎ ((a : typed.Expression) × IsTyped g e a × (left ≢ Value Int) × (f ≡ fault_at codes.TypeMismatch p))
+      ⊎ ((a : typed.Expression) × IsTyped g e a × (left ≡ Value Int) × (type_of a ≢ Value Int) × (f ≡ fault_at codes.TypeMismatch (place_of e)))
+      ⊎ ((a : typed.Expression) × IsTyped g e a × (left ≡ Value Int) × (type_of a ≡ Value Int) × IsChainRefused g p (Value Int) os f)
 
 -- ---- statements
 
@@ -113,10 +113,10 @@ abbrev mutual
 abbrev pub IsNoCondition : Scope → Expression → Fault → Type 0
 IsNoCondition g e f =
     IsRefused g e f
-    ⊎ ((a : typed.Expression) × IsTyped g e a × (type_of a ≢ Some Int) × (f ≡ fault_at codes.TypeMismatch (place_of e)))
+    ⊎ ((a : typed.Expression) × IsTyped g e a × (type_of a ≢ Value Int) × (f ≡ fault_at codes.TypeMismatch (place_of e)))
 
 abbrev pub IsCondition : Scope → Expression → Type 0
-IsCondition g e = (a : typed.Expression) × IsTyped g e a × (type_of a ≡ Some Int)
+IsCondition g e = (a : typed.Expression) × IsTyped g e a × (type_of a ≡ Value Int)
 
 -- at `return`, which stands at this place
 abbrev pub IsMisreturned : Scope → Place → Option Expression → Fault → Type 0

@@ -17,7 +17,7 @@ use Rattle.cyc_types.specs.declared.typed.UnaryOperator.{UnaryOperator}
 use Rattle.cyc_types.specs.declared.typed.UnaryOperator.TheVariants as unary
 use Rattle.cyc_types.specs.declared.typed.Operator.TheVariants as binary
 use Rattle.cyc_types.specs.declared.typed.LogicalOperator.TheVariants as logical
-use Rattle.cyc_types.specs.Types.{Ty, Int}
+use Rattle.cyc_types.specs.Types.{Ty, Int, ValueType, Value, result_type}
 use Rattle.cyc_types.specs.TypedTrees.{Lvalue, Converted, Convert, type_of}
 use Rattle.cyc_types.specs.TypedTrees as typed
 use Rattle.cyc_types.specs.IntPart.{is_empty, is_left_out, is_int_program}
@@ -31,8 +31,8 @@ abbrev pub type_written : WrittenType → Ty
 type_written w = Int
 
 -- A value of the first type, or of none, is converted to the second: the kinds before and after.
-abbrev pub Converts : Option Ty → Ty → Kind → Kind → Type 0
-Converts (Some Int) Int from to = (from ≡ kinds.Int) × (to ≡ kinds.Int)
+abbrev pub Converts : ValueType → Ty → Kind → Kind → Type 0
+Converts (Value Int) Int from to = (from ≡ kinds.Int) × (to ≡ kinds.Int)
 Converts t u from to = ⊥
 
 abbrev pub IsConverted : typed.Expression → Ty → Converted → Type 0
@@ -103,7 +103,7 @@ ArePassed (a ∷ as') (t ∷ ts) cs = (c : Converted) × (ds : typed.Arguments) 
 abbrev pub IsCalled : Meaning → List typed.Expression → typed.Expression → Type 0
 IsCalled Unknown as' a = ⊥
 IsCalled (scopes.Variable l t) as' a = ⊥
-IsCalled (Routine f s) as' a = (cs : typed.Arguments) × ArePassed as' s.parameters cs × (a ≡ typed.Call f cs s.result)
+IsCalled (Routine f s) as' a = (cs : typed.Arguments) × ArePassed as' s.parameters cs × (a ≡ typed.Call f cs (result_type s.result))
 
 abbrev mutual
   pub IsTyped : Scope → Expression → typed.Expression → Type 0
@@ -112,10 +112,10 @@ abbrev mutual
   IsTyped g (Variable x) a = IsRead (meaning_of g x) a
   IsTyped g (Call f es) a = (bs : List typed.Expression) × AreTyped g es bs × IsCalled (meaning_of g f) bs a
   IsTyped g (Bracketed p e) a = IsTyped g e a
-  IsTyped g (Prefixed p o e) a = (b : typed.Expression) × (u : UnaryOperator) × IsTyped g e b × (unary_operator o ≡ Some u) × (type_of b ≡ Some Int) × (a ≡ typed.Unary u b)
+  IsTyped g (Prefixed p o e) a = (b : typed.Expression) × (u : UnaryOperator) × IsTyped g e b × (unary_operator o ≡ Some u) × (type_of b ≡ Value Int) × (a ≡ typed.Unary u b)
   IsTyped g (Binary e os) a = (b : typed.Expression) × (bs : typed.Operations) × IsTyped g e b × IsChain g (type_of b) os bs × (a ≡ typed.Binary b bs Int)
   -- the left side is a place, and the value is converted to its type
-  IsTyped g (Assign e v) a = (l : Lvalue) × (t : Ty) × (b : typed.Expression) × (c : Converted) × IsTarget g (name_in e) l t × IsTyped g v b × IsConverted b t c × (a ≡ typed.Assign l c (Some t))
+  IsTyped g (Assign e v) a = (l : Lvalue) × (t : Ty) × (b : typed.Expression) × (c : Converted) × IsTarget g (name_in e) l t × IsTyped g v b × IsConverted b t c × (a ≡ typed.Assign l c (Value t))
   IsTyped g (Null p) a = ⊥
   IsTyped g (HeapRegion p) a = ⊥
   IsTyped g (UniqueRegion p) a = ⊥
@@ -131,9 +131,9 @@ abbrev mutual
   AreTyped g (MoreExpressions e es) as' = (a : typed.Expression) × (bs : List typed.Expression) × IsTyped g e a × AreTyped g es bs × (as' ≡ a ∷ bs)
 
   -- the operators of a chain, behind a left operand of this type
-  pub IsChain : Scope → Option Ty → Operations → typed.Operations → Type 0
-  IsChain g left NoOperations as' = (left ≡ Some Int) × (as' ≡ typed.NoOperations)
-  IsChain g left (ThenOperation o p e os) as' = (a : typed.Expression) × (bs : typed.Operations) × IsTyped g e a × (left ≡ Some Int) × (type_of a ≡ Some Int) × IsChain g (Some Int) os bs × (as' ≡ then_operation o a bs)
+  pub IsChain : Scope → ValueType → Operations → typed.Operations → Type 0
+  IsChain g left NoOperations as' = (left ≡ Value Int) × (as' ≡ typed.NoOperations)
+  IsChain g left (ThenOperation o p e os) as' = (a : typed.Expression) × (bs : typed.Operations) × IsTyped g e a × (left ≡ Value Int) × (type_of a ≡ Value Int) × IsChain g (Value Int) os bs × (as' ≡ then_operation o a bs)
 
 -- ---- statements
 
@@ -152,10 +152,10 @@ abbrev mutual
   IsTypedStatement g (Block b) s = (js : typed.Items) × IsTypedBody (in_block g) b js × (s ≡ typed.Block g.next_region js)
   IsTypedStatement g (Empty p) s = s ≡ typed.Empty
   IsTypedStatement g (Evaluate e) s = (a : typed.Expression) × IsTyped g e a × (s ≡ typed.Evaluate a)
-  IsTypedStatement g (If p e t) s = (a : typed.Expression) × (b : typed.Statement) × IsTyped g e a × (type_of a ≡ Some Int) × IsTypedStatement g t b × (s ≡ typed.If a b typed.Empty)
+  IsTypedStatement g (If p e t) s = (a : typed.Expression) × (b : typed.Statement) × IsTyped g e a × (type_of a ≡ Value Int) × IsTypedStatement g t b × (s ≡ typed.If a b typed.Empty)
   IsTypedStatement g (IfElse p e t u) s =
-      (a : typed.Expression) × (b c : typed.Statement) × IsTyped g e a × (type_of a ≡ Some Int) × IsTypedStatement g t b × IsTypedStatement (behind g t) u c × (s ≡ typed.If a b c)
-  IsTypedStatement g (While p e t) s = (a : typed.Expression) × (b : typed.Statement) × IsTyped g e a × (type_of a ≡ Some Int) × IsTypedStatement (in_body g) t b × (s ≡ typed.While p a b)
+      (a : typed.Expression) × (b c : typed.Statement) × IsTyped g e a × (type_of a ≡ Value Int) × IsTypedStatement g t b × IsTypedStatement (behind g t) u c × (s ≡ typed.If a b c)
+  IsTypedStatement g (While p e t) s = (a : typed.Expression) × (b : typed.Statement) × IsTyped g e a × (type_of a ≡ Value Int) × IsTypedStatement (in_body g) t b × (s ≡ typed.While p a b)
   IsTypedStatement g (Return p v) s = (c : Option Converted) × IsReturned g v c × (s ≡ typed.Return c)
   IsTypedStatement g (Break p) s = (g.in_loop ≡ true) × (s ≡ typed.Break)
   IsTypedStatement g (Continue p) s = (g.in_loop ≡ true) × (s ≡ typed.Continue)
@@ -307,11 +307,13 @@ abbrev mutual
   declared_types (typed.Return v) = []
   declared_types typed.Break = []
   declared_types typed.Continue = []
+  declared_types s = []
 
   pub item_types : typed.Items → List Ty
   item_types typed.NoItems = []
   item_types (typed.MoreItems (typed.Execute s) js) = declared_types s ++ item_types js
   item_types (typed.MoreItems (typed.Declare n t v) js) = t ∷ item_types js
+  item_types (typed.MoreItems j js) = item_types js
 
 abbrev pub function_of : Option WrittenType → Named → List Member → Items → Place → typed.Items → typed.Function
 function_of r x ms is q js = record {
@@ -319,6 +321,9 @@ function_of r x ms is q js = record {
   place = x.place;
   parameters = types_of ms;
   result = result_of r;
+  variables = 0;
+  effect = [];
+  constraints = [];
   locals = item_types js;
   region = 0;
   regions = suc (item_blocks is);
@@ -362,6 +367,8 @@ function_number main (Function r x ps b ∷ tree) = if nat_eq x.name main then 0
 -- The program is well typed, and this is its typed tree; its names have the numbers of their texts in the list.
 pub record IsTypedProgram (texts : List (List ℕ)) (tree : List Declaration) (p : typed.Program) : Type 0 where
   pub int_part : is_int_program tree ≡ true
+  pub structs : p.structs ≡ []
+  pub exceptions : p.exceptions ≡ []
   pub heads : AreHeads (number_of texts main_text) (regions_before texts) (known_before texts) tree
   pub has_main : declares (number_of texts main_text) tree ≡ true
   pub functions : AreFunctions (declared texts tree) tree p.functions
