@@ -25,7 +25,7 @@ use Rattle.cyc_plain.specs.declared.instruction.Operand.TheVariants as operands
 use Rattle.cyc_plain.specs.declared.instruction.Instruction.{Instruction}
 use Rattle.cyc_plain.specs.declared.instruction.Instruction.TheVariants as instructions
 use Rattle.cyc_meaning.specs.Operators.{division_by_zero}
-use Rattle.cyc_lower.specs.Lowering.{jump_if_nonzero, binary_operator, checked_code, load_code, call_code, test_jump, truth_code, expression_code, converted_code, arguments_code, operations_code}
+use Rattle.cyc_lower.specs.Lowering.{jump_if_nonzero, binary_operator, checked_code, load_code, operator_code, call_code, test_jump, truth_code, expression_code, converted_code, arguments_code, operations_code}
 use Rattle.cyc_lower.specs.Emission.{operation_code}
 
 -- ---- no expression is without code

@@ -139,7 +139,7 @@ abbrev mutual
   expression_code (Unary o a) p d = expression_code a p d ++ instructions.Unary (unary_operator o) d (operands.Slot d) ∷ []
   expression_code (Binary a os t) p d = expression_code a p d ++ operations_code os (p + length (expression_code a p d)) d
   expression_code (Assign l c t) p d = converted_code c p d ++ store_code l d
-  expression_code a p d = instructions.Constant d 0 ∷ []
+  expression_code a p d = instructions.Move d (operands.Word 0) ∷ []
 
   pub converted_code : Converted → (p d : ℕ) → List Instruction
   converted_code (Convert from to a) p d = expression_code a p d ++ conversion_code to (p + length (expression_code a p d)) d
