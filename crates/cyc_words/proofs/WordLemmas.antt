@@ -183,6 +183,9 @@ pub slt_of_cases : (a b : ℕ) → ((slt_of a b ≡ 1) × (signed a <ℤ signed 
 unfolding slt_of
 slt_of_cases a b = grind (arith, ints)
 
+pub sltu_of_cases : (a b : ℕ) → ((sltu_of a b ≡ 1) × (a < b)) ⊎ ((sltu_of a b ≡ 0) × (b ≤ a))
+sltu_of_cases a b = grind arith
+
 pub sltu_of-one : (a b : ℕ) → a < b → sltu_of a b ≡ 1
 sltu_of-one a b h = grind arith
 
