@@ -1,4 +1,5 @@
 -- what the crates above cite
+pub mod RuleLaws
 pub mod Answered
 pub mod FlowAnswered
 pub mod TypedTreeViewLemmas

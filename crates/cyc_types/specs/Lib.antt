@@ -6,6 +6,7 @@ pub mod TypedTrees
 pub mod TypedTreeView
 pub mod IntPart
 pub mod Scopes
+pub mod Rules
 pub mod TypingRules
 pub mod Refusals
 pub mod FlowRules
