@@ -17,5 +17,6 @@ pub mod Outlives
 pub mod FlowChecking
 pub mod Closure
 -- examples
+pub mod RuleReadings
 pub mod RuleExamples
 pub mod OutlivesExamples
