@@ -277,10 +277,6 @@ main_signature (Some w) ps h = go (members_of ps.list) refl h
     go [] e i = rw e refl
     go (m ∷ ms) e i = absurd (let k : is_empty (m ∷ ms) ≡ true = ap is_empty (sym e) ∙ i in cc)
 
-is_head : (c : Bool) → not (true && not c) ≡ true → c ≡ true
-is_head true e = refl
-is_head false e = absurd (cc)
-
 not_main : (c d : Bool) → not c ≡ true → c || d ≡ true → d ≡ true
 not_main true d e h = absurd (cc)
 not_main false d e h = h
@@ -293,10 +289,10 @@ main_numbered main regions known (Exceptions cs ∷ ds) (u, h, hs) d = absurd h
 main_numbered main regions known (Global w x v ∷ ds) (u, ((n, (m, k)), e), hs) d = main_numbered main regions (x.name ∷ known) ds hs (not_main (nat_eq x.name main) (declares main ds) m d)
 main_numbered main regions known (Function r x ps b ∷ ds) (u, (y, ((n, (m, k)), e), h), hs) d = go (nat_eq x.name main) m d (λ i. main_numbered main regions (x.name ∷ known) ds hs i)
   where
-    go : (c : Bool) → not (c && not (is_main_head r ps)) ≡ true → c || declares main ds ≡ true
+    go : (c : Bool) → not c || is_main_head r ps ≡ true → c || declares main ds ≡ true
         → (declares main ds ≡ true → slice_get (signatures_in ds) (function_number main ds) ≡ Some (record { parameters = []; result = Some Int }))
         → slice_get (signatures_in (Function r x ps b ∷ ds)) (cond c 0 (suc (function_number main ds))) ≡ Some (record { parameters = []; result = Some Int })
-    go true e i rest = ap Some (main_signature r ps (is_head (is_main_head r ps) e))
+    go true e i rest = ap Some (main_signature r ps e)
     go false e i rest = rest i
 
 pub program_numbered : (texts : List (List ℕ)) (tree : List Declaration) (p : typed.Program) → IsTypedProgram texts tree p → IsNumberedProgram p

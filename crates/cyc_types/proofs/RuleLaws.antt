@@ -169,6 +169,13 @@ pub settles : (ds : List Demand) → Settles ds (settled None ds)
 settles [] = none_broken tt
 settles (d ∷ ds) = settles_next d ds (settles ds)
 
+pub settled_kept : (ds : List Demand) → settled None ds ≡ None → AllKept ds
+settled_kept ds e = go (settled None ds) (settles ds) e
+  where
+    go : (o : Option Fault) → Settles ds o → o ≡ None → AllKept ds
+    go o (none_broken h) is = h
+    go o (broken h) is = absurd (cc)
+
 -- ---- rules
 
 pub derived : {A : Type 0} (r : Rule A) (a : A) → Derives r a → run r ≡ Ok a

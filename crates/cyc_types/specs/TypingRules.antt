@@ -102,9 +102,12 @@ abbrev pub prefixed : Option UnaryOperator → Place → typed.Expression → Ru
 prefixed None p a = Refused not_built
 prefixed (Some u) p a = Own (int_wanted (type_of a) p) (typed.Unary u a)
 
--- an operation whose left operand has this type, where the chain begins at the first place and the right operand at the second
+-- both operands of an operation are ints: the left one's chain begins at the first place, the right one at the second
+abbrev pub operands_demanded : Option Ty → Place → Option Ty → Place → List Demand
+operands_demanded left p right q = demand codes.TypeMismatch p (is_int left) ∷ demand codes.TypeMismatch q (is_int right) ∷ []
+
 abbrev pub joined : Option Ty → Place → BinaryOperator → Place → typed.Expression → Rule (typed.Operations → typed.Operations)
-joined left p o q a = Own (demand codes.TypeMismatch p (is_int left) ∷ demand codes.TypeMismatch q (is_int (type_of a)) ∷ []) (then_operation o a)
+joined left p o q a = Own (operands_demanded left p (type_of a) q) (then_operation o a)
 
 -- each argument is converted to its parameter's type
 abbrev pub passed : List typed.Expression → List Ty → typed.Arguments
@@ -253,21 +256,19 @@ is_main_head r ps = not (is_left_out r) && is_empty (members_of ps.list)
 abbrev pub is_taken : (regions known : List ℕ) → ℕ → Bool
 is_taken regions known x = list_any (nat_eq x) known || list_any (nat_eq x) regions
 
+-- a name at this place is new, and is not that of `main` where `main` may not stand
+abbrev pub head_demanded : Place → (is_new is_no_main : Bool) → List Demand
+head_demanded p is_new is_no_main = demand codes.DeclaredTwice p is_new ∷ demand codes.BadMain p is_no_main ∷ []
+
 -- A declaration's head, where these names are declared before it, these regions before the program, and `main` has this number
 -- among the names. The parameters come behind the name.
 abbrev pub rule_head : (main : ℕ) (regions known : List ℕ) → Declaration → Rule (Unit {0})
 rule_head main regions known (StructType s rs fs) = Refused not_built
 rule_head main regions known (Exceptions cs) = Refused not_built
-rule_head main regions known (Global w x v) = demands (
-  demand codes.DeclaredTwice x.place (not (list_any (nat_eq x.name) known))
-  ∷ demand codes.BadMain x.place (not (nat_eq x.name main))
-  ∷ []
-)
-rule_head main regions known (Function r x ps b) = Part (demands (
-  demand codes.DeclaredTwice x.place (not (is_taken regions known x.name))
-  ∷ demand codes.BadMain x.place (not (nat_eq x.name main && not (is_main_head r ps)))
-  ∷ []
-)) (λ u. demands (distinct_demanded [] (members_of ps.list)))
+rule_head main regions known (Global w x v) = demands (head_demanded x.place (not (list_any (nat_eq x.name) known)) (not (nat_eq x.name main)))
+rule_head main regions known (Function r x ps b) =
+    Part (demands (head_demanded x.place (not (is_taken regions known x.name)) (not (nat_eq x.name main) || is_main_head r ps)))
+    (λ u. demands (distinct_demanded [] (members_of ps.list)))
 
 -- the names of functions and globals that a declaration adds
 abbrev pub with_names : Declaration → List ℕ → List ℕ
