@@ -1,12 +1,13 @@
 -- The scope that the code's checker knows, and the state that it keeps.
-use Rattle.std.specs.Prelude.{suc, ◌+◌, ◌<◌, true, ◌∷◌, map, Option}
+use Rattle.std.specs.Prelude.{suc, ◌+◌, ◌<◌, true, ◌∷◌, map, Option, Some, None}
+use Rattle.cyc_words.specs.declared.fault.Code.TheVariants as codes
 use Rattle.cyc_syntax.specs.declared.tree.BinaryOperator.{BinaryOperator}
 use Rattle.cyc_syntax.specs.Symbols.{Place}
-use Rattle.cyc_syntax.specs.Trees.{Named, Expression, place_of, Statement, Items, Item, Execute, Local, Region, Alias, DynamicRegion}
+use Rattle.cyc_syntax.specs.Trees.{Named, Expression, Variable, Bracketed, place_of, Statement, Items, Item, Execute, Local, Region, Alias, DynamicRegion}
 use Rattle.cyc_types.specs.Scopes.{Scope, locals_in, item_locals, blocks_in, item_blocks}
 use Rattle.cyc_types.specs.Types.{Ty}
 use Rattle.cyc_types.specs.TypedTrees as typed
-use Rattle.cyc_types.specs.Rules.{Checked, Part, run}
+use Rattle.cyc_types.specs.Rules.{Checked, fault_at, Refused, Part, run}
 use Rattle.cyc_types.specs.TypingRules.{joined, rule}
 use Rattle.cyc_check.specs.declared.checker.Checker.{Checker}
 use Rattle.cyc_check.specs.Code.{result_if}
@@ -64,3 +65,13 @@ behind_item (DynamicRegion r k) c = c
 -- one operation of a chain that begins at this place, behind a left operand of this type
 abbrev pub one_operation : Scope → Place → Option Ty → BinaryOperator → Expression → Checked (typed.Operations → typed.Operations)
 one_operation g p left o e = run (Part (rule g e) (λ a. joined left p o (place_of e) a))
+
+-- brackets aside, the expression is this name
+abbrev pub name_in : Expression → Option Named
+name_in (Variable x) = Some x
+name_in (Bracketed p e) = name_in e
+name_in e = None
+
+-- the left side of an assignment that begins at this place, where it is no name
+abbrev pub no_place : Scope → Place → Expression → Checked (typed.Lvalue × Ty)
+no_place g p e = run (Part (rule g e) (λ a. Refused (fault_at codes.NotAPlace p)))

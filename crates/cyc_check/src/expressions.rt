@@ -1,6 +1,6 @@
 //! The walk over expressions: parts in order of evaluation, and then the form's own part (`forms.rt`).
-ghost use Rattle.std.specs.Prelude.{◌≡◌, map, Ok, IfOk};
-ghost use Rattle.cyc_syntax.specs.TreeView.{place_of_span, view_expression, expressions_of, operations_of};
+ghost use Rattle.std.specs.Prelude.{◌≡◌, map, option_map, Ok, IfOk};
+ghost use Rattle.cyc_syntax.specs.TreeView.{place_of_span, view_name, view_expression, expressions_of, operations_of};
 ghost use Rattle.cyc_types.specs.Types as types;
 ghost use Rattle.cyc_types.specs.TypedTrees.{type_of};
 ghost use Rattle.cyc_types.specs.TypedTrees as nodes;
@@ -8,17 +8,28 @@ ghost use Rattle.cyc_types.specs.TypedTreeView as typed_view;
 ghost use Rattle.cyc_types.specs.Rules.{and_then, run};
 ghost use Rattle.cyc_types.specs.TypingRules.{then_operation, rule, rule_all, rule_chain, rule_target};
 ghost use Rattle.cyc_check.specs.Code.{Gives, view_given, view_boxed, value_of, AreOfInts};
-ghost use Rattle.cyc_check.specs.Checkers.{scope_of, one_operation};
+ghost use Rattle.cyc_check.specs.Checkers.{scope_of, one_operation, name_in, no_place};
 
 use crate::checker::Checker;
 use crate::forms::{as_int, binary_of, joined, number, push_operation, span_of};
 use crate::given::Given;
 use crate::settled::wanted;
 use crate::stop::{Stop, not_built, refused};
-use cyc_syntax::{Expr, Operation};
+use cyc_syntax::{Expr, Ident, Operation};
 use cyc_types::typed;
 use cyc_types::typed::{Converted, Lvalue};
 use cyc_words::{Code, Span};
+
+/// The name that the expression is, brackets aside.
+fn name_in(expression: &Expr) -> Option<Ident>
+    ensures { option_map view_name result ≡ name_in (view_expression expression.now) }
+{
+    match expression {
+        Expr::Variable { name } => Some(*name),
+        Expr::Bracketed { inner, .. } => name_in(inner),
+        _ => None,
+    }
+}
 
 impl<'a> Checker<'a> {
     #[cycle(expression)]
@@ -127,13 +138,18 @@ impl<'a> Checker<'a> {
     fn check_target(&self, left: &Expr, span: Span) -> Result<Lvalue, Stop>
         ensures { Gives (λ l. (typed_view.view_lvalue l, types.Int)) result (run (rule_target (scope_of self.now) (place_of_span span) (view_expression left.now) (rule (scope_of self.now) (view_expression left.now)))) }
     {
-        match left {
-            Expr::Variable { name } => self.place_meant(*name, span),
-            Expr::Bracketed { inner, .. } => self.check_target(inner, span),
-            _ => {
-                self.check_expression(left)?;
-                Err(refused(Code::NotAPlace, span))
-            }
+        match name_in(left) {
+            Some(name) => self.place_meant(name, span),
+            None => self.check_no_place(left, span),
         }
+    }
+
+    /// What is no place is walked before it is refused.
+    #[cycle(expression)]
+    fn check_no_place(&self, left: &Expr, span: Span) -> Result<Lvalue, Stop>
+        ensures { Gives (λ l. (typed_view.view_lvalue l, types.Int)) result (no_place (scope_of self.now) (place_of_span span) (view_expression left.now)) }
+    {
+        self.check_expression(left)?;
+        Err(refused(Code::NotAPlace, span))
     }
 }

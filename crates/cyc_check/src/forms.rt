@@ -223,19 +223,19 @@ pub(crate) fn joined(
 }
 
 /// Settles that each argument is converted to an int, as far as there are parameters.
-#[tactic(auto, using(crate::proofs::Arguments::demanded_next, crate::proofs::Arguments::demanded_none))]
-fn pass(settled: &mut Settled, parameters: usize, expressions: &[Expr], values: &[Converted])
-    ensures { settled.new.known ≡ settled settled.old.known (arguments_demanded (expressions_of expressions.now) (map value_of values.now) (ints parameters)) }
+fn pass(so_far: &mut Settled, parameters: usize, expressions: &[Expr], values: &[Converted])
+    ensures { so_far.new.known ≡ settled so_far.old.known (arguments_demanded (expressions_of expressions.now) (map value_of values.now) (ints parameters)) }
 {
     for i in 0..parameters {
         let (Some(expression), Some(value)) = (expressions.get(i), values.get(i)) else {
             return;
         };
-        settled.convert(Given::by(&value.value), span_of(expression));
+        so_far.convert(Given::by(&value.value), span_of(expression));
     }
 }
 
 /// Whether there are as many arguments as parameters, and each is converted. The callee's name stands at this place.
+#[tactic(auto, using(crate::proofs::Arguments::counted))]
 fn is_called_well(
     span: Span,
     parameters: usize,

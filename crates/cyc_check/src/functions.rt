@@ -150,7 +150,7 @@ impl<'a> Checker<'a> {
         members: &[Member],
         written: &[Item],
     ) -> Result<Vec<typed::Item>, Stop>
-        ensures gives { Gives (λ v. typed_view.items_of v.items) result (check_items (body_scope (map view_entry self.old.declared.now) (option_map view_type returned.now) (map view_member members.now)) (items_of written.now)) }
+        ensures gives { Gives (λ v. typed_view.items_of v.items) result (run (rule_items (body_scope (map view_entry self.old.declared.now) (option_map view_type returned.now) (map view_member members.now)) (items_of written.now))) }
         ensures locals { OnOk result (self.new.next_local ≡ length members.now + item_locals (items_of written.now)) }
         ensures regions { OnOk result (self.new.next_region ≡ 1 + item_blocks (items_of written.now)) }
         ensures same { OnOk result (self.new.declared ≡ self.old.declared) }
