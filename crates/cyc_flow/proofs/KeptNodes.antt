@@ -12,7 +12,8 @@ use Rattle.cyc_types.specs.declared.typed.Stmt.{Stmt}
 use Rattle.cyc_types.specs.declared.typed.Stmt.TheVariants as stmt
 use Rattle.cyc_types.specs.declared.typed.Item.{Item as ItemCode}
 use Rattle.cyc_types.specs.declared.ty.Ty.{Ty}
-use Rattle.cyc_types.specs.TypeView.{view_ty}
+use Rattle.cyc_types.specs.declared.typed.ValueType.{ValueType}
+use Rattle.cyc_types.specs.TypeView.{view_ty, view_value_type}
 use Rattle.cyc_types.specs.TypedTrees.{Expression, Statement, Call, Binary, Block}
 use Rattle.cyc_types.specs.TypedTreeView.{view_expression, arguments_of, operations_of, view_statement, items_of}
 use Rattle.cyc_types.proofs.TypedTreeViewLemmas.{view_call, view_binary, view_block}
@@ -23,11 +24,11 @@ use Rattle.cyc_flow.specs.declared.state.State.{State as StateCode}
 use Rattle.cyc_flow.specs.declared.stop.Stop.{Stop}
 use Rattle.cyc_flow.specs.Code.{Gives, GivesInLoop}
 
-module _ (value : Expr) (f : Callee) (v : Vec ConvertedCode Heap) (t : Option Ty) (is : value ≡ expr.Call f v t) (items : List ConvertedCode) (same : items ≡ v.items) (r : Result StateCode Stop) (s : State) where
+module _ (value : Expr) (f : Callee) (v : Vec ConvertedCode Heap) (t : ValueType) (is : value ≡ expr.Call f v t) (items : List ConvertedCode) (same : items ≡ v.items) (r : Result StateCode Stop) (s : State) where
   pub kept_call : Gives r (keep_arguments (arguments_of items) s) (after_arguments (arguments_of items) s) → Gives r (keep (view_expression value) s) (after (view_expression value) s)
   kept_call h =
-      let e : view_expression value ≡ Call f (arguments_of items) (option_map view_ty t)
-      = ap view_expression is ∙ view_call f v t ∙ ap (λ (cs : List ConvertedCode). Call f (arguments_of cs) (option_map view_ty t)) (sym same) in
+      let e : view_expression value ≡ Call f (arguments_of items) (view_value_type t)
+      = ap view_expression is ∙ view_call f v t ∙ ap (λ (cs : List ConvertedCode). Call f (arguments_of cs) (view_value_type t)) (sym same) in
       let P : Expression → Type 0 = λ a. Gives r (keep a s) (after a s) in
       subst P (sym e) h
 

@@ -69,6 +69,7 @@ module _ (code : List Instruction) (b : Numbering) where
         let front = converted_code c p d in
         let back = store_code l d in
         (p + length front, converted_stands c d p (p + length front) numbered refl (has_front code p front back has), store_stands l d (p + length front) q few (cut p q front back end) (has_back code p front back has))
+    expression_stands a d p q numbered end has = absurd numbered
 
     converted_stands : (c : Converted) (d p q : ℕ) → IsNumberedConverted b c → p + length (converted_code c p d) ≡ q → HasAt code p (converted_code c p d) → ConvertedAt code b c d p q
     converted_stands (Convert from to a) d p q numbered end has =
@@ -111,6 +112,7 @@ module _ (code : List Instruction) (b : Numbering) where
           (first, second, omega (arith, long)),
           operations_stand os d (p + length front) q rest (cut p q front back end) (has_back code p front back has),
         )
+    operations_stand os d p q numbered end has = absurd numbered
 
   -- ---- statements
 
@@ -191,6 +193,7 @@ module _ (code : List Instruction) (b : Numbering) where
     statement_stands (Return v) in_loop loop d p q numbered end has = return_stands v d p q numbered end has
     statement_stands Break in_loop loop d p q numbered end (here, none) = here
     statement_stands Continue in_loop loop d p q numbered end (here, none) = here
+    statement_stands s in_loop loop d p q numbered end has = absurd numbered
 
     items_stand : (js : Items) (in_loop : Bool) (loop d p q : ℕ) → AreNumberedItems b in_loop js → p + length (items_code js p loop d) ≡ q → HasAt code p (items_code js p loop d) → ItemsAt code b js loop d p q
     items_stand NoItems in_loop loop d p q numbered end has = omega (arith, end)
@@ -202,6 +205,7 @@ module _ (code : List Instruction) (b : Numbering) where
         let front = declaration_code n v p d in
         let back = items_code js (p + length front) loop d in
         (p + length front, declaration_stands n v d p (p + length front) few numbered refl (has_front code p front back has), items_stand js in_loop loop d (p + length front) q rest (cut p q front back end) (has_back code p front back has))
+    items_stand js in_loop loop d p q numbered end has = absurd numbered
 
 -- ---- functions
 

@@ -48,6 +48,7 @@ mutual
   expression_some (Unary o a) p d = before (expression_code a p d) _ (expression_some a p d)
   expression_some (Binary a os t) p d = before (expression_code a p d) _ (expression_some a p d)
   expression_some (Assign l c t) p d = before (converted_code c p d) _ (converted_some c p d)
+  expression_some a p d = omega arith
 
   pub converted_some : (c : Converted) (p d : ℕ) → 0 < length (converted_code c p d)
   converted_some (Convert from to a) p d = before (expression_code a p d) _ (expression_some a p d)
@@ -117,11 +118,11 @@ pub argument_count_of : (cs : List ConvertedCode) → argument_count (arguments_
 argument_count_of [] = refl
 argument_count_of (c ∷ cs) = ap suc (argument_count_of cs)
 
-module _ (value : Expr) (f : Callee) (v : Vec ConvertedCode Heap) (t : Option TyCode) (is : value ≡ expr.Call f v t) (items : List ConvertedCode) (same : items ≡ v.items) (old middle new : List Instruction) (d n : ℕ) where
+module _ (value : Expr) (f : Callee) (v : Vec ConvertedCode Heap) (t : ValueTypeCode) (is : value ≡ expr.Call f v t) (items : List ConvertedCode) (same : items ≡ v.items) (old middle new : List Instruction) (d n : ℕ) where
   pub made_call : n ≡ length items → middle ≡ old ++ arguments_code (arguments_of items) (length old) d → new ≡ middle ++ call_code f n d → new ≡ old ++ expression_code (view_expression value) (length old) d
   made_call many passed called =
-      let e : view_expression value ≡ Call f (arguments_of items) (option_map view_ty t)
-      = ap view_expression is ∙ view_call f v t ∙ ap (λ (cs : List ConvertedCode). Call f (arguments_of cs) (option_map view_ty t)) (sym same) in
+      let e : view_expression value ≡ Call f (arguments_of items) (view_value_type t)
+      = ap view_expression is ∙ view_call f v t ∙ ap (λ (cs : List ConvertedCode). Call f (arguments_of cs) (view_value_type t)) (sym same) in
       called
       ∙ ap (λ (l : List Instruction). l ++ call_code f n d) passed
       ∙ append_assoc old (arguments_code (arguments_of items) (length old) d) (call_code f n d)

@@ -98,7 +98,7 @@ module _ (source : Program) (pages calls : ℕ) (some_page : 1 ≤ pages) where
       one source pages calls some_page found.gives shared at
       (λ choice. given_value found.value (c.globals n) k e w c q (words n found.value (global_there c.active.function n few) (ap (contents w.objects) same ∙ found.has)) shared (low, below, hold, waiting, words) holds end stack)
 
-  assigns : (l : Lvalue) (from to : Kind) (a : Expression) (t : Option Ty) (k : List Entry) (e : Environment) (w : World) (c : Configuration) (object : Option ℕ)
+  assigns : (l : Lvalue) (from to : Kind) (a : Expression) (t : ValueType) (k : List Entry) (e : Environment) (w : World) (c : Configuration) (object : Option ℕ)
       → object_of e l ≡ object → IsWell (assigned object (Convert from to a) k e w) → Related source calls (Evaluating (Assign l (Convert from to a) t)) k e w c
       → IsMatched source pages calls some_page (Running (Evaluating (Assign l (Convert from to a) t)) k e w) (plain.Running c)
   assigns l from to a t k e w c None is well related = absurd (well refl)
@@ -127,3 +127,4 @@ module _ (source : Program) (pages calls : ℕ) (some_page : 1 ≤ pages) where
       (shared, facts, (m, at_a, holds, (q, at, stack)))
       (omega arith)
   evaluating (Assign l (Convert from to a) t) k e w c well related = assigns l from to a t k e w c (object_of e l) refl well related
+  evaluating a k e w c well (shared, facts, (q, at, holds, stack)) = absurd at

@@ -43,7 +43,7 @@ abbrev global : ℕ → Expression
 global n = Copy (Global n) Int
 
 abbrev sets : ℕ → Expression → Expression
-sets n a = Assign (Local nowhere n) (int a) (Some Int)
+sets n a = Assign (Local nowhere n) (int a) (Value Int)
 
 abbrev two : Expression → Operations → Expression
 two a os = Binary a os Int
@@ -53,7 +53,7 @@ passed [] = NoArguments
 passed (a ∷ rest) = MoreArguments (int a) (passed rest)
 
 abbrev call : Callee → List Expression → Expression
-call f arguments = Call f (passed arguments) (Some Int)
+call f arguments = Call f (passed arguments) (Value Int)
 
 -- statements one after the other
 abbrev all : List Statement → Items
@@ -70,6 +70,9 @@ function parameters locals body = record {
   place = nowhere;
   parameters = parameters;
   result = Some Int;
+  variables = 0;
+  effect = [];
+  constraints = [];
   locals = locals;
   region = 0;
   regions = 1;
@@ -83,6 +86,8 @@ ints = Int ∷ Int ∷ []
 -- main has two locals, and there is one global, which holds 7
 abbrev program : Items → List Function → Program
 program body others = record {
+  structs = [];
+  exceptions = [];
   globals = record { name = 0; of_type = Int; value = Word 7 } ∷ [];
   functions = function [] ints body ∷ others;
   main = 0;
@@ -136,7 +141,7 @@ local_is_set = refl
 global_holds : gives 2 (global 0) ≡ Ended (Returned (pos 7))
 global_holds = refl
 
-global_is_set : gives 7 (two (Assign (Global 0) (int (Number 2)) (Some Int)) (ThenCompute Add (global 0) NoOperations)) ≡ Ended (Returned (pos 4))
+global_is_set : gives 7 (two (Assign (Global 0) (int (Number 2)) (Value Int)) (ThenCompute Add (global 0) NoOperations)) ≡ Ended (Returned (pos 4))
 global_is_set = refl
 
 printed : output_of (after 5 (program (all (Evaluate (call Putchar (Number 321 ∷ [])) ∷ returns (Number 0) ∷ [])) []) []) ≡ 65 ∷ []
@@ -235,6 +240,8 @@ stops_at_line_feed = refl
 -- a null pointer that is converted to one that is never null
 abbrev converting : Program
 converting = record {
+  structs = [];
+  exceptions = [];
   globals = record { name = 0; of_type = Pointer Nullable Int Heap; value = Null } ∷ [];
   functions = function [] ints (MoreItems (Declare 0 (Pointer NonNull Int Heap) (Some (Convert kinds.Nullable kinds.NonNull (Copy (Global 0) (Pointer Nullable Int Heap))))) NoItems) ∷ [];
   main = 0;

@@ -30,26 +30,21 @@ kind_few kinds.Fat = omega arith
 kind_few kinds.Handle = omega arith
 kind_few kinds.Key = omega arith
 
-result_few : (t : Option Ty) → result_words t ≤ 3
-result_few None = omega arith
-result_few (Some t) = (words_few t).1
+result_few : (t : ValueType) → result_words t ≤ 3
+result_few Void = omega arith
+result_few Null = omega arith
+result_few (Value t) = (words_few t).1
 
-operand_few : (t : Option Ty) → operand_words t ≤ 3
-operand_few None = omega arith
-operand_few (Some t) = (words_few t).1
+operand_few : (t : ValueType) → operand_words t ≤ 3
+operand_few Void = omega arith
+operand_few Null = omega arith
+operand_few (Value t) = (words_few t).1
 
 converted_few : (c : Converted) → converted_words c ≤ 3
 converted_few (Convert from to a) = let f = kind_few from in let t = kind_few to in omega (arith, f, t)
 
 -- ---- expressions
 
-some_token : (a : Expression) → 1 ≤ expression_weight a
-some_token (Number n) = omega arith
-some_token (Copy l t) = omega arith
-some_token (Call f cs t) = omega arith
-some_token (Unary o a) = omega arith
-some_token (Binary a os t) = omega (arith, some_token a)
-some_token (Assign l c t) = omega arith
 
 converted_token : (c : Converted) → 1 ≤ converted_weight c
 converted_token (Convert from to a) = some_token a
@@ -70,6 +65,7 @@ mutual
   expression_light (Unary o a) = omega (arith, operand_few (type_of a), some_token a, expression_light a)
   expression_light (Binary a os t) = omega (arith, expression_light a, operations_light os t (operand_words (type_of a)) (operand_few (type_of a)))
   expression_light (Assign l c t) = omega (arith, converted_few c, result_few t, converted_token c, converted_light c)
+  expression_light a = omega arith
 
   converted_light : (c : Converted) → converted_need c ≤ 6 * converted_weight c
   converted_light (Convert from to a) = expression_light a
@@ -86,6 +82,7 @@ mutual
   operations_light NoOperations t left few = omega arith
   operations_light (ThenCompute o a os) t left few = omega (arith, operand_few (type_of a), (words_few t).1, some_token a, expression_light a, operations_light os t (words_of t) (words_few t).1)
   operations_light (ThenTest o a os) t left few = omega (arith, operand_few (type_of a), (words_few t).1, some_token a, expression_light a, operations_light os t (words_of t) (words_few t).1)
+  operations_light os t left few = omega arith
 
 -- ---- statements
 
@@ -100,12 +97,14 @@ mutual
   statement_light (Return (Some c)) = omega (arith, converted_light c)
   statement_light Break = omega arith
   statement_light Continue = omega arith
+  statement_light s = omega arith
 
   items_light : (js : Items) → items_need js ≤ 6 * items_weight js
   items_light NoItems = omega arith
   items_light (MoreItems (Execute s) js) = omega (arith, statement_light s, items_light js)
   items_light (MoreItems (Declare n t None) js) = omega (arith, items_light js)
   items_light (MoreItems (Declare n t (Some c)) js) = omega (arith, converted_light c, items_light js)
+  items_light (MoreItems j js) = omega (arith, items_light js)
 
 -- ---- functions
 

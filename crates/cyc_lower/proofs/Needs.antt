@@ -40,13 +40,15 @@ kind_most kinds.Fat = omega arith
 kind_most kinds.Handle = omega arith
 kind_most kinds.Key = omega arith
 
-result_most : (t : Option Ty) → result_words t ≤ 3
-result_most (Some t) = words_most t
-result_most None = omega arith
+result_most : (t : ValueType) → result_words t ≤ 3
+result_most (Value t) = words_most t
+result_most Void = omega arith
+result_most Null = omega arith
 
-operand_most : (t : Option Ty) → operand_words t ≤ 3
-operand_most (Some t) = words_most t
-operand_most None = omega arith
+operand_most : (t : ValueType) → operand_words t ≤ 3
+operand_most (Value t) = words_most t
+operand_most Void = omega arith
+operand_most Null = omega arith
 
 converted_most : (c : Converted) → converted_words c ≤ 3
 converted_most (Convert from to a) = omega (arith, kind_most from, kind_most to)
@@ -122,6 +124,7 @@ mutual
         some = omega (arith, long, inner.some);
         most = omega (arith, long, store_long l d, inner.some, inner.most, converted_most c, result_most t);
       }
+  expression_bounded a p d = record { some = omega arith; most = omega arith }
 
   converted_bounded : (c : Converted) (p d : ℕ) → IsBounded (converted_need c) (length (converted_code c p d))
   converted_bounded (Convert from to a) p d =
@@ -163,6 +166,7 @@ mutual
       let inner = expression_bounded a (p + 1) d in
       let rest = operations_bounded os t q d (words_of t) (words_most t) in
       omega (arith, length-append front (operations_code os q d), length-append operand (truth_code d), inner.some, inner.most, operand_most (type_of a), words_most t, rest, few)
+  operations_bounded os t p d left few = omega arith
 
 initial_bounded : (v : Option Converted) (n p d : ℕ) → initial_need v ≤ 5 * length (declaration_code n v p d)
 initial_bounded None n p d = omega arith
@@ -202,6 +206,7 @@ mutual
   statement_bounded (Return v) p loop d = return_bounded v p d
   statement_bounded Break p loop d = omega arith
   statement_bounded Continue p loop d = omega arith
+  statement_bounded s p loop d = omega arith
 
   pub items_bounded : (js : Items) (p loop d : ℕ) → items_need js ≤ 5 * length (items_code js p loop d)
   items_bounded NoItems p loop d = omega arith
@@ -213,6 +218,7 @@ mutual
       let front = declaration_code n v p d in
       let back = items_code js (p + length front) loop d in
       omega (arith, length-append front back, initial_bounded v n p d, items_bounded js (p + length front) loop d)
+  items_bounded (MoreItems j js) p loop d = items_bounded js p loop d
 
 -- the frame length, by the length of the code and the number of locals
 pub frame_bounded : (h : Function) → frame_count h ≤ 24 + 3 * first_temporary h + 5 * length (function_code h)

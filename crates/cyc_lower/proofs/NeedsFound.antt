@@ -123,10 +123,10 @@ words_done ts i words done h =
 
 -- ---- nodes with lists
 
-pub call_needs : (value : Expr) (f : Callee) (v : Vec ConvertedCode Heap) (t : Option TyCode) → value ≡ expr.Call f v t → (items : List ConvertedCode) → items ≡ v.items
-    → expression_need (view_expression value) ≡ call_need (arguments_of items) (option_map view_ty t)
+pub call_needs : (value : Expr) (f : Callee) (v : Vec ConvertedCode Heap) (t : ValueTypeCode) → value ≡ expr.Call f v t → (items : List ConvertedCode) → items ≡ v.items
+    → expression_need (view_expression value) ≡ call_need (arguments_of items) (view_value_type t)
 call_needs value f v t is items same =
-    ap (λ (x : Expr). expression_need (view_expression x)) is ∙ ap expression_need (view_call f v t) ∙ ap (λ (cs : List ConvertedCode). call_need (arguments_of cs) (option_map view_ty t)) (sym same)
+    ap (λ (x : Expr). expression_need (view_expression x)) is ∙ ap expression_need (view_call f v t) ∙ ap (λ (cs : List ConvertedCode). call_need (arguments_of cs) (view_value_type t)) (sym same)
 
 pub binary_needs : (value : Expr) (b : Box Expr Heap) (v : Vec Operation Heap) (t : TyCode) → value ≡ expr.Binary b v t → (first : Expr) → first ≡ b.value → (items : List Operation) → items ≡ v.items
     → expression_need (view_expression value) ≡ max (expression_need (view_expression first)) (operations_need (operations_of items) (view_ty t) (operand_words (type_of (view_expression first))))

@@ -66,6 +66,7 @@ mutual
   expression_size (Binary a os t) p d =
       omega (arith, both (expression_code a p d) (operations_code os (p + length (expression_code a p d)) d), expression_size a p d, operations_size os (p + length (expression_code a p d)) d)
   expression_size (Assign l c t) p d = omega (arith, both (converted_code c p d) (store_code l d), converted_size c p d, store_size l d)
+  expression_size a p d = omega (arith, some_token a)
 
   converted_size : (c : Converted) (p d : ℕ) → code_size (converted_code c p d) ≤ 3 * converted_weight c + 2
   converted_size (Convert from to a) p d =
@@ -96,6 +97,7 @@ mutual
       let front = test_code o operand p d in
       let q = p + length front in
       omega (arith, both front (operations_code os q d), test_size o operand p d, expression_size a (p + 1) d, operations_size os q d)
+  operations_size os p d = omega arith
 
 -- ---- statements
 
@@ -151,6 +153,7 @@ mutual
   statement_size (Return v) p loop d = return_size v p d
   statement_size Break p loop d = omega arith
   statement_size Continue p loop d = omega arith
+  statement_size s p loop d = omega arith
 
   items_size : (js : Items) (p loop d : ℕ) → code_size (items_code js p loop d) ≤ 3 * items_weight js
   items_size NoItems p loop d = omega arith
@@ -162,6 +165,7 @@ mutual
       let front = declaration_code n (Some c) p d in
       let q = p + length front in
       omega (arith, both front (items_code js q loop d), both (converted_code c p d) (instructions.Move n d ∷ []), converted_size c p d, items_size js q loop d)
+  items_size (MoreItems j js) p loop d = omega (arith, items_size js p loop d)
 
 pub function_size : (h : Function) → size (lower_function h) ≤ size_per_weight * function_weight h
 function_size h =

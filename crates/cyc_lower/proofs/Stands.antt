@@ -98,6 +98,7 @@ module _ (code : List Instruction) (bounds : Numbering) where
     ExpressionAt (Unary o a) d p q = (m : ℕ) × ExpressionAt a d p m × At code m (instructions.Unary (unary_operator o) d d) × (m + 1 ≡ q)
     ExpressionAt (Binary a os t) d p q = (m : ℕ) × ExpressionAt a d p m × OperationsAt os d m q
     ExpressionAt (Assign l c t) d p q = (m : ℕ) × ConvertedAt c d p m × StoreAt l d m q
+    ExpressionAt a d p q = ⊥
 
     pub ConvertedAt : Converted → (d p q : ℕ) → Type 0
     ConvertedAt (Convert from to a) d p q = (m : ℕ) × ExpressionAt a d p m × ConversionAt to d m q
@@ -112,6 +113,7 @@ module _ (code : List Instruction) (bounds : Numbering) where
         (m : ℕ) × (r : ℕ) × ExpressionAt a (suc d) p m × OperatorAt o d m r × OperationsAt os d r q
     OperationsAt (ThenTest o a os) d p q =
         (m : ℕ) × (r : ℕ) × At code p (test_jump o d m) × ExpressionAt a d (p + 1) m × TruthAt d m r × OperationsAt os d r q
+    OperationsAt os d p q = ⊥
 
   -- ---- statements
 
@@ -139,8 +141,10 @@ module _ (code : List Instruction) (bounds : Numbering) where
     StatementAt (Return v) loop d p q = ReturnAt v d p
     StatementAt Break loop d p q = At code p (instructions.Jump (break_target loop))
     StatementAt Continue loop d p q = At code p (instructions.Jump (continue_target loop))
+    StatementAt s loop d p q = ⊥
 
     pub ItemsAt : Items → (loop d p q : ℕ) → Type 0
     ItemsAt NoItems loop d p q = p ≡ q
     ItemsAt (MoreItems (Execute s) js) loop d p q = (m : ℕ) × StatementAt s loop d p m × ItemsAt js loop d m q
     ItemsAt (MoreItems (Declare n t v) js) loop d p q = (m : ℕ) × DeclarationAt n v d p m × ItemsAt js loop d m q
+    ItemsAt js loop d p q = ⊥

@@ -99,6 +99,7 @@ module _ (source : Program) (pages calls : ℕ) (some_page : 1 ≤ pages) where
       silently source pages calls some_page (Running (Executing Continue) k e w) (Running Continuing k e w) (plain.Running c) refl
       (shared, facts, (loop, q, here, stack))
       (omega arith)
+  executing s k e w c well (shared, facts, (loop, q, at, stack)) = absurd at
 
   -- ---- the end of a call
 
@@ -217,6 +218,7 @@ module _ (source : Program) (pages calls : ℕ) (some_page : 1 ≤ pages) where
       (Running (Evaluating a) (Needs (ConvertTo to) ∷ Needs (Initialise n (kind_of t)) ∷ Rest js ∷ k) e w) (plain.Running c) refl
       (shared, facts, (s, at_a, tt, (r, at_to, (loop, here, few, (q, subst (λ p. ItemsAt (code_of source g) (bounds_at source g) js loop (base_of source g) p q) (sym end) items, stack)))))
       (omega arith)
+  proceeding (Rest js ∷ k) e w c well (shared, facts, inl (loop, (q, items, stack))) = absurd items
   proceeding (Join ∷ k) e w c well (shared, facts, inr (holds, stack)) = absurd stack
   proceeding (Join ∷ k) e w c well (shared, facts, inl (loop, (q, arrives, stack))) = joins k e w c loop q shared facts arrives stack
   proceeding (Loop a s ∷ k) e w c well (shared, facts, inr (holds, stack)) = absurd stack

@@ -57,10 +57,10 @@ mutual
   expressions_constants g NoExpressions as' w h = subst AreOfWords (sym h) tt
   expressions_constants g (MoreExpressions e es) as' (w, ws) (a, bs, h, hs, eq) = subst AreOfWords (sym eq) (expression_constants g e a w h, expressions_constants g es bs ws hs)
 
-  chain_constants : (g : Scope) (left : Option Ty) (os : Operations) (as' : typed.Operations) → AreOfWordsChain os → IsChain g left os as' → AreOfWordsOperations as'
+  chain_constants : (g : Scope) (left : ValueType) (os : Operations) (as' : typed.Operations) → AreOfWordsChain os → IsChain g left os as' → AreOfWordsOperations as'
   chain_constants g left NoOperations as' w (l, eq) = subst AreOfWordsOperations (sym eq) tt
   chain_constants g left (ThenOperation o p e os) as' (w, ws) (a, bs, h, l, i, hs, eq) =
-      subst AreOfWordsOperations (sym eq) (operation_constants o a bs (expression_constants g e a w h) (chain_constants g (Some Int) os bs ws hs))
+      subst AreOfWordsOperations (sym eq) (operation_constants o a bs (expression_constants g e a w h) (chain_constants g (Value Int) os bs ws hs))
 
 -- ---- statements
 

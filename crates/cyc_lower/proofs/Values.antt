@@ -256,6 +256,7 @@ module _ (source : Program) (pages calls : ℕ) (some_page : 1 ≤ pages) where
       (shared, facts, (m, at_b, (is, holds), (r, at_o, (q, ops, stack))))
       (omega arith)
   chains (ThenTest o b os) v k e w c well related = tests o b os v (c.active.slots (top source c.active.function k) == 0) k e w c refl related
+  chains os v k e w c well (shared, facts, (is, holds, (q, at, stack))) = absurd at
 
   -- ---- assignments and arguments
 

@@ -14,6 +14,7 @@ abbrev mutual
   expression_weight (Unary o a) = suc (suc (expression_weight a))
   expression_weight (Binary a os t) = suc (suc (expression_weight a + operations_weight os))
   expression_weight (Assign l c t) = suc (suc (converted_weight c))
+  expression_weight a = 0
 
   -- with what converts it
   pub converted_weight : Converted → ℕ
@@ -26,7 +27,7 @@ abbrev mutual
   pub operations_weight : Operations → ℕ
   operations_weight NoOperations = 0
   operations_weight (ThenCompute o a os) = suc (suc (expression_weight a + operations_weight os))
-  operations_weight (ThenTest o a os) = 0
+  operations_weight os = 0
 
 abbrev pub initial_weight : Option Converted → ℕ
 initial_weight None = 0
@@ -42,11 +43,13 @@ abbrev mutual
   statement_weight (typed.Return v) = suc (initial_weight v)
   statement_weight Break = 1
   statement_weight Continue = 1
+  statement_weight s = 0
 
   pub items_weight : Items → ℕ
   items_weight NoItems = 0
   items_weight (MoreItems (Execute s) js) = suc (statement_weight s + items_weight js)
   items_weight (MoreItems (Declare n t v) js) = suc (initial_weight v + items_weight js)
+  items_weight js = 0
 
 -- each entry weighs something, so that a stack is lighter without it
 abbrev pub awaiting_weight : Awaiting → ℕ

@@ -67,9 +67,10 @@ kind_positive kinds.Fat = omega arith
 kind_positive kinds.Handle = omega arith
 kind_positive kinds.Key = omega arith
 
-operand_positive : (t : Option Ty) → 1 ≤ operand_words t
-operand_positive (Some t) = words_positive t
-operand_positive None = omega arith
+operand_positive : (t : ValueType) → 1 ≤ operand_words t
+operand_positive Void = omega arith
+operand_positive Null = omega arith
+operand_positive (Value t) = words_positive t
 
 converted_positive : (c : Converted) → 1 ≤ converted_words c
 converted_positive (Convert from to a) = omega (arith, kind_positive from)
@@ -78,7 +79,7 @@ arguments_words : (cs : Arguments) → argument_count cs ≤ argument_words cs
 arguments_words NoArguments = omega arith
 arguments_words (MoreArguments c cs) = omega (arith, converted_positive c, arguments_words cs)
 
-results_words : (t : Option Ty) → results_of t ≤ result_words t
+results_words : (t : Option Ty) → results_of t ≤ result_words (result_type t)
 results_words None = omega arith
 results_words (Some t) = words_positive t
 
@@ -122,14 +123,14 @@ module _ (program : PlainProgram) (r : Routine) (b : Numbering) (locals : b.loca
   store_in (Local w n) d within few = ((omega (arith, within, locals), few), tt)
   store_in (Global n) d within few = ((omega (arith, within, globals), few), tt)
 
-  call_in : (f : Callee) (n : ℕ) (t : Option Ty) (s : Signature) (d words : ℕ) → IsSignature b f s → n ≡ length s.parameters → t ≡ s.result → n ≤ words → d + (words + result_words t) ≤ r.slots → AreIn (call_code f n d)
+  call_in : (f : Callee) (n : ℕ) (t : ValueType) (s : Signature) (d words : ℕ) → IsSignature b f s → n ≡ length s.parameters → t ≡ result_type s.result → n ≤ words → d + (words + result_words t) ≤ r.slots → AreIn (call_code f n d)
   call_in callees.Putchar n t s d words signature many same enough few =
       let one : n ≡ 1 = many ∙ ap (λ (x : Signature). length x.parameters) signature in
-      let gives : result_words t ≡ 1 = ap result_words (same ∙ ap (λ (x : Signature). x.result) signature) in
+      let gives : result_words t ≡ 1 = ap result_words (same ∙ ap (λ (x : Signature). result_type x.result) signature) in
       let room : d + 2 ≤ r.slots = omega (arith, few, enough, one, gives) in
       (omega (arith, room), (omega (arith, room), ((omega (arith, room), omega (arith, room), omega (arith, room)), tt)))
   call_in callees.Getchar n t s d words signature many same enough few =
-      let gives : result_words t ≡ 1 = ap result_words (same ∙ ap (λ (x : Signature). x.result) signature) in
+      let gives : result_words t ≡ 1 = ap result_words (same ∙ ap (λ (x : Signature). result_type x.result) signature) in
       (omega (arith, few, gives), tt)
   call_in (callees.Function g) n t s d words signature many same enough few =
       let f = known g s signature in
@@ -178,6 +179,7 @@ module _ (program : PlainProgram) (r : Routine) (b : Numbering) (locals : b.loca
         let back = store_code l d in
         append front back (converted_in c p d slice_get (omega (arith, few)) (omega (arith, few)) (omega (arith, short, length-append front back)))
         (store_in l d within (omega (arith, few)))
+    expression_in a p d slice_get few short = absurd slice_get
 
     converted_in : (c : Converted) (p d : ℕ) → IsNumberedConverted b c → d < r.slots → d + converted_need c ≤ r.slots → p + length (converted_code c p d) < length r.code → AreIn (converted_code c p d)
     converted_in (Convert from to a) p d slice_get room few short =
@@ -218,6 +220,7 @@ module _ (program : PlainProgram) (r : Routine) (b : Numbering) (locals : b.loca
         append front back
         (test_in o operand p d (omega (arith, few, some)) (omega (arith, short, long)) (expression_in a (p + 1) d slice_get (omega (arith, few)) (omega (arith, short, long, long_front))))
         (operations_in os t (p + length front) d (words_of t) rest (words_positive t) (omega (arith, few)) (omega (arith, short, long)))
+    operations_in os t p d left slice_get some few short = absurd slice_get
 
   -- ---- statements
 
@@ -278,6 +281,7 @@ module _ (program : PlainProgram) (r : Routine) (b : Numbering) (locals : b.loca
     statement_in (Return v) in_loop p loop d slice_get around few short = return_in v p d slice_get few short
     statement_in Break in_loop p loop d slice_get around few short = (omega (arith, around slice_get), tt)
     statement_in Continue in_loop p loop d slice_get around few short = (omega (arith, around slice_get), tt)
+    statement_in s in_loop p loop d slice_get around few short = absurd slice_get
 
     items_in : (js : Items) (in_loop : Bool) (p loop d : ℕ) → AreNumberedItems b in_loop js → (in_loop ≡ true → loop + 2 < length r.code) → d + items_need js < r.slots → p + length (items_code js p loop d) < length r.code → AreIn (items_code js p loop d)
     items_in NoItems in_loop p loop d slice_get around few short = tt
@@ -293,6 +297,7 @@ module _ (program : PlainProgram) (r : Routine) (b : Numbering) (locals : b.loca
         let long = length-append front back in
         append front back (declaration_in n v p d within slice_get (omega (arith, few)) (omega (arith, short, long)))
         (items_in js in_loop (p + length front) loop d rest around (omega (arith, few)) (omega (arith, short, long)))
+    items_in js in_loop p loop d slice_get around few short = absurd slice_get
 
 -- ---- functions
 

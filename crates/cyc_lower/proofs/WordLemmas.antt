@@ -61,6 +61,7 @@ mutual
       let q = p + length (expression_code a p d) in
       append (expression_code a p d) (operations_code os q d) (expression_words a p d first) (operations_words os q d rest)
   expression_words (Assign l c t) p d words = append (converted_code c p d) (store_code l d) (converted_words c p d words) (store_words l d)
+  expression_words a p d words = absurd words
 
   converted_words : (c : Converted) (p d : ℕ) → IsOfWordsConverted c → HaveWords (converted_code c p d)
   converted_words (Convert from to a) p d words =
@@ -85,6 +86,7 @@ mutual
       let operand = expression_code a (p + 1) d in
       let q = p + length (test_code o operand p d) in
       append (test_code o operand p d) (operations_code os q d) (test_words o operand p d (expression_words a (p + 1) d first)) (operations_words os q d rest)
+  operations_words os p d words = absurd words
 
 return_words : (v : Option Converted) (p d : ℕ) → IsOfWordsInitial v → HaveWords (return_code v p d)
 return_words None p d words = (tt, tt)
@@ -114,6 +116,7 @@ mutual
   statement_words (Return v) p loop d words = return_words v p d words
   statement_words Break p loop d words = (tt, tt)
   statement_words Continue p loop d words = (tt, tt)
+  statement_words s p loop d words = absurd words
 
   items_words : (js : Items) (p loop d : ℕ) → AreOfWordsItems js → HaveWords (items_code js p loop d)
   items_words NoItems p loop d words = tt
@@ -123,6 +126,7 @@ mutual
   items_words (MoreItems (Declare n t v) js) p loop d (first, rest) =
       let q = p + length (declaration_code n v p d) in
       append (declaration_code n v p d) (items_code js q loop d) (declaration_words n v p d first) (items_words js q loop d rest)
+  items_words js p loop d words = absurd words
 
 functions_words : (hs : List Function) → AreOfWordsFunctions hs → AllByRecursion (λ r. All HasWord r.code) (map lower_function hs)
 functions_words [] words = tt

@@ -6,7 +6,7 @@ use Rattle.cyc_types.specs.declared.typed.Operation.{Operation}
 use Rattle.cyc_types.specs.declared.typed.Operation.TheVariants as operation
 use Rattle.cyc_types.specs.declared.typed.Item.{Item}
 use Rattle.cyc_types.specs.declared.typed.Item.TheVariants as item
-use Rattle.cyc_types.specs.Types.{Ty, words_of}
+use Rattle.cyc_types.specs.Types.{Ty, words_of, ValueType}
 use Rattle.cyc_types.specs.TypedTrees.{Expression, Arguments, Statement, Function, Program, type_of}
 use Rattle.cyc_types.specs.TypingRules.{IsTypedProgram}
 use Rattle.cyc_types.specs.TypedTreeView.{view_expression, view_converted, view_statement}
@@ -44,7 +44,7 @@ abbrev pub most_frame_count : ℕ
 most_frame_count = 2 ^ 32
 
 -- the need of a call, by its arguments and the type of its result
-abbrev pub call_need : Arguments → Option Ty → ℕ
+abbrev pub call_need : Arguments → ValueType → ℕ
 call_need cs t = max (argument_words cs + result_words t) (arguments_need cs 0)
 
 -- the need of one operator of a chain of this type with its right operand, where the left one has so many words

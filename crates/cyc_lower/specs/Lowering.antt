@@ -1,7 +1,8 @@
 -- The plain program of a typed program, as a function of it. An expression leaves its value in a slot that is given, and
 -- uses those behind it for its operands. The code of a construct has absolute places, so it is made for a place.
 --
--- Here each value is one word.
+-- Here each value is one word. It has code for the int language; a form that is not built has a constant in its place, which nothing
+-- runs.
 use Rattle.std.specs.Prelude.{ℕ, suc, ◌+◌, List, [], ◌∷◌, ◌++◌, length, map, Option, None, Some}
 use Rattle.cyc_words.specs.declared.span.Span.{Span}
 use Rattle.cyc_syntax.specs.Symbols.{Place}
@@ -129,6 +130,7 @@ abbrev mutual
   expression_code (Unary o a) p d = expression_code a p d ++ instructions.Unary (unary_operator o) d d ∷ []
   expression_code (Binary a os t) p d = expression_code a p d ++ operations_code os (p + length (expression_code a p d)) d
   expression_code (Assign l c t) p d = converted_code c p d ++ store_code l d
+  expression_code a p d = instructions.Constant d 0 ∷ []
 
   pub converted_code : Converted → (p d : ℕ) → List Instruction
   converted_code (Convert from to a) p d = expression_code a p d ++ conversion_code to (p + length (expression_code a p d)) d
@@ -147,6 +149,7 @@ abbrev mutual
   operations_code (ThenTest o a os) p d =
       test_code o (expression_code a (p + 1) d) p d
       ++ operations_code os (p + length (test_code o (expression_code a (p + 1) d) p d)) d
+  operations_code os p d = []
 
 -- ---- statements
 
@@ -203,6 +206,7 @@ abbrev mutual
   statement_code (Return v) p loop d = return_code v p d
   statement_code Break p loop d = instructions.Jump (break_target loop) ∷ []
   statement_code Continue p loop d = instructions.Jump (continue_target loop) ∷ []
+  statement_code s p loop d = []
 
   pub items_code : Items → (p loop d : ℕ) → List Instruction
   items_code NoItems p loop d = []
@@ -210,6 +214,7 @@ abbrev mutual
       statement_code s p loop d ++ items_code js (p + length (statement_code s p loop d)) loop d
   items_code (MoreItems (Declare n t v) js) p loop d =
       declaration_code n v p d ++ items_code js (p + length (declaration_code n v p d)) loop d
+  items_code (MoreItems j js) p loop d = items_code js p loop d
 
 -- ---- programs
 

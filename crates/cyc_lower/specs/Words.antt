@@ -1,4 +1,5 @@
--- All numbers of a typed tree are words: its constants, and what its globals hold at the start. So it is in every tree of a text.
+-- All numbers of a typed tree of the int language are words: its constants, and what its globals hold at the start. So it is in every
+-- tree of a text.
 use Rattle.std.specs.Prelude.{List, [], ◌∷◌, Option, None, Some}
 use Rattle.cyc_words.specs.Word.{IsWord}
 use Rattle.cyc_types.specs.TypedTrees.{Expression, Number, Copy, Call, Unary, Binary, Assign, Converted, Convert, Arguments, NoArguments, MoreArguments, Operations, NoOperations, ThenCompute, ThenTest, Statement, Block, Empty, Evaluate, If, While, Return, Break, Continue, Items, NoItems, MoreItems, Execute, Declare, Constant, Word, Null, GlobalVariable, Function, Program}
@@ -11,6 +12,7 @@ abbrev mutual
   IsOfWords (Unary o a) = IsOfWords a
   IsOfWords (Binary a os t) = IsOfWords a × AreOfWordsOperations os
   IsOfWords (Assign l c t) = IsOfWordsConverted c
+  IsOfWords a = ⊥
 
   pub IsOfWordsConverted : Converted → Type 0
   IsOfWordsConverted (Convert from to a) = IsOfWords a
@@ -23,6 +25,7 @@ abbrev mutual
   AreOfWordsOperations NoOperations = Unit {0}
   AreOfWordsOperations (ThenCompute o a os) = IsOfWords a × AreOfWordsOperations os
   AreOfWordsOperations (ThenTest o a os) = IsOfWords a × AreOfWordsOperations os
+  AreOfWordsOperations os = ⊥
 
 abbrev pub IsOfWordsInitial : Option Converted → Type 0
 IsOfWordsInitial None = Unit {0}
@@ -38,11 +41,13 @@ abbrev mutual
   IsOfWordsStatement (Return v) = IsOfWordsInitial v
   IsOfWordsStatement Break = Unit {0}
   IsOfWordsStatement Continue = Unit {0}
+  IsOfWordsStatement s = ⊥
 
   pub AreOfWordsItems : Items → Type 0
   AreOfWordsItems NoItems = Unit {0}
   AreOfWordsItems (MoreItems (Execute s) js) = IsOfWordsStatement s × AreOfWordsItems js
   AreOfWordsItems (MoreItems (Declare n t v) js) = IsOfWordsInitial v × AreOfWordsItems js
+  AreOfWordsItems js = ⊥
 
 abbrev pub IsOfWordsConstant : Constant → Type 0
 IsOfWordsConstant (Word n) = IsWord n

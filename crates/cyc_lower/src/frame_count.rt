@@ -2,14 +2,14 @@
 ghost use Rattle.std.specs.Prelude.{◌≡◌, ◌+◌, ◌≤◌, map, option_map};
 ghost use Rattle.cyc_types.specs.Types.{words_of};
 ghost use Rattle.cyc_types.specs.TypedTrees.{type_of};
-ghost use Rattle.cyc_types.specs.TypeView.{view_ty};
+ghost use Rattle.cyc_types.specs.TypeView.{view_ty, view_value_type};
 ghost use Rattle.cyc_types.specs.TypedTreeView.{view_expression, view_converted, view_statement, view_function, arguments_of, operations_of, items_of};
 ghost use Rattle.cyc_meaning.specs.Values.{words_of_kind};
 ghost use Rattle.cyc_meaning.specs.FrameCount.{result_words, operand_words, converted_words, expression_need, converted_need, operations_need, argument_words, initial_need, statement_need, items_need, words_of_all, frame_count};
 ghost use Rattle.cyc_lower.specs.Emission.{most_frame_count, call_need, operation_need, item_need};
 
 use cyc_types::Ty;
-use cyc_types::typed::{Converted, Expr, Function, Item, Kind, Operation, Stmt};
+use cyc_types::typed::{Converted, Expr, Function, Item, Kind, Operation, Stmt, ValueType};
 
 /// A place that is assigned counts as many words.
 const PLACE_WORDS: usize = 3;
@@ -35,12 +35,13 @@ fn words_of(of_type: &Ty) -> usize
 }
 
 /// The words of what an expression gives, which may be nothing.
-fn result_words(of_type: &Option<Ty>) -> usize
-    ensures { result ≡ result_words (option_map view_ty of_type.now) }
+fn result_words(of_type: &ValueType) -> usize
+    ensures { result ≡ result_words (view_value_type of_type.now) }
 {
     match of_type {
-        Some(of_type) => words_of(of_type),
-        None => 0,
+        ValueType::Void => 0,
+        ValueType::Null => 1,
+        ValueType::Value { of_type } => words_of(of_type),
     }
 }
 
@@ -57,12 +58,12 @@ fn operand_words(value: &Expr) -> usize
     }
 }
 
-fn typed_words(of_type: &Option<Ty>) -> usize
-    ensures { result ≡ operand_words (option_map view_ty of_type.now) }
+fn typed_words(of_type: &ValueType) -> usize
+    ensures { result ≡ operand_words (view_value_type of_type.now) }
 {
     match of_type {
-        Some(of_type) => words_of(of_type),
-        None => 1,
+        ValueType::Void | ValueType::Null => 1,
+        ValueType::Value { of_type } => words_of(of_type),
     }
 }
 
@@ -105,9 +106,9 @@ fn expression_need(value: &Expr) -> usize
 
 /// The need of a call: each argument stands behind those before it.
 #[cycle(need)]
-fn call_need(arguments: &[Converted], of_type: &Option<Ty>) -> usize
-    requires { call_need (arguments_of arguments.now) (option_map view_ty of_type.now) ≤ most_frame_count }
-    ensures { result ≡ call_need (arguments_of arguments.now) (option_map view_ty of_type.now) }
+fn call_need(arguments: &[Converted], of_type: &ValueType) -> usize
+    requires { call_need (arguments_of arguments.now) (view_value_type of_type.now) ≤ most_frame_count }
+    ensures { result ≡ call_need (arguments_of arguments.now) (view_value_type of_type.now) }
 {
     let mut need = 0;
     let mut before = 0;

@@ -9,7 +9,7 @@ use Rattle.cyc_types.specs.declared.typed.UnaryOperator.TheVariants as unary
 use Rattle.cyc_types.specs.declared.typed.Operator.{Operator}
 use Rattle.cyc_types.specs.declared.typed.Operator.TheVariants as operators
 use Rattle.cyc_types.specs.declared.typed.LogicalOperator.TheVariants as logical
-use Rattle.cyc_types.specs.Types.{Ty, Int}
+use Rattle.cyc_types.specs.Types.{Ty, Int, Void, Value}
 use Rattle.cyc_types.specs.TypedTrees.{Expression, Number, Copy, Call, Unary, Binary, Assign, Converted, Convert, Arguments, NoArguments, MoreArguments, Operations, NoOperations, ThenCompute, ThenTest, Statement, Block, Empty, Evaluate, If, While, Return, Break, Continue, Items, NoItems, MoreItems, Execute, Declare, Word, GlobalVariable, Function, Program}
 use Rattle.cyc_types.specs.TypedTrees as typed
 use Rattle.std.specs.Prelude.{suc, if◌then◌else◌}
@@ -40,23 +40,23 @@ abbrev either : Expression → Expression → Expression
 either a b = Binary a (ThenTest logical.OrElse b NoOperations) Int
 
 abbrev assign : ℕ → Expression → Expression
-assign number a = Assign (typed.Local here number) (int a) (Some Int)
+assign number a = Assign (typed.Local here number) (int a) (Value Int)
 
 abbrev assign_global : ℕ → Expression → Expression
-assign_global number a = Assign (typed.Global number) (int a) (Some Int)
+assign_global number a = Assign (typed.Global number) (int a) (Value Int)
 
 abbrev print : Expression → Expression
-print a = Call callees.Putchar (MoreArguments (int a) NoArguments) (Some Int)
+print a = Call callees.Putchar (MoreArguments (int a) NoArguments) (Value Int)
 
 abbrev read_byte : Expression
-read_byte = Call callees.Getchar NoArguments (Some Int)
+read_byte = Call callees.Getchar NoArguments (Value Int)
 
 abbrev arguments : List Expression → Arguments
 arguments [] = NoArguments
 arguments (a ∷ as') = MoreArguments (int a) (arguments as')
 
 abbrev call : ℕ → List Expression → Expression
-call number as' = Call (callees.Function number) (arguments as') (Some Int)
+call number as' = Call (callees.Function number) (arguments as') (Value Int)
 
 abbrev items : List typed.Item → Items
 items [] = NoItems
@@ -84,6 +84,9 @@ function parameters is = record {
   place = here;
   parameters = parameters;
   result = Some Int;
+  variables = 0;
+  effect = [];
+  constraints = [];
   locals = [];
   region = 0;
   regions = 2;
@@ -93,7 +96,7 @@ function parameters is = record {
 
 -- a program of `main`, which has the number 0, and other functions
 abbrev program_with : List Function → List typed.Item → Program
-program_with functions is = record { globals = []; functions = function [] is ∷ functions; main = 0 }
+program_with functions is = record { structs = []; exceptions = []; globals = []; functions = function [] is ∷ functions; main = 0 }
 
 abbrev program : List typed.Item → Program
 program is = program_with [] is
@@ -555,7 +558,7 @@ of_no_value = record (function (Int ∷ []) (
     ∷ execute (print (Number 48)) ∷ [])) { result = None }
 
 abbrev call_for_no_value : ℕ → typed.Item
-call_for_no_value n = execute (Call (callees.Function 1) (arguments (Number n ∷ [])) None)
+call_for_no_value n = execute (Call (callees.Function 1) (arguments (Number n ∷ [])) Void)
 
 -- f(65); f(0);
 no_value_is_returned : long_printed (program_with (of_no_value ∷ []) (call_for_no_value 65 ∷ call_for_no_value 0 ∷ return (Number 0) ∷ [])) ≡ 65 ∷ 48 ∷ []

@@ -188,6 +188,7 @@ evaluating (Call callee arguments t) stack e w h = passing false callee [] argum
 evaluating (Unary operator a) stack e w h = h
 evaluating (Binary a rest t) stack e w h = h
 evaluating (Assign place c t) stack e w h = assigns false (object_of e place) c stack e w h
+evaluating a stack e w h = tt
 
 deciding : (access : Bool) (decides fails : Bool) (b : Expression) (rest : Operations) (stack : List Entry) (e : Environment) (w : World) → IsNested stack e w → IsNestedIn access (decided decides fails b rest stack e w)
 deciding access true fails b rest stack e w h = h
@@ -201,6 +202,7 @@ chaining : (access : Bool) (rest : Operations) (value : Value) (stack : List Ent
 chaining access NoOperations value stack e w h = h
 chaining access (ThenCompute operator b rest) value stack e w h = h
 chaining access (ThenTest operator b rest) value stack e w h = testing access (is_zero value) operator b rest stack e w h
+chaining access rest value stack e w h = tt
 
 choosing : (access : Bool) (o : Option Bool) (first second : Statement) (stack : List Entry) (e : Environment) (w : World) → IsNested stack e w → IsNestedIn access (chosen o first second stack e w)
 choosing access (Some true) first second stack e w h = h
@@ -251,6 +253,7 @@ executing access (While place condition body) stack e w h = h
 executing access (typed.Return value) stack e w h = returning_value access value stack e w h
 executing access Break stack e w h = h
 executing access Continue stack e w h = h
+executing access s stack e w h = tt
 
 declaring : (access : Bool) (number : ℕ) (t : Ty) (o : Option Converted) (stack : List Entry) (e : Environment) (w : World) → IsNested stack e w → IsNestedIn access (declares number t o stack e w)
 declaring access number t None stack e w h = makes_local access (region_at w e.home) Proceeding number (kind_of t) None stack e w refl h
@@ -260,6 +263,7 @@ going_on : (access : Bool) (items : Items) (stack : List Entry) (e : Environment
 going_on access NoItems stack e w h = h
 going_on access (MoreItems (Execute s) items) stack e w h = h
 going_on access (MoreItems (Declare number t value) items) stack e w h = declaring access number t value (Rest items ∷ stack) e w h
+going_on access items stack e w h = tt
 
 proceeding : (stack : List Entry) (e : Environment) (w : World) → IsNested stack e w → IsNestedIn (is_access Proceeding stack) (step_proceeding stack e w)
 proceeding [] e w h = tt

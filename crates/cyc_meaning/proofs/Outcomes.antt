@@ -127,6 +127,7 @@ evaluating (Call callee arguments t) stack e w = passing callee [] arguments sta
 evaluating (Unary operator a) stack e w = Goes refl Keeps
 evaluating (Binary a rest t) stack e w = Goes refl Keeps
 evaluating (Assign place c t) stack e w = assigns (object_of e place) c stack e w
+evaluating a stack e w = Fails
 
 deciding : (decides fails : Bool) (b : Expression) (rest : Operations) (stack : List Entry) (e : Environment) (w : World) → Silent w stack (decided decides fails b rest stack e w)
 deciding true fails b rest stack e w = Goes refl Keeps
@@ -140,6 +141,7 @@ chaining : (rest : Operations) (value : Value) (stack : List Entry) (e : Environ
 chaining NoOperations value stack e w = Goes refl Keeps
 chaining (ThenCompute operator b rest) value stack e w = Goes refl Keeps
 chaining (ThenTest operator b rest) value stack e w = testing (is_zero value) operator b rest stack e w
+chaining rest value stack e w = Fails
 
 choosing : (o : Option Bool) (first second : Statement) (stack : List Entry) (e : Environment) (w : World) → Silent w stack (chosen o first second stack e w)
 choosing (Some true) first second stack e w = Goes refl Keeps
@@ -190,6 +192,7 @@ executing (While place condition body) stack e w = Goes refl Keeps
 executing (typed.Return value) stack e w = returning_value value stack e w
 executing Break stack e w = Goes refl Keeps
 executing Continue stack e w = Goes refl Keeps
+executing s stack e w = Fails
 
 declaring : (number : ℕ) (t : Ty) (o : Option Converted) (stack : List Entry) (e : Environment) (w : World) → Silent w stack (declares number t o stack e w)
 declaring number t None stack e w = makes_local (region_at w e.home) Proceeding number (kind_of t) None stack e w refl
@@ -199,6 +202,7 @@ going_on : (items : Items) (stack : List Entry) (e : Environment) (w : World) �
 going_on NoItems stack e w = Goes refl Keeps
 going_on (MoreItems (Execute s) items) stack e w = Goes refl Keeps
 going_on (MoreItems (Declare number t value) items) stack e w = declaring number t value (Rest items ∷ stack) e w
+going_on items stack e w = Fails
 
 proceeding : (stack : List Entry) (e : Environment) (w : World) → Seen Proceeding stack w (step_proceeding stack e w)
 proceeding [] e w = Fails

@@ -1,19 +1,21 @@
 -- How many words the frame of a function may have, counted on the source alone, so that a text is refused or not however
--- its code is made. The count and its numbers are this project's own choice.
+-- its code is made. The count and its numbers are this project's own choice. It counts the int language so far.
 use Rattle.std.specs.Prelude.{ℕ, ◌+◌, max, List, [], ◌∷◌, Option, None, Some}
-use Rattle.cyc_types.specs.Types.{Ty, words_of}
+use Rattle.cyc_types.specs.Types.{Ty, words_of, ValueType, Void, Null, Value}
 use Rattle.cyc_types.specs.TypedTrees.{Expression, Number, Copy, Call, Unary, Binary, Assign, Converted, Convert, Arguments, NoArguments, MoreArguments, Operations, NoOperations, ThenCompute, ThenTest, type_of, Statement, Block, Empty, Evaluate, If, While, Return, Break, Continue, Items, NoItems, MoreItems, Execute, Declare, Function}
 use Rattle.cyc_meaning.specs.Values.{words_of_kind}
 
 -- the words of what an expression gives, which may be nothing
-abbrev pub result_words : Option Ty → ℕ
-result_words (Some t) = words_of t
-result_words None = 0
+abbrev pub result_words : ValueType → ℕ
+result_words Void = 0
+result_words Null = 1
+result_words (Value t) = words_of t
 
 -- the words of an operand, which always has a value
-abbrev pub operand_words : Option Ty → ℕ
-operand_words (Some t) = words_of t
-operand_words None = 1
+abbrev pub operand_words : ValueType → ℕ
+operand_words Void = 1
+operand_words Null = 1
+operand_words (Value t) = words_of t
 
 -- a converted operand counts the more of its words before and after
 abbrev pub converted_words : Converted → ℕ
@@ -38,6 +40,7 @@ abbrev mutual
   expression_need (Unary o a) = max (operand_words (type_of a) + 1) (expression_need a)
   expression_need (Binary a os t) = max (expression_need a) (operations_need os t (operand_words (type_of a)))
   expression_need (Assign l c t) = max (place_words + converted_words c + result_words t) (place_words + converted_need c)
+  expression_need a = 0
 
   -- a conversion does not raise the need of what is converted
   pub converted_need : Converted → ℕ
@@ -55,6 +58,7 @@ abbrev mutual
       max (max (left + operand_words (type_of a) + words_of t) (left + expression_need a)) (operations_need os t (words_of t))
   operations_need (ThenTest o a os) t left =
       max (max (left + operand_words (type_of a) + words_of t) (left + expression_need a)) (operations_need os t (words_of t))
+  operations_need os t left = 0
 
 abbrev pub initial_need : Option Converted → ℕ
 initial_need None = 0
@@ -71,11 +75,13 @@ abbrev mutual
   statement_need (Return v) = initial_need v
   statement_need Break = 0
   statement_need Continue = 0
+  statement_need s = 0
 
   pub items_need : Items → ℕ
   items_need NoItems = 0
   items_need (MoreItems (Execute s) js) = max (statement_need s) (items_need js)
   items_need (MoreItems (Declare n t v) js) = max (initial_need v) (items_need js)
+  items_need (MoreItems j js) = items_need js
 
 abbrev pub words_of_all : List Ty → ℕ
 words_of_all [] = 0

@@ -145,6 +145,7 @@ step_evaluating (Call callee arguments t) stack e w = passes callee [] arguments
 step_evaluating (Unary operator a) stack e w = Running (Evaluating a) (Needs (Operate operator) ∷ stack) e w
 step_evaluating (Binary a rest t) stack e w = Running (Evaluating a) (Needs (Chain rest) ∷ stack) e w
 step_evaluating (Assign place c t) stack e w = assigned (object_of e place) c stack e w
+step_evaluating a stack e w = wrong w
 
 -- The left operand of `&&` or `||` decides, or the right one does.
 abbrev pub decided : Bool → (fails : Bool) → Expression → Operations → List Entry → Environment → World → State
@@ -165,6 +166,7 @@ chained (ThenCompute operator b rest) value stack e w =
     Running (Evaluating b) (Needs (Apply operator value) ∷ Needs (Chain rest) ∷ stack) e w
 chained (ThenTest operator b rest) value stack e w =
     tested (is_zero value) operator b rest stack e w
+chained rest value stack e w = wrong w
 
 -- the first statement where a condition holds, and the second where it fails
 abbrev pub chosen : (fails : Option Bool) → (first second : Statement) → List Entry → Environment → World → State
@@ -220,6 +222,7 @@ step_executing (While place condition body) stack e w = tests condition body sta
 step_executing (typed.Return value) stack e w = returns value stack e w
 step_executing Break stack e w = Running Breaking stack e w
 step_executing Continue stack e w = Running Continuing stack e w
+step_executing s stack e w = wrong w
 
 -- An initial value is evaluated before its local is made. Without one the local holds nothing yet.
 abbrev pub declares : (number : ℕ) → Ty → Option Converted → List Entry → Environment → World → State
@@ -232,6 +235,7 @@ abbrev pub continues_with : Items → List Entry → Environment → World → S
 continues_with NoItems stack e w = Running Proceeding stack e w
 continues_with (MoreItems (Execute s) items) stack e w = Running (Executing s) (Rest items ∷ stack) e w
 continues_with (MoreItems (Declare number t value) items) stack e w = declares number t value (Rest items ∷ stack) e w
+continues_with items stack e w = wrong w
 
 -- The end of a function's body without a `return` is a return without a value.
 abbrev pub step_proceeding : List Entry → Environment → World → State

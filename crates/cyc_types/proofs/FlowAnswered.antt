@@ -50,6 +50,7 @@ mutual
   judged (Unary o a) f = judged a f
   judged (Binary a os t) f = chained _ (judged a f) (λ x h. inl h) (λ u h. mapped (judged_operations os (after a f)) (λ v k. (h, k)) (λ x k. inr (h, k)))
   judged (Assign l c t) f = chained _ (judged_converted c f) (λ x h. inl h) (λ u h. mapped (store_judged l (after_converted c f)) (λ v k. (h, k)) (λ x k. inr (h, k)))
+  judged a f = bad refl
 
   judged_converted : (c : Converted) (f : State) → Keeps (IsAllowedConverted c f) (IsStoppedConverted c f) (keep_converted c f)
   judged_converted (Convert from to a) f = judged a f
@@ -65,6 +66,7 @@ mutual
       chained _ (judged a f) (λ x h. inl h) (λ u h. mapped (judged_operations os (after a f)) (λ v k. (h, k)) (λ x k. inr (h, k)))
   judged_operations (ThenTest o a os) f =
       chained _ (judged a f) (λ x h. inl h) (λ u h. mapped (judged_operations os (meet f (after a f))) (λ v k. (h, k)) (λ x k. inr (h, k)))
+  judged_operations os f = bad refl
 
 value_judged : (v : Option Converted) (f : State) → Keeps (IsAllowedValue v f) (IsStoppedValue v f) (keep_value v f)
 value_judged None f = good tt
@@ -98,6 +100,7 @@ mutual
   judged_statement l (Return v) f = value_judged v f
   judged_statement l Break f = good tt
   judged_statement l Continue f = continue_judged l f
+  judged_statement l s f = bad refl
 
   judged_items : (l : Option Loop) (js : Items) (f : State) → Keeps (AreAllowedItems l js f) (AreStoppedItems l js f) (keep_items l js f)
   judged_items l NoItems f = good tt
@@ -105,6 +108,7 @@ mutual
       chained _ (judged_statement l s f) (λ x h. inl h) (λ u h. mapped (judged_items l js (after_statement s f)) (λ v k. (h, k)) (λ x k. inr (h, k)))
   judged_items l (MoreItems (Declare n t v) js) f =
       chained _ (value_judged v f) (λ x h. inl h) (λ u h. mapped (judged_items l js (after_declaration n v f)) (λ w k. (h, k)) (λ x k. inr (h, k)))
+  judged_items l js f = bad refl
 
 end_judged : (t : Option Ty) (f : State) (p : Place) → Keeps (IsEnded t f) (IsUnended t f p) (keep_end t f p)
 end_judged None f p = good tt
@@ -142,6 +146,7 @@ mutual
   allowed (Unary o a) f h = allowed a f h
   allowed (Binary a os t) f (h, k) = then_on _ (allowed a f h) (allowed_operations os (after a f) k)
   allowed (Assign l c t) f (h, k) = then_on _ (allowed_converted c f h) (stored l (after_converted c f) k)
+  allowed a f h = absurd h
 
   allowed_converted : (c : Converted) (f : State) → IsAllowedConverted c f → keep_converted c f ≡ Ok tt
   allowed_converted (Convert from to a) f h = allowed a f h
@@ -154,6 +159,7 @@ mutual
   allowed_operations NoOperations f h = refl
   allowed_operations (ThenCompute o a os) f (h, k) = then_on _ (allowed a f h) (allowed_operations os (after a f) k)
   allowed_operations (ThenTest o a os) f (h, k) = then_on _ (allowed a f h) (allowed_operations os (meet f (after a f)) k)
+  allowed_operations os f h = absurd h
 
 value_allowed : (v : Option Converted) (f : State) → IsAllowedValue v f → keep_value v f ≡ Ok tt
 value_allowed None f h = refl
@@ -177,11 +183,13 @@ mutual
   allowed_statement l (Return v) f h = value_allowed v f h
   allowed_statement l Break f h = refl
   allowed_statement l Continue f h = continue_allowed l f h
+  allowed_statement l s f h = absurd h
 
   allowed_items : (l : Option Loop) (js : Items) (f : State) → AreAllowedItems l js f → keep_items l js f ≡ Ok tt
   allowed_items l NoItems f h = refl
   allowed_items l (MoreItems (Execute s) js) f (h, k) = then_on _ (allowed_statement l s f h) (allowed_items l js (after_statement s f) k)
   allowed_items l (MoreItems (Declare n t v) js) f (h, k) = then_on _ (value_allowed v f h) (allowed_items l js (after_declaration n v f) k)
+  allowed_items l js f h = absurd h
 
 end_allowed : (t : Option Ty) (f : State) (p : Place) → IsEnded t f → keep_end t f p ≡ Ok tt
 end_allowed None f p h = refl
@@ -216,6 +224,7 @@ mutual
   stopped (Binary a os t) f x (inr (h, k)) = then_on _ (allowed a f h) (stopped_operations os (after a f) x k)
   stopped (Assign l c t) f x (inl h) = then_err _ (stopped_converted c f x h)
   stopped (Assign l c t) f x (inr (h, k)) = then_on _ (allowed_converted c f h) (misstored l (after_converted c f) x k)
+  stopped a f x h = ap Err (sym h)
 
   stopped_converted : (c : Converted) (f : State) (x : Fault) → IsStoppedConverted c f x → keep_converted c f ≡ Err x
   stopped_converted (Convert from to a) f x h = stopped a f x h
@@ -231,6 +240,7 @@ mutual
   stopped_operations (ThenCompute o a os) f x (inr (h, k)) = then_on _ (allowed a f h) (stopped_operations os (after a f) x k)
   stopped_operations (ThenTest o a os) f x (inl h) = then_err _ (stopped a f x h)
   stopped_operations (ThenTest o a os) f x (inr (h, k)) = then_on _ (allowed a f h) (stopped_operations os (meet f (after a f)) x k)
+  stopped_operations os f x h = ap Err (sym h)
 
 value_stopped : (v : Option Converted) (f : State) (x : Fault) → IsStoppedValue v f x → keep_value v f ≡ Err x
 value_stopped None f x h = absurd h
@@ -260,6 +270,7 @@ mutual
   stopped_statement l (Return v) f x h = value_stopped v f x h
   stopped_statement l Break f x h = absurd h
   stopped_statement l Continue f x h = continue_stopped l f x h
+  stopped_statement l s f x h = ap Err (sym h)
 
   stopped_items : (l : Option Loop) (js : Items) (f : State) (x : Fault) → AreStoppedItems l js f x → keep_items l js f ≡ Err x
   stopped_items l NoItems f x h = absurd h
@@ -267,6 +278,7 @@ mutual
   stopped_items l (MoreItems (Execute s) js) f x (inr (h, k)) = then_on _ (allowed_statement l s f h) (stopped_items l js (after_statement s f) x k)
   stopped_items l (MoreItems (Declare n t v) js) f x (inl h) = then_err _ (value_stopped v f x h)
   stopped_items l (MoreItems (Declare n t v) js) f x (inr (h, k)) = then_on _ (value_allowed v f h) (stopped_items l js (after_declaration n v f) x k)
+  stopped_items l js f x h = ap Err (sym h)
 
 end_stopped : (t : Option Ty) (f : State) (p : Place) (x : Fault) → IsUnended t f p x → keep_end t f p ≡ Err x
 end_stopped None f p x h = absurd h

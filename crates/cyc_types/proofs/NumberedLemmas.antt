@@ -9,7 +9,7 @@ use Rattle.cyc_syntax.specs.Symbols.{Place}
 use Rattle.cyc_syntax.specs.Trees.{Named, WrittenType, Expression, Number, Character, Null, HeapRegion, UniqueRegion, Variable, Call, Bracketed, NumberOfElements, FreeUnique, FreeKey, Chained, Prefixed, New, RegionNew, Binary, Assign, Expressions, NoExpressions, MoreExpressions, Operations, NoOperations, ThenOperation, Statement, Block, Labelled, Empty, Evaluate, Swap, If, IfElse, While, Return, Break, Continue, Throw, Try, Body, Braces, Items, NoItems, MoreItems, Execute, Local, Region, Alias, DynamicRegion, Member, Parameters, Declaration, StructType, Exceptions, Global, Function, place_of}
 use Rattle.cyc_types.specs.declared.typed.Callee.TheVariants as callees
 use Rattle.cyc_types.specs.declared.typed.UnaryOperator.{UnaryOperator}
-use Rattle.cyc_types.specs.Types.{Ty, Int}
+use Rattle.cyc_types.specs.Types.{Ty, Int, ValueType, Value}
 use Rattle.cyc_types.specs.TypedTrees.{Lvalue, Converted}
 use Rattle.cyc_types.specs.TypedTrees as typed
 use Rattle.cyc_types.specs.IntPart.{is_empty, is_left_out}
@@ -112,10 +112,10 @@ module _ (b : Numbering) where
     expressions_numbered g fits NoExpressions as' (u, eq) = subst AreNumbered (sym eq) tt
     expressions_numbered g fits (MoreExpressions e es) as' (a, h, (bs, hs, (u, eq))) = subst AreNumbered (sym eq) (expression_numbered g fits e a h, expressions_numbered g fits es bs hs)
 
-    chain_numbered : (g : Scope) → Fits b g.locals g.program g.result → (p : Place) (left : Option Ty) (os : Operations) (as' : typed.Operations) → Derives (rule_chain g p left os) as' → AreNumberedOperations b as'
+    chain_numbered : (g : Scope) → Fits b g.locals g.program g.result → (p : Place) (left : ValueType) (os : Operations) (as' : typed.Operations) → Derives (rule_chain g p left os) as' → AreNumberedOperations b as'
     chain_numbered g fits p left NoOperations as' (k, eq) = subst (AreNumberedOperations b) (sym eq) tt
     chain_numbered g fits p left (ThenOperation o q e os) as' (put, (a, h, (k, is)), (bs, hs, (u, eq))) =
-        subst (AreNumberedOperations b) (sym (eq ∙ ap (λ f. f bs) is)) (operation_numbered o a bs (expression_numbered g fits e a h) (chain_numbered g fits p (Some Int) os bs hs))
+        subst (AreNumberedOperations b) (sym (eq ∙ ap (λ f. f bs) is)) (operation_numbered o a bs (expression_numbered g fits e a h) (chain_numbered g fits p (Value Int) os bs hs))
 
   -- ---- statements
 

@@ -1,5 +1,5 @@
 -- The view of a typed node with lists of nodes, by the lists that its `Vec`s hold.
-use Rattle.std.proofs.Common.{◌≡◌, ℕ, Option, option_map, refl, ap, ◌∙◌}
+use Rattle.std.proofs.Common.{◌≡◌, ℕ, refl, ap, ◌∙◌}
 use Rattle.std.specs.declared.vec.Vec.{Vec}
 use Rattle.std.specs.declared.boxed.Box.{Box}
 use Rattle.std.specs.declared.alloc.Global.{Global as Heap}
@@ -15,7 +15,8 @@ use Rattle.cyc_types.specs.declared.typed.Stmt.{Row_of-Item, end_of-Item, more_o
 use Rattle.cyc_types.specs.declared.typed.Item.TheBlock.{hidden-the_row-Item-0, items_hidden-the_row-Item-0}
 use Rattle.cyc_types.specs.declared.typed.Stmt.TheVariants as stmt
 use Rattle.cyc_types.specs.declared.typed.Item.{Item as ItemCode}
-use Rattle.cyc_types.specs.TypeView.{view_ty}
+use Rattle.cyc_types.specs.declared.typed.ValueType.{ValueType as ValueTypeCode}
+use Rattle.cyc_types.specs.TypeView.{view_ty, view_value_type}
 use Rattle.cyc_types.specs.TypedTrees.{Call, Binary, Convert, MoreArguments, ThenCompute, ThenTest, Block, MoreItems}
 use Rattle.cyc_types.specs.TypedTreeView.{view_expression, view_arguments, view_operations, arguments_of, operations_of, view_statement, view_items, view_item, items_of}
 
@@ -43,8 +44,8 @@ items_view v = view_items-items (hidden-the_row-Item-0 v) ∙ ap items_of (items
 
 -- ---- of each node that has one
 
-pub view_call : (f : Callee) (v : Vec ConvertedCode Heap) (t : Option TyCode) → view_expression (expr.Call f v t) ≡ Call f (arguments_of v.items) (option_map view_ty t)
-view_call f v t = ap (λ cs. Call f cs (option_map view_ty t)) (arguments_view v)
+pub view_call : (f : Callee) (v : Vec ConvertedCode Heap) (t : ValueTypeCode) → view_expression (expr.Call f v t) ≡ Call f (arguments_of v.items) (view_value_type t)
+view_call f v t = ap (λ cs. Call f cs (view_value_type t)) (arguments_view v)
 
 pub view_binary : (b : Box Expr Heap) (v : Vec Operation Heap) (t : TyCode) → view_expression (expr.Binary b v t) ≡ Binary (view_expression b.value) (operations_of v.items) (view_ty t)
 view_binary b v t = ap (λ os. Binary (view_expression b.value) os (view_ty t)) (operations_view v)

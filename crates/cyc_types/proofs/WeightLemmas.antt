@@ -21,6 +21,17 @@ use Rattle.cyc_types.proofs.NumberedLemmas.{items_counted}
 
 -- ---- expressions
 
+-- an expression is a token at least
+pub some_token : (a : typed.Expression) → 1 ≤ expression_weight a
+some_token (typed.Binary a os t) = omega (arith, some_token a)
+some_token (typed.Load (typed.Target k a t)) = omega arith
+some_token (typed.Load (typed.Member k a s f t)) = omega arith
+some_token (typed.Load (typed.Element a i t)) = omega arith
+some_token (typed.New typed.OnHeap i t) = omega arith
+some_token (typed.New typed.AsUnique i t) = omega arith
+some_token (typed.New (typed.ByHandle a) i t) = omega arith
+some_token a = omega arith
+
 read_lighter : (m : Meaning) (p : Place) (a : typed.Expression) → Derives (read m p) a → expression_weight a ≤ 1
 read_lighter Unknown p a h = absurd h
 read_lighter (scopes.Variable l t) p a (u, eq) = subst (λ z. expression_weight z ≤ 1) (sym eq) (omega arith)
@@ -90,11 +101,11 @@ mutual
         subst (λ z. sum_of (λ b. 1 + expression_weight b) z ≤ written.more_expressions_weight (MoreExpressions e es)) (sym eq) (omega arith),
       )
 
-  chain_lighter : (g : Scope) (p : Place) (left : Option Ty) (os : Operations) (bs : typed.Operations) → Derives (rule_chain g p left os) bs → operations_weight bs ≤ written.operations_weight os
+  chain_lighter : (g : Scope) (p : Place) (left : types.ValueType) (os : Operations) (bs : typed.Operations) → Derives (rule_chain g p left os) bs → operations_weight bs ≤ written.operations_weight os
   chain_lighter g p left NoOperations bs (k, eq) = subst (λ z. operations_weight z ≤ 0) (sym eq) (omega arith)
   chain_lighter g p left (ThenOperation o q e os) bs (put, (a, h, (k, is)), (cs, hs, (u, eq))) =
       let operand : expression_weight a ≤ written.expression_weight e = expression_lighter g e a h in
-      let rest : operations_weight cs ≤ written.operations_weight os = chain_lighter g p (Some types.Int) os cs hs in
+      let rest : operations_weight cs ≤ written.operations_weight os = chain_lighter g p (types.Value types.Int) os cs hs in
       let same : operations_weight (then_operation o a cs) ≡ 1 + expression_weight a + operations_weight cs = operation_same o a cs in
       subst (λ z. operations_weight z ≤ written.operations_weight (ThenOperation o q e os)) (sym (eq ∙ ap (λ f. f cs) is)) (omega arith)
 

@@ -6,7 +6,7 @@ use Rattle.cyc_words.specs.declared.fault.Fault.{Fault}
 use Rattle.cyc_syntax.specs.Symbols.{Place}
 use Rattle.cyc_types.specs.Types.{Ty}
 use Rattle.cyc_types.specs.TypedTrees.{Lvalue, Local, Global, Expression, Number, Copy, Call, Unary, Binary, Assign, Converted, Convert, Arguments, NoArguments, MoreArguments, Operations, NoOperations, ThenCompute, ThenTest, Statement, Block, Empty, Evaluate, If, While, Return, Break, Continue, Items, NoItems, MoreItems, Execute, Declare, Function, Program}
-use Rattle.cyc_types.specs.Rules.{Checked, and_then, fault_at}
+use Rattle.cyc_types.specs.Rules.{Checked, and_then, fault_at, not_built}
 use Rattle.cyc_types.specs.FlowRules.{Fullness, Vacant, Locked, Full, State, Unreached, Reached, meet, is_at_least, fullness, after, after_converted, after_statement, after_declaration, Loop, start_of, end_of}
 
 -- refuses unless the test has failed
@@ -44,6 +44,7 @@ abbrev mutual
   keep (Unary o a) f = keep a f
   keep (Binary a os t) f = and_then (keep a f) (λ u. keep_operations os (after a f))
   keep (Assign l c t) f = and_then (keep_converted c f) (λ u. store_place l (after_converted c f))
+  keep a f = Err not_built
 
   pub keep_converted : Converted → State → Kept
   keep_converted (Convert from to a) f = keep a f
@@ -56,6 +57,7 @@ abbrev mutual
   keep_operations NoOperations f = Ok tt
   keep_operations (ThenCompute o a os) f = and_then (keep a f) (λ u. keep_operations os (after a f))
   keep_operations (ThenTest o a os) f = and_then (keep a f) (λ u. keep_operations os (meet f (after a f)))
+  keep_operations os f = Err not_built
 
 abbrev pub keep_value : Option Converted → State → Kept
 keep_value None f = Ok tt
@@ -80,11 +82,13 @@ abbrev mutual
   keep_statement l (Return v) f = keep_value v f
   keep_statement l Break f = Ok tt
   keep_statement l Continue f = keep_continue l f
+  keep_statement l s f = Err not_built
 
   pub keep_items : Option Loop → Items → State → Kept
   keep_items l NoItems f = Ok tt
   keep_items l (MoreItems (Execute s) js) f = and_then (keep_statement l s f) (λ u. keep_items l js (after_statement s f))
   keep_items l (MoreItems (Declare n t v) js) f = and_then (keep_value v f) (λ u. keep_items l js (after_declaration n v f))
+  keep_items l js f = Err not_built
 
 abbrev pub keep_end : Option Ty → State → Place → Kept
 keep_end None f p = Ok tt

@@ -8,7 +8,7 @@ use Rattle.cyc_words.specs.declared.fault.Fault.{Fault}
 use Rattle.cyc_syntax.specs.Symbols.{Place}
 use Rattle.cyc_types.specs.Types.{Ty}
 use Rattle.cyc_types.specs.TypedTrees.{Lvalue, Local, Global, Expression, Number, Copy, Call, Unary, Binary, Assign, Converted, Convert, Arguments, NoArguments, MoreArguments, Operations, NoOperations, ThenCompute, ThenTest, Statement, Block, Empty, Evaluate, If, While, Return, Break, Continue, Items, NoItems, MoreItems, Execute, Declare, Function, Program}
-use Rattle.cyc_types.specs.Rules.{fault_at}
+use Rattle.cyc_types.specs.Rules.{fault_at, not_built}
 use Rattle.cyc_types.specs.FlowRules.{Vacant, Locked, State, Unreached, meet, is_at_least, fullness, after, after_converted, after_statement, after_declaration, Loop, IsAllowed, IsAllowedConverted, IsAllowedValue, IsAllowedStatement, AreAllowedItems, start_of, end_of, IsAllowedFunction}
 
 abbrev pub IsMisused : Lvalue → State → Fault → Type 0
@@ -33,6 +33,7 @@ abbrev mutual
   IsStopped (Assign l c t) f x =
       IsStoppedConverted c f x
       ⊎ (IsAllowedConverted c f × IsMisstored l (after_converted c f) x)
+  IsStopped a f x = x ≡ not_built
 
   pub IsStoppedConverted : Converted → State → Fault → Type 0
   IsStoppedConverted (Convert from to a) f x = IsStopped a f x
@@ -51,6 +52,7 @@ abbrev mutual
   AreStoppedOperations (ThenTest o a os) f x =
       IsStopped a f x
       ⊎ (IsAllowed a f × AreStoppedOperations os (meet f (after a f)) x)
+  AreStoppedOperations os f x = x ≡ not_built
 
 abbrev pub IsStoppedValue : Option Converted → State → Fault → Type 0
 IsStoppedValue None f x = ⊥
@@ -77,6 +79,7 @@ abbrev mutual
   IsStoppedStatement l (Return v) f x = IsStoppedValue v f x
   IsStoppedStatement l Break f x = ⊥
   IsStoppedStatement l Continue f x = IsMiscontinued l f x
+  IsStoppedStatement l s f x = x ≡ not_built
 
   pub AreStoppedItems : Option Loop → Items → State → Fault → Type 0
   AreStoppedItems l NoItems f x = ⊥
@@ -86,6 +89,7 @@ abbrev mutual
   AreStoppedItems l (MoreItems (Declare n t v) js) f x =
       IsStoppedValue v f x
       ⊎ (IsAllowedValue v f × AreStoppedItems l js (after_declaration n v f) x)
+  AreStoppedItems l js f x = x ≡ not_built
 
 -- the end of a function with a result is reached
 abbrev pub IsUnended : Option Ty → State → Place → Fault → Type 0

@@ -1,5 +1,5 @@
 -- THE FLOW RULES (definite initialisation), for the int language: what is known of each local where a typed tree stands, and what
--- must be known there. (That a variable is used only where it surely holds a value is the Cyclone manual's; the three states and the
+-- must be known there. Other forms keep no rule yet. (That a variable is used only where it surely holds a value is the Cyclone manual's; the three states and the
 -- rules on loops are this project's own choice.) States and meets are functions of the tree; what must be known are the rules.
 use Rattle.std.specs.Prelude.{◌≡◌, ◌≢◌, ℕ, Bool, true, false, ◌&&◌, List, [], ◌∷◌, ◌++◌, get_or, slice_set, Option, Some, None}
 use Rattle.cyc_syntax.specs.Symbols.{Place}
@@ -81,6 +81,7 @@ abbrev mutual
   after (Unary o a) f = after a f
   after (Binary a os t) f = after_operations os (after a f)
   after (Assign l c t) f = after_store l (after_converted c f)
+  after a f = f
 
   pub after_converted : Converted → State → State
   after_converted (Convert from to a) f = after a f
@@ -94,6 +95,7 @@ abbrev mutual
   after_operations NoOperations f = f
   after_operations (ThenCompute o a os) f = after_operations os (after a f)
   after_operations (ThenTest o a os) f = after_operations os (meet f (after a f))
+  after_operations os f = f
 
 -- ---- and what must be known
 
@@ -115,6 +117,7 @@ abbrev mutual
   IsAllowed (Unary o a) f = IsAllowed a f
   IsAllowed (Binary a os t) f = IsAllowed a f × AreAllowedOperations os (after a f)
   IsAllowed (Assign l c t) f = IsAllowedConverted c f × IsStored l (after_converted c f)
+  IsAllowed a f = ⊥
 
   pub IsAllowedConverted : Converted → State → Type 0
   IsAllowedConverted (Convert from to a) f = IsAllowed a f
@@ -127,6 +130,7 @@ abbrev mutual
   AreAllowedOperations NoOperations f = Unit {0}
   AreAllowedOperations (ThenCompute o a os) f = IsAllowed a f × AreAllowedOperations os (after a f)
   AreAllowedOperations (ThenTest o a os) f = IsAllowed a f × AreAllowedOperations os (meet f (after a f))
+  AreAllowedOperations os f = ⊥
 
 -- ---- statements
 
@@ -151,6 +155,7 @@ abbrev mutual
   breaks_of (Return v) f = Unreached
   breaks_of Break f = f
   breaks_of Continue f = Unreached
+  breaks_of s f = Unreached
 
   pub after_statement : Statement → State → State
   after_statement (Block r js) f = after_items js f
@@ -161,16 +166,19 @@ abbrev mutual
   after_statement (Return v) f = Unreached
   after_statement Break f = Unreached
   after_statement Continue f = Unreached
+  after_statement s f = f
 
   pub item_breaks : Items → State → State
   item_breaks NoItems f = Unreached
   item_breaks (MoreItems (Execute s) js) f = meet (breaks_of s f) (item_breaks js (after_statement s f))
   item_breaks (MoreItems (Declare n t v) js) f = item_breaks js (after_declaration n v f)
+  item_breaks (MoreItems j js) f = item_breaks js f
 
   pub after_items : Items → State → State
   after_items NoItems f = f
   after_items (MoreItems (Execute s) js) f = after_items js (after_statement s f)
   after_items (MoreItems (Declare n t v) js) f = after_items js (after_declaration n v f)
+  after_items (MoreItems j js) f = after_items js f
 
 -- a loop around: the place of its `while`, and what is known at its head
 pub record Loop : Type 0 where
@@ -197,11 +205,13 @@ abbrev mutual
   IsAllowedStatement l (Return v) f = IsAllowedValue v f
   IsAllowedStatement l Break f = Unit {0}
   IsAllowedStatement l Continue f = IsContinued l f
+  IsAllowedStatement l s f = ⊥
 
   pub AreAllowedItems : Option Loop → Items → State → Type 0
   AreAllowedItems l NoItems f = Unit {0}
   AreAllowedItems l (MoreItems (Execute s) js) f = IsAllowedStatement l s f × AreAllowedItems l js (after_statement s f)
   AreAllowedItems l (MoreItems (Declare n t v) js) f = IsAllowedValue v f × AreAllowedItems l js (after_declaration n v f)
+  AreAllowedItems l js f = ⊥
 
 -- ---- functions
 

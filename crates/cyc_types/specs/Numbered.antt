@@ -1,9 +1,10 @@
--- What a typed tree keeps of its own accord, and later phases rely on: each number that it has names something that is there, each
--- call passes as many arguments as its function has parameters, and a break or a continue stands in a loop.
+-- What a typed tree of the int language keeps of its own accord, and later phases rely on: each number that it has names something that
+-- is there, each call passes as many arguments as its function has parameters, and a break or a continue stands in a loop. A tree with
+-- any other form does not keep it.
 use Rattle.std.specs.Prelude.{◌≡◌, ℕ, suc, ◌+◌, ◌<◌, Bool, true, false, List, [], ◌∷◌, Option, Some, None, length, slice_get}
 use Rattle.cyc_types.specs.declared.typed.Callee.{Callee}
 use Rattle.cyc_types.specs.declared.typed.Callee.TheVariants as callees
-use Rattle.cyc_types.specs.Types.{Ty, Int}
+use Rattle.cyc_types.specs.Types.{Ty, Int, result_type}
 use Rattle.cyc_types.specs.TypedTrees.{Lvalue, Local, Global, Expression, Number, Copy, Call, Unary, Binary, Assign, Converted, Convert, Arguments, NoArguments, MoreArguments, Operations, NoOperations, ThenCompute, ThenTest, Statement, Block, Empty, Evaluate, If, While, Return, Break, Continue, Items, NoItems, MoreItems, Execute, Declare, Function, Program}
 use Rattle.cyc_types.specs.Scopes.{Signature}
 
@@ -41,10 +42,11 @@ abbrev mutual
   pub IsNumbered : Numbering → Expression → Type 0
   IsNumbered b (Number n) = Unit {0}
   IsNumbered b (Copy l t) = IsWithin b l
-  IsNumbered b (Call f cs t) = (s : Signature) × IsSignature b f s × (argument_count cs ≡ length s.parameters) × (t ≡ s.result) × AreNumberedArguments b cs
+  IsNumbered b (Call f cs t) = (s : Signature) × IsSignature b f s × (argument_count cs ≡ length s.parameters) × (t ≡ result_type s.result) × AreNumberedArguments b cs
   IsNumbered b (Unary o a) = IsNumbered b a
   IsNumbered b (Binary a os t) = IsNumbered b a × AreNumberedOperations b os
   IsNumbered b (Assign l c t) = IsWithin b l × IsNumberedConverted b c
+  IsNumbered b a = ⊥
 
   pub IsNumberedConverted : Numbering → Converted → Type 0
   IsNumberedConverted b (Convert from to a) = IsNumbered b a
@@ -57,6 +59,7 @@ abbrev mutual
   AreNumberedOperations b NoOperations = Unit {0}
   AreNumberedOperations b (ThenCompute o a os) = IsNumbered b a × AreNumberedOperations b os
   AreNumberedOperations b (ThenTest o a os) = IsNumbered b a × AreNumberedOperations b os
+  AreNumberedOperations b os = ⊥
 
 -- a value is returned exactly by a function with a result
 abbrev pub IsNumberedReturn : Numbering → Option Ty → Option Converted → Type 0
@@ -79,11 +82,13 @@ abbrev mutual
   IsNumberedStatement b l (Return v) = IsNumberedReturn b b.result v
   IsNumberedStatement b l Break = l ≡ true
   IsNumberedStatement b l Continue = l ≡ true
+  IsNumberedStatement b l s = ⊥
 
   pub AreNumberedItems : Numbering → Bool → Items → Type 0
   AreNumberedItems b l NoItems = Unit {0}
   AreNumberedItems b l (MoreItems (Execute s) js) = IsNumberedStatement b l s × AreNumberedItems b l js
   AreNumberedItems b l (MoreItems (Declare n t v) js) = (n < b.locals) × IsNumberedInitial b v × AreNumberedItems b l js
+  AreNumberedItems b l js = ⊥
 
 abbrev pub numbering_of : ℕ → List Signature → Function → Numbering
 numbering_of globals functions h = record { globals = globals; functions = functions; locals = length h.parameters + length h.locals; regions = h.regions; result = h.result }

@@ -171,20 +171,25 @@ typed_tree : check_of texts (Global (int 1) (x 5) (Some (Negative (at 9) 1))
     (only (Execute (Evaluate (Assign (Variable (a 54)) (Variable (v 58))))))) (at 61))))
     (only (Execute (Return (at 63) (Some (Binary (Variable (a 70)) (ThenOperation operators.Add (at 72) (Number (at 74) 1) NoOperations)))))))) (at 77)) ∷ [])
     ≡ Ok (record {
+      structs = [];
+      exceptions = [];
       globals = record { name = 1; of_type = types.Int; value = typed.Word 4294967295 } ∷ [];
       functions = record {
         name = 0;
         place = at 17;
         parameters = [];
         result = Some types.Int;
+        variables = 0;
+        effect = [];
+        constraints = [];
         locals = types.Int ∷ types.Int ∷ [];
         region = 0;
         regions = 2;
         body =
             typed.MoreItems (typed.Declare 0 types.Int None)
             (typed.MoreItems (typed.Execute (typed.Block 1 (
-            typed.MoreItems (typed.Declare 1 types.Int (Some (typed.Convert kinds.Int kinds.Int (typed.Call callees.Putchar (typed.MoreArguments (typed.Convert kinds.Int kinds.Int (typed.Copy (typed.Global 0) types.Int)) typed.NoArguments) (Some types.Int)))))
-            (typed.MoreItems (typed.Execute (typed.Evaluate (typed.Assign (typed.Local (at 54) 0) (typed.Convert kinds.Int kinds.Int (typed.Copy (typed.Local (at 58) 1) types.Int)) (Some types.Int)))) typed.NoItems))))
+            typed.MoreItems (typed.Declare 1 types.Int (Some (typed.Convert kinds.Int kinds.Int (typed.Call callees.Putchar (typed.MoreArguments (typed.Convert kinds.Int kinds.Int (typed.Copy (typed.Global 0) types.Int)) typed.NoArguments) (types.Value types.Int)))))
+            (typed.MoreItems (typed.Execute (typed.Evaluate (typed.Assign (typed.Local (at 54) 0) (typed.Convert kinds.Int kinds.Int (typed.Copy (typed.Local (at 58) 1) types.Int)) (types.Value types.Int)))) typed.NoItems))))
             (typed.MoreItems (typed.Execute (typed.Return (Some (typed.Convert kinds.Int kinds.Int (typed.Binary (typed.Copy (typed.Local (at 70) 0) types.Int) (typed.ThenCompute binary.Add (typed.Number 1) typed.NoOperations) types.Int))))) typed.NoItems));
         end = at 77;
       } ∷ [];

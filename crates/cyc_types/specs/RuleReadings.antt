@@ -10,7 +10,7 @@ use Rattle.cyc_syntax.specs.Trees.{Named, WrittenType, Expression, Number, Varia
 use Rattle.cyc_types.specs.declared.typed.Callee.{Callee}
 use Rattle.cyc_types.specs.declared.typed.Kind.TheVariants as kinds
 use Rattle.cyc_types.specs.declared.typed.UnaryOperator.TheVariants as unary
-use Rattle.cyc_types.specs.Types.{Ty, Int}
+use Rattle.cyc_types.specs.Types.{Ty, Int, ValueType, Value, result_type}
 use Rattle.cyc_types.specs.TypedTrees.{Lvalue, Converted, Convert, type_of}
 use Rattle.cyc_types.specs.TypedTrees as typed
 use Rattle.cyc_types.specs.Scopes.{Signature, Meaning, Unknown, Routine, Scope, is_declared, in_block, in_body}
@@ -45,18 +45,18 @@ module _ (g : Scope) where
   chain_typed e os a = refl
 
   -- both operands are ints, and the result is one
-  operation_typed : (p q : Place) (left : Option Ty) (o : BinaryOperator) (e : Expression) (os : Operations) (bs : typed.Operations)
+  operation_typed : (p q : Place) (left : ValueType) (o : BinaryOperator) (e : Expression) (os : Operations) (bs : typed.Operations)
       → Derives (rule_chain g p left (ThenOperation o q e os)) bs
       ≡ ((put : typed.Operations → typed.Operations)
       × ((a : typed.Expression) × Derives (rule g e) a × (((is_int left ≡ true) × ((is_int (type_of a) ≡ true) × Unit {0})) × (put ≡ then_operation o a)))
-      × ((cs : typed.Operations) × Derives (rule_chain g p (Some Int) os) cs × (Unit {0} × (bs ≡ put cs))))
+      × ((cs : typed.Operations) × Derives (rule_chain g p (Value Int) os) cs × (Unit {0} × (bs ≡ put cs))))
   operation_typed p q left o e os bs = refl
 
   -- the left side is a place, and the value is converted to its type
   assignment_typed : (e v : Expression) (a : typed.Expression)
       → Derives (rule g (Assign e v)) a
       ≡ ((l : Lvalue × Ty) × Derives (rule_target g (place_of e) e (rule g e)) l
-      × ((b : typed.Expression) × Derives (rule g v) b × (AllKept (conversion (type_of b) l.1 (place_of v)) × (a ≡ typed.Assign l.0 (Convert kinds.Int kinds.Int b) (Some l.1)))))
+      × ((b : typed.Expression) × Derives (rule g v) b × (AllKept (conversion (type_of b) l.1 (place_of v)) × (a ≡ typed.Assign l.0 (Convert kinds.Int kinds.Int b) (Value l.1)))))
   assignment_typed e v a = refl
 
   no_place_refused : (p q : Place) (n : ℕ) (f : Fault)
@@ -66,7 +66,7 @@ module _ (g : Scope) where
   -- as many arguments as parameters, and each is converted: of all that is wrong, the lowest code and then the first is the fault
   call_typed : (c : Callee) (s : Signature) (p : Place) (es : Expressions) (as' : List typed.Expression) (a : typed.Expression)
       → Derives (called (Routine c s) p es as') a
-      ≡ (((nat_eq (length as') (length s.parameters) ≡ true) × AllKept (arguments_demanded es as' s.parameters)) × (a ≡ typed.Call c (passed as' s.parameters) s.result))
+      ≡ (((nat_eq (length as') (length s.parameters) ≡ true) × AllKept (arguments_demanded es as' s.parameters)) × (a ≡ typed.Call c (passed as' s.parameters) (result_type s.result)))
   call_typed c s p es as' a = refl
 
   call_refused : (c : Callee) (s : Signature) (p : Place) (es : Expressions) (as' : List typed.Expression) (f : Fault)

@@ -1,7 +1,8 @@
--- The view of the code's typed trees: the same tree, without where it lies in memory.
+-- The view of the code's typed trees: the same tree, without where it lies in memory. The code has the forms that are built so far;
+-- its programs declare no structs and no exceptions, and its functions have no regions but those of their blocks.
 use Rattle.std.specs.Prelude.{List, [], ◌∷◌, map, option_map}
 use Rattle.cyc_syntax.specs.TreeView.{place_of_span}
-use Rattle.cyc_types.specs.TypeView.{view_ty}
+use Rattle.cyc_types.specs.TypeView.{view_ty, view_value_type}
 use Rattle.cyc_types.specs.declared.typed.Lvalue.{Lvalue as LvalueCode}
 use Rattle.cyc_types.specs.declared.typed.Lvalue.TheVariants as lvalue
 use Rattle.cyc_types.specs.declared.typed.Expr.{Expr, Row_of-Converted, end_of-Converted, more_of-Converted, Row_of-Operation, end_of-Operation, more_of-Operation}
@@ -30,10 +31,10 @@ abbrev mutual
   pub view_expression : Expr → Expression
   view_expression (expr.Number n) = Number n
   view_expression (expr.Copy l t) = Copy (view_lvalue l) (view_ty t)
-  view_expression (expr.Call' f shape row t) = Call f (view_arguments row) (option_map view_ty t)
+  view_expression (expr.Call' f shape row t) = Call f (view_arguments row) (view_value_type t)
   view_expression (expr.Unary' o b e) = Unary o (view_expression e)
   view_expression (expr.Binary' b e shape row t) = Binary (view_expression e) (view_operations row) (view_ty t)
-  view_expression (expr.Assign' l b f k e t) = Assign (view_lvalue l) (Convert f k (view_expression e)) (option_map view_ty t)
+  view_expression (expr.Assign' l b f k e t) = Assign (view_lvalue l) (Convert f k (view_expression e)) (view_value_type t)
 
   pub view_arguments : {m : _} → Row_of-Converted m → Arguments
   view_arguments end_of-Converted = NoArguments
@@ -101,6 +102,9 @@ view_function f = record {
   place = place_of_span f.span;
   parameters = map view_ty f.parameters.items;
   result = option_map view_ty f.result;
+  variables = 0;
+  effect = [];
+  constraints = [];
   locals = map view_ty f.locals.items;
   region = f.region;
   regions = f.regions;
@@ -109,4 +113,4 @@ view_function f = record {
 }
 
 abbrev pub view_program : TypedTree → Program
-view_program t = record { globals = map view_global t.globals.items; functions = map view_function t.functions.items; main = t.main }
+view_program t = record { structs = []; exceptions = []; globals = map view_global t.globals.items; functions = map view_function t.functions.items; main = t.main }

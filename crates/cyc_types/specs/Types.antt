@@ -1,5 +1,5 @@
 -- Types as all definitions speak of them: values with no memory behind them.
-use Rattle.std.specs.Prelude.{ℕ, List, map}
+use Rattle.std.specs.Prelude.{ℕ, List, map, Option, None, Some}
 use Rattle.cyc_syntax.specs.declared.tree.PointerKind.{PointerKind}
 use Rattle.cyc_syntax.specs.declared.tree.PointerKind.TheVariants.{Nullable, NonNull, Fat}
 use Rattle.cyc_types.specs.declared.region.Region.{Region}
@@ -13,6 +13,17 @@ pub data Ty : Type 0 where
   Key : Region → Ty
   -- its number among the structs, and a region for each of its parameters
   Struct : ℕ → List Region → Ty
+
+-- the type of an expression: it has no value, it is the null pointer, whose type is what is wanted, or it has a value of a type
+pub data ValueType : Type 0 where
+  Void : ValueType
+  Null : ValueType
+  Value : Ty → ValueType
+
+-- what a call of a function gives, which may have no result
+abbrev pub result_type : Option Ty → ValueType
+result_type None = Void
+result_type (Some t) = Value t
 
 -- each region variable replaced by the region at its number in the list
 abbrev pub substituted_ty : List Region → Ty → Ty

@@ -20,7 +20,7 @@ use Rattle.cyc_types.specs.declared.typed.UnaryOperator.{UnaryOperator}
 use Rattle.cyc_types.specs.declared.typed.UnaryOperator.TheVariants as unary
 use Rattle.cyc_types.specs.declared.typed.Operator.TheVariants as binary
 use Rattle.cyc_types.specs.declared.typed.LogicalOperator.TheVariants as logical
-use Rattle.cyc_types.specs.Types.{Ty, Int}
+use Rattle.cyc_types.specs.Types.{Ty, Int, ValueType, Value, result_type}
 use Rattle.cyc_types.specs.TypedTrees.{Lvalue, Converted, Convert, type_of}
 use Rattle.cyc_types.specs.TypedTrees as typed
 use Rattle.cyc_types.specs.IntPart.{is_empty, is_left_out, is_int_program}
@@ -34,12 +34,12 @@ use Rattle.cyc_types.specs.Rules.{Checked, fault_at, not_built, Demand, demand, 
 abbrev pub type_written : WrittenType → Ty
 type_written w = Int
 
-abbrev pub is_int : Option Ty → Bool
-is_int (Some Int) = true
+abbrev pub is_int : ValueType → Bool
+is_int (Value Int) = true
 is_int t = false
 
--- A value of the first type, or of none, is converted to the second. It stands at this place.
-abbrev pub conversion : Option Ty → Ty → Place → List Demand
+-- A value of the first type, which may be none, is converted to the second. It stands at this place.
+abbrev pub conversion : ValueType → Ty → Place → List Demand
 conversion t Int p = demand codes.TypeMismatch p (is_int t) ∷ []
 conversion t u p = demand codes.TypeMismatch p false ∷ []
 
@@ -79,7 +79,7 @@ then_operation operators.Remainder = typed.ThenCompute binary.Remainder
 -- ---- expressions
 
 -- an int is wanted at this place
-abbrev pub int_wanted : Option Ty → Place → List Demand
+abbrev pub int_wanted : ValueType → Place → List Demand
 int_wanted t p = demand codes.TypeMismatch p (is_int t) ∷ []
 
 -- the value of what a name means
@@ -96,17 +96,17 @@ place_meant (Routine f s) p q = Refused (fault_at codes.NotAPlace q)
 
 -- the value is converted to the type of the place
 abbrev pub assigned : Lvalue × Ty → Place → typed.Expression → Rule typed.Expression
-assigned l p a = Own (conversion (type_of a) l.1 p) (typed.Assign l.0 (converted a l.1) (Some l.1))
+assigned l p a = Own (conversion (type_of a) l.1 p) (typed.Assign l.0 (converted a l.1) (Value l.1))
 
 abbrev pub prefixed : Option UnaryOperator → Place → typed.Expression → Rule typed.Expression
 prefixed None p a = Refused not_built
 prefixed (Some u) p a = Own (int_wanted (type_of a) p) (typed.Unary u a)
 
 -- both operands of an operation are ints: the left one's chain begins at the first place, the right one at the second
-abbrev pub operands_demanded : Option Ty → Place → Option Ty → Place → List Demand
+abbrev pub operands_demanded : ValueType → Place → ValueType → Place → List Demand
 operands_demanded left p right q = demand codes.TypeMismatch p (is_int left) ∷ demand codes.TypeMismatch q (is_int right) ∷ []
 
-abbrev pub joined : Option Ty → Place → BinaryOperator → Place → typed.Expression → Rule (typed.Operations → typed.Operations)
+abbrev pub joined : ValueType → Place → BinaryOperator → Place → typed.Expression → Rule (typed.Operations → typed.Operations)
 joined left p o q a = Own (operands_demanded left p (type_of a) q) (then_operation o a)
 
 -- each argument is converted to its parameter's type
@@ -126,7 +126,7 @@ call_demanded p s es as' = demand codes.TypeMismatch p (nat_eq (length as') (len
 abbrev pub called : Meaning → Place → Expressions → List typed.Expression → Rule typed.Expression
 called Unknown p es as' = Refused (fault_at codes.UnknownName p)
 called (scopes.Variable l t) p es as' = Refused (fault_at codes.TypeMismatch p)
-called (Routine f s) p es as' = Own (call_demanded p s es as') (typed.Call f (passed as' s.parameters) s.result)
+called (Routine f s) p es as' = Own (call_demanded p s es as') (typed.Call f (passed as' s.parameters) (result_type s.result))
 
 abbrev mutual
   pub rule : Scope → Expression → Rule typed.Expression
@@ -153,10 +153,10 @@ abbrev mutual
   rule_all g (MoreExpressions e es) = Part (rule g e) (λ a. Part (rule_all g es) (λ as'. gives (a ∷ as')))
 
   -- the operators of a chain that begins at this place, behind a left operand of this type
-  pub rule_chain : Scope → Place → Option Ty → Operations → Rule typed.Operations
+  pub rule_chain : Scope → Place → ValueType → Operations → Rule typed.Operations
   rule_chain g p left NoOperations = Own (int_wanted left p) typed.NoOperations
   rule_chain g p left (ThenOperation o q e os) =
-      Part (Part (rule g e) (λ a. joined left p o (place_of e) a)) (λ put. Part (rule_chain g p (Some Int) os) (λ bs. gives (put bs)))
+      Part (Part (rule g e) (λ a. joined left p o (place_of e) a)) (λ put. Part (rule_chain g p (Value Int) os) (λ bs. gives (put bs)))
 
   -- The left side of an assignment, which begins at this place: a name is looked up, and anything else is walked by its rule as an
   -- expression before it is found to be no place.
@@ -364,11 +364,13 @@ abbrev mutual
   declared_types (typed.Return v) = []
   declared_types typed.Break = []
   declared_types typed.Continue = []
+  declared_types s = []
 
   pub item_types : typed.Items → List Ty
   item_types typed.NoItems = []
   item_types (typed.MoreItems (typed.Execute s) js) = declared_types s ++ item_types js
   item_types (typed.MoreItems (typed.Declare n t v) js) = t ∷ item_types js
+  item_types (typed.MoreItems j js) = item_types js
 
 abbrev pub function_of : Option WrittenType → Named → List Member → Items → Place → typed.Items → typed.Function
 function_of r x ms is q js = record {
@@ -376,6 +378,9 @@ function_of r x ms is q js = record {
   place = x.place;
   parameters = types_of ms;
   result = result_of r;
+  variables = 0;
+  effect = [];
+  constraints = [];
   locals = item_types js;
   region = 0;
   regions = suc (item_blocks is);
@@ -418,7 +423,7 @@ function_number main (Global w x v ∷ tree) = function_number main tree
 function_number main (Function r x ps b ∷ tree) = if nat_eq x.name main then 0 else suc (function_number main tree)
 
 abbrev pub program_of : ℕ → List Declaration → List typed.Function → typed.Program
-program_of main tree fs = record { globals = globals_of tree; functions = fs; main = function_number main tree }
+program_of main tree fs = record { structs = []; exceptions = []; globals = globals_of tree; functions = fs; main = function_number main tree }
 
 -- where no place of the text is at fault
 abbrev pub start : Place

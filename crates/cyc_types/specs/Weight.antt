@@ -1,18 +1,48 @@
 -- The weight of a typed tree: how many tokens its spelling has at least, for the passes whose output is bounded by it. It counts as
 -- the weight of an abstract syntax tree does. Brackets are gone, and so is what may have been left out: an `else` with an empty
--- statement, the value of a global that is 0, and the `void` of an empty list of parameters.
-use Rattle.std.specs.Prelude.{ℕ, zero, suc, ◌+◌}
+-- statement, the value of a global that is 0, the `void` of an empty list of parameters, labels, regions behind marks, effects and
+-- constraints. Structs and exceptions count nothing: they have no code.
+use Rattle.std.specs.Prelude.{ℕ, zero, suc, ◌+◌, Option, None, Some}
 use Rattle.cyc_syntax.specs.Weight.{sum_of, separated_weight, optional_weight}
-use Rattle.cyc_types.specs.TypedTrees.{Expression, Number, Copy, Call, Unary, Binary, Assign, Converted, Convert, Arguments, NoArguments, MoreArguments, Operations, NoOperations, ThenCompute, ThenTest, Statement, Block, Empty, Evaluate, If, While, Return, Break, Continue, Items, NoItems, MoreItems, Item, Execute, Declare, Constant, Word, Null, GlobalVariable, Function, Program}
+use Rattle.cyc_types.specs.TypedTrees.{Expression, Number, NullPointer, HeapRegion, Counter, Copy, Move, Peek, Load, AddressOf, AddressOfCell, NumberOfElements, FreeUnique, FreeKey, Call, Unary, Binary, Assign, Store, New, Dereference, Target, Member, Element, Placement, OnHeap, AsUnique, ByHandle, Initial, Plain, Fields, Array, Converted, Convert, Arguments, NoArguments, MoreArguments, Operations, NoOperations, ThenCompute, ThenTest, ThenPointer, ThenPointerPeek, Side, VariableSide, CellSide, Statement, Block, Empty, Evaluate, Swap, If, While, Return, Break, Continue, Throw, Try, Items, NoItems, MoreItems, Item, Execute, Declare, DeclareRegion, OpenRegion, DeclareAlias, DeclareKey, Clauses, NoClauses, Default, Case, Constant, Word, Null, GlobalVariable, Function, Program}
 
 abbrev mutual
   pub expression_weight : Expression → ℕ
   expression_weight (Number n) = 1
+  expression_weight NullPointer = 1
+  expression_weight HeapRegion = 1
+  expression_weight (Counter l) = 1
   expression_weight (Copy l t) = 1
+  expression_weight (Move p n t) = 1
+  expression_weight (Peek p n t) = 1
+  expression_weight (Load d) = dereference_weight d
+  expression_weight (AddressOf l t) = 2
+  expression_weight (AddressOfCell d t) = 1 + dereference_weight d
+  expression_weight (NumberOfElements a) = 3 + expression_weight a
+  expression_weight (FreeUnique a) = 3 + expression_weight a
+  expression_weight (FreeKey a) = 3 + expression_weight a
   expression_weight (Call f cs t) = 3 + arguments_weight cs
   expression_weight (Unary o a) = 1 + expression_weight a
   expression_weight (Binary a os t) = expression_weight a + operations_weight os
   expression_weight (Assign l c t) = 2 + converted_weight c
+  expression_weight (Store d c t) = 1 + dereference_weight d + converted_weight c
+  expression_weight (New w i t) = placement_weight w + initial_weight i
+
+  pub dereference_weight : Dereference → ℕ
+  dereference_weight (Target k a t) = 1 + expression_weight a
+  dereference_weight (Member k a s f t) = 2 + expression_weight a
+  dereference_weight (Element a i t) = 2 + expression_weight a + expression_weight i
+
+  -- `new`, and `rnew` with what is in its brackets
+  pub placement_weight : Placement → ℕ
+  placement_weight OnHeap = 1
+  placement_weight AsUnique = 4
+  placement_weight (ByHandle a) = 3 + expression_weight a
+
+  pub initial_weight : Initial → ℕ
+  initial_weight (Plain k a) = expression_weight a
+  initial_weight (Fields cs) = 3 + arguments_weight cs
+  initial_weight (Array n k a) = 6 + expression_weight n + expression_weight a
 
   pub converted_weight : Converted → ℕ
   converted_weight (Convert from to a) = expression_weight a
@@ -30,11 +60,26 @@ abbrev mutual
   operations_weight NoOperations = 0
   operations_weight (ThenCompute o a os) = 1 + expression_weight a + operations_weight os
   operations_weight (ThenTest o a os) = 1 + expression_weight a + operations_weight os
+  operations_weight (ThenPointer o a os) = 1 + expression_weight a + operations_weight os
+  operations_weight (ThenPointerPeek n o a os) = 1 + expression_weight a + operations_weight os
 
 -- `else` and the statement behind it, which has this weight: where it is empty, nothing of both may be written
 abbrev pub else_weight : Statement → ℕ → ℕ
 else_weight Empty n = 0
 else_weight t n = 1 + n
+
+abbrev pub side_weight : Side → ℕ
+side_weight (VariableSide l t) = 1
+side_weight (CellSide d) = dereference_weight d
+
+-- the brackets round an exception's int
+abbrev pub thrown_weight : Option Expression → ℕ
+thrown_weight None = 0
+thrown_weight (Some a) = 2 + expression_weight a
+
+abbrev pub caught_weight : Option ℕ → ℕ
+caught_weight None = 0
+caught_weight (Some n) = 3
 
 abbrev mutual
   pub statement_weight : Statement → ℕ
@@ -46,6 +91,9 @@ abbrev mutual
   statement_weight (Return v) = 2 + optional_weight converted_weight v
   statement_weight Break = 2
   statement_weight Continue = 2
+  statement_weight (Swap a b) = 2 + side_weight a + side_weight b
+  statement_weight (Throw n v) = 4 + thrown_weight v
+  statement_weight (Try s cs) = 4 + statement_weight s + clauses_weight cs
 
   pub items_weight : Items → ℕ
   items_weight NoItems = 0
@@ -54,6 +102,15 @@ abbrev mutual
   pub item_weight : Item → ℕ
   item_weight (Execute s) = statement_weight s
   item_weight (Declare n t v) = 3 + optional_weight (λ c. 1 + converted_weight c) v
+  item_weight (DeclareRegion r n) = 6
+  item_weight (OpenRegion r n p k) = 11
+  item_weight (DeclareAlias r n t p m) = 10
+  item_weight (DeclareKey r n) = 13
+
+  pub clauses_weight : Clauses → ℕ
+  clauses_weight NoClauses = 0
+  clauses_weight (Default r js) = 2 + items_weight js
+  clauses_weight (Case e n r js cs) = 4 + caught_weight n + items_weight js + clauses_weight cs
 
 -- `=` and the value, where it must have been written
 abbrev pub constant_weight : Constant → ℕ

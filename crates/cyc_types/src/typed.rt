@@ -39,7 +39,7 @@ pub enum UnaryOperator {
     Complement,
 }
 
-/// The operators of two operands that evaluate both. Each is named by what it does to values of the types that it has.
+/// The operators of two ints that evaluate both.
 #[derive(Clone, Copy)]
 pub enum Operator {
     Or,
@@ -69,7 +69,38 @@ pub enum LogicalOperator {
     OrElse,
 }
 
-/// A place: an expression that names a cell.
+/// The operators whose left operand is a pointer, or `NULL`. Each is named by what it does to its operands.
+#[derive(Clone, Copy)]
+pub enum PointerOperator {
+    /// A fat pointer and an int.
+    AddFat,
+    SubtractFat,
+    /// Two thin pointers.
+    EqualThin,
+    NotEqualThin,
+    /// A pointer and `NULL`.
+    ThinIsNull,
+    ThinIsNotNull,
+    FatIsNull,
+    FatIsNotNull,
+    /// `NULL` and a pointer.
+    NullIs,
+    NullIsNot,
+}
+
+/// The type of an expression.
+#[derive(Drop)]
+pub enum ValueType {
+    /// It has no value.
+    Void,
+    /// It is the null pointer, of whatever type is wanted.
+    Null,
+    Value {
+        of_type: Ty,
+    },
+}
+
+/// A variable.
 #[derive(Clone, Copy)]
 pub enum Lvalue {
     /// The local of this number, with the place of its name.
@@ -94,7 +125,7 @@ pub enum Expr {
     Call {
         callee: Callee,
         arguments: Vec<Converted>,
-        result: Option<Ty>,
+        result: ValueType,
     },
     Unary {
         operator: UnaryOperator,
@@ -110,7 +141,7 @@ pub enum Expr {
     Assign {
         target: Lvalue,
         value: Box<Converted>,
-        result: Option<Ty>,
+        result: ValueType,
     },
 }
 
