@@ -9,7 +9,7 @@ use Rattle.cyc_syntax.specs.TreeView.{view_expression, expressions_of}
 use Rattle.cyc_types.specs.declared.typed.Kind.TheVariants as kinds
 use Rattle.cyc_types.specs.declared.typed.Callee.{Callee}
 use Rattle.cyc_types.specs.declared.typed.Converted.{Converted}
-use Rattle.cyc_types.specs.Types.{Ty, Int}
+use Rattle.cyc_types.specs.Types.{Ty, Int, result_type}
 use Rattle.cyc_types.specs.TypedTrees.{type_of}
 use Rattle.cyc_types.specs.TypedTrees as typed
 use Rattle.cyc_types.specs.TypedTreeView.{view_converted, arguments_of}
@@ -42,11 +42,11 @@ counted cs n = ap (λ k. nat_eq k (length (ints n))) (count_values cs) ∙ ap (n
 
 -- a call of which nothing is wrong
 pub called_well : (m : Meaning) (p : Place) (es : Expressions) (cs : List Converted) (f : Callee) (n : ℕ) (r : Bool) → m ≡ Routine f (record { parameters = ints n; result = result_if r }) → AreOfInts cs
-    → settled None (call_demanded p (record { parameters = ints n; result = None }) es (map value_of cs)) ≡ None → run (called m p es (map value_of cs)) ≡ Ok (typed.Call f (arguments_of cs) (result_if r))
+    → settled None (call_demanded p (record { parameters = ints n; result = None }) es (map value_of cs)) ≡ None → run (called m p es (map value_of cs)) ≡ Ok (typed.Call f (arguments_of cs) (result_type (result_if r)))
 called_well m p es cs f n r is h k =
     ap (λ (o : Meaning). run (called o p es (map value_of cs))) is
-    ∙ ap (λ o. unless o (typed.Call f (passed (map value_of cs) (ints n)) (result_if r))) k
-    ∙ ap (λ as'. Ok (typed.Call f as' (result_if r))) (sym (passed_ints cs n h (settled_kept (call_demanded p (record { parameters = ints n; result = None }) es (map value_of cs)) k).0))
+    ∙ ap (λ o. unless o (typed.Call f (passed (map value_of cs) (ints n)) (result_type (result_if r)))) k
+    ∙ ap (λ as'. Ok (typed.Call f as' (result_type (result_if r)))) (sym (passed_ints cs n h (settled_kept (call_demanded p (record { parameters = ints n; result = None }) es (map value_of cs)) k).0))
 
 -- one more
 pub ints_append : (cs : List Converted) (c : Converted) → AreOfInts cs → view_converted c ≡ typed.Convert kinds.Int kinds.Int (value_of c) → AreOfInts (cs ++ c ∷ [])

@@ -1,5 +1,5 @@
 -- How the code walks the arguments of a call and the operations of a chain.
-use Rattle.std.proofs.Common.{◌≡◌, List, [], ◌∷◌, Option, Some, None, map, Ok, refl, sym, ap, ◌∙◌}
+use Rattle.std.proofs.Common.{◌≡◌, List, [], ◌∷◌, Some, None, map, Ok, refl, sym, ap, ◌∙◌}
 use Rattle.std.proofs.lemmas.Option.{same_Some}
 use Rattle.cyc_syntax.specs.declared.tree.Expr.{Expr}
 use Rattle.cyc_syntax.specs.declared.tree.Operation.{Operation as OperationCode}
@@ -9,7 +9,7 @@ use Rattle.cyc_syntax.specs.TreeView.{view_expression, expressions_of, operation
 use Rattle.cyc_types.specs.declared.typed.Converted.{Converted}
 use Rattle.cyc_types.specs.declared.typed.Operation.{Operation}
 use Rattle.cyc_types.specs.declared.typed.Operation.TheVariants as operation
-use Rattle.cyc_types.specs.Types.{Ty, Int}
+use Rattle.cyc_types.specs.Types.{Int, ValueType, Value}
 use Rattle.cyc_types.specs.TypedTrees as typed
 use Rattle.cyc_types.specs.TypedTreeView as view
 use Rattle.cyc_types.specs.Scopes.{Scope, meaning_of}
@@ -40,13 +40,13 @@ onto_arguments (c ∷ cs) = ap (λ as'. value_of c ∷ as') (onto_arguments cs)
 -- ---- chains: behind the first operation the left operand is an int
 
 module _ (g : Scope) (p : Place) where
-  abbrev pub one_of_chain : OperationCode → Option Ty → Checked (typed.Operations → typed.Operations)
+  abbrev pub one_of_chain : OperationCode → ValueType → Checked (typed.Operations → typed.Operations)
   one_of_chain o left = one_operation g p left o.operator (view_expression o.operand)
 
-  abbrev pub then_int : OperationCode → Option Ty → Option Ty
-  then_int o left = Some Int
+  abbrev pub then_int : OperationCode → ValueType → ValueType
+  then_int o left = Value Int
 
-  abbrev pub many_of_chain : List OperationCode → Option Ty → Checked typed.Operations
+  abbrev pub many_of_chain : List OperationCode → ValueType → Checked typed.Operations
   many_of_chain os left = run (rule_chain g p left (operations_of os))
 
   pub chain_steps : Steps (λ f os. f os) one_of_chain then_int many_of_chain

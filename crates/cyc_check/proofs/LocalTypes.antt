@@ -17,7 +17,7 @@ use Rattle.cyc_types.proofs.RuleLaws.{answers_tree}
 use Rattle.cyc_check.specs.Code.{ints}
 
 abbrev pub function_at : Named → Place → typed.Items → List Ty → List Ty → Option Ty → ℕ → typed.Function
-function_at x q js ps ls o k = record { name = x.name; place = x.place; parameters = ps; result = o; locals = ls; region = 0; regions = k; body = js; end = q }
+function_at x q js ps ls o k = record { name = x.name; place = x.place; parameters = ps; result = o; variables = 0; effect = []; constraints = []; locals = ls; region = 0; regions = k; body = js; end = q }
 
 ints-append : (n : ℕ) → ints n ++ Int ∷ [] ≡ ints (suc n)
 ints-append zero = refl

@@ -5,7 +5,7 @@ use Rattle.cyc_syntax.specs.declared.tree.BinaryOperator.{BinaryOperator}
 use Rattle.cyc_syntax.specs.Symbols.{Place}
 use Rattle.cyc_syntax.specs.Trees.{Named, Expression, Variable, Bracketed, place_of, Statement, Items, Item, Execute, Local, Region, Alias, DynamicRegion}
 use Rattle.cyc_types.specs.Scopes.{Scope, locals_in, item_locals, blocks_in, item_blocks}
-use Rattle.cyc_types.specs.Types.{Ty}
+use Rattle.cyc_types.specs.Types.{Ty, ValueType}
 use Rattle.cyc_types.specs.TypedTrees as typed
 use Rattle.cyc_types.specs.Rules.{Checked, fault_at, Refused, Part, run}
 use Rattle.cyc_types.specs.TypingRules.{joined, rule}
@@ -63,7 +63,7 @@ behind_item (Alias r t x y) c = c
 behind_item (DynamicRegion r k) c = c
 
 -- one operation of a chain that begins at this place, behind a left operand of this type
-abbrev pub one_operation : Scope → Place → Option Ty → BinaryOperator → Expression → Checked (typed.Operations → typed.Operations)
+abbrev pub one_operation : Scope → Place → ValueType → BinaryOperator → Expression → Checked (typed.Operations → typed.Operations)
 one_operation g p left o e = run (Part (rule g e) (λ a. joined left p o (place_of e) a))
 
 -- brackets aside, the expression is this name

@@ -10,7 +10,7 @@ use Rattle.cyc_types.specs.declared.typed.Stmt.{Stmt}
 use Rattle.cyc_types.specs.declared.typed.Converted.{Converted as ConvertedCode}
 use Rattle.cyc_types.specs.declared.typed.Operation.{Operation}
 use Rattle.cyc_types.specs.declared.typed.Operation.TheVariants as operation
-use Rattle.cyc_types.specs.Types.{Ty, Int}
+use Rattle.cyc_types.specs.Types.{Ty, Int, ValueType, Void, Null, Value}
 use Rattle.cyc_types.specs.TypeView.{view_ty}
 use Rattle.cyc_types.specs.TypedTrees as typed
 use Rattle.cyc_types.specs.TypedTreeView as view
@@ -51,11 +51,12 @@ abbrev pub result_if : Bool → Option Ty
 result_if true = Some Int
 result_if false = None
 
--- the type of a value
-abbrev pub view_given : Given → Option Ty
-view_given given.Nothing = None
-view_given given.Int = Some Int
-view_given (given.Value t) = Some (view_ty t.now)
+-- the type of an expression
+abbrev pub view_given : Given → ValueType
+view_given given.Void = Void
+view_given given.Null = Null
+view_given given.Int = Value Int
+view_given (given.Value t) = Value (view_ty t.now)
 
 -- ---- nodes
 

@@ -1,13 +1,12 @@
 //! What each form of an expression asks of its own, and its node, once its parts are walked.
-ghost use Rattle.std.specs.Prelude.{◌≡◌, [], ◌∷◌, ◌++◌, map, option_map, None, Some, Ok, IfOk, OnOk, IfErr};
+ghost use Rattle.std.specs.Prelude.{◌≡◌, [], ◌∷◌, ◌++◌, map, None, Ok, IfOk, OnOk, IfErr};
 ghost use Rattle.cyc_syntax.specs.TreeView.{place_of_span, view_name, view_expression, expressions_of};
 ghost use Rattle.cyc_syntax.specs.Trees.{place_of};
 ghost use Rattle.cyc_types.specs.declared.typed.Kind.TheVariants as kinds;
 ghost use Rattle.cyc_types.specs.declared.typed.Operation.{Operation as OperationCode};
 ghost use Rattle.cyc_types.specs.Types as types;
-ghost use Rattle.cyc_types.specs.TypedTrees.{type_of};
 ghost use Rattle.cyc_types.specs.TypedTrees as nodes;
-ghost use Rattle.cyc_types.specs.TypeView.{view_ty};
+ghost use Rattle.cyc_types.specs.TypeView.{view_value_type};
 ghost use Rattle.cyc_types.specs.TypedTreeView as typed_view;
 ghost use Rattle.cyc_types.specs.Scopes.{meaning_of};
 ghost use Rattle.cyc_types.specs.Rules.{settled, run};
@@ -22,7 +21,9 @@ use crate::given::Given;
 use crate::settled::{Settled, wanted};
 use crate::stop::{Stop, not_built, refused};
 use cyc_syntax::{BinaryOperator, Expr, Ident, PrefixOperator};
-use cyc_types::typed::{Callee, Converted, Kind, LogicalOperator, Lvalue, Operator, UnaryOperator};
+use cyc_types::typed::{
+    Callee, Converted, Kind, LogicalOperator, Lvalue, Operator, UnaryOperator, ValueType,
+};
 use cyc_types::{Ty, typed};
 use cyc_words::{Code, Span};
 use std::alloc::{AllocError, Global};
@@ -101,14 +102,21 @@ fn operation_of(operator: BinaryOperator, operand: typed::Expr) -> typed::Operat
     }
 }
 
-fn result_if(has_result: bool) -> Option<Ty>
-    ensures { option_map view_ty result ≡ result_if has_result }
+/// The type of an int.
+fn int_value() -> ValueType
+    ensures { view_value_type result ≡ types.Value types.Int }
 {
-    if has_result { Some(Ty::Int) } else { None }
+    ValueType::Value { of_type: Ty::Int }
+}
+
+fn result_if(has_result: bool) -> ValueType
+    ensures { view_value_type result ≡ types.result_type (result_if has_result) }
+{
+    if has_result { int_value() } else { ValueType::Void }
 }
 
 fn call_of(callee: Callee, arguments: Vec<Converted>, has_result: bool) -> typed::Expr
-    ensures { typed_view.view_expression result ≡ nodes.Call callee (typed_view.arguments_of arguments.items) (result_if has_result) }
+    ensures { typed_view.view_expression result ≡ nodes.Call callee (typed_view.arguments_of arguments.items) (types.result_type (result_if has_result)) }
 {
     let result = result_if(has_result);
     typed::Expr::Call {
@@ -190,19 +198,19 @@ pub(crate) fn as_int(value: Box<typed::Expr>) -> Converted
 }
 
 fn assignment(alloc: Global, target: Lvalue, value: Converted) -> Result<typed::Expr, AllocError>
-    ensures { IfOk result (λ e. typed_view.view_expression e ≡ nodes.Assign (typed_view.view_lvalue target) (typed_view.view_converted value) (Some types.Int)) }
+    ensures { IfOk result (λ e. typed_view.view_expression e ≡ nodes.Assign (typed_view.view_lvalue target) (typed_view.view_converted value) (types.Value types.Int)) }
 {
     let value = Box::new(alloc, value)?;
     Ok(typed::Expr::Assign {
         target,
         value,
-        result: Some(Ty::Int),
+        result: int_value(),
     })
 }
 
 #[inline(never)]
 fn assign(alloc: Global, target: Lvalue, value: Box<typed::Expr>) -> Result<Box<typed::Expr>, Stop>
-    ensures { Gives view_boxed result (Ok (nodes.Assign (typed_view.view_lvalue target) (nodes.Convert kinds.Int kinds.Int (view_boxed value)) (Some types.Int))) }
+    ensures { Gives view_boxed result (Ok (nodes.Assign (typed_view.view_lvalue target) (nodes.Convert kinds.Int kinds.Int (view_boxed value)) (types.Value types.Int))) }
 {
     boxed(alloc, assignment(alloc, target, as_int(value))?)
 }

@@ -1,24 +1,28 @@
 //! What the checker asks of a typed expression: the type of its value.
-ghost use Rattle.std.specs.Prelude.{◌≡◌, Some};
+ghost use Rattle.std.specs.Prelude.{◌≡◌};
+ghost use Rattle.cyc_types.specs.Types.{Value};
 ghost use Rattle.cyc_types.specs.TypeView.{view_ty};
 ghost use Rattle.cyc_types.specs.TypedTrees.{type_of};
 ghost use Rattle.cyc_types.specs.TypedTreeView.{view_expression};
 ghost use Rattle.cyc_types.specs.TypingRules.{is_int};
 ghost use Rattle.cyc_check.specs.Code.{view_given};
 
+use cyc_types::typed::ValueType;
 use cyc_types::{Ty, typed};
 
 #[derive(Clone, Copy)]
 pub(crate) enum Given<'a> {
     /// There is no value.
-    Nothing,
+    Void,
+    /// The null pointer, of whatever type is wanted.
+    Null,
     Int,
     /// A value of the type that its node has.
     Value(&'a Ty),
 }
 
 fn is_int_type(of_type: &Ty) -> bool
-    ensures { result ≡ is_int (Some (view_ty of_type.now)) }
+    ensures { result ≡ is_int (Value (view_ty of_type.now)) }
 {
     matches!(of_type, Ty::Int)
 }
@@ -41,8 +45,9 @@ impl<'a> Given<'a> {
                 ..
             } => {
                 match of_type {
-                    Some(of_type) => Given::Value(of_type),
-                    None => Given::Nothing,
+                    ValueType::Void => Given::Void,
+                    ValueType::Null => Given::Null,
+                    ValueType::Value { of_type } => Given::Value(of_type),
                 }
             }
         }
@@ -52,7 +57,7 @@ impl<'a> Given<'a> {
         ensures { result ≡ is_int (view_given self.entry) }
     {
         match self {
-            Given::Nothing => false,
+            Given::Void | Given::Null => false,
             Given::Int => true,
             Given::Value(of_type) => is_int_type(of_type),
         }
