@@ -6,21 +6,23 @@ use Rattle.std.specs.declared.vec.Vec.{Vec}
 use Rattle.std.specs.declared.boxed.Box.{Box}
 use Rattle.std.specs.declared.alloc.Global.{Global as Heap}
 use Rattle.cyc_types.specs.declared.ty.Ty.{Ty as TyCode}
+use Rattle.cyc_types.specs.declared.typed.ValueType.{ValueType as ValueTypeCode}
 use Rattle.cyc_types.specs.declared.typed.Callee.{Callee}
 use Rattle.cyc_types.specs.declared.typed.Callee.TheVariants as callees
+use Rattle.cyc_types.specs.declared.typed.Operator.{Operator}
 use Rattle.cyc_types.specs.declared.typed.LogicalOperator.{LogicalOperator}
 use Rattle.cyc_types.specs.declared.typed.Expr.{Expr}
 use Rattle.cyc_types.specs.declared.typed.Expr.TheVariants as expr
 use Rattle.cyc_types.specs.declared.typed.Converted.{Converted as ConvertedCode}
 use Rattle.cyc_types.specs.declared.typed.Operation.{Operation}
 use Rattle.cyc_types.specs.declared.typed.Operation.TheVariants as operation
-use Rattle.cyc_types.specs.TypeView.{view_ty}
+use Rattle.cyc_types.specs.TypeView.{view_ty, view_value_type}
 use Rattle.cyc_types.specs.TypedTrees.{Lvalue, Local, Global, Expression, Number, Copy, Call, Unary, Binary, Assign, Converted, Convert}
 use Rattle.cyc_types.specs.TypedTreeView.{view_expression, view_converted, arguments_of, operations_of}
 use Rattle.cyc_types.specs.Numbered.{argument_count}
 use Rattle.cyc_types.proofs.TypedTreeViewLemmas.{view_call, view_binary}
 use Rattle.cyc_plain.specs.declared.instruction.Instruction.{Instruction}
-use Rattle.cyc_lower.specs.Lowering.{load_code, call_code, test_jump, truth_code, expression_code, converted_code, arguments_code, operations_code}
+use Rattle.cyc_lower.specs.Lowering.{load_code, operator_code, call_code, test_jump, truth_code, expression_code, converted_code, arguments_code, operations_code}
 use Rattle.cyc_lower.specs.Emission.{operation_code}
 
 -- ---- no expression is without code
@@ -141,6 +143,19 @@ module _ (value : Expr) (b : Box Expr Heap) (v : Vec Operation Heap) (t : TyCode
       ∙ ap (λ (l : List Instruction). l ++ operations_code (operations_of items) (length old + length a) d) begun
       ∙ append_assoc old a (operations_code (operations_of items) (length old + length a) d)
       ∙ ap (λ (x : Expression). old ++ expression_code x (length old) d) (sym e)
+
+-- an operator with its right operand, which comes into the next slot
+module _ (value : Operation) (o : Operator) (e : Expr) (is : value ≡ operation.Compute o e) (old middle new : List Instruction) (d next : ℕ) where
+  pub made_compute : next ≡ suc d → middle ≡ old ++ expression_code (view_expression e) (length old) next → new ≡ middle ++ operator_code o (length middle) d → new ≡ old ++ operation_code value (length old) d
+  made_compute behind begun applied =
+      let a = expression_code (view_expression e) (length old) (suc d) in
+      let first : middle ≡ old ++ a = begun ∙ ap (λ (k : ℕ). old ++ expression_code (view_expression e) (length old) k) behind in
+      let long : length middle ≡ length old + length a = ap length first ∙ length-append old a in
+      applied
+      ∙ ap (λ (n : ℕ). middle ++ operator_code o n d) long
+      ∙ ap (λ (l : List Instruction). l ++ operator_code o (length old + length a) d) first
+      ∙ append_assoc old a (operator_code o (length old + length a) d)
+      ∙ ap (λ (y : Operation). old ++ operation_code y (length old) d) (sym is)
 
 -- ---- targets that are written back
 

@@ -3,7 +3,7 @@ use Rattle.std.proofs.Common.{◌≡◌, ℕ, ◌+◌, ◌≤◌, ◌<◌, List,
 use Rattle.std.proofs.lemmas.Option.{same_Some}
 use Rattle.cyc_types.specs.declared.typed.Callee.{Callee}
 use Rattle.cyc_types.specs.declared.typed.Kind.{Kind}
-use Rattle.cyc_types.specs.Types.{Ty}
+use Rattle.cyc_types.specs.Types.{Ty, ValueType}
 use Rattle.cyc_types.specs.TypedTrees.{Lvalue, Local, Global, Expression, Number, Copy, Call, Unary, Binary, Assign, Convert, Arguments, NoArguments, MoreArguments, Function, Program}
 use Rattle.cyc_types.specs.Numbered.{argument_count}
 use Rattle.cyc_plain.specs.State as plain

@@ -9,7 +9,7 @@ use Rattle.cyc_types.specs.declared.typed.Callee.TheVariants.{Putchar, Getchar, 
 use Rattle.cyc_types.specs.declared.typed.UnaryOperator.TheVariants as unary
 use Rattle.cyc_types.specs.declared.typed.Operator.TheVariants.{Equal, NotEqual, Greater, Add, Subtract, Multiply, Divide, Remainder}
 use Rattle.cyc_types.specs.declared.typed.LogicalOperator.TheVariants.{AndThen, OrElse}
-use Rattle.cyc_types.specs.Types.{Ty, Int, Pointer}
+use Rattle.cyc_types.specs.Types.{Ty, Int, Pointer, Value}
 use Rattle.cyc_types.specs.TypedTrees.{Local, Global, Expression, Number, Copy, Call, Unary, Binary, Assign, Converted, Convert, Arguments, NoArguments, MoreArguments, Operations, NoOperations, ThenCompute, ThenTest, Statement, Block, Empty, Evaluate, If, While, Return, Break, Continue, Items, NoItems, MoreItems, Execute, Declare, Word, Null, Function, Program}
 use Rattle.cyc_types.specs.declared.region.Region.TheVariants.{Heap}
 use Rattle.cyc_syntax.specs.declared.tree.PointerKind.TheVariants.{Nullable, NonNull}

@@ -3,10 +3,10 @@ use Rattle.std.proofs.Common.{ℕ, ◌+◌, ◌*◌, ◌≤◌, List, [], ◌∷
 use Rattle.cyc_syntax.specs.declared.tree.PointerKind.TheVariants as marks
 use Rattle.cyc_types.specs.declared.typed.Kind.{Kind}
 use Rattle.cyc_types.specs.declared.typed.Kind.TheVariants as kinds
-use Rattle.cyc_types.specs.Types.{Ty, Int, Pointer, Handle, Key, Struct, words_of}
+use Rattle.cyc_types.specs.Types.{Ty, Int, Pointer, Handle, Key, Struct, words_of, ValueType, Void, Null, Value}
 use Rattle.cyc_types.specs.TypedTrees.{Expression, Number, Copy, Call, Unary, Binary, Assign, Converted, Convert, Arguments, NoArguments, MoreArguments, Operations, NoOperations, ThenCompute, ThenTest, type_of, Statement, Block, Empty, Evaluate, If, While, Return, Break, Continue, Items, NoItems, MoreItems, Execute, Declare, Program}
 use Rattle.cyc_types.specs.Weight.{expression_weight, converted_weight, arguments_weight, more_arguments_weight, operations_weight, statement_weight, items_weight, function_weight, program_weight}
-use Rattle.cyc_types.proofs.WeightLemmas.{else_written, function_outweighs, function_of_program}
+use Rattle.cyc_types.proofs.WeightLemmas.{some_token, else_written, function_outweighs, function_of_program}
 use Rattle.cyc_meaning.specs.Values.{words_of_kind}
 use Rattle.cyc_meaning.specs.FrameCount.{result_words, operand_words, converted_words, argument_words, expression_need, converted_need, arguments_need, operations_need, statement_need, items_need, words_of_all}
 use Rattle.cyc_lower.specs.Emission.{most_weight, IsTyped, HaveFewWords}

@@ -5,6 +5,7 @@ use Rattle.std.specs.declared.vec.Vec.{Vec}
 use Rattle.std.specs.declared.boxed.Box.{Box}
 use Rattle.std.specs.declared.alloc.Global.{Global as Heap}
 use Rattle.cyc_types.specs.declared.ty.Ty.{Ty as TyCode}
+use Rattle.cyc_types.specs.declared.typed.ValueType.{ValueType as ValueTypeCode}
 use Rattle.cyc_types.specs.declared.typed.Callee.{Callee}
 use Rattle.cyc_types.specs.declared.typed.Expr.{Expr}
 use Rattle.cyc_types.specs.declared.typed.Expr.TheVariants as expr
@@ -16,7 +17,7 @@ use Rattle.cyc_types.specs.declared.typed.Stmt.TheVariants as stmt
 use Rattle.cyc_types.specs.declared.typed.Item.{Item as ItemCode}
 use Rattle.cyc_types.specs.declared.typed.Item.TheVariants as item
 use Rattle.cyc_types.specs.Types.{Ty, words_of}
-use Rattle.cyc_types.specs.TypeView.{view_ty}
+use Rattle.cyc_types.specs.TypeView.{view_ty, view_value_type}
 use Rattle.cyc_types.specs.TypedTrees.{type_of}
 use Rattle.cyc_types.specs.TypedTreeView.{view_expression, view_converted, view_statement, arguments_of, operations_of, items_of}
 use Rattle.cyc_types.proofs.TypedTreeViewLemmas.{view_call, view_binary, view_block}

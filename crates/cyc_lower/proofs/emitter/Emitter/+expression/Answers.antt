@@ -6,7 +6,7 @@ use Rattle.cyc_types.specs.declared.typed.Expr.TheFolds as expressions
 use Rattle.cyc_types.specs.TypedTreeView.{view_expression, view_converted}
 use Rattle.cyc_plain.specs.declared.instruction.Instruction.{Instruction}
 use Rattle.cyc_lower.specs.Lowering.{expression_code, test_jump}
-use Rattle.cyc_lower.proofs.Emitting.{Remains, all_arguments, one_argument, goes_on, arguments_lower, converted_some, expression_some, grown, made_call, made_binary, made_test}
+use Rattle.cyc_lower.proofs.Emitting.{Remains, all_arguments, one_argument, goes_on, arguments_lower, converted_some, expression_some, grown, made_call, made_binary, made_compute, made_test}
 use Rattle.cyc_lower.proofs.emitter.Emitter.+expression.Goals as goal
 
 pub arguments-loop-argument-preserved : goal.arguments-loop-argument-preserved
@@ -43,6 +43,12 @@ expression-returns-in_ok-expression-in-Binary t c =
     on_ok_weaker c.operations.result
     (made_binary c.args.value.now c.in-Binary.first c.in-Binary.rest c.in-Binary.of_type c.in-Binary.is c.deref-in-Binary.result.now c.deref-in-Binary.ensures c.deref-in-Binary-2.result.now c.deref-in-Binary-2.ensures.value c.args.self.now.code.items c.expression-in-Binary.new.self.code.items c.operations.new.self.code.items c.args.slot c.in_ok-expression-in-Binary.ensures)
     c.operations.ensures
+
+pub operation-returns-in_ok-expression-in-Compute : goal.operation-returns-in_ok-expression-in-Compute
+operation-returns-in_ok-expression-in-Compute t c =
+    on_ok_weaker c.operator.result
+    (made_compute c.args.operation.now c.in-Compute.operator c.in-Compute.operand c.in-Compute.is c.args.self.now.code.items c.expression.new.self.code.items c.operator.new.self.code.items c.args.slot (c.args.slot + 1) (omega arith) c.in_ok-expression-in-Compute.ensures)
+    c.operator.ensures
 
 pub operation-returns-in_ok-expression-in-Test : goal.operation-returns-in_ok-expression-in-Test
 operation-returns-in_ok-expression-in-Test t c =
