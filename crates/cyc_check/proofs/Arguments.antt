@@ -1,74 +1,94 @@
 -- The arguments of a call: the code makes them ints before it knows that they are.
-use Rattle.std.proofs.Common.{◌≡◌, ℕ, suc, List, [], ◌∷◌, length, map, Ok, Err, refl, sym, ap, ◌∙◌}
+use Rattle.std.proofs.Common.{◌≡◌, ℕ, zero, suc, ◌+◌, ◌<◌, ◌≤◌, true, nat_eq, List, [], ◌∷◌, ◌++◌, length, map, drop, slice_get, get_or, Option, None, Some, ◌⊎◌, inl, inr, Bool, Ok, refl, sym, ap, ◌∙◌, arith}
+use Rattle.std.proofs.lemmas.Bool.{eqb-true}
 use Rattle.cyc_words.specs.declared.fault.Fault.{Fault}
 use Rattle.cyc_syntax.specs.declared.tree.Expr.{Expr}
-use Rattle.cyc_syntax.specs.Trees.{Expressions}
+use Rattle.cyc_syntax.specs.Symbols.{Place}
+use Rattle.cyc_syntax.specs.Trees.{Expressions, place_of}
 use Rattle.cyc_syntax.specs.TreeView.{view_expression, expressions_of}
+use Rattle.cyc_types.specs.declared.typed.Kind.TheVariants as kinds
+use Rattle.cyc_types.specs.declared.typed.Callee.{Callee}
 use Rattle.cyc_types.specs.declared.typed.Converted.{Converted}
+use Rattle.cyc_types.specs.Types.{Ty, Int, result_type}
+use Rattle.cyc_types.specs.TypedTrees.{type_of}
 use Rattle.cyc_types.specs.TypedTrees as typed
-use Rattle.cyc_types.specs.TypedTreeView.{arguments_of}
-use Rattle.cyc_types.specs.Scopes.{Scope}
-use Rattle.cyc_types.specs.Checking.{Checked, and_then, check, check_all}
-use Rattle.cyc_check.specs.Code.{value_of, as_ints, arguments}
+use Rattle.cyc_types.specs.TypedTreeView.{view_converted, arguments_of}
+use Rattle.cyc_types.specs.Scopes.{Meaning, Routine}
+use Rattle.cyc_types.specs.Rules.{Demand, settled, unless, run}
+use Rattle.cyc_types.specs.TypingRules.{conversion, arguments_demanded, call_demanded, called, passed}
+use Rattle.cyc_types.proofs.RuleLaws.{settled_kept}
+use Rattle.cyc_check.specs.Code.{ints, result_if, value_of, AreOfInts}
+use Rattle.cyc_check.proofs.Loops.{taken, read, drop_all}
 
--- what the arguments convert
-abbrev values_in : typed.Arguments → List typed.Expression
-values_in typed.NoArguments = []
-values_in (typed.MoreArguments (typed.Convert f t a) cs) = a ∷ values_in cs
+count_ints : (n : ℕ) → length (ints n) ≡ n
+count_ints zero = refl
+count_ints (suc n) = ap suc (count_ints n)
 
-values_of_ints : (as' : List typed.Expression) → values_in (as_ints as') ≡ as'
-values_of_ints [] = refl
-values_of_ints (a ∷ as') = ap (λ bs. a ∷ bs) (values_of_ints as')
+-- values of ints are passed as they are
+passed_all : (cs : List Converted) (n : ℕ) → AreOfInts cs → length (map value_of cs) ≡ length (ints n) → arguments_of cs ≡ passed (map value_of cs) (ints n)
+passed_all [] n h e = refl
+passed_all (c ∷ cs) zero h e = absurd (omega (arith, e))
+passed_all (c ∷ cs) (suc n) (h, hs) e = ap (λ d. typed.MoreArguments d (arguments_of cs)) h ∙ ap (typed.MoreArguments (typed.Convert kinds.Int kinds.Int (value_of c))) (passed_all cs n hs (omega (arith, e)))
 
-values_of_code : (cs : List Converted) → values_in (arguments_of cs) ≡ map value_of cs
-values_of_code [] = refl
-values_of_code (c ∷ cs) = ap (λ bs. value_of c ∷ bs) (values_of_code cs)
+passed_ints : (cs : List Converted) (n : ℕ) → AreOfInts cs → nat_eq (length (map value_of cs)) (length (ints n)) ≡ true → arguments_of cs ≡ passed (map value_of cs) (ints n)
+passed_ints cs n h e = passed_all cs n h (eqb-true (length (map value_of cs)) (length (ints n)) e)
 
-abbrev values_given : Checked typed.Arguments → List typed.Expression
-values_given (Ok cs) = values_in cs
-values_given (Err f) = []
+count_values : (cs : List Converted) → length (map value_of cs) ≡ length cs
+count_values [] = refl
+count_values (c ∷ cs) = ap suc (count_values cs)
 
-by_values : (o : Checked (List typed.Expression)) (cs : List Converted) → and_then o (λ as'. Ok (as_ints as')) ≡ Ok (arguments_of cs) → o ≡ Ok (map value_of cs)
-by_values (Ok as') cs e = ap Ok (sym (values_of_ints as') ∙ ap values_given e ∙ values_of_code cs)
-by_values (Err f) cs e = cc
+pub counted : (cs : List Converted) (n : ℕ) → nat_eq (length (map value_of cs)) (length (ints n)) ≡ nat_eq (length cs) n
+counted cs n = ap (λ k. nat_eq k (length (ints n))) (count_values cs) ∙ ap (nat_eq (length cs)) (count_ints n)
 
-pub are_values : (g : Scope) (es : Expressions) (cs : List Converted) → arguments g es ≡ Ok (arguments_of cs) → check_all g es ≡ Ok (map value_of cs)
-are_values g es cs e = by_values (check_all g es) cs e
+-- a call of which nothing is wrong
+pub called_well : (m : Meaning) (p : Place) (es : Expressions) (cs : List Converted) (f : Callee) (n : ℕ) (r : Bool) → m ≡ Routine f (record { parameters = ints n; result = result_if r }) → AreOfInts cs
+    → settled None (call_demanded p (record { parameters = ints n; result = None }) es (map value_of cs)) ≡ None → run (called m p es (map value_of cs)) ≡ Ok (typed.Call f (arguments_of cs) (result_type (result_if r)))
+called_well m p es cs f n r is h k =
+    ap (λ (o : Meaning). run (called o p es (map value_of cs))) is
+    ∙ ap (λ o. unless o (typed.Call f (passed (map value_of cs) (ints n)) (result_type (result_if r)))) k
+    ∙ ap (λ as'. Ok (typed.Call f as' (result_type (result_if r)))) (sym (passed_ints cs n h (settled_kept (call_demanded p (record { parameters = ints n; result = None }) es (map value_of cs)) k).0))
 
-pub are_refused : (g : Scope) (es : Expressions) (f : Fault) → arguments g es ≡ Err f → check_all g es ≡ Err f
-are_refused g es f e = by_result (check_all g es) e
-  where
-    by_result : (o : Checked (List typed.Expression)) → and_then o (λ as'. Ok (as_ints as')) ≡ Err f → o ≡ Err f
-    by_result (Ok as') e = cc
-    by_result (Err d) e = cc
+-- one more
+pub ints_append : (cs : List Converted) (c : Converted) → AreOfInts cs → view_converted c ≡ typed.Convert kinds.Int kinds.Int (value_of c) → AreOfInts (cs ++ c ∷ [])
+ints_append [] c h e = (e, tt)
+ints_append (d ∷ cs) c (h, hs) e = (h, ints_append cs c hs e)
 
-abbrev given : Checked typed.Arguments → typed.Arguments
-given (Ok cs) = cs
-given (Err f) = typed.NoArguments
+-- ---- what arguments demand, one after the other
 
-pub as_converted : (g : Scope) (es : Expressions) (cs : List Converted) → arguments g es ≡ Ok (arguments_of cs) → arguments_of cs ≡ as_ints (map value_of cs)
-as_converted g es cs e = sym (ap given (sym (ap (λ o. and_then o (λ as'. Ok (as_ints as'))) (are_values g es cs e)) ∙ e))
+ints_at : (n i : ℕ) → i < n → slice_get (ints n) i ≡ Some Int
+ints_at zero i lt = absurd (omega (arith, lt))
+ints_at (suc n) zero lt = refl
+ints_at (suc n) (suc i) lt = ints_at n i (omega (arith, lt))
 
--- as many as are written
-abbrev length_given : Checked (List typed.Expression) → ℕ
-length_given (Ok as') = length as'
-length_given (Err f) = 0
+abbrev demanded : List Expr → List Converted → List Ty → List Demand
+demanded es cs ts = arguments_demanded (expressions_of es) (map value_of cs) ts
 
-all_length : (g : Scope) (es : List Expr) (as' : List typed.Expression) → check_all g (expressions_of es) ≡ Ok as' → length es ≡ length as'
-all_length g [] as' e = ap length_given e
-all_length g (x ∷ es) as' e = by_first (all_length g es) (check g (view_expression x)) e
-  where
-    by_rest : ((bs : List typed.Expression) → check_all g (expressions_of es) ≡ Ok bs → length es ≡ length bs) → (a : typed.Expression) (o : Checked (List typed.Expression)) → check_all g (expressions_of es) ≡ o → and_then o (λ bs. Ok (a ∷ bs)) ≡ Ok as' → suc (length es) ≡ length as'
-    by_rest h a (Ok bs) r e = ap suc (h bs r) ∙ ap length_given e
-    by_rest h a (Err f) r e = cc
+pub demanded_next : (known : Option Fault) (es : List Expr) (cs : List Converted) (n i : ℕ) (e : Expr) (c : Converted) → i < length es → e ≡ get_or es i e → i < length cs → c ≡ get_or cs i c → i < n
+    → settled known (demanded (drop i es) (drop i cs) (drop i (ints n)))
+    ≡ settled (settled known (conversion (type_of (value_of c)) Int (place_of (view_expression e)))) (demanded (drop (i + 1) es) (drop (i + 1) cs) (drop (i + 1) (ints n)))
+demanded_next known es cs n i e c lt_e is_e lt_c is_c lt =
+    ap (λ xs. settled known (demanded xs (drop i cs) (drop i (ints n)))) (read es i e lt_e is_e)
+    ∙ ap (λ xs. settled known (demanded (e ∷ drop (i + 1) es) xs (drop i (ints n)))) (read cs i c lt_c is_c)
+    ∙ ap (λ xs. settled known (demanded (e ∷ drop (i + 1) es) (c ∷ drop (i + 1) cs) xs)) (taken (ints n) i Int (ints_at n i lt))
 
-    by_first : ((bs : List typed.Expression) → check_all g (expressions_of es) ≡ Ok bs → length es ≡ length bs) → (o : Checked typed.Expression) → and_then o (λ a. and_then (check_all g (expressions_of es)) (λ bs. Ok (a ∷ bs))) ≡ Ok as' → suc (length es) ≡ length as'
-    by_first h (Ok a) e = by_rest h a (check_all g (expressions_of es)) refl e
-    by_first h (Err f) e = cc
+none_of_none : (es : List Expr) (ts : List Ty) → demanded es [] ts ≡ []
+none_of_none [] ts = refl
+none_of_none (e ∷ es) ts = refl
 
-length_map : (cs : List Converted) → length (map value_of cs) ≡ length cs
-length_map [] = refl
-length_map (c ∷ cs) = ap suc (length_map cs)
+none_for_none : (es : List Expr) (cs : List Converted) → demanded es cs [] ≡ []
+none_for_none [] cs = refl
+none_for_none (e ∷ es) [] = refl
+none_for_none (e ∷ es) (c ∷ cs) = refl
 
-pub same_length : (g : Scope) (es : List Expr) (cs : List Converted) → arguments g (expressions_of es) ≡ Ok (arguments_of cs) → length es ≡ length cs
-same_length g es cs e = all_length g es (map value_of cs) (are_values g (expressions_of es) cs e) ∙ length_map cs
+lost : {A : Type 0} (xs : List A) (i : ℕ) → slice_get xs i ≡ None → drop i xs ≡ []
+lost [] zero e = refl
+lost [] (suc i) e = refl
+lost (x ∷ xs) zero e = absurd (cc)
+lost (x ∷ xs) (suc i) e = lost xs i e
+
+-- where one of the lists ends
+pub demanded_none : (known : Option Fault) (es : List Expr) (cs : List Converted) (n i : ℕ) → (slice_get es i ≡ None) ⊎ (slice_get cs i ≡ None) ⊎ (n ≤ i) → settled known (demanded (drop i es) (drop i cs) (drop i (ints n))) ≡ known
+demanded_none known es cs n i (inl e) = ap (λ xs. settled known (demanded xs (drop i cs) (drop i (ints n)))) (lost es i e)
+demanded_none known es cs n i (inr (inl e)) = ap (λ xs. settled known (demanded (drop i es) xs (drop i (ints n)))) (lost cs i e) ∙ ap (settled known) (none_of_none (drop i es) (drop i (ints n)))
+demanded_none known es cs n i (inr (inr le)) =
+    ap (λ xs. settled known (demanded (drop i es) (drop i cs) xs)) (drop_all (ints n) i (omega (arith, le, count_ints n))) ∙ ap (settled known) (none_for_none (drop i es) (drop i cs))

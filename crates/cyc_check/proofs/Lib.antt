@@ -2,7 +2,6 @@
 pub mod EntryLemmas
 pub mod BindingLemmas
 -- expressions
-pub mod Conversions
 pub mod Arguments
 pub mod Chains
 -- statements

@@ -4,17 +4,16 @@ use Rattle.std.proofs.lemmas.List.{map-append}
 use Rattle.cyc_syntax.specs.declared.tree.Member.{Member as MemberCode}
 use Rattle.cyc_syntax.specs.Symbols.{Place}
 use Rattle.cyc_syntax.specs.TreeView.{view_member}
-use Rattle.cyc_syntax.specs.Trees.{Named, WrittenType, Statement, Block, Labelled, Empty, Evaluate, Swap, If, IfElse, While, Return, Break, Continue, Throw, Try, Body, Braces, Items, NoItems, MoreItems, Execute, Local, Region, Alias, DynamicRegion}
+use Rattle.cyc_syntax.specs.Trees.{Named, WrittenType, Statement, Block, Empty, Evaluate, If, IfElse, While, Return, Break, Continue, Body, Braces, Items, NoItems, MoreItems, Execute, Local}
 use Rattle.cyc_types.specs.declared.ty.Ty.{Ty as TyCode}
 use Rattle.cyc_types.specs.declared.ty.Ty.TheVariants as code
 use Rattle.cyc_types.specs.TypeView.{view_ty}
 use Rattle.cyc_types.specs.Types.{Ty, Int}
 use Rattle.cyc_types.specs.Scopes.{Scope, locals_in, body_locals, item_locals, item_blocks, behind, in_block, in_body, with_local}
 use Rattle.cyc_types.specs.TypedTrees as typed
-use Rattle.cyc_types.specs.TypingRules.{type_written, IsTypedStatement, IsTypedBody, AreTypedItems, declared_types, item_types, types_of, result_of, function_of}
-use Rattle.cyc_types.specs.Refusals.{AreRefusedItems}
-use Rattle.cyc_types.specs.Checking.{Checked, check_items}
-use Rattle.cyc_types.proofs.Judged.{Judges, good, bad, judged_items}
+use Rattle.cyc_types.specs.TypingRules.{type_written, rule_statement, rule_body, rule_items, declared_types, item_types, types_of, result_of, function_of}
+use Rattle.cyc_types.specs.Rules.{Checked, Derives, run}
+use Rattle.cyc_types.proofs.RuleLaws.{answers_tree}
 use Rattle.cyc_check.specs.Code.{ints}
 
 abbrev pub function_at : Named → Place → typed.Items → List Ty → List Ty → Option Ty → ℕ → typed.Function
@@ -38,43 +37,35 @@ both : (ts us : List Ty) (m n : ℕ) → ts ≡ ints m → us ≡ ints n → ts 
 both ts us m n h k = ap (λ vs. vs ++ us) h ∙ ap (λ vs. ints m ++ vs) k ∙ ints-add m n
 
 mutual
-  statement_ints : (g : Scope) (s : Statement) (t : typed.Statement) → IsTypedStatement g s t → declared_types t ≡ ints (locals_in s)
-  statement_ints g (Block c) t (js, h, eq) = ap declared_types eq ∙ body_ints (in_block g) c js h
-  statement_ints g (Empty p) t eq = ap declared_types eq
-  statement_ints g (Evaluate e) t (a, h, eq) = ap declared_types eq
-  statement_ints g (If p e u) t (a, c, h, i, k, eq) =
+  statement_ints : (g : Scope) (s : Statement) (t : typed.Statement) → Derives (rule_statement g s) t → declared_types t ≡ ints (locals_in s)
+  statement_ints g (Block c) t (js, h, (u, eq)) = ap declared_types eq ∙ body_ints (in_block g) c js h
+  statement_ints g (Empty p) t (u, eq) = ap declared_types eq
+  statement_ints g (Evaluate e) t (a, h, (u, eq)) = ap declared_types eq
+  statement_ints g (If p e u) t (a, h, (c, k, (w, eq))) =
       ap declared_types eq ∙ both (declared_types c) [] (locals_in u) 0 (statement_ints g u c k) refl ∙ (let e : locals_in u + 0 ≡ locals_in u = omega arith in ap ints e)
-  statement_ints g (IfElse p e u v) t (a, c, d, h, i, k, m, eq) =
+  statement_ints g (IfElse p e u v) t (a, h, (c, k, (d, m, (w, eq)))) =
       ap declared_types eq ∙ both (declared_types c) (declared_types d) (locals_in u) (locals_in v) (statement_ints g u c k) (statement_ints (behind g u) v d m)
-  statement_ints g (While p e u) t (a, c, h, i, k, eq) = ap declared_types eq ∙ statement_ints (in_body g) u c k
-  statement_ints g (Return p v) t (c, h, eq) = ap declared_types eq
-  statement_ints g (Break p) t (i, eq) = ap declared_types eq
-  statement_ints g (Continue p) t (i, eq) = ap declared_types eq
-  statement_ints g (Labelled n c) t h = absurd h
-  statement_ints g (Swap c d) t h = absurd h
-  statement_ints g (Throw p x v) t h = absurd h
-  statement_ints g (Try p s cs) t h = absurd h
+  statement_ints g (While p e u) t (a, h, (c, k, (w, eq))) = ap declared_types eq ∙ statement_ints (in_body g) u c k
+  statement_ints g (Return p v) t (c, h, (u, eq)) = ap declared_types eq
+  statement_ints g (Break p) t (k, eq) = ap declared_types eq
+  statement_ints g (Continue p) t (k, eq) = ap declared_types eq
+  statement_ints g s t h = absurd h
 
-  body_ints : (g : Scope) (c : Body) (js : typed.Items) → IsTypedBody g c js → item_types js ≡ ints (body_locals c)
+  body_ints : (g : Scope) (c : Body) (js : typed.Items) → Derives (rule_body g c) js → item_types js ≡ ints (body_locals c)
   body_ints g (Braces p is q) js h = items_ints g is js h
 
-  items_ints : (g : Scope) (is : Items) (js : typed.Items) → AreTypedItems g is js → item_types js ≡ ints (item_locals is)
-  items_ints g NoItems js eq = ap item_types eq
-  items_ints g (MoreItems (Execute s) is) js (t, ks, h, hs, eq) =
-      ap item_types eq ∙ both (declared_types t) (item_types ks) (locals_in s) (item_locals is) (statement_ints g s t h) (items_ints (behind g s) is ks hs)
-  items_ints g (MoreItems (Local w x v) is) js (c, ks, h, n, hs, eq) =
-      ap item_types eq ∙ ap (λ ts. Int ∷ ts) (items_ints (with_local g x (type_written w)) is ks hs) ∙ (let e : suc (item_locals is) ≡ 1 + item_locals is = omega arith in ap ints e)
-  items_ints g (MoreItems (Region r h k) is) js i = absurd i
-  items_ints g (MoreItems (Alias r t x y) is) js i = absurd i
-  items_ints g (MoreItems (DynamicRegion r k) is) js i = absurd i
+  items_ints : (g : Scope) (is : Items) (js : typed.Items) → Derives (rule_items g is) js → item_types js ≡ ints (item_locals is)
+  items_ints g NoItems js (u, eq) = ap item_types eq
+  items_ints g (MoreItems (Execute s) is) js (j, (t, h, (u, is_j)), (ks, hs, (w, eq))) =
+      ap item_types (eq ∙ ap (λ i. typed.MoreItems i ks) is_j) ∙ both (declared_types t) (item_types ks) (locals_in s) (item_locals is) (statement_ints g s t h) (items_ints (behind g s) is ks hs)
+  items_ints g (MoreItems (Local w x v) is) js (j, (c, h, (u, is_j)), (ks, hs, (y, eq))) =
+      ap item_types (eq ∙ ap (λ i. typed.MoreItems i ks) is_j) ∙ ap (λ ts. Int ∷ ts) (items_ints (with_local g x (type_written w)) is ks hs)
+      ∙ (let e : suc (item_locals is) ≡ 1 + item_locals is = omega arith in ap ints e)
+  items_ints g (MoreItems i is) js (j, h, hs) = absurd h
 
 -- what a body declares, where it is typed
-pub body_types : (g : Scope) (is : Items) (js : typed.Items) → check_items g is ≡ Ok js → item_types js ≡ ints (item_locals is)
-body_types g is js same = items_ints g is js (go (check_items g is) (judged_items g is) same)
-  where
-    go : (r : Checked typed.Items) → Judges (AreTypedItems g is) (AreRefusedItems g is) r → r ≡ Ok js → AreTypedItems g is js
-    go r (good {a = q} h) eq = subst (AreTypedItems g is) (ap (λ (o : Checked typed.Items). elim o [ Ok x ↦ x | Err f ↦ q ]) eq) h
-    go r (bad h) eq = absurd (cc)
+pub body_types : (g : Scope) (is : Items) (js : typed.Items) → run (rule_items g is) ≡ Ok js → item_types js ≡ ints (item_locals is)
+body_types g is js same = items_ints g is js (answers_tree (rule_items g is) js same)
 
 pub parameter_types : (ms : List MemberCode) → types_of (map view_member ms) ≡ ints (length ms)
 parameter_types [] = refl
@@ -82,7 +73,7 @@ parameter_types (m ∷ ms) = ap (λ ts. Int ∷ ts) (parameter_types ms)
 
 -- a function by the numbers of what it declares
 pub function_by : (r : Option WrittenType) (x : Named) (ms : List MemberCode) (is : Items) (q : Place) (g : Scope) (js : typed.Items) (ps ls : List Ty) (o : Option Ty) (n k : ℕ)
-    → check_items g is ≡ Ok js → ps ≡ ints (length ms) → ls ≡ ints (n - length ms) → o ≡ result_of r → n ≡ length ms + item_locals is → k ≡ 1 + item_blocks is
+    → run (rule_items g is) ≡ Ok js → ps ≡ ints (length ms) → ls ≡ ints (n - length ms) → o ≡ result_of r → n ≡ length ms + item_locals is → k ≡ 1 + item_blocks is
     → function_at x q js ps ls o k ≡ function_of r x (map view_member ms) is q js
 function_by r x ms is q g js ps ls o n k h p l e a b =
     let count : n - length ms ≡ item_locals is = omega (arith, a) in

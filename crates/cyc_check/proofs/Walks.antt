@@ -5,21 +5,23 @@ use Rattle.cyc_syntax.specs.Trees.{Items, NoItems, MoreItems, Item, Execute, Loc
 use Rattle.cyc_types.specs.declared.typed.Item.{Item as ItemCode}
 use Rattle.cyc_types.specs.TypedTrees as typed
 use Rattle.cyc_types.specs.TypedTreeView.{view_item, items_of}
-use Rattle.cyc_types.specs.Scopes.{item_locals, item_blocks}
-use Rattle.cyc_types.specs.Checking.{Checked, and_then, check_statement, check_items}
+use Rattle.cyc_types.specs.Scopes.{Scope, item_locals, item_blocks}
+use Rattle.cyc_types.specs.Rules.{Checked, and_then, run}
+use Rattle.cyc_types.specs.TypingRules.{rule_items, rule_item}
+use Rattle.cyc_types.specs.TypingRules as rules
 use Rattle.cyc_check.specs.declared.stop.Stop.{Stop}
 use Rattle.cyc_check.specs.declared.stop.Stop.TheVariants as stops
 use Rattle.cyc_check.specs.declared.checker.Checker.{Checker}
 use Rattle.cyc_check.specs.declared.locals.Local.{Local as LocalCode}
 use Rattle.cyc_check.specs.Code.{Stops}
-use Rattle.cyc_check.specs.Checkers.{scope_of, IsInOrder, one_item, behind_item, behind_items}
+use Rattle.cyc_check.specs.Checkers.{scope_of, IsInOrder, behind_item, behind_items}
 use Rattle.cyc_check.proofs.Loops.{onto, with_front}
 use Rattle.cyc_check.proofs.Orders.{order_behind, order_with_local}
 
 -- what was made of the items so far, and where the checker stands
 pub record Walked (start now : Checker) (made : List ItemCode) (rest whole : Items) : Type 0 where
   pub order : IsInOrder now
-  pub gives : with_front view_item typed.MoreItems made (check_items (scope_of now) rest) ≡ check_items (scope_of start) whole
+  pub gives : with_front view_item typed.MoreItems made (run (rule_items (scope_of now) rest)) ≡ run (rule_items (scope_of start) whole)
   pub added : List LocalCode
   pub same : now ≡ record start { locals = added ++ start.locals; next_local = now.next_local; next_region = now.next_region }
   pub numbers : now.next_local + item_locals rest ≡ start.next_local + item_locals whole
@@ -30,25 +32,20 @@ onto_nothing (Ok js) = refl
 onto_nothing (Err f) = refl
 
 pub walk_starts : (c : Checker) (whole : Items) → IsInOrder c → Walked c c [] whole whole
-walk_starts c whole o = record { order = o; gives = onto_nothing (check_items (scope_of c) whole); added = []; same = refl; numbers = refl; regions = refl }
+walk_starts c whole o = record { order = o; gives = onto_nothing (run (rule_items (scope_of c) whole)); added = []; same = refl; numbers = refl; regions = refl }
+
+-- the scope behind an item
+scope_behind : (i : Item) (c : Checker) → rules.behind_item (scope_of c) i ≡ scope_of (behind_item i c)
+scope_behind (Execute s) c = refl
+scope_behind (Local w x v) c = refl
+scope_behind (Region r h k) c = refl
+scope_behind (Alias r t x y) c = refl
+scope_behind (DynamicRegion r k) c = refl
 
 -- the items behind one
-by_item : (i : Item) (rest : Items) (c : Checker) → check_items (scope_of c) (MoreItems i rest) ≡ and_then (one_item i (scope_of c)) (λ y. and_then (check_items (scope_of (behind_item i c)) rest) (λ b. Ok (typed.MoreItems y b)))
-by_item (Execute s) rest c = by_result (check_statement (scope_of c) s)
-  where
-    by_result : (o : Checked typed.Statement) → and_then o (λ t. and_then (check_items (scope_of (behind_item (Execute s) c)) rest) (λ ks. Ok (typed.MoreItems (typed.Execute t) ks)))
-        ≡ and_then (and_then o (λ t. Ok (typed.Execute t))) (λ y. and_then (check_items (scope_of (behind_item (Execute s) c)) rest) (λ b. Ok (typed.MoreItems y b)))
-    by_result (Ok t) = refl
-    by_result (Err f) = refl
-by_item (Local w x v) rest c = regroup _ _ _
-  where
-    regroup : {A : Type 0} (o : Checked A) (make : A → typed.Item) (p : Checked typed.Items)
-        → and_then o (λ a. and_then p (λ ks. Ok (typed.MoreItems (make a) ks))) ≡ and_then (and_then o (λ a. Ok (make a))) (λ y. and_then p (λ b. Ok (typed.MoreItems y b)))
-    regroup (Ok a) make p = refl
-    regroup (Err f) make p = refl
-by_item (Region r h k) rest c = refl
-by_item (Alias r t x y) rest c = refl
-by_item (DynamicRegion r k) rest c = refl
+by_item : (i : Item) (rest : Items) (c : Checker)
+    → run (rule_items (scope_of c) (MoreItems i rest)) ≡ and_then (run (rule_item (scope_of c) i)) (λ y. and_then (run (rule_items (scope_of (behind_item i c)) rest)) (λ b. Ok (typed.MoreItems y b)))
+by_item i rest c = ap (λ (g : Scope). and_then (run (rule_item (scope_of c) i)) (λ y. and_then (run (rule_items g rest)) (λ b. Ok (typed.MoreItems y b)))) (scope_behind i c)
 
 onto-append : (front : List ItemCode) (x : ItemCode) (b : typed.Items) → onto view_item typed.MoreItems (front ++ x ∷ []) b ≡ onto view_item typed.MoreItems front (typed.MoreItems (view_item x) b)
 onto-append [] x b = refl
@@ -58,14 +55,14 @@ longer : (front : List ItemCode) (x : ItemCode) (o : Checked typed.Items) → wi
 longer front x (Ok b) = ap Ok (sym (onto-append front x b))
 longer front x (Err f) = refl
 
-gives_on : (start now : Checker) (made : List ItemCode) (i : Item) (rest whole : Items) (x : ItemCode) → Walked start now made (MoreItems i rest) whole → one_item i (scope_of now) ≡ Ok (view_item x)
-    → with_front view_item typed.MoreItems (made ++ x ∷ []) (check_items (scope_of (behind_item i now)) rest) ≡ check_items (scope_of start) whole
+gives_on : (start now : Checker) (made : List ItemCode) (i : Item) (rest whole : Items) (x : ItemCode) → Walked start now made (MoreItems i rest) whole → run (rule_item (scope_of now) i) ≡ Ok (view_item x)
+    → with_front view_item typed.MoreItems (made ++ x ∷ []) (run (rule_items (scope_of (behind_item i now)) rest)) ≡ run (rule_items (scope_of start) whole)
 gives_on start now made i rest whole x w h =
-    sym (ap (with_front view_item typed.MoreItems made) (by_item i rest now ∙ ap (λ o. and_then o (λ y. and_then (check_items (scope_of (behind_item i now)) rest) (λ b. Ok (typed.MoreItems y b)))) h)
-    ∙ longer made x (check_items (scope_of (behind_item i now)) rest))
+    sym (ap (with_front view_item typed.MoreItems made) (by_item i rest now ∙ ap (λ o. and_then o (λ y. and_then (run (rule_items (scope_of (behind_item i now)) rest)) (λ b. Ok (typed.MoreItems y b)))) h)
+    ∙ longer made x (run (rule_items (scope_of (behind_item i now)) rest)))
     ∙ w.gives
 
-pub walk_goes_on : (start now : Checker) (made : List ItemCode) (i : Item) (rest whole : Items) (x : ItemCode) → Walked start now made (MoreItems i rest) whole → one_item i (scope_of now) ≡ Ok (view_item x)
+pub walk_goes_on : (start now : Checker) (made : List ItemCode) (i : Item) (rest whole : Items) (x : ItemCode) → Walked start now made (MoreItems i rest) whole → run (rule_item (scope_of now) i) ≡ Ok (view_item x)
     → Walked start (behind_item i now) (made ++ x ∷ []) rest whole
 walk_goes_on start now made (Execute s) rest whole x w h = record {
   order = order_behind now s w.order;
@@ -87,16 +84,16 @@ walk_goes_on start now made (Region r n k) rest whole x w h = cc
 walk_goes_on start now made (Alias r t n y) rest whole x w h = cc
 walk_goes_on start now made (DynamicRegion r k) rest whole x w h = cc
 
-pub walk_fails : (e : Stop) (start now : Checker) (made : List ItemCode) (i : Item) (rest whole : Items) → Walked start now made (MoreItems i rest) whole → Stops e (one_item i (scope_of now)) → Stops e (check_items (scope_of start) whole)
+pub walk_fails : (e : Stop) (start now : Checker) (made : List ItemCode) (i : Item) (rest whole : Items) → Walked start now made (MoreItems i rest) whole → Stops e (run (rule_item (scope_of now) i)) → Stops e (run (rule_items (scope_of start) whole))
 walk_fails stops.Memory start now made i rest whole w h = tt
 walk_fails (stops.Refused f) start now made i rest whole w h =
-    sym w.gives ∙ ap (with_front view_item typed.MoreItems made) (by_item i rest now ∙ ap (λ o. and_then o (λ y. and_then (check_items (scope_of (behind_item i now)) rest) (λ b. Ok (typed.MoreItems y b)))) h)
+    sym w.gives ∙ ap (with_front view_item typed.MoreItems made) (by_item i rest now ∙ ap (λ o. and_then o (λ y. and_then (run (rule_items (scope_of (behind_item i now)) rest)) (λ b. Ok (typed.MoreItems y b)))) h)
 
 onto_items : (is : List ItemCode) → onto view_item typed.MoreItems is typed.NoItems ≡ items_of is
 onto_items [] = refl
 onto_items (i ∷ is) = ap (typed.MoreItems (view_item i)) (onto_items is)
 
-pub walk_gives : (start now : Checker) (made : List ItemCode) (whole : Items) → Walked start now made NoItems whole → check_items (scope_of start) whole ≡ Ok (items_of made)
+pub walk_gives : (start now : Checker) (made : List ItemCode) (whole : Items) → Walked start now made NoItems whole → run (rule_items (scope_of start) whole) ≡ Ok (items_of made)
 walk_gives start now made whole w = sym w.gives ∙ ap Ok (onto_items made)
 
 rest_of : {A : Type 0} (xs ys : List A) → drop (length (xs ++ ys) - length ys) (xs ++ ys) ≡ ys

@@ -1,14 +1,14 @@
 -- The scope that the code's checker knows, and the state that it keeps.
-use Rattle.std.specs.Prelude.{Bool, false, suc, ◌+◌, ◌<◌, true, ◌∷◌, map, Ok, Err}
+use Rattle.std.specs.Prelude.{suc, ◌+◌, ◌<◌, true, ◌∷◌, map, Option, Some, None}
 use Rattle.cyc_words.specs.declared.fault.Code.TheVariants as codes
+use Rattle.cyc_syntax.specs.declared.tree.BinaryOperator.{BinaryOperator}
 use Rattle.cyc_syntax.specs.Symbols.{Place}
-use Rattle.cyc_syntax.specs.Trees.{Statement, Items, Item, Execute, Local, Region, Alias, DynamicRegion}
-use Rattle.cyc_syntax.specs.Trees.{Named}
-use Rattle.cyc_types.specs.Scopes.{Scope, locals_in, item_locals, blocks_in, item_blocks, is_declared}
+use Rattle.cyc_syntax.specs.Trees.{Named, Expression, Variable, Bracketed, place_of, Statement, Items, Item, Execute, Local, Region, Alias, DynamicRegion}
+use Rattle.cyc_types.specs.Scopes.{Scope, locals_in, item_locals, blocks_in, item_blocks}
+use Rattle.cyc_types.specs.Types.{Ty, ValueType}
 use Rattle.cyc_types.specs.TypedTrees as typed
-use Rattle.cyc_types.specs.TypingRules.{type_written}
-use Rattle.cyc_types.specs.Refusals.{fault_at, not_built}
-use Rattle.cyc_types.specs.Checking.{Checked, and_then, check_statement, check_initial}
+use Rattle.cyc_types.specs.Rules.{Checked, fault_at, Refused, Part, run}
+use Rattle.cyc_types.specs.TypingRules.{joined, rule}
 use Rattle.cyc_check.specs.declared.checker.Checker.{Checker}
 use Rattle.cyc_check.specs.Code.{result_if}
 use Rattle.cyc_check.specs.Bindings.{view_local, Descends}
@@ -54,15 +54,7 @@ in_block c = record c { region = c.next_region; next_region = suc c.next_region 
 abbrev pub with_local : Checker → Named → Checker
 with_local c x = record c { locals = record { name = x.name; number = c.next_local; region = c.region } ∷ c.locals; next_local = suc c.next_local }
 
--- one item of a block
-abbrev pub one_item : Item → Scope → Checked typed.Item
-one_item (Execute s) g = and_then (check_statement g s) (λ t. Ok (typed.Execute t))
-one_item (Local w x v) g = and_then (check_initial g (is_declared g x) (fault_at codes.DeclaredTwice x.place) (type_written w) v) (λ c. Ok (typed.Declare g.next_local (type_written w) c))
-one_item (Region r h k) g = Err not_built
-one_item (Alias r t x y) g = Err not_built
-one_item (DynamicRegion r k) g = Err not_built
-
--- the checker behind it
+-- behind an item of a block
 abbrev pub behind_item : Item → Checker → Checker
 behind_item (Execute s) c = behind_statement c s
 behind_item (Local w x v) c = with_local c x
@@ -70,7 +62,16 @@ behind_item (Region r h k) c = c
 behind_item (Alias r t x y) c = c
 behind_item (DynamicRegion r k) c = c
 
--- `break` and `continue` at this place stand in a loop
-abbrev pub leaves_loop : Bool → Place → Checked (Unit {0})
-leaves_loop true p = Ok tt
-leaves_loop false p = Err (fault_at codes.OutsideLoop p)
+-- one operation of a chain that begins at this place, behind a left operand of this type
+abbrev pub one_operation : Scope → Place → ValueType → BinaryOperator → Expression → Checked (typed.Operations → typed.Operations)
+one_operation g p left o e = run (Part (rule g e) (λ a. joined left p o (place_of e) a))
+
+-- brackets aside, the expression is this name
+abbrev pub name_in : Expression → Option Named
+name_in (Variable x) = Some x
+name_in (Bracketed p e) = name_in e
+name_in e = None
+
+-- the left side of an assignment that begins at this place, where it is no name
+abbrev pub no_place : Scope → Place → Expression → Checked (typed.Lvalue × Ty)
+no_place g p e = run (Part (rule g e) (λ a. Refused (fault_at codes.NotAPlace p)))

@@ -1,44 +1,45 @@
--- What the code has to do with the checking function: what its functions give, and what its tables of names hold.
-use Rattle.std.specs.Prelude.{◌≡◌, ℕ, zero, suc, Bool, true, false, if◌then◌else◌, List, [], ◌∷◌, Option, Some, None, Result, Ok, Err}
+-- What the code has to do with the rules: what its functions give.
+use Rattle.std.specs.Prelude.{◌≡◌, ℕ, zero, suc, Bool, true, false, List, [], ◌∷◌, Option, Some, None, Result, Ok, Err}
 use Rattle.std.specs.declared.boxed.Box.{Box}
 use Rattle.std.specs.declared.alloc.Global.{Global as Heap}
-use Rattle.cyc_words.specs.declared.fault.Code.TheVariants as codes
 use Rattle.cyc_words.specs.declared.fault.Fault.{Fault}
 use Rattle.cyc_words.specs.Fault.{memory_fault}
-use Rattle.cyc_syntax.specs.declared.tree.Expr.{Expr}
-use Rattle.cyc_syntax.specs.declared.tree.BinaryOperator.{BinaryOperator}
-use Rattle.cyc_syntax.specs.Symbols.{Place}
-use Rattle.cyc_syntax.specs.Trees.{Expression, Expressions, place_of}
-use Rattle.cyc_syntax.specs.TreeView.{view_expression}
 use Rattle.cyc_types.specs.declared.typed.Kind.TheVariants as kinds
-use Rattle.cyc_types.specs.declared.typed.Expr.{Expr as ExpressionCode}
+use Rattle.cyc_types.specs.declared.typed.Expr.{Expr}
+use Rattle.cyc_types.specs.declared.typed.Stmt.{Stmt}
 use Rattle.cyc_types.specs.declared.typed.Converted.{Converted as ConvertedCode}
 use Rattle.cyc_types.specs.declared.typed.Operation.{Operation}
 use Rattle.cyc_types.specs.declared.typed.Operation.TheVariants as operation
-use Rattle.cyc_types.specs.Types.{Ty, Int, ValueType, Value}
+use Rattle.cyc_types.specs.Types.{Ty, Int, ValueType, Void, Null, Value}
+use Rattle.cyc_types.specs.TypeView.{view_ty}
 use Rattle.cyc_types.specs.TypedTrees as typed
 use Rattle.cyc_types.specs.TypedTreeView as view
-use Rattle.cyc_types.specs.TypingRules.{then_operation}
-use Rattle.cyc_types.specs.Checking.{Checked, and_then, is_int, want_int, check, check_all}
-use Rattle.cyc_types.specs.Refusals.{fault_at}
-use Rattle.cyc_types.specs.Scopes.{Scope}
+use Rattle.cyc_types.specs.Rules.{Checked}
 use Rattle.cyc_check.specs.declared.stop.Stop.{Stop}
 use Rattle.cyc_check.specs.declared.stop.Stop.TheVariants as stops
+use Rattle.cyc_check.specs.declared.given.Given.{Given}
+use Rattle.cyc_check.specs.declared.given.Given.TheVariants as given
 
 -- the fault that is answered
 abbrev pub fault_of : Stop → Fault
 fault_of stops.Memory = memory_fault
 fault_of (stops.Refused f) = f
 
--- A refusal of the code is the checking function's. When memory runs out, nothing is said.
+-- A refusal of the code is the rule's. When memory runs out, nothing is said.
 abbrev pub Stops : {Y : Type 0} → Stop → Checked Y → Type 0
 Stops stops.Memory checked = Unit {0}
 Stops (stops.Refused f) checked = checked ≡ Err f
 
--- What the code answered, seen by `view`, is what the checking function answers, unless memory ran out.
+-- What the code answered, seen by `view`, is what the rule answers, unless memory ran out.
 abbrev pub Gives : {X Y : Type 0} → (X → Y) → Result X Stop → Checked Y → Type 0
 Gives view (Ok x) checked = checked ≡ Ok (view x)
 Gives view (Err e) checked = Stops e checked
+
+-- The code goes on where no fault is known, and else stops with it: never for want of memory.
+abbrev pub Ends : Result (Unit {0}) Stop → Option Fault → Type 0
+Ends (Ok u) known = known ≡ None
+Ends (Err stops.Memory) known = ⊥
+Ends (Err (stops.Refused f)) known = known ≡ Some f
 
 -- ---- types
 
@@ -50,37 +51,32 @@ abbrev pub result_if : Bool → Option Ty
 result_if true = Some Int
 result_if false = None
 
--- a node in a box
-abbrev pub view_boxed : Box ExpressionCode Heap → typed.Expression
+-- the type of an expression
+abbrev pub view_given : Given → ValueType
+view_given given.Void = Void
+view_given given.Null = Null
+view_given given.Int = Value Int
+view_given (given.Value t) = Value (view_ty t.now)
+
+-- ---- nodes
+
+-- in boxes
+abbrev pub view_boxed : Box Expr Heap → typed.Expression
 view_boxed b = view.view_expression b.value
 
--- ---- arguments
+abbrev pub view_boxed_statement : Box Stmt Heap → typed.Statement
+view_boxed_statement b = view.view_statement b.value
 
+-- what an argument converts
 abbrev pub value_of : ConvertedCode → typed.Expression
 value_of c = view.view_expression c.value
 
--- values that are converted from int to int
-abbrev pub as_ints : List typed.Expression → typed.Arguments
-as_ints [] = typed.NoArguments
-as_ints (a ∷ as') = typed.MoreArguments (typed.Convert kinds.Int kinds.Int a) (as_ints as')
-
--- the arguments of a call, as ints
-abbrev pub arguments : Scope → Expressions → Checked typed.Arguments
-arguments g es = and_then (check_all g es) (λ as'. Ok (as_ints as'))
-
--- the first argument that is no int is refused
-abbrev pub passed : List Expr → List ConvertedCode → Checked (Unit {0})
-passed [] cs = Ok tt
-passed (e ∷ es) [] = Ok tt
-passed (e ∷ es) (c ∷ cs) = if is_int (typed.type_of (value_of c)) then passed es cs else Err (fault_at codes.TypeMismatch (place_of (view_expression e)))
-
--- ---- chains of operators
+-- each is converted from int to int
+abbrev pub AreOfInts : List ConvertedCode → Type 0
+AreOfInts [] = Unit {0}
+AreOfInts (c ∷ cs) = (view.view_converted c ≡ typed.Convert kinds.Int kinds.Int (value_of c)) × AreOfInts cs
 
 -- an operation in front of the rest of its chain
 abbrev pub put_operation : Operation → typed.Operations → typed.Operations
 put_operation (operation.Compute o e) = typed.ThenCompute o (view.view_expression e)
 put_operation (operation.Test o e) = typed.ThenTest o (view.view_expression e)
-
--- one operation of a chain whose first operand is at this place
-abbrev pub one_operation : Scope → Place → ValueType → BinaryOperator → Expression → Checked (typed.Operations → typed.Operations)
-one_operation g p left o e = and_then (check g e) (λ a. want_int left p (want_int (typed.type_of a) (place_of e) (Ok (then_operation o a))))

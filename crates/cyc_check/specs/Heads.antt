@@ -1,15 +1,11 @@
 -- What the code knows behind the heads of declarations.
-use Rattle.std.specs.Prelude.{ℕ, suc, true, not, nat_eq, List, [], ◌∷◌, ◌++◌, length, Ok}
-use Rattle.std.specs.List.{list_any}
-use Rattle.cyc_words.specs.declared.fault.Code.TheVariants as codes
+use Rattle.std.specs.Prelude.{ℕ, suc, true, not, List, [], ◌∷◌, ◌++◌, length}
 use Rattle.cyc_syntax.specs.Names.{number_of}
-use Rattle.cyc_syntax.specs.Trees.{Named, Declaration, StructType, Exceptions, Global, Function}
+use Rattle.cyc_syntax.specs.Trees.{Declaration, StructType, Exceptions, Global, Function}
 use Rattle.cyc_types.specs.declared.typed.Callee.TheVariants as callees
 use Rattle.cyc_types.specs.declared.typed.Lvalue.TheVariants as lvalue
 use Rattle.cyc_types.specs.IntPart.{is_left_out}
-use Rattle.cyc_types.specs.TypingRules.{members_of, is_taken, putchar_text, getchar_text, main_text, heap_text, unique_text}
-use Rattle.cyc_types.specs.Refusals.{fault_at}
-use Rattle.cyc_types.specs.Checking.{Checked, unless}
+use Rattle.cyc_types.specs.TypingRules.{members_of, putchar_text, getchar_text, main_text, heap_text, unique_text}
 use Rattle.cyc_check.specs.declared.declared.Meaning.TheVariants as meaning
 use Rattle.cyc_check.specs.declared.heads.Heads.{Heads}
 
@@ -27,14 +23,6 @@ heads_before texts = record {
 -- the regions that are declared before the program
 abbrev pub regions_of : Heads → List ℕ
 regions_of h = h.heap ∷ h.unique ∷ []
-
--- nothing of this name is declared yet
-abbrev pub is_new : List ℕ → Named → Checked (Unit {0})
-is_new known x = unless (list_any (nat_eq x.name) known) (fault_at codes.DeclaredTwice x.place) (Ok tt)
-
--- neither a name nor a region of a function's name is declared yet
-abbrev pub is_untaken : (regions known : List ℕ) → Named → Checked (Unit {0})
-is_untaken regions known x = unless (is_taken regions known x.name) (fault_at codes.DeclaredTwice x.place) (Ok tt)
 
 -- behind the head of a declaration
 abbrev pub behind_head : Declaration → Heads → Heads

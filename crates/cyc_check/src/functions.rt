@@ -1,11 +1,11 @@
 //! The bodies of functions, and the tables that they start with.
 ghost use Rattle.std.specs.Prelude.{◌≡◌, ◌+◌, length, map, option_map, Ok, OnOk, IfErr};
 ghost use Rattle.cyc_syntax.specs.TreeView.{view_member, view_type, view_name, view_parameters, view_declaration, place_of_span, items_of};
-ghost use Rattle.cyc_types.specs.Checking.{and_then, check_items, check_functions};
+ghost use Rattle.cyc_types.specs.Rules.{and_then, run};
 ghost use Rattle.cyc_types.specs.Scopes.{item_locals, item_blocks};
 ghost use Rattle.cyc_types.specs.TypedTreeView as typed_view;
 ghost use Rattle.cyc_types.specs.TypeView.{view_ty};
-ghost use Rattle.cyc_types.specs.TypingRules.{parameter_locals, body_scope, result_of, members_of, function_of};
+ghost use Rattle.cyc_types.specs.TypingRules.{parameter_locals, body_scope, result_of, members_of, function_of, rule_items, rule_functions};
 ghost use Rattle.cyc_check.specs.declared.stop.Stop.TheVariants.{Memory};
 ghost use Rattle.cyc_check.specs.Bindings.{view_local, Descends};
 ghost use Rattle.cyc_check.specs.Code.{Gives, ints, result_if};
@@ -84,7 +84,7 @@ pub(crate) fn functions_of(
     declared: &Declared,
     declarations: &[Declaration],
 ) -> Result<Vec<typed::Function>, Stop>
-    ensures { Gives (λ v. map typed_view.view_function v.items) result (check_functions (map view_entry declared.now) (map view_declaration declarations.now)) }
+    ensures { Gives (λ v. map typed_view.view_function v.items) result (run (rule_functions (map view_entry declared.now) (map view_declaration declarations.now))) }
 {
     let mut checker = Checker::new(alloc, declared);
     let mut all = Vec::new(alloc);
@@ -123,7 +123,7 @@ impl<'a> Checker<'a> {
         written: &[Item],
         end: Span,
     ) -> Result<typed::Function, Stop>
-        ensures gives { Gives typed_view.view_function result (and_then (check_items (body_scope (map view_entry self.old.declared.now) (option_map view_type returned.now) (map view_member members.now)) (items_of written.now)) (λ js. Ok (function_of (option_map view_type returned.now) (view_name name) (map view_member members.now) (items_of written.now) (place_of_span end) js))) }
+        ensures gives { Gives typed_view.view_function result (and_then (run (rule_items (body_scope (map view_entry self.old.declared.now) (option_map view_type returned.now) (map view_member members.now)) (items_of written.now))) (λ js. Ok (function_of (option_map view_type returned.now) (view_name name) (map view_member members.now) (items_of written.now) (place_of_span end) js))) }
         ensures same { OnOk result (self.new.declared ≡ self.old.declared) }
     {
         let body = self.check_function_items(returned, members, written)?;
@@ -150,7 +150,7 @@ impl<'a> Checker<'a> {
         members: &[Member],
         written: &[Item],
     ) -> Result<Vec<typed::Item>, Stop>
-        ensures gives { Gives (λ v. typed_view.items_of v.items) result (check_items (body_scope (map view_entry self.old.declared.now) (option_map view_type returned.now) (map view_member members.now)) (items_of written.now)) }
+        ensures gives { Gives (λ v. typed_view.items_of v.items) result (run (rule_items (body_scope (map view_entry self.old.declared.now) (option_map view_type returned.now) (map view_member members.now)) (items_of written.now))) }
         ensures locals { OnOk result (self.new.next_local ≡ length members.now + item_locals (items_of written.now)) }
         ensures regions { OnOk result (self.new.next_region ≡ 1 + item_blocks (items_of written.now)) }
         ensures same { OnOk result (self.new.declared ≡ self.old.declared) }

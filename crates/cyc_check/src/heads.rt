@@ -1,19 +1,20 @@
 //! The heads of declarations: whether their names are new, and what they declare.
-ghost use Rattle.std.specs.Prelude.{◌≡◌, Option, List, [], map, option_map, Ok, OnOk, IfOk, IfErr};
+ghost use Rattle.std.specs.Prelude.{◌≡◌, ℕ, Option, List, [], map, option_map, None, Ok, OnOk, IfOk, IfErr};
 ghost use Rattle.cyc_syntax.specs.Names.{number_of};
 ghost use Rattle.cyc_syntax.specs.Trees as trees;
 ghost use Rattle.cyc_syntax.specs.TreeView.{view_name, view_type, view_member, view_parameters, view_declaration};
-ghost use Rattle.cyc_types.specs.TypingRules.{main_text, regions_before, known_before, declared};
-ghost use Rattle.cyc_types.specs.Checking.{and_then, check_distinct, check_head, check_heads};
+ghost use Rattle.cyc_types.specs.Rules.{and_then, settled, demands, run};
+ghost use Rattle.cyc_types.specs.TypingRules.{main_text, regions_before, known_before, declared, distinct_demanded, is_taken, head_demanded, rule_head, rule_heads};
 ghost use Rattle.cyc_check.specs.declared.stop.Stop.TheVariants.{Memory};
-ghost use Rattle.cyc_check.specs.Code.{Gives};
+ghost use Rattle.cyc_check.specs.Code.{Gives, Ends};
 ghost use Rattle.cyc_check.specs.Entries.{view_entry, names_of};
-ghost use Rattle.cyc_check.specs.Heads.{heads_before, regions_of, is_new, is_untaken, behind_head};
+ghost use Rattle.cyc_check.specs.Heads.{heads_before, regions_of, behind_head};
 
 use crate::declared::{Declared, Meaning};
 use crate::functions::members;
 use crate::locals::{Local, Locals};
-use crate::stop::{Stop, not_built, refused};
+use crate::settled::Settled;
+use crate::stop::{Stop, not_built};
 use cyc_syntax::{Declaration, Ident, Member, Names, Parameters, WrittenType};
 use cyc_types::typed::{Callee, Lvalue};
 use cyc_words::Code;
@@ -39,7 +40,7 @@ pub(crate) fn declared_by(
     names: &Names,
     declarations: &[Declaration],
 ) -> Result<Declared, Stop>
-    ensures { Gives (map view_entry) result (and_then (check_heads (number_of names.now main_text) (regions_before names.now) (known_before names.now) (map view_declaration declarations.now)) (λ _. Ok (declared names.now (map view_declaration declarations.now)))) }
+    ensures { Gives (map view_entry) result (and_then (run (rule_heads (number_of names.now main_text) (regions_before names.now) (known_before names.now) (map view_declaration declarations.now))) (λ _. Ok (declared names.now (map view_declaration declarations.now)))) }
 {
     let mut heads = Heads::new(alloc, names)?;
     let mut parameters = Locals::new(alloc);
@@ -61,21 +62,30 @@ pub(crate) fn number_of(names: &Names, text: &[u8]) -> usize
 
 /// Whether the names of parameters differ. What the table holds before is forgotten.
 fn are_distinct(known: &mut Locals, members: &[Member]) -> Result<(), Stop>
-    ensures { Gives (λ _. tt) result (check_distinct [] (map view_member members.now)) }
+    ensures { Gives (λ _. tt) result (run (demands (distinct_demanded [] (map view_member members.now)))) }
 {
     known.close(0);
+    let mut settled = Settled::new();
     for number in 0..members.len() {
         let name = members[number].name;
-        if known.has(name.name.number) {
-            return Err(refused(Code::DeclaredTwice, name.span));
-        }
+        settled.demand(Code::DeclaredTwice, name.span, !known.has(name.name.number));
         known.declare(Local {
             name: name.name.number,
             number,
             region: 0,
         })?;
     }
-    Ok(())
+    settled.end()
+}
+
+/// Whether a name is new, and is not that of `main` where `main` may not stand.
+fn is_well_named(name: Ident, is_new: bool, is_no_main: bool) -> Result<(), Stop>
+    ensures { Ends result (settled None (head_demanded (view_name name).place is_new is_no_main)) }
+{
+    let mut settled = Settled::new();
+    settled.demand(Code::DeclaredTwice, name.span, is_new);
+    settled.demand(Code::BadMain, name.span, is_no_main);
+    settled.end()
 }
 
 impl Heads {
@@ -107,35 +117,20 @@ impl Heads {
         })
     }
 
-    /// Whether nothing of this name is declared yet.
-    fn is_new(&self, name: Ident) -> Result<(), Stop>
-        ensures { Gives (λ _. tt) result (is_new (names_of self.now.declared) (view_name name)) }
-    {
-        if self.declared.has(name.name.number) {
-            return Err(refused(Code::DeclaredTwice, name.span));
-        }
-        Ok(())
-    }
-
     /// Whether neither a name nor a region of a function's name is declared yet.
-    fn is_untaken(&self, name: Ident) -> Result<(), Stop>
-        ensures { Gives (λ _. tt) result (is_untaken (regions_of self.now) (names_of self.now.declared) (view_name name)) }
+    fn is_taken(&self, name: Ident) -> bool
+        ensures { result ≡ is_taken (regions_of self.now) (names_of self.now.declared) (view_name name).name }
     {
         let number = name.name.number;
-        if self.declared.has(number) || number == self.heap || number == self.unique {
-            return Err(refused(Code::DeclaredTwice, name.span));
-        }
-        Ok(())
+        self.declared.has(number) || number == self.heap || number == self.unique
     }
 
     fn declare_global(&mut self, name: Ident) -> Result<(), Stop>
-        ensures gives { (w : trees.WrittenType) (v : Option trees.GlobalValue) → Gives (λ _. tt) result (check_head self.old.main (regions_of self.old) (names_of self.old.declared) (trees.Global w (view_name name) v)) }
+        ensures gives { (w : trees.WrittenType) (v : Option trees.GlobalValue) → Gives (λ _. tt) result (run (rule_head self.old.main (regions_of self.old) (names_of self.old.declared) (trees.Global w (view_name name) v))) }
         ensures behind { (w : trees.WrittenType) (v : Option trees.GlobalValue) → OnOk result (self.new ≡ behind_head (trees.Global w (view_name name) v) self.old) }
     {
-        self.is_new(name)?;
-        if name.name.number == self.main {
-            return Err(refused(Code::BadMain, name.span));
-        }
+        let is_main = name.name.number == self.main;
+        is_well_named(name, !self.declared.has(name.name.number), !is_main)?;
         let number = self.globals;
         let Some(next) = number.checked_add(1) else {
             return Err(Stop::Memory);
@@ -154,15 +149,14 @@ impl Heads {
         name: Ident,
         parameters: &Parameters,
     ) -> Result<(), Stop>
-        ensures gives { (b : trees.Body) → Gives (λ _. tt) result (check_head self.old.main (regions_of self.old) (names_of self.old.declared) (trees.Function (option_map view_type returned.now) (view_name name) (view_parameters parameters.now) b)) }
+        ensures gives { (b : trees.Body) → Gives (λ _. tt) result (run (rule_head self.old.main (regions_of self.old) (names_of self.old.declared) (trees.Function (option_map view_type returned.now) (view_name name) (view_parameters parameters.now) b))) }
         ensures behind { (b : trees.Body) → OnOk result (self.new ≡ behind_head (trees.Function (option_map view_type returned.now) (view_name name) (view_parameters parameters.now) b) self.old) }
     {
-        self.is_untaken(name)?;
         let members = members(parameters);
         let has_result = returned.is_some();
-        if name.name.number == self.main && !(has_result && members.is_empty()) {
-            return Err(refused(Code::BadMain, name.span));
-        }
+        let is_main = name.name.number == self.main;
+        let is_no_main = !is_main || has_result && members.is_empty();
+        is_well_named(name, !self.is_taken(name), is_no_main)?;
         are_distinct(known, members)?;
         let number = self.functions;
         let Some(next) = number.checked_add(1) else {
@@ -180,7 +174,7 @@ impl Heads {
 
     /// Declares what a head declares.
     fn declare(&mut self, known: &mut Locals, declaration: &Declaration) -> Result<(), Stop>
-        ensures gives { Gives (λ _. tt) result (check_head self.old.main (regions_of self.old) (names_of self.old.declared) (view_declaration declaration.now)) }
+        ensures gives { Gives (λ _. tt) result (run (rule_head self.old.main (regions_of self.old) (names_of self.old.declared) (view_declaration declaration.now))) }
         ensures behind { OnOk result (self.new ≡ behind_head (view_declaration declaration.now) self.old) }
     {
         match declaration {

@@ -1,63 +1,114 @@
 //! The typed trees of statements and of the items of blocks.
 ghost use Rattle.std.specs.Prelude.{◌≡◌, Ok, option_map, OnOk};
-ghost use Rattle.cyc_words.specs.declared.fault.Code.TheVariants as codes;
 ghost use Rattle.cyc_syntax.specs.TreeView.{place_of_span, view_name, view_expression, view_statement, view_item, items_of};
+ghost use Rattle.cyc_syntax.specs.Trees.{place_of};
 ghost use Rattle.cyc_types.specs.Types as types;
 ghost use Rattle.cyc_types.specs.TypedTrees as nodes;
 ghost use Rattle.cyc_types.specs.TypedTreeView as typed_view;
 ghost use Rattle.cyc_types.specs.Scopes.{is_declared};
-ghost use Rattle.cyc_types.specs.Refusals.{fault_at};
-ghost use Rattle.cyc_types.specs.Checking.{and_then, check_condition, check_returned, check_initial, check_statement, check_items};
-ghost use Rattle.cyc_check.specs.Code.{Gives};
-ghost use Rattle.cyc_check.specs.Checkers.{scope_of, IsInOrder, behind_statement, behind_block, behind_items, behind_item, one_item, looping, in_block, with_local, leaves_loop};
+ghost use Rattle.cyc_types.specs.Rules.{and_then, run};
+ghost use Rattle.cyc_types.specs.TypingRules.{rule_condition, returned, rule_returned, rule_initial, in_loop_alone, rule_statement, rule_items, rule_item};
+ghost use Rattle.cyc_check.specs.Code.{Gives, view_boxed, view_boxed_statement};
+ghost use Rattle.cyc_check.specs.Checkers.{scope_of, IsInOrder, behind_statement, behind_block, behind_items, behind_item, looping, in_block, with_local};
 
 use crate::checker::Checker;
-use crate::expressions::{convert, is_int, mismatch};
+use crate::forms::{as_int, span_of};
+use crate::given::Given;
 use crate::locals::Local;
+use crate::settled::{Settled, wanted};
 use crate::stop::{Stop, not_built, refused};
 use cyc_syntax::{Expr, Ident, Item, Stmt};
 use cyc_types::typed::Converted;
 use cyc_types::{Ty, typed};
 use cyc_words::{Code, Span};
-use std::alloc::{AllocError, Global};
+use std::alloc::Global;
 
-fn block_of(region: usize, items: Vec<typed::Item>) -> typed::Stmt
-    ensures { typed_view.view_statement result ≡ nodes.Block region (typed_view.items_of items.items) }
+/// The node in a box.
+#[inline(never)]
+fn boxed(alloc: Global, statement: typed::Stmt) -> Result<Box<typed::Stmt>, Stop>
+    ensures { Gives view_boxed_statement result (Ok (typed_view.view_statement statement)) }
 {
-    typed::Stmt::Block { region, items }
+    Ok(Box::new(alloc, statement)?)
 }
 
+#[inline(never)]
+fn empty(alloc: Global) -> Result<Box<typed::Stmt>, Stop>
+    ensures { Gives view_boxed_statement result (Ok nodes.Empty) }
+{
+    boxed(alloc, typed::Stmt::Empty)
+}
+
+#[inline(never)]
+fn evaluation(alloc: Global, value: Box<typed::Expr>) -> Result<Box<typed::Stmt>, Stop>
+    ensures { Gives view_boxed_statement result (Ok (nodes.Evaluate (view_boxed value))) }
+{
+    let value = Box::into_inner(value);
+    boxed(alloc, typed::Stmt::Evaluate { value })
+}
+
+#[inline(never)]
+fn block_of(
+    alloc: Global,
+    region: usize,
+    items: Vec<typed::Item>,
+) -> Result<Box<typed::Stmt>, Stop>
+    ensures { Gives view_boxed_statement result (Ok (nodes.Block region (typed_view.items_of items.items))) }
+{
+    boxed(alloc, typed::Stmt::Block { region, items })
+}
+
+#[inline(never)]
 fn choice(
     alloc: Global,
-    condition: typed::Expr,
-    body: typed::Stmt,
-    otherwise: typed::Stmt,
-) -> Result<typed::Stmt, Stop>
-    ensures { Gives typed_view.view_statement result (Ok (nodes.If (typed_view.view_expression condition) (typed_view.view_statement body) (typed_view.view_statement otherwise))) }
+    condition: Box<typed::Expr>,
+    then: Box<typed::Stmt>,
+    otherwise: Box<typed::Stmt>,
+) -> Result<Box<typed::Stmt>, Stop>
+    ensures { Gives view_boxed_statement result (Ok (nodes.If (view_boxed condition) (view_boxed_statement then) (view_boxed_statement otherwise))) }
 {
-    let then = Box::new(alloc, body)?;
-    let otherwise = Box::new(alloc, otherwise)?;
-    Ok(typed::Stmt::If {
-        condition,
-        then,
-        otherwise,
-    })
+    let condition = Box::into_inner(condition);
+    boxed(
+        alloc,
+        typed::Stmt::If {
+            condition,
+            then,
+            otherwise,
+        },
+    )
 }
 
+#[inline(never)]
 fn repetition(
     alloc: Global,
     span: Span,
-    condition: typed::Expr,
-    body: typed::Stmt,
-) -> Result<typed::Stmt, Stop>
-    ensures { Gives typed_view.view_statement result (Ok (nodes.While (place_of_span span) (typed_view.view_expression condition) (typed_view.view_statement body))) }
+    condition: Box<typed::Expr>,
+    body: Box<typed::Stmt>,
+) -> Result<Box<typed::Stmt>, Stop>
+    ensures { Gives view_boxed_statement result (Ok (nodes.While (place_of_span span) (view_boxed condition) (view_boxed_statement body))) }
 {
-    let body = Box::new(alloc, body)?;
-    Ok(typed::Stmt::While {
-        span,
-        condition,
-        body,
-    })
+    let condition = Box::into_inner(condition);
+    boxed(
+        alloc,
+        typed::Stmt::While {
+            span,
+            condition,
+            body,
+        },
+    )
+}
+
+#[inline(never)]
+fn return_of(alloc: Global, value: Option<Converted>) -> Result<Box<typed::Stmt>, Stop>
+    ensures { Gives view_boxed_statement result (Ok (nodes.Return (option_map typed_view.view_converted value))) }
+{
+    boxed(alloc, typed::Stmt::Return { value })
+}
+
+fn execution(statement: Box<typed::Stmt>) -> typed::Item
+    ensures { typed_view.view_item result ≡ nodes.Execute (view_boxed_statement statement) }
+{
+    let statement = Box::into_inner(statement);
+    typed::Item::Execute { statement }
 }
 
 impl<'a> Checker<'a> {
@@ -68,32 +119,45 @@ impl<'a> Checker<'a> {
         self.locals.is_declared_in(self.region, name.name.number)
     }
 
-    fn check_condition(&self, condition: &Expr) -> Result<typed::Expr, Stop>
-        ensures { Gives typed_view.view_expression result (check_condition (scope_of self.now) (view_expression condition.now)) }
+    fn check_condition(&self, condition: &Expr) -> Result<Box<typed::Expr>, Stop>
+        ensures { Gives view_boxed result (run (rule_condition (scope_of self.now) (view_expression condition.now))) }
     {
         let value = self.check_expression(condition)?;
-        if !is_int(&value) {
-            return Err(mismatch(condition));
+        wanted(Given::by(&value), span_of(condition))?;
+        Ok(value)
+    }
+
+    /// The value of a `return` at this place.
+    fn returned(
+        &self,
+        span: Span,
+        written: &Expr,
+        value: Box<typed::Expr>,
+    ) -> Result<Option<Converted>, Stop>
+        ensures { Gives (option_map typed_view.view_converted) result (run (returned (scope_of self.now).result (place_of_span span) (place_of (view_expression written.now)) (view_boxed value))) }
+    {
+        if !self.has_result {
+            return Err(refused(Code::TypeMismatch, span));
         }
-        Ok(Box::into_inner(value))
+        let mut settled = Settled::new();
+        settled.convert(Given::by(&value), span_of(written));
+        settled.end()?;
+        Ok(Some(as_int(value)))
     }
 
     fn check_returned(&self, span: Span, value: &Option<Expr>) -> Result<Option<Converted>, Stop>
-        ensures { Gives (option_map typed_view.view_converted) result (check_returned (scope_of self.now) (place_of_span span) (option_map view_expression value.now)) }
+        ensures { Gives (option_map typed_view.view_converted) result (run (rule_returned (scope_of self.now) (place_of_span span) (option_map view_expression value.now))) }
     {
         match value {
             None => {
-                if self.has_result {
-                    return Err(refused(Code::TypeMismatch, span));
-                }
+                let mut settled = Settled::new();
+                settled.demand(Code::TypeMismatch, span, !self.has_result);
+                settled.end()?;
                 Ok(None)
             }
             Some(written) => {
                 let value = self.check_expression(written)?;
-                if !self.has_result {
-                    return Err(refused(Code::TypeMismatch, span));
-                }
-                Ok(Some(convert(written, Box::into_inner(value))?))
+                self.returned(span, written, value)
             }
         }
     }
@@ -101,38 +165,39 @@ impl<'a> Checker<'a> {
     /// The initial value of a local.
     fn check_initial(&self, name: Ident, value: &Option<Expr>) -> Result<Option<Converted>, Stop>
         requires { IsInOrder self.now }
-        ensures { Gives (option_map typed_view.view_converted) result (check_initial (scope_of self.now) (is_declared (scope_of self.now) (view_name name)) (fault_at codes.DeclaredTwice (place_of_span name.span)) types.Int (option_map view_expression value.now)) }
+        ensures { Gives (option_map typed_view.view_converted) result (run (rule_initial (scope_of self.now) (view_name name) types.Int (option_map view_expression value.now))) }
     {
+        let mut settled = Settled::new();
         match value {
             None => {
-                if self.is_declared(name) {
-                    return Err(refused(Code::DeclaredTwice, name.span));
-                }
+                settled.demand(Code::DeclaredTwice, name.span, !self.is_declared(name));
+                settled.end()?;
                 Ok(None)
             }
             Some(written) => {
                 let value = self.check_expression(written)?;
-                if self.is_declared(name) {
-                    return Err(refused(Code::DeclaredTwice, name.span));
-                }
-                Ok(Some(convert(written, Box::into_inner(value))?))
+                settled.demand(Code::DeclaredTwice, name.span, !self.is_declared(name));
+                settled.convert(Given::by(&value), span_of(written));
+                settled.end()?;
+                Ok(Some(as_int(value)))
             }
         }
     }
 
     /// Whether `break` or `continue` at this place stands in a loop.
-    fn leaves_loop(&self, span: Span) -> Result<(), Stop>
-        ensures { Gives (λ _. tt) result (leaves_loop self.now.in_loop (place_of_span span)) }
+    fn leaves_loop(&self, span: Span, statement: typed::Stmt) -> Result<Box<typed::Stmt>, Stop>
+        ensures { Gives view_boxed_statement result (run (in_loop_alone (scope_of self.now) (place_of_span span) (typed_view.view_statement statement))) }
     {
-        if !self.in_loop {
-            return Err(refused(Code::OutsideLoop, span));
-        }
-        Ok(())
+        let statement = boxed(self.alloc, statement)?;
+        let mut settled = Settled::new();
+        settled.demand(Code::OutsideLoop, span, self.in_loop);
+        settled.end()?;
+        Ok(statement)
     }
 
     fn declare_local(&mut self, name: Ident, value: &Option<Expr>) -> Result<typed::Item, Stop>
         requires { IsInOrder self.old }
-        ensures gives { Gives typed_view.view_item result (and_then (check_initial (scope_of self.old) (is_declared (scope_of self.old) (view_name name)) (fault_at codes.DeclaredTwice (place_of_span name.span)) types.Int (option_map view_expression value.now)) (λ c. Ok (nodes.Declare self.old.next_local types.Int c))) }
+        ensures gives { Gives typed_view.view_item result (and_then (run (rule_initial (scope_of self.old) (view_name name) types.Int (option_map view_expression value.now))) (λ c. Ok (nodes.Declare self.old.next_local types.Int c))) }
         ensures behind { OnOk result (self.new ≡ with_local self.old (view_name name)) }
     {
         let value = self.check_initial(name, value)?;
@@ -155,17 +220,17 @@ impl<'a> Checker<'a> {
 
     #[cycle(statement)]
     #[tactic(auto, using(crate::proofs::Orders::order_in_loop, crate::proofs::Orders::order_behind))]
-    pub(crate) fn check_statement(&mut self, statement: &Stmt) -> Result<typed::Stmt, Stop>
+    pub(crate) fn check_statement(&mut self, statement: &Stmt) -> Result<Box<typed::Stmt>, Stop>
         requires { IsInOrder self.old }
-        ensures gives { Gives typed_view.view_statement result (check_statement (scope_of self.old) (view_statement statement.now)) }
+        ensures gives { Gives view_boxed_statement result (run (rule_statement (scope_of self.old) (view_statement statement.now))) }
         ensures behind { OnOk result (self.new ≡ behind_statement self.old (view_statement statement.now)) }
     {
         match statement {
             Stmt::Block { block } => self.check_block(&block.items),
-            Stmt::Empty { .. } => Ok(typed::Stmt::Empty),
+            Stmt::Empty { .. } => empty(self.alloc),
             Stmt::Expression { value } => {
-                let value = Box::into_inner(self.check_expression(value)?);
-                Ok(typed::Stmt::Evaluate { value })
+                let value = self.check_expression(value)?;
+                evaluation(self.alloc, value)
             }
             Stmt::If {
                 condition,
@@ -175,7 +240,8 @@ impl<'a> Checker<'a> {
             } => {
                 let condition = self.check_condition(condition)?;
                 let then = self.check_statement(then)?;
-                choice(self.alloc, condition, then, typed::Stmt::Empty)
+                let otherwise = empty(self.alloc)?;
+                choice(self.alloc, condition, then, otherwise)
             }
             Stmt::If {
                 condition,
@@ -199,16 +265,10 @@ impl<'a> Checker<'a> {
             }
             Stmt::Return { span, value } => {
                 let value = self.check_returned(*span, value)?;
-                Ok(typed::Stmt::Return { value })
+                return_of(self.alloc, value)
             }
-            Stmt::Break { span } => {
-                self.leaves_loop(*span)?;
-                Ok(typed::Stmt::Break)
-            }
-            Stmt::Continue { span } => {
-                self.leaves_loop(*span)?;
-                Ok(typed::Stmt::Continue)
-            }
+            Stmt::Break { span } => self.leaves_loop(*span, typed::Stmt::Break),
+            Stmt::Continue { span } => self.leaves_loop(*span, typed::Stmt::Continue),
             _ => Err(not_built()),
         }
     }
@@ -216,9 +276,9 @@ impl<'a> Checker<'a> {
     /// The body of a loop.
     #[cycle(statement)]
     #[tactic(auto, using(crate::proofs::Orders::order_in_loop))]
-    fn check_body(&mut self, statement: &Stmt) -> Result<typed::Stmt, Stop>
+    fn check_body(&mut self, statement: &Stmt) -> Result<Box<typed::Stmt>, Stop>
         requires { IsInOrder self.old }
-        ensures gives { Gives typed_view.view_statement result (check_statement (scope_of (looping self.old)) (view_statement statement.now)) }
+        ensures gives { Gives view_boxed_statement result (run (rule_statement (scope_of (looping self.old)) (view_statement statement.now))) }
         ensures behind { OnOk result (self.new ≡ behind_statement self.old (view_statement statement.now)) }
     {
         let outer = self.in_loop;
@@ -231,9 +291,9 @@ impl<'a> Checker<'a> {
     /// The block of these items.
     #[cycle(statement)]
     #[tactic(auto, using(crate::proofs::Orders::order_in_block))]
-    fn check_block(&mut self, items: &[Item]) -> Result<typed::Stmt, Stop>
+    fn check_block(&mut self, items: &[Item]) -> Result<Box<typed::Stmt>, Stop>
         requires { IsInOrder self.old }
-        ensures gives { Gives typed_view.view_statement result (and_then (check_items (scope_of (in_block self.old)) (items_of items.now)) (λ js. Ok (nodes.Block self.old.next_region js))) }
+        ensures gives { Gives view_boxed_statement result (and_then (run (rule_items (scope_of (in_block self.old)) (items_of items.now))) (λ js. Ok (nodes.Block self.old.next_region js))) }
         ensures behind { OnOk result (self.new ≡ behind_block self.old (items_of items.now)) }
     {
         let outer = self.region;
@@ -245,14 +305,14 @@ impl<'a> Checker<'a> {
         self.next_region = next;
         let items = self.check_items(items)?;
         self.region = outer;
-        Ok(block_of(region, items))
+        block_of(self.alloc, region, items)
     }
 
     /// The items of a block. What they declare is forgotten behind them.
     #[cycle(statement)]
     pub(crate) fn check_items(&mut self, items: &[Item]) -> Result<Vec<typed::Item>, Stop>
         requires { IsInOrder self.old }
-        ensures gives { Gives (λ v. typed_view.items_of v.items) result (check_items (scope_of self.old) (items_of items.now)) }
+        ensures gives { Gives (λ v. typed_view.items_of v.items) result (run (rule_items (scope_of self.old) (items_of items.now))) }
         ensures behind { OnOk result (self.new ≡ behind_items self.old (items_of items.now)) }
     {
         let count = self.locals.len();
@@ -268,13 +328,13 @@ impl<'a> Checker<'a> {
     #[cycle(statement)]
     fn check_item(&mut self, item: &Item) -> Result<typed::Item, Stop>
         requires { IsInOrder self.old }
-        ensures gives { Gives typed_view.view_item result (one_item (view_item item.now) (scope_of self.old)) }
+        ensures gives { Gives typed_view.view_item result (run (rule_item (scope_of self.old) (view_item item.now))) }
         ensures behind { OnOk result (self.new ≡ behind_item (view_item item.now) self.old) }
     {
         match item {
             Item::Statement { statement } => {
                 let statement = self.check_statement(statement)?;
-                Ok(typed::Item::Execute { statement })
+                Ok(execution(statement))
             }
             Item::Local { name, value, .. } => self.declare_local(*name, value),
             _ => Err(not_built()),

@@ -1,7 +1,9 @@
 //! Why checking stops.
 ghost use Rattle.std.specs.Prelude.{◌≡◌};
 ghost use Rattle.cyc_syntax.specs.TreeView.{place_of_span};
-ghost use Rattle.cyc_types.specs.Refusals.{fault_at, not_built, no_main};
+ghost use Rattle.cyc_words.specs.declared.fault.Code.TheVariants as codes;
+ghost use Rattle.cyc_types.specs.Rules.{fault_at, not_built};
+ghost use Rattle.cyc_types.specs.TypingRules.{start};
 ghost use Rattle.cyc_check.specs.declared.stop.Stop.TheVariants.{Memory, Refused};
 ghost use Rattle.cyc_check.specs.Code.{fault_of};
 
@@ -66,7 +68,7 @@ pub(crate) fn not_built() -> Stop
 
 /// The refusal of a program without `main`.
 pub(crate) fn no_main() -> Stop
-    ensures { result ≡ Refused no_main }
+    ensures { result ≡ Refused (fault_at codes.BadMain start) }
 {
     Stop::Refused(Fault {
         code: Code::BadMain,

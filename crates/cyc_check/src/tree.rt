@@ -3,9 +3,7 @@ ghost use Rattle.std.specs.Prelude.{◌≡◌, map};
 ghost use Rattle.cyc_words.specs.Decision.{Decides};
 ghost use Rattle.cyc_syntax.specs.TreeView.{view_declaration};
 ghost use Rattle.cyc_types.specs.TypedTreeView.{view_program};
-ghost use Rattle.cyc_types.specs.TypingRules.{IsTypedProgram};
-ghost use Rattle.cyc_types.specs.Refusals.{IsRefusedProgram};
-ghost use Rattle.cyc_types.specs.Checking.{check_of};
+ghost use Rattle.cyc_types.specs.TypingRules.{IsTypedProgram, IsRefusedProgram, check_of};
 ghost use Rattle.cyc_check.specs.Code.{Gives};
 
 use crate::functions::functions_of;
@@ -30,7 +28,7 @@ pub fn check(alloc: Global, tree: &Tree) -> Result<TypedTree, Fault>
     Ok(typed_tree(alloc, tree)?)
 }
 
-/// What the checking function answers.
+/// What the rules answer.
 fn typed_tree(alloc: Global, tree: &Tree) -> Result<TypedTree, Stop>
     ensures { Gives view_program result (check_of tree.now.names (map view_declaration tree.now.declarations.items)) }
 {

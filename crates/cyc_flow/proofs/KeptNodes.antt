@@ -17,7 +17,7 @@ use Rattle.cyc_types.specs.TypeView.{view_ty, view_value_type}
 use Rattle.cyc_types.specs.TypedTrees.{Expression, Statement, Call, Binary, Block}
 use Rattle.cyc_types.specs.TypedTreeView.{view_expression, arguments_of, operations_of, view_statement, items_of}
 use Rattle.cyc_types.proofs.TypedTreeViewLemmas.{view_call, view_binary, view_block}
-use Rattle.cyc_types.specs.Checking.{and_then}
+use Rattle.cyc_types.specs.Rules.{and_then}
 use Rattle.cyc_types.specs.FlowRules.{State, Loop, meet, after, after_arguments, after_operations, after_statement, after_items, breaks_of, item_breaks}
 use Rattle.cyc_types.specs.FlowChecking.{Kept, keep, keep_arguments, keep_operations, keep_statement, keep_items}
 use Rattle.cyc_flow.specs.declared.state.State.{State as StateCode}

@@ -5,7 +5,7 @@ use Rattle.cyc_types.specs.declared.typed.Operation.{Operation}
 use Rattle.cyc_types.specs.declared.typed.Operation.TheVariants as operation
 use Rattle.cyc_types.specs.TypedTreeView.{view_expression}
 use Rattle.cyc_types.specs.TypedTrees.{Item, Execute, Declare}
-use Rattle.cyc_types.specs.Refusals.{not_built}
+use Rattle.cyc_types.specs.Rules.{not_built}
 use Rattle.cyc_types.specs.FlowRules.{State, Unreached, meet, after, after_statement, after_declaration, breaks_of, Loop}
 use Rattle.cyc_types.specs.FlowChecking.{Kept, keep, keep_value, keep_statement}
 use Rattle.cyc_flow.specs.declared.statements.Loop.{Loop as LoopCode}

@@ -1,7 +1,7 @@
 //! What is known behind an expression, where it keeps the flow rules. Each method takes what is known before.
 ghost use Rattle.std.specs.Prelude.{◌≡◌, option_map};
 ghost use Rattle.cyc_syntax.specs.TreeView.{place_of_span};
-ghost use Rattle.cyc_types.specs.Refusals.{fault_at};
+ghost use Rattle.cyc_types.specs.Rules.{fault_at};
 ghost use Rattle.cyc_types.specs.TypedTreeView.{view_lvalue, view_expression, view_converted, arguments_of, operations_of};
 ghost use Rattle.cyc_types.specs.FlowRules.{Unreached, after_store, after, after_converted, after_arguments, after_operations, after_declaration, meet};
 ghost use Rattle.cyc_types.specs.FlowChecking.{use_place, store_place, keep, keep_converted, keep_arguments, keep_operations, keep_value};

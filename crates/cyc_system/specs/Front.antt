@@ -11,8 +11,7 @@ use Rattle.cyc_syntax.specs.Trees.{Declaration}
 use Rattle.cyc_lex.specs.Refusals as lexer
 use Rattle.cyc_parse.specs.Acceptance as parser
 use Rattle.cyc_types.specs.TypedTrees.{Program}
-use Rattle.cyc_types.specs.TypingRules.{IsTypedProgram}
-use Rattle.cyc_types.specs.Refusals.{IsRefusedProgram}
+use Rattle.cyc_types.specs.TypingRules.{IsTypedProgram, IsRefusedProgram}
 use Rattle.cyc_types.specs.FlowRules.{IsAllowedProgram}
 use Rattle.cyc_types.specs.FlowRefusals.{IsStoppedProgram}
 

@@ -6,13 +6,17 @@ use Rattle.cyc_words.proofs.Decisions.{IsDecided}
 use Rattle.cyc_syntax.specs.Symbols.{Place}
 use Rattle.cyc_types.specs.Types.{Ty}
 use Rattle.cyc_types.specs.TypedTrees.{Lvalue, Local, Global, Expression, Number, Copy, Call, Unary, Binary, Assign, Converted, Convert, Arguments, NoArguments, MoreArguments, Operations, NoOperations, ThenCompute, ThenTest, Statement, Block, Empty, Evaluate, If, While, Return, Break, Continue, Items, NoItems, MoreItems, Execute, Declare, Function, Program}
-use Rattle.cyc_types.specs.Refusals.{fault_at}
-use Rattle.cyc_types.specs.Checking.{unless}
+use Rattle.cyc_types.specs.Rules.{Checked, fault_at}
 use Rattle.cyc_types.specs.FlowRules.{Fullness, Vacant, Locked, Full, State, Unreached, Reached, meet, is_at_least, fullness, after, after_converted, after_statement, after_declaration, Loop, IsUsed, IsStored, IsAllowed, IsAllowedConverted, AreAllowedArguments, AreAllowedOperations, IsAllowedValue, IsContinued, IsAllowedStatement, AreAllowedItems, start_of, end_of, IsEnded, IsAllowedFunction, AreAllowedFunctions, IsAllowedProgram}
 use Rattle.cyc_types.specs.FlowRefusals.{IsMisused, IsMisstored, IsStopped, IsStoppedConverted, AreStoppedArguments, AreStoppedOperations, IsStoppedValue, IsMiscontinued, IsStoppedStatement, AreStoppedItems, IsUnended, IsStoppedFunction, AreStoppedFunctions, IsStoppedProgram}
-use Rattle.cyc_types.specs.FlowChecking.{Kept, use_by, use_place, store_by, store_place, keep, keep_converted, keep_arguments, keep_operations, keep_value, keep_head, keep_continue, keep_statement, keep_items, keep_end, keep_function, keep_functions, flow_of}
-use Rattle.cyc_types.proofs.Judged.{Judges, good, bad, mapped, chained}
-use Rattle.cyc_types.proofs.Answered.{then_on, then_err, unless_on, unless_err, from_err, ok_is_no_err}
+use Rattle.cyc_types.specs.FlowChecking.{unless, Kept, use_by, use_place, store_by, store_place, keep, keep_converted, keep_arguments, keep_operations, keep_value, keep_head, keep_continue, keep_statement, keep_items, keep_end, keep_function, keep_functions, flow_of}
+use Rattle.cyc_types.proofs.RuleLaws.{Judges, good, bad, mapped, chained, then_on, then_err, from_err, ok_is_no_err}
+
+unless_on : {A : Type 0} {b : Bool} {x : Checked A} (f : Fault) (next : Checked A) → b ≡ false → next ≡ x → unless b f next ≡ x
+unless_on {x = x} f next e h = subst (λ c. unless c f next ≡ x) (sym e) h
+
+unless_err : {A : Type 0} {b : Bool} (f : Fault) (next : Checked A) → b ≡ true → unless b f next ≡ Err f
+unless_err f next e = subst (λ c. unless c f next ≡ Err f) (sym e) refl
 
 -- ---- what is answered holds
 

@@ -1,18 +1,23 @@
 -- The typed tree of a program keeps its numbers in range.
 use Rattle.std.specs.Prelude.{nat_eq, length, slice_get}
+use Rattle.std.proofs.lemmas.Bool.{eqb-true}
 use Rattle.std.proofs.Common.{◌≡◌, ℕ, suc, ◌+◌, ◌≤◌, ◌<◌, Bool, true, false, cond, not, ◌&&◌, ◌||◌, List, [], ◌∷◌, ◌++◌, Option, Some, None, refl, sym, ap, subst, ◌∙◌, arith}
 use Rattle.cyc_syntax.specs.declared.tree.BinaryOperator.{BinaryOperator}
 use Rattle.cyc_syntax.specs.declared.tree.BinaryOperator.TheVariants as operators
 use Rattle.cyc_syntax.specs.Names.{number_of}
-use Rattle.cyc_syntax.specs.Trees.{Named, WrittenType, Expression, Number, Character, Null, HeapRegion, UniqueRegion, Variable, Call, Bracketed, NumberOfElements, FreeUnique, FreeKey, Chained, Prefixed, New, RegionNew, Binary, Assign, Expressions, NoExpressions, MoreExpressions, Operations, NoOperations, ThenOperation, Statement, Block, Labelled, Empty, Evaluate, Swap, If, IfElse, While, Return, Break, Continue, Throw, Try, Body, Braces, Items, NoItems, MoreItems, Execute, Local, Region, Alias, DynamicRegion, Member, Parameters, Declaration, StructType, Exceptions, Global, Function}
+use Rattle.cyc_syntax.specs.Symbols.{Place}
+use Rattle.cyc_syntax.specs.Trees.{Named, WrittenType, Expression, Number, Character, Null, HeapRegion, UniqueRegion, Variable, Call, Bracketed, NumberOfElements, FreeUnique, FreeKey, Chained, Prefixed, New, RegionNew, Binary, Assign, Expressions, NoExpressions, MoreExpressions, Operations, NoOperations, ThenOperation, Statement, Block, Labelled, Empty, Evaluate, Swap, If, IfElse, While, Return, Break, Continue, Throw, Try, Body, Braces, Items, NoItems, MoreItems, Execute, Local, Region, Alias, DynamicRegion, Member, Parameters, Declaration, StructType, Exceptions, Global, Function, place_of}
 use Rattle.cyc_types.specs.declared.typed.Callee.TheVariants as callees
-use Rattle.cyc_types.specs.Types.{Ty, Int, ValueType, Value, result_type}
+use Rattle.cyc_types.specs.declared.typed.UnaryOperator.{UnaryOperator}
+use Rattle.cyc_types.specs.Types.{Ty, Int, ValueType, Value}
 use Rattle.cyc_types.specs.TypedTrees.{Lvalue, Converted}
 use Rattle.cyc_types.specs.TypedTrees as typed
-use Rattle.cyc_types.specs.IntPart.{is_empty}
-use Rattle.cyc_types.specs.Scopes.{Signature, Meaning, Unknown, Routine, Declared, LocalVariable, Scope, meaning_in, meaning_among, meaning_of, locals_in, body_locals, item_locals, blocks_in, body_blocks, item_blocks, behind, in_block, in_body, with_local}
+use Rattle.cyc_types.specs.IntPart.{is_empty, is_left_out}
+use Rattle.cyc_types.specs.Scopes.{Signature, Meaning, Unknown, Routine, Declared, LocalVariable, Scope, meaning_in, meaning_among, meaning_of, locals_in, body_locals, item_locals, one_item_locals, blocks_in, body_blocks, item_blocks, one_item_blocks, behind, in_block, in_body, with_local}
 use Rattle.cyc_types.specs.Scopes as scopes
-use Rattle.cyc_types.specs.TypingRules.{type_written, IsConverted, then_operation, name_in, IsRead, IsPlace, IsTarget, ArePassed, IsCalled, IsTyped, AreTyped, IsChain, IsInitial, IsReturned, IsTypedStatement, IsTypedBody, AreTypedItems, members_of, result_of, types_of, is_main_head, AreHeads, declares, declared_from, putchar_text, getchar_text, main_text, declared, known_before, regions_before, parameter_locals, body_scope, declared_types, item_types, AreFunctions, globals_of, function_number, IsTypedProgram}
+use Rattle.cyc_types.specs.Rules.{Rule, Derives}
+use Rattle.cyc_types.specs.TypingRules.{type_written, unary_operator, then_operation, read, place_meant, prefixed, passed, called, rule, rule_all, rule_chain, rule_target, rule_condition, returned, rule_returned, rule_initial, behind_item, rule_statement, rule_body, rule_items, rule_item, members_of, result_of, types_of, is_main_head, rule_heads, declares, declared_from, putchar_text, getchar_text, main_text, declared, known_before, regions_before, parameter_locals, body_scope, declared_types, item_types, rule_functions, globals_of, function_number, IsTypedProgram}
+use Rattle.cyc_types.proofs.ProgramParts.{parts}
 use Rattle.cyc_types.specs.Numbered.{signatures_of, Numbering, IsSignature, argument_count, IsWithin, IsNumbered, IsNumberedConverted, AreNumberedArguments, AreNumberedOperations, IsNumberedReturn, IsNumberedInitial, IsNumberedStatement, AreNumberedItems, AreNumberedFunctions, IsNumberedProgram}
 
 -- ---- what names mean is in range
@@ -43,36 +48,38 @@ among b (v ∷ vs) ds x (less, below) h = by_cond b (nat_eq v.name x.name) (scop
 module _ (b : Numbering) where
   -- ---- expressions
 
-  converted_numbered : (a : typed.Expression) (t : Ty) (c : Converted) → IsNumbered b a → IsConverted a t c → IsNumberedConverted b c
-  converted_numbered a t c h (from, to, k, eq) = subst (IsNumberedConverted b) (sym eq) h
-
   abbrev AreNumbered : List typed.Expression → Type 0
   AreNumbered [] = Unit {0}
   AreNumbered (a ∷ as') = IsNumbered b a × AreNumbered as'
 
-  read_numbered : (m : Meaning) (a : typed.Expression) → IsMeant b m → IsRead m a → IsNumbered b a
-  read_numbered Unknown a h k = absurd k
-  read_numbered (scopes.Variable l t) a h k = subst (IsNumbered b) (sym k) h
-  read_numbered (Routine f s) a h k = absurd k
+  read_numbered : (m : Meaning) (p : Place) (a : typed.Expression) → IsMeant b m → Derives (read m p) a → IsNumbered b a
+  read_numbered Unknown p a h k = absurd k
+  read_numbered (scopes.Variable l t) p a h (u, eq) = subst (IsNumbered b) (sym eq) h
+  read_numbered (Routine f s) p a h k = absurd k
 
-  place_numbered : (m : Meaning) (l : Lvalue) (t : Ty) → IsMeant b m → IsPlace m l t → IsWithin b l
-  place_numbered Unknown l t h k = absurd k
-  place_numbered (scopes.Variable m u) l t h (e, k) = subst (IsWithin b) (sym e) h
-  place_numbered (Routine f s) l t h k = absurd k
+  place_numbered : (m : Meaning) (p q : Place) (l : Lvalue × Ty) → IsMeant b m → Derives (place_meant m p q) l → IsWithin b l.0
+  place_numbered Unknown p q l h k = absurd k
+  place_numbered (scopes.Variable m t) p q l h (u, eq) = subst (λ (z : Lvalue × Ty). IsWithin b z.0) (sym eq) h
+  place_numbered (Routine f s) p q l h k = absurd k
 
-  passed_numbered : (as' : List typed.Expression) (ts : List Ty) (cs : typed.Arguments) → AreNumbered as' → ArePassed as' ts cs → (argument_count cs ≡ length ts) × AreNumberedArguments b cs
-  passed_numbered [] [] cs h eq = subst (λ z. (argument_count z ≡ 0) × AreNumberedArguments b z) (sym eq) (refl, tt)
-  passed_numbered [] (t ∷ ts) cs h k = absurd k
-  passed_numbered (a ∷ as') [] cs h k = absurd k
-  passed_numbered (a ∷ as') (t ∷ ts) cs (h, hs) (c, ds, k, ks, eq) =
-      let more : (argument_count ds ≡ length ts) × AreNumberedArguments b ds = passed_numbered as' ts ds hs ks in
-      subst (λ z. (argument_count z ≡ suc (length ts)) × AreNumberedArguments b z) (sym eq) (ap suc more.0, (converted_numbered a t c h k, more.1))
+  prefixed_numbered : (o : Option UnaryOperator) (p : Place) (a c : typed.Expression) → IsNumbered b a → Derives (prefixed o p a) c → IsNumbered b c
+  prefixed_numbered None p a c h k = absurd k
+  prefixed_numbered (Some u) p a c h (k, eq) = subst (IsNumbered b) (sym eq) h
 
-  called_numbered : (m : Meaning) (as' : List typed.Expression) (a : typed.Expression) → IsMeant b m → AreNumbered as' → IsCalled m as' a → IsNumbered b a
-  called_numbered Unknown as' a h hs k = absurd k
-  called_numbered (scopes.Variable l t) as' a h hs k = absurd k
-  called_numbered (Routine f s) as' a h hs (cs, ks, eq) =
-      let all : (argument_count cs ≡ length s.parameters) × AreNumberedArguments b cs = passed_numbered as' s.parameters cs hs ks in
+  passed_numbered : (as' : List typed.Expression) (ts : List Ty) → AreNumbered as' → length as' ≡ length ts → (argument_count (passed as' ts) ≡ length ts) × AreNumberedArguments b (passed as' ts)
+  passed_numbered [] [] h same = (refl, tt)
+  passed_numbered [] (t ∷ ts) h same = absurd (omega arith)
+  passed_numbered (a ∷ as') [] h same = absurd (omega arith)
+  passed_numbered (a ∷ as') (t ∷ ts) (h, hs) same =
+      let more : (argument_count (passed as' ts) ≡ length ts) × AreNumberedArguments b (passed as' ts) = passed_numbered as' ts hs (omega arith) in
+      (ap suc more.0, (h, more.1))
+
+  called_numbered : (m : Meaning) (p : Place) (es : Expressions) (as' : List typed.Expression) (a : typed.Expression) → IsMeant b m → AreNumbered as' → Derives (called m p es as') a → IsNumbered b a
+  called_numbered Unknown p es as' a h hs k = absurd k
+  called_numbered (scopes.Variable l t) p es as' a h hs k = absurd k
+  called_numbered (Routine f s) p es as' a h hs ((same, ks), eq) =
+      let all : (argument_count (passed as' s.parameters) ≡ length s.parameters) × AreNumberedArguments b (passed as' s.parameters) =
+      passed_numbered as' s.parameters hs (eqb-true (length as') (length s.parameters) same) in
       subst (IsNumbered b) (sym eq) (s, h, all.0, refl, all.1)
 
   operation_numbered : (o : BinaryOperator) (a : typed.Expression) (os : typed.Operations) → IsNumbered b a → AreNumberedOperations b os → AreNumberedOperations b (then_operation o a os)
@@ -82,87 +89,88 @@ module _ (b : Numbering) where
   meant : (g : Scope) (x : Named) → Fits b g.locals g.program g.result → IsMeant b (meaning_of g x)
   meant g x fits = among b g.locals g.program x fits.locals fits.program
 
-  target_numbered : (g : Scope) (o : Option Named) (l : Lvalue) (t : Ty) → Fits b g.locals g.program g.result → IsTarget g o l t → IsWithin b l
-  target_numbered g None l t fits h = absurd h
-  target_numbered g (Some x) l t fits h = place_numbered (meaning_of g x) l t (meant g x fits) h
+  target_numbered : (g : Scope) (p : Place) (e : Expression) (walked : Rule typed.Expression) (l : Lvalue × Ty) → Fits b g.locals g.program g.result → Derives (rule_target g p e walked) l → IsWithin b l.0
+  target_numbered g p (Variable x) walked l fits h = place_numbered (meaning_of g x) x.place p l (meant g x fits) h
+  target_numbered g p (Bracketed q e) walked l fits h = target_numbered g p e walked l fits h
+  target_numbered g p e walked l fits (a, h, k) = absurd k
 
   mutual
-    expression_numbered : (g : Scope) → Fits b g.locals g.program g.result → (e : Expression) (a : typed.Expression) → IsTyped g e a → IsNumbered b a
-    expression_numbered g fits (Number p n) a h = subst (IsNumbered b) (sym h) tt
-    expression_numbered g fits (Character p c) a h = subst (IsNumbered b) (sym h) tt
-    expression_numbered g fits (Variable x) a h = read_numbered (meaning_of g x) a (meant g x fits) h
-    expression_numbered g fits (Call x es) a (bs, hs, k) = called_numbered (meaning_of g x) bs a (meant g x fits) (expressions_numbered g fits es bs hs) k
+    expression_numbered : (g : Scope) → Fits b g.locals g.program g.result → (e : Expression) (a : typed.Expression) → Derives (rule g e) a → IsNumbered b a
+    expression_numbered g fits (Number p n) a (u, eq) = subst (IsNumbered b) (sym eq) tt
+    expression_numbered g fits (Character p c) a (u, eq) = subst (IsNumbered b) (sym eq) tt
+    expression_numbered g fits (Variable x) a h = read_numbered (meaning_of g x) x.place a (meant g x fits) h
+    expression_numbered g fits (Call x es) a (bs, hs, k) = called_numbered (meaning_of g x) x.place es bs a (meant g x fits) (expressions_numbered g fits es bs hs) k
     expression_numbered g fits (Bracketed p e) a h = expression_numbered g fits e a h
-    expression_numbered g fits (Prefixed p o e) a (c, u, h, op, i, eq) = subst (IsNumbered b) (sym eq) (expression_numbered g fits e c h)
-    expression_numbered g fits (Binary e os) a (c, bs, h, hs, eq) = subst (IsNumbered b) (sym eq) (expression_numbered g fits e c h, chain_numbered g fits (typed.type_of c) os bs hs)
-    expression_numbered g fits (Assign e v) a (l, t, c, d, tg, h, k, eq) =
-        subst (IsNumbered b) (sym eq) (target_numbered g (name_in e) l t fits tg, converted_numbered c t d (expression_numbered g fits v c h) k)
-    expression_numbered g fits (Null p) a h = absurd h
-    expression_numbered g fits (HeapRegion p) a h = absurd h
-    expression_numbered g fits (UniqueRegion p) a h = absurd h
-    expression_numbered g fits (NumberOfElements p e) a h = absurd h
-    expression_numbered g fits (FreeUnique p e) a h = absurd h
-    expression_numbered g fits (FreeKey p k) a h = absurd h
-    expression_numbered g fits (Chained e ps) a h = absurd h
-    expression_numbered g fits (New p i) a h = absurd h
-    expression_numbered g fits (RegionNew p r i) a h = absurd h
+    expression_numbered g fits (Prefixed p o e) a (c, h, k) = prefixed_numbered (unary_operator o) (place_of e) c a (expression_numbered g fits e c h) k
+    expression_numbered g fits (Binary e os) a (c, h, (bs, hs, (u, eq))) =
+        subst (IsNumbered b) (sym eq) (expression_numbered g fits e c h, chain_numbered g fits (place_of e) (typed.type_of c) os bs hs)
+    expression_numbered g fits (Assign e v) a (l, tg, (c, h, (k, eq))) =
+        subst (IsNumbered b) (sym eq) (target_numbered g (place_of e) e (rule g e) l fits tg, expression_numbered g fits v c h)
+    expression_numbered g fits e a h = absurd h
 
-    expressions_numbered : (g : Scope) → Fits b g.locals g.program g.result → (es : Expressions) (as' : List typed.Expression) → AreTyped g es as' → AreNumbered as'
-    expressions_numbered g fits NoExpressions as' h = subst AreNumbered (sym h) tt
-    expressions_numbered g fits (MoreExpressions e es) as' (a, bs, h, hs, eq) = subst AreNumbered (sym eq) (expression_numbered g fits e a h, expressions_numbered g fits es bs hs)
+    expressions_numbered : (g : Scope) → Fits b g.locals g.program g.result → (es : Expressions) (as' : List typed.Expression) → Derives (rule_all g es) as' → AreNumbered as'
+    expressions_numbered g fits NoExpressions as' (u, eq) = subst AreNumbered (sym eq) tt
+    expressions_numbered g fits (MoreExpressions e es) as' (a, h, (bs, hs, (u, eq))) = subst AreNumbered (sym eq) (expression_numbered g fits e a h, expressions_numbered g fits es bs hs)
 
-    chain_numbered : (g : Scope) → Fits b g.locals g.program g.result → (left : ValueType) (os : Operations) (as' : typed.Operations) → IsChain g left os as' → AreNumberedOperations b as'
-    chain_numbered g fits left NoOperations as' (l, eq) = subst (AreNumberedOperations b) (sym eq) tt
-    chain_numbered g fits left (ThenOperation o p e os) as' (a, bs, h, l, i, hs, eq) =
-        subst (AreNumberedOperations b) (sym eq) (operation_numbered o a bs (expression_numbered g fits e a h) (chain_numbered g fits (Value Int) os bs hs))
+    chain_numbered : (g : Scope) → Fits b g.locals g.program g.result → (p : Place) (left : ValueType) (os : Operations) (as' : typed.Operations) → Derives (rule_chain g p left os) as' → AreNumberedOperations b as'
+    chain_numbered g fits p left NoOperations as' (k, eq) = subst (AreNumberedOperations b) (sym eq) tt
+    chain_numbered g fits p left (ThenOperation o q e os) as' (put, (a, h, (k, is)), (bs, hs, (u, eq))) =
+        subst (AreNumberedOperations b) (sym (eq ∙ ap (λ f. f bs) is)) (operation_numbered o a bs (expression_numbered g fits e a h) (chain_numbered g fits p (Value Int) os bs hs))
 
   -- ---- statements
 
-  initial_numbered : (g : Scope) → Fits b g.locals g.program g.result → (v : Option Expression) (t : Ty) (c : Option Converted) → IsInitial g v t c → IsNumberedInitial b c
-  initial_numbered g fits None t c eq = subst (IsNumberedInitial b) (sym eq) tt
-  initial_numbered g fits (Some e) t c (a, d, h, k, eq) = subst (IsNumberedInitial b) (sym eq) (converted_numbered a t d (expression_numbered g fits e a h) k)
+  initial_numbered : (g : Scope) → Fits b g.locals g.program g.result → (x : Named) (v : Option Expression) (t : Ty) (c : Option Converted) → Derives (rule_initial g x t v) c → IsNumberedInitial b c
+  initial_numbered g fits x None t c (k, eq) = subst (IsNumberedInitial b) (sym eq) tt
+  initial_numbered g fits x (Some e) t c (a, h, (k, eq)) = subst (IsNumberedInitial b) (sym eq) (expression_numbered g fits e a h)
 
-  returned_numbered : (g : Scope) → Fits b g.locals g.program g.result → (v : Option Expression) (c : Option Converted) → IsReturned g v c → IsNumberedReturn b b.result c
-  returned_numbered g fits None c (r, eq) = subst (λ z. IsNumberedReturn b z c) (sym r ∙ fits.same) (subst (IsNumberedReturn b None) (sym eq) tt)
-  returned_numbered g fits (Some e) c (a, t, d, h, r, k, eq) =
-      subst (λ z. IsNumberedReturn b z c) (sym r ∙ fits.same) (subst (IsNumberedReturn b (Some t)) (sym eq) (converted_numbered a t d (expression_numbered g fits e a h) k))
+  value_numbered : (r : Option Ty) (p q : Place) (a : typed.Expression) (c : Option Converted) → IsNumbered b a → Derives (returned r p q a) c → IsNumberedReturn b r c
+  value_numbered None p q a c h k = absurd k
+  value_numbered (Some t) p q a c h (k, eq) = subst (IsNumberedReturn b (Some t)) (sym eq) h
+
+  nothing_numbered : (r : Option Ty) → is_left_out r ≡ true → IsNumberedReturn b r None
+  nothing_numbered None k = tt
+  nothing_numbered (Some t) k = absurd (cc)
+
+  returned_numbered : (g : Scope) → Fits b g.locals g.program g.result → (p : Place) (v : Option Expression) (c : Option Converted) → Derives (rule_returned g p v) c → IsNumberedReturn b b.result c
+  returned_numbered g fits p None c ((k, u), eq) = subst (λ z. IsNumberedReturn b z c) fits.same (subst (IsNumberedReturn b g.result) (sym eq) (nothing_numbered g.result k))
+  returned_numbered g fits p (Some e) c (a, h, k) = subst (λ z. IsNumberedReturn b z c) fits.same (value_numbered g.result p (place_of e) a c (expression_numbered g fits e a h) k)
+
+  condition_numbered : (g : Scope) → Fits b g.locals g.program g.result → (e : Expression) (a : typed.Expression) → Derives (rule_condition g e) a → IsNumbered b a
+  condition_numbered g fits e a (c, h, (k, eq)) = subst (IsNumbered b) (sym eq) (expression_numbered g fits e c h)
 
   declaring : (g : Scope) (x : Named) (t : Ty) → Fits b g.locals g.program g.result → g.next_local < b.locals → Fits b (with_local g x t).locals g.program g.result
   declaring g x t fits less = record { locals = (less, fits.locals); program = fits.program; same = fits.same }
 
   mutual
     statement_numbered : (g : Scope) → Fits b g.locals g.program g.result → (s : Statement) (t : typed.Statement) → g.next_local + locals_in s ≤ b.locals → g.next_region + blocks_in s ≤ b.regions
-        → IsTypedStatement g s t → IsNumberedStatement b g.in_loop t
-    statement_numbered g fits (Block c) t l r (js, h, eq) = subst (IsNumberedStatement b g.in_loop) (sym eq) (omega arith, body_numbered (in_block g) fits c js l (omega arith) h)
-    statement_numbered g fits (Empty p) t l r eq = subst (IsNumberedStatement b g.in_loop) (sym eq) tt
-    statement_numbered g fits (Evaluate e) t l r (a, h, eq) = subst (IsNumberedStatement b g.in_loop) (sym eq) (expression_numbered g fits e a h)
-    statement_numbered g fits (If p e u) t l r (a, c, h, i, k, eq) = subst (IsNumberedStatement b g.in_loop) (sym eq) (expression_numbered g fits e a h, statement_numbered g fits u c l r k, tt)
-    statement_numbered g fits (IfElse p e u v) t l r (a, c, d, h, i, k, m, eq) =
-        subst (IsNumberedStatement b g.in_loop) (sym eq) (expression_numbered g fits e a h, statement_numbered g fits u c (omega arith) (omega arith) k, statement_numbered (behind g u) fits v d (omega arith) (omega arith) m)
-    statement_numbered g fits (While p e u) t l r (a, c, h, i, k, eq) = subst (IsNumberedStatement b g.in_loop) (sym eq) (expression_numbered g fits e a h, statement_numbered (in_body g) fits u c l r k)
-    statement_numbered g fits (Return p v) t l r (c, h, eq) = subst (IsNumberedStatement b g.in_loop) (sym eq) (returned_numbered g fits v c h)
-    statement_numbered g fits (Break p) t l r (i, eq) = subst (IsNumberedStatement b g.in_loop) (sym eq) i
-    statement_numbered g fits (Continue p) t l r (i, eq) = subst (IsNumberedStatement b g.in_loop) (sym eq) i
-    statement_numbered g fits (Labelled n c) t l r h = absurd h
-    statement_numbered g fits (Swap c d) t l r h = absurd h
-    statement_numbered g fits (Throw p x v) t l r h = absurd h
-    statement_numbered g fits (Try p s cs) t l r h = absurd h
+        → Derives (rule_statement g s) t → IsNumberedStatement b g.in_loop t
+    statement_numbered g fits (Block c) t l r (js, h, (u, eq)) = subst (IsNumberedStatement b g.in_loop) (sym eq) (omega arith, body_numbered (in_block g) fits c js l (omega arith) h)
+    statement_numbered g fits (Empty p) t l r (u, eq) = subst (IsNumberedStatement b g.in_loop) (sym eq) tt
+    statement_numbered g fits (Evaluate e) t l r (a, h, (u, eq)) = subst (IsNumberedStatement b g.in_loop) (sym eq) (expression_numbered g fits e a h)
+    statement_numbered g fits (If p e u) t l r (a, h, (c, k, (w, eq))) =
+        subst (IsNumberedStatement b g.in_loop) (sym eq) (condition_numbered g fits e a h, statement_numbered g fits u c l r k, tt)
+    statement_numbered g fits (IfElse p e u v) t l r (a, h, (c, k, (d, m, (w, eq)))) =
+        subst (IsNumberedStatement b g.in_loop) (sym eq) (condition_numbered g fits e a h, statement_numbered g fits u c (omega arith) (omega arith) k, statement_numbered (behind g u) fits v d (omega arith) (omega arith) m)
+    statement_numbered g fits (While p e u) t l r (a, h, (c, k, (w, eq))) = subst (IsNumberedStatement b g.in_loop) (sym eq) (condition_numbered g fits e a h, statement_numbered (in_body g) fits u c l r k)
+    statement_numbered g fits (Return p v) t l r (c, h, (u, eq)) = subst (IsNumberedStatement b g.in_loop) (sym eq) (returned_numbered g fits p v c h)
+    statement_numbered g fits (Break p) t l r ((i, u), eq) = subst (IsNumberedStatement b g.in_loop) (sym eq) i
+    statement_numbered g fits (Continue p) t l r ((i, u), eq) = subst (IsNumberedStatement b g.in_loop) (sym eq) i
+    statement_numbered g fits s t l r h = absurd h
 
     body_numbered : (g : Scope) → Fits b g.locals g.program g.result → (c : Body) (js : typed.Items) → g.next_local + body_locals c ≤ b.locals → g.next_region + body_blocks c ≤ b.regions
-        → IsTypedBody g c js → AreNumberedItems b g.in_loop js
+        → Derives (rule_body g c) js → AreNumberedItems b g.in_loop js
     body_numbered g fits (Braces p is q) js l r h = items_numbered g fits is js l r h
 
     items_numbered : (g : Scope) → Fits b g.locals g.program g.result → (is : Items) (js : typed.Items) → g.next_local + item_locals is ≤ b.locals → g.next_region + item_blocks is ≤ b.regions
-        → AreTypedItems g is js → AreNumberedItems b g.in_loop js
-    items_numbered g fits NoItems js l r eq = subst (AreNumberedItems b g.in_loop) (sym eq) tt
-    items_numbered g fits (MoreItems (Execute s) is) js l r (t, ks, h, hs, eq) =
-        subst (AreNumberedItems b g.in_loop) (sym eq) (statement_numbered g fits s t (omega arith) (omega arith) h, items_numbered (behind g s) fits is ks (omega arith) (omega arith) hs)
-    items_numbered g fits (MoreItems (Local w x v) is) js l r (c, ks, h, n, hs, eq) =
-        subst (AreNumberedItems b g.in_loop) (sym eq)
-        (omega arith, initial_numbered g fits v (type_written w) c h, items_numbered (with_local g x (type_written w)) (declaring g x (type_written w) fits (omega arith)) is ks (omega arith) (omega arith) hs)
-    items_numbered g fits (MoreItems (Region r h k) is) js l m i = absurd i
-    items_numbered g fits (MoreItems (Alias r t x y) is) js l m i = absurd i
-    items_numbered g fits (MoreItems (DynamicRegion r k) is) js l m i = absurd i
+        → Derives (rule_items g is) js → AreNumberedItems b g.in_loop js
+    items_numbered g fits NoItems js l r (u, eq) = subst (AreNumberedItems b g.in_loop) (sym eq) tt
+    items_numbered g fits (MoreItems (Execute s) is) js l r (j, (t, h, (u, is_j)), (ks, hs, (w, eq))) =
+        subst (AreNumberedItems b g.in_loop) (sym (eq ∙ ap (λ i. typed.MoreItems i ks) is_j))
+        (statement_numbered g fits s t (omega arith) (omega arith) h, items_numbered (behind g s) fits is ks (omega arith) (omega arith) hs)
+    items_numbered g fits (MoreItems (Local w x v) is) js l r (j, (c, h, (u, is_j)), (ks, hs, (y, eq))) =
+        subst (AreNumberedItems b g.in_loop) (sym (eq ∙ ap (λ i. typed.MoreItems i ks) is_j))
+        (omega arith, initial_numbered g fits x v (type_written w) c h, items_numbered (with_local g x (type_written w)) (declaring g x (type_written w) fits (omega arith)) is ks (omega arith) (omega arith) hs)
+    items_numbered g fits (MoreItems i is) js l r (j, h, hs) = absurd h
 
 -- ---- how many locals a typed statement declares
 
@@ -171,37 +179,33 @@ count-append [] ys = omega arith
 count-append (x ∷ xs) ys = let e : length (xs ++ ys) ≡ length xs + length ys = count-append xs ys in omega arith
 
 mutual
-  statement_counted : (g : Scope) (s : Statement) (t : typed.Statement) → IsTypedStatement g s t → length (declared_types t) ≡ locals_in s
-  statement_counted g (Block c) t (js, h, eq) = ap (λ z. length (declared_types z)) eq ∙ body_counted (in_block g) c js h
-  statement_counted g (Empty p) t eq = ap (λ z. length (declared_types z)) eq
-  statement_counted g (Evaluate e) t (a, h, eq) = ap (λ z. length (declared_types z)) eq
-  statement_counted g (If p e u) t (a, c, h, i, k, eq) =
+  statement_counted : (g : Scope) (s : Statement) (t : typed.Statement) → Derives (rule_statement g s) t → length (declared_types t) ≡ locals_in s
+  statement_counted g (Block c) t (js, h, (u, eq)) = ap (λ z. length (declared_types z)) eq ∙ body_counted (in_block g) c js h
+  statement_counted g (Empty p) t (u, eq) = ap (λ z. length (declared_types z)) eq
+  statement_counted g (Evaluate e) t (a, h, (u, eq)) = ap (λ z. length (declared_types z)) eq
+  statement_counted g (If p e u) t (a, h, (c, k, (w, eq))) =
       ap (λ z. length (declared_types z)) eq ∙ (count-append (declared_types c) [] ∙ (let e : length (declared_types c) ≡ locals_in u = statement_counted g u c k in omega arith))
-  statement_counted g (IfElse p e u v) t (a, c, d, h, i, k, m, eq) =
+  statement_counted g (IfElse p e u v) t (a, h, (c, k, (d, m, (w, eq)))) =
       ap (λ z. length (declared_types z)) eq ∙ (count-append (declared_types c) (declared_types d)
       ∙ (let e : length (declared_types c) ≡ locals_in u = statement_counted g u c k in let f : length (declared_types d) ≡ locals_in v = statement_counted (behind g u) v d m in omega arith))
-  statement_counted g (While p e u) t (a, c, h, i, k, eq) = ap (λ z. length (declared_types z)) eq ∙ statement_counted (in_body g) u c k
-  statement_counted g (Return p v) t (c, h, eq) = ap (λ z. length (declared_types z)) eq
-  statement_counted g (Break p) t (i, eq) = ap (λ z. length (declared_types z)) eq
-  statement_counted g (Continue p) t (i, eq) = ap (λ z. length (declared_types z)) eq
-  statement_counted g (Labelled n c) t h = absurd h
-  statement_counted g (Swap c d) t h = absurd h
-  statement_counted g (Throw p x v) t h = absurd h
-  statement_counted g (Try p s cs) t h = absurd h
+  statement_counted g (While p e u) t (a, h, (c, k, (w, eq))) = ap (λ z. length (declared_types z)) eq ∙ statement_counted (in_body g) u c k
+  statement_counted g (Return p v) t (c, h, (u, eq)) = ap (λ z. length (declared_types z)) eq
+  statement_counted g (Break p) t (k, eq) = ap (λ z. length (declared_types z)) eq
+  statement_counted g (Continue p) t (k, eq) = ap (λ z. length (declared_types z)) eq
+  statement_counted g s t h = absurd h
 
-  body_counted : (g : Scope) (c : Body) (js : typed.Items) → IsTypedBody g c js → length (item_types js) ≡ body_locals c
+  body_counted : (g : Scope) (c : Body) (js : typed.Items) → Derives (rule_body g c) js → length (item_types js) ≡ body_locals c
   body_counted g (Braces p is q) js h = items_counted g is js h
 
-  pub items_counted : (g : Scope) (is : Items) (js : typed.Items) → AreTypedItems g is js → length (item_types js) ≡ item_locals is
-  items_counted g NoItems js eq = ap (λ z. length (item_types z)) eq
-  items_counted g (MoreItems (Execute s) is) js (t, ks, h, hs, eq) =
-      ap (λ z. length (item_types z)) eq ∙ (count-append (declared_types t) (item_types ks)
+  pub items_counted : (g : Scope) (is : Items) (js : typed.Items) → Derives (rule_items g is) js → length (item_types js) ≡ item_locals is
+  items_counted g NoItems js (u, eq) = ap (λ z. length (item_types z)) eq
+  items_counted g (MoreItems (Execute s) is) js (j, (t, h, (u, is_j)), (ks, hs, (w, eq))) =
+      ap (λ z. length (item_types z)) (eq ∙ ap (λ i. typed.MoreItems i ks) is_j) ∙ (count-append (declared_types t) (item_types ks)
       ∙ (let e : length (declared_types t) ≡ locals_in s = statement_counted g s t h in let f : length (item_types ks) ≡ item_locals is = items_counted (behind g s) is ks hs in omega arith))
-  items_counted g (MoreItems (Local w x v) is) js (c, ks, h, n, hs, eq) =
-      ap (λ z. length (item_types z)) eq ∙ (let f : length (item_types ks) ≡ item_locals is = items_counted (with_local g x (type_written w)) is ks hs in omega arith)
-  items_counted g (MoreItems (Region r h k) is) js i = absurd i
-  items_counted g (MoreItems (Alias r t x y) is) js i = absurd i
-  items_counted g (MoreItems (DynamicRegion r k) is) js i = absurd i
+  items_counted g (MoreItems (Local w x v) is) js (j, (c, h, (u, is_j)), (ks, hs, (y, eq))) =
+      ap (λ z. length (item_types z)) (eq ∙ ap (λ i. typed.MoreItems i ks) is_j)
+      ∙ (let f : length (item_types ks) ≡ item_locals is = items_counted (with_local g x (type_written w)) is ks hs in omega arith)
+  items_counted g (MoreItems i is) js (j, h, hs) = absurd h
 
 -- ---- programs
 
@@ -213,13 +217,13 @@ signatures_in (Exceptions cs ∷ ds) = signatures_in ds
 signatures_in (Global w x v ∷ ds) = signatures_in ds
 signatures_in (Function r x ps b ∷ ds) = record { parameters = types_of (members_of ps.list); result = result_of r } ∷ signatures_in ds
 
-signatures : (ds : List Declared) (tree : List Declaration) (fs : List typed.Function) → AreFunctions ds tree fs → signatures_of fs ≡ signatures_in tree
-signatures ds [] fs eq = ap signatures_of eq
+signatures : (ds : List Declared) (tree : List Declaration) (fs : List typed.Function) → Derives (rule_functions ds tree) fs → signatures_of fs ≡ signatures_in tree
+signatures ds [] fs (u, eq) = ap signatures_of eq
 signatures ds (StructType s rs ms ∷ tree) fs h = absurd h
 signatures ds (Exceptions cs ∷ tree) fs h = absurd h
 signatures ds (Global w x v ∷ tree) fs h = signatures ds tree fs h
-signatures ds (Function r x ps (Braces p is q) ∷ tree) fs (js, gs, h, hs, eq) =
-    ap signatures_of eq ∙ ap (λ ss. record { parameters = types_of (members_of ps.list); result = result_of r } ∷ ss) (signatures ds tree gs hs)
+signatures ds (Function r x ps (Braces p is q) ∷ tree) fs (f, (js, h, (u, is_f)), (gs, hs, (v, eq))) =
+    ap signatures_of (eq ∙ ap (λ k. k ∷ gs) is_f) ∙ ap (λ ss. record { parameters = types_of (members_of ps.list); result = result_of r } ∷ ss) (signatures ds tree gs hs)
 
 -- the functions from this number on are these
 abbrev Holds : Numbering → ℕ → List Signature → Type 0
@@ -248,17 +252,17 @@ types_counted [] = refl
 types_counted (m ∷ ms) = ap suc (types_counted ms)
 
 functions_numbered : (globals : ℕ) (functions : List Signature) (ds : List Declared) → ((b : Numbering) → b.globals ≡ globals → b.functions ≡ functions → (x : ℕ) → IsMeant b (meaning_in ds x))
-    → (tree : List Declaration) (fs : List typed.Function) → AreFunctions ds tree fs → AreNumberedFunctions globals functions fs
-functions_numbered globals functions ds means [] fs eq = subst (AreNumberedFunctions globals functions) (sym eq) tt
+    → (tree : List Declaration) (fs : List typed.Function) → Derives (rule_functions ds tree) fs → AreNumberedFunctions globals functions fs
+functions_numbered globals functions ds means [] fs (u, eq) = subst (AreNumberedFunctions globals functions) (sym eq) tt
 functions_numbered globals functions ds means (StructType s rs ms ∷ tree) fs h = absurd h
 functions_numbered globals functions ds means (Exceptions cs ∷ tree) fs h = absurd h
 functions_numbered globals functions ds means (Global w x v ∷ tree) fs h = functions_numbered globals functions ds means tree fs h
-functions_numbered globals functions ds means (Function r x ps (Braces p is q) ∷ tree) fs (js, gs, h, hs, eq) =
+functions_numbered globals functions ds means (Function r x ps (Braces p is q) ∷ tree) fs (f, (js, h, (u, is_f)), (gs, hs, (v, eq))) =
     let ms : List Member = members_of ps.list in
     let b : Numbering = record { globals = globals; functions = functions; locals = length (types_of ms) + length (item_types js); regions = suc (item_blocks is); result = result_of r } in
     let e : length (types_of ms) ≡ length ms = types_counted ms in
     let f : length (item_types js) ≡ item_locals is = items_counted (body_scope ds r ms) is js h in
-    subst (AreNumberedFunctions globals functions) (sym eq) (
+    subst (AreNumberedFunctions globals functions) (sym (eq ∙ ap (λ k. k ∷ gs) is_f)) (
       items_numbered b (body_scope ds r ms) (record { locals = parameters_below (length (types_of ms) + length (item_types js)) 0 ms [] (omega arith) tt; program = means b refl refl; same = refl }) is js (omega arith) (omega arith) h,
       functions_numbered globals functions ds means tree gs hs,
     )
@@ -273,26 +277,27 @@ main_signature (Some w) ps h = go (members_of ps.list) refl h
     go [] e i = rw e refl
     go (m ∷ ms) e i = absurd (let k : is_empty (m ∷ ms) ≡ true = ap is_empty (sym e) ∙ i in cc)
 
-not_bad : (c : Bool) → true && not c ≡ false → c ≡ true
-not_bad true e = refl
-not_bad false e = absurd (cc)
+not_main : (c d : Bool) → not c ≡ true → c || d ≡ true → d ≡ true
+not_main true d e h = absurd (cc)
+not_main false d e h = h
 
-main_numbered : (main : ℕ) (regions known : List ℕ) (tree : List Declaration) → AreHeads main regions known tree → declares main tree ≡ true
+main_numbered : (main : ℕ) (regions known : List ℕ) (tree : List Declaration) → Derives (rule_heads main regions known tree) tt → declares main tree ≡ true
     → slice_get (signatures_in tree) (function_number main tree) ≡ Some (record { parameters = []; result = Some Int })
 main_numbered main regions known [] h d = absurd (cc)
-main_numbered main regions known (StructType s rs fs ∷ ds) h d = absurd h.0
-main_numbered main regions known (Exceptions cs ∷ ds) h d = absurd h.0
-main_numbered main regions known (Global w x v ∷ ds) ((n, m), hs) d = main_numbered main regions (x.name ∷ known) ds hs (subst (λ c. c || declares main ds ≡ true) m d)
-main_numbered main regions known (Function r x ps b ∷ ds) ((n, m, h), hs) d = go (nat_eq x.name main) m d (λ e. main_numbered main regions (x.name ∷ known) ds hs e)
+main_numbered main regions known (StructType s rs fs ∷ ds) (u, h, hs) d = absurd h
+main_numbered main regions known (Exceptions cs ∷ ds) (u, h, hs) d = absurd h
+main_numbered main regions known (Global w x v ∷ ds) (u, ((n, (m, k)), e), hs) d = main_numbered main regions (x.name ∷ known) ds hs (not_main (nat_eq x.name main) (declares main ds) m d)
+main_numbered main regions known (Function r x ps b ∷ ds) (u, (y, ((n, (m, k)), e), h), hs) d = go (nat_eq x.name main) m d (λ i. main_numbered main regions (x.name ∷ known) ds hs i)
   where
-    go : (c : Bool) → c && not (is_main_head r ps) ≡ false → c || declares main ds ≡ true
+    go : (c : Bool) → not c || is_main_head r ps ≡ true → c || declares main ds ≡ true
         → (declares main ds ≡ true → slice_get (signatures_in ds) (function_number main ds) ≡ Some (record { parameters = []; result = Some Int }))
         → slice_get (signatures_in (Function r x ps b ∷ ds)) (cond c 0 (suc (function_number main ds))) ≡ Some (record { parameters = []; result = Some Int })
-    go true e i rest = ap Some (main_signature r ps (not_bad (is_main_head r ps) e))
+    go true e i rest = ap Some (main_signature r ps e)
     go false e i rest = rest i
 
 pub program_numbered : (texts : List (List ℕ)) (tree : List Declaration) (p : typed.Program) → IsTypedProgram texts tree p → IsNumberedProgram p
-program_numbered texts tree p h =
+program_numbered texts tree p is =
+    let h = parts texts tree p is in
     let same : signatures_of p.functions ≡ signatures_in tree = signatures (declared texts tree) tree p.functions h.functions in
     record {
       functions = functions_numbered (length p.globals) (signatures_of p.functions) (declared texts tree)

@@ -1,13 +1,18 @@
 -- The flow rules as a function: nothing, or the fault. `proofs/` shows that it answers exactly what the rules allow and exactly what
 -- they refuse; the flow check's code computes it, with the states in hand.
-use Rattle.std.specs.Prelude.{not, List, [], ◌∷◌, Option, Some, None, Ok, Err}
+use Rattle.std.specs.Prelude.{Bool, true, false, not, List, [], ◌∷◌, Option, Some, None, Ok, Err}
 use Rattle.cyc_words.specs.declared.fault.Code.TheVariants as codes
+use Rattle.cyc_words.specs.declared.fault.Fault.{Fault}
 use Rattle.cyc_syntax.specs.Symbols.{Place}
 use Rattle.cyc_types.specs.Types.{Ty}
 use Rattle.cyc_types.specs.TypedTrees.{Lvalue, Local, Global, Expression, Number, Copy, Call, Unary, Binary, Assign, Converted, Convert, Arguments, NoArguments, MoreArguments, Operations, NoOperations, ThenCompute, ThenTest, Statement, Block, Empty, Evaluate, If, While, Return, Break, Continue, Items, NoItems, MoreItems, Execute, Declare, Function, Program}
-use Rattle.cyc_types.specs.Refusals.{fault_at, not_built}
-use Rattle.cyc_types.specs.Checking.{Checked, and_then, unless}
+use Rattle.cyc_types.specs.Rules.{Checked, and_then, fault_at, not_built}
 use Rattle.cyc_types.specs.FlowRules.{Fullness, Vacant, Locked, Full, State, Unreached, Reached, meet, is_at_least, fullness, after, after_converted, after_statement, after_declaration, Loop, start_of, end_of}
+
+-- refuses unless the test has failed
+abbrev pub unless : {A : Type 0} → Bool → Fault → Checked A → Checked A
+unless true f next = Err f
+unless false f next = next
 
 -- nothing is wrong, or this
 abbrev pub Kept : Type 0

@@ -8,7 +8,7 @@ use Rattle.cyc_words.specs.declared.fault.Fault.{Fault}
 use Rattle.cyc_syntax.specs.Symbols.{Place}
 use Rattle.cyc_types.specs.Types.{Ty}
 use Rattle.cyc_types.specs.TypedTrees.{Lvalue, Local, Global, Expression, Number, Copy, Call, Unary, Binary, Assign, Converted, Convert, Arguments, NoArguments, MoreArguments, Operations, NoOperations, ThenCompute, ThenTest, Statement, Block, Empty, Evaluate, If, While, Return, Break, Continue, Items, NoItems, MoreItems, Execute, Declare, Function, Program}
-use Rattle.cyc_types.specs.Refusals.{fault_at, not_built}
+use Rattle.cyc_types.specs.Rules.{fault_at, not_built}
 use Rattle.cyc_types.specs.FlowRules.{Vacant, Locked, State, Unreached, meet, is_at_least, fullness, after, after_converted, after_statement, after_declaration, Loop, IsAllowed, IsAllowedConverted, IsAllowedValue, IsAllowedStatement, AreAllowedItems, start_of, end_of, IsAllowedFunction}
 
 abbrev pub IsMisused : Lvalue → State → Fault → Type 0

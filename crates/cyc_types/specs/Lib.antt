@@ -6,17 +6,17 @@ pub mod TypedTrees
 pub mod TypedTreeView
 pub mod IntPart
 pub mod Scopes
+pub mod Rules
 pub mod TypingRules
-pub mod Refusals
 pub mod FlowRules
 pub mod FlowRefusals
 pub mod Numbered
 pub mod Weight
 pub mod Outlives
 -- what the functions inside these crates promise each other: the rules as functions, and the table of constraints
-pub mod Checking
 pub mod FlowChecking
 pub mod Closure
 -- examples
+pub mod RuleReadings
 pub mod RuleExamples
 pub mod OutlivesExamples

@@ -10,8 +10,8 @@ use Rattle.cyc_types.specs.declared.typed.Callee.TheVariants as callees
 use Rattle.cyc_types.specs.declared.typed.Operator.TheVariants as binary
 use Rattle.cyc_types.specs.Types as types
 use Rattle.cyc_types.specs.TypedTrees as typed
-use Rattle.cyc_types.specs.Refusals.{fault_at, not_built}
-use Rattle.cyc_types.specs.Checking.{Checked, and_then, check_of}
+use Rattle.cyc_types.specs.Rules.{Checked, and_then, fault_at, not_built}
+use Rattle.cyc_types.specs.TypingRules.{check_of}
 use Rattle.cyc_types.specs.FlowChecking.{Kept, flow_of}
 use Rattle.cyc_types.specs.Weight.{program_weight}
 

@@ -1,16 +1,19 @@
--- THE TYPING RULES, for the int language: which typed tree a tree has. The rules follow the tree: what a rule guesses stands in
--- front of its premises. A form of the language that no rule speaks of has no typed tree yet.
+-- THE TYPING RULES, for the int language, each a value (`Rules`): which typed tree a tree has, and else which rule fails first, with
+-- its code and place. One recursion on the tree gives its rule; what a form asks of its own is a function with a name. What comes
+-- first: the heads of all declarations in order, then the bodies of the functions in order; statements in order; operands in order
+-- of evaluation, and before the expression that they are operands of. A form of the language that is not built yet is refused.
 -- (Names, scopes and types are Cyclone's; the numbers that locals and regions get are this project's own choice.)
-use Rattle.std.specs.Prelude.{◌≡◌, ℕ, suc, ◌-◌, ◌%◌, ◌^◌, Bool, true, false, not, nat_eq, ◌&&◌, ◌||◌, if◌then◌else◌, List, [], ◌∷◌, ◌++◌, Option, Some, None, codes, length}
+use Rattle.std.specs.Prelude.{ℕ, suc, ◌-◌, ◌%◌, ◌^◌, Bool, true, false, not, nat_eq, ◌&&◌, ◌||◌, if◌then◌else◌, List, [], ◌∷◌, ◌++◌, Option, Some, None, codes as bytes, length}
 use Rattle.std.specs.List.{list_any}
+use Rattle.cyc_words.specs.declared.fault.Code.TheVariants as codes
+use Rattle.cyc_words.specs.declared.fault.Fault.{Fault}
 use Rattle.cyc_syntax.specs.declared.tree.PrefixOperator.{PrefixOperator}
 use Rattle.cyc_syntax.specs.declared.tree.PrefixOperator.TheVariants as prefixes
 use Rattle.cyc_syntax.specs.declared.tree.BinaryOperator.{BinaryOperator}
 use Rattle.cyc_syntax.specs.declared.tree.BinaryOperator.TheVariants as operators
 use Rattle.cyc_syntax.specs.Names.{number_of}
 use Rattle.cyc_syntax.specs.Symbols.{Place}
-use Rattle.cyc_syntax.specs.Trees.{Named, WrittenType, Expression, Number, Character, Null, HeapRegion, UniqueRegion, Variable, Call, Bracketed, NumberOfElements, FreeUnique, FreeKey, Chained, Prefixed, New, RegionNew, Binary, Assign, Expressions, NoExpressions, MoreExpressions, Operations, NoOperations, ThenOperation, Statement, Block, Labelled, Empty, Evaluate, Swap, If, IfElse, While, Return, Break, Continue, Throw, Try, Body, Braces, Items, NoItems, MoreItems, Execute, Local, Region, Alias, DynamicRegion, Member, GlobalValue, Positive, Negative, Byte, NullPointer, ParameterList, Void, Listed, Parameters, Declaration, StructType, Exceptions, Global, Function}
-use Rattle.cyc_types.specs.declared.typed.Kind.{Kind}
+use Rattle.cyc_syntax.specs.Trees.{Named, WrittenType, Expression, Number, Character, Null, HeapRegion, UniqueRegion, Variable, Call, Bracketed, NumberOfElements, FreeUnique, FreeKey, Chained, Prefixed, New, RegionNew, Binary, Assign, Expressions, NoExpressions, MoreExpressions, Operations, NoOperations, ThenOperation, Statement, Block, Labelled, Empty, Evaluate, Swap, If, IfElse, While, Return, Break, Continue, Throw, Try, Body, Braces, Items, NoItems, MoreItems, Item, Execute, Local, Region, Alias, DynamicRegion, Member, GlobalValue, Positive, Negative, Byte, NullPointer, ParameterList, Void, Listed, Parameters, Declaration, StructType, Exceptions, Global, Function, place_of}
 use Rattle.cyc_types.specs.declared.typed.Kind.TheVariants as kinds
 use Rattle.cyc_types.specs.declared.typed.Callee.TheVariants as callees
 use Rattle.cyc_types.specs.declared.typed.UnaryOperator.{UnaryOperator}
@@ -21,8 +24,9 @@ use Rattle.cyc_types.specs.Types.{Ty, Int, ValueType, Value, result_type}
 use Rattle.cyc_types.specs.TypedTrees.{Lvalue, Converted, Convert, type_of}
 use Rattle.cyc_types.specs.TypedTrees as typed
 use Rattle.cyc_types.specs.IntPart.{is_empty, is_left_out, is_int_program}
-use Rattle.cyc_types.specs.Scopes.{Signature, Meaning, Unknown, Routine, Declared, LocalVariable, Scope, meaning_of, is_declared, locals_in, item_blocks, behind, in_block, in_body, with_local}
+use Rattle.cyc_types.specs.Scopes.{Signature, Meaning, Unknown, Routine, Declared, LocalVariable, Scope, meaning_of, is_declared, item_blocks, behind, in_block, in_body, with_local}
 use Rattle.cyc_types.specs.Scopes as scopes
+use Rattle.cyc_types.specs.Rules.{Checked, fault_at, not_built, Demand, demand, Rule, Refused, Own, Part, gives, demands, Derives, Refuses, run}
 
 -- ---- types
 
@@ -30,13 +34,17 @@ use Rattle.cyc_types.specs.Scopes as scopes
 abbrev pub type_written : WrittenType → Ty
 type_written w = Int
 
--- A value of the first type, or of none, is converted to the second: the kinds before and after.
-abbrev pub Converts : ValueType → Ty → Kind → Kind → Type 0
-Converts (Value Int) Int from to = (from ≡ kinds.Int) × (to ≡ kinds.Int)
-Converts t u from to = ⊥
+abbrev pub is_int : ValueType → Bool
+is_int (Value Int) = true
+is_int t = false
 
-abbrev pub IsConverted : typed.Expression → Ty → Converted → Type 0
-IsConverted a t c = (from to : Kind) × Converts (type_of a) t from to × (c ≡ Convert from to a)
+-- A value of the first type, which may be none, is converted to the second. It stands at this place.
+abbrev pub conversion : ValueType → Ty → Place → List Demand
+conversion t Int p = demand codes.TypeMismatch p (is_int t) ∷ []
+conversion t u p = demand codes.TypeMismatch p false ∷ []
+
+abbrev pub converted : typed.Expression → Ty → Converted
+converted a t = Convert kinds.Int kinds.Int a
 
 -- ---- operators
 
@@ -70,113 +78,156 @@ then_operation operators.Remainder = typed.ThenCompute binary.Remainder
 
 -- ---- expressions
 
--- brackets aside, the expression is this name
-abbrev pub name_in : Expression → Option Named
-name_in (Variable x) = Some x
-name_in (Bracketed p e) = name_in e
-name_in _ = None
+-- an int is wanted at this place
+abbrev pub int_wanted : ValueType → Place → List Demand
+int_wanted t p = demand codes.TypeMismatch p (is_int t) ∷ []
 
 -- the value of what a name means
-abbrev pub IsRead : Meaning → typed.Expression → Type 0
-IsRead Unknown a = ⊥
-IsRead (scopes.Variable l t) a = a ≡ typed.Copy l t
-IsRead (Routine f s) a = ⊥
+abbrev pub read : Meaning → Place → Rule typed.Expression
+read Unknown p = Refused (fault_at codes.UnknownName p)
+read (scopes.Variable l t) p = gives (typed.Copy l t)
+read (Routine f s) p = Refused (fault_at codes.TypeMismatch p)
 
--- what a name means as the left side of an assignment
-abbrev pub IsPlace : Meaning → Lvalue → Ty → Type 0
-IsPlace Unknown l t = ⊥
-IsPlace (scopes.Variable m u) l t = (l ≡ m) × (t ≡ u)
-IsPlace (Routine f s) l t = ⊥
+-- the place that a name means, which stands at the first place in an expression that begins at the second
+abbrev pub place_meant : Meaning → Place → Place → Rule (Lvalue × Ty)
+place_meant Unknown p q = Refused (fault_at codes.UnknownName p)
+place_meant (scopes.Variable l t) p q = gives (l, t)
+place_meant (Routine f s) p q = Refused (fault_at codes.NotAPlace q)
 
-abbrev pub IsTarget : Scope → Option Named → Lvalue → Ty → Type 0
-IsTarget g None l t = ⊥
-IsTarget g (Some x) l t = IsPlace (meaning_of g x) l t
+-- the value is converted to the type of the place
+abbrev pub assigned : Lvalue × Ty → Place → typed.Expression → Rule typed.Expression
+assigned l p a = Own (conversion (type_of a) l.1 p) (typed.Assign l.0 (converted a l.1) (Value l.1))
 
--- each argument is converted to its parameter's type, and there are as many
-abbrev pub ArePassed : List typed.Expression → List Ty → typed.Arguments → Type 0
-ArePassed [] [] cs = cs ≡ typed.NoArguments
-ArePassed [] (t ∷ ts) cs = ⊥
-ArePassed (a ∷ as') [] cs = ⊥
-ArePassed (a ∷ as') (t ∷ ts) cs = (c : Converted) × (ds : typed.Arguments) × IsConverted a t c × ArePassed as' ts ds × (cs ≡ typed.MoreArguments c ds)
+abbrev pub prefixed : Option UnaryOperator → Place → typed.Expression → Rule typed.Expression
+prefixed None p a = Refused not_built
+prefixed (Some u) p a = Own (int_wanted (type_of a) p) (typed.Unary u a)
 
--- the call of what a name means
-abbrev pub IsCalled : Meaning → List typed.Expression → typed.Expression → Type 0
-IsCalled Unknown as' a = ⊥
-IsCalled (scopes.Variable l t) as' a = ⊥
-IsCalled (Routine f s) as' a = (cs : typed.Arguments) × ArePassed as' s.parameters cs × (a ≡ typed.Call f cs (result_type s.result))
+-- both operands of an operation are ints: the left one's chain begins at the first place, the right one at the second
+abbrev pub operands_demanded : ValueType → Place → ValueType → Place → List Demand
+operands_demanded left p right q = demand codes.TypeMismatch p (is_int left) ∷ demand codes.TypeMismatch q (is_int right) ∷ []
+
+abbrev pub joined : ValueType → Place → BinaryOperator → Place → typed.Expression → Rule (typed.Operations → typed.Operations)
+joined left p o q a = Own (operands_demanded left p (type_of a) q) (then_operation o a)
+
+-- each argument is converted to its parameter's type
+abbrev pub passed : List typed.Expression → List Ty → typed.Arguments
+passed (a ∷ as') (t ∷ ts) = typed.MoreArguments (converted a t) (passed as' ts)
+passed as' ts = typed.NoArguments
+
+abbrev pub arguments_demanded : Expressions → List typed.Expression → List Ty → List Demand
+arguments_demanded (MoreExpressions e es) (a ∷ as') (t ∷ ts) = conversion (type_of a) t (place_of e) ++ arguments_demanded es as' ts
+arguments_demanded es as' ts = []
+
+-- there are as many arguments as parameters, and each is converted
+abbrev pub call_demanded : Place → Signature → Expressions → List typed.Expression → List Demand
+call_demanded p s es as' = demand codes.TypeMismatch p (nat_eq (length as') (length s.parameters)) ∷ arguments_demanded es as' s.parameters
+
+-- the call of what a name at this place means
+abbrev pub called : Meaning → Place → Expressions → List typed.Expression → Rule typed.Expression
+called Unknown p es as' = Refused (fault_at codes.UnknownName p)
+called (scopes.Variable l t) p es as' = Refused (fault_at codes.TypeMismatch p)
+called (Routine f s) p es as' = Own (call_demanded p s es as') (typed.Call f (passed as' s.parameters) (result_type s.result))
 
 abbrev mutual
-  pub IsTyped : Scope → Expression → typed.Expression → Type 0
-  IsTyped g (Number p n) a = a ≡ typed.Number n
-  IsTyped g (Character p c) a = a ≡ typed.Number c
-  IsTyped g (Variable x) a = IsRead (meaning_of g x) a
-  IsTyped g (Call f es) a = (bs : List typed.Expression) × AreTyped g es bs × IsCalled (meaning_of g f) bs a
-  IsTyped g (Bracketed p e) a = IsTyped g e a
-  IsTyped g (Prefixed p o e) a = (b : typed.Expression) × (u : UnaryOperator) × IsTyped g e b × (unary_operator o ≡ Some u) × (type_of b ≡ Value Int) × (a ≡ typed.Unary u b)
-  IsTyped g (Binary e os) a = (b : typed.Expression) × (bs : typed.Operations) × IsTyped g e b × IsChain g (type_of b) os bs × (a ≡ typed.Binary b bs Int)
-  -- the left side is a place, and the value is converted to its type
-  IsTyped g (Assign e v) a = (l : Lvalue) × (t : Ty) × (b : typed.Expression) × (c : Converted) × IsTarget g (name_in e) l t × IsTyped g v b × IsConverted b t c × (a ≡ typed.Assign l c (Value t))
-  IsTyped g (Null p) a = ⊥
-  IsTyped g (HeapRegion p) a = ⊥
-  IsTyped g (UniqueRegion p) a = ⊥
-  IsTyped g (NumberOfElements p e) a = ⊥
-  IsTyped g (FreeUnique p e) a = ⊥
-  IsTyped g (FreeKey p k) a = ⊥
-  IsTyped g (Chained e ps) a = ⊥
-  IsTyped g (New p i) a = ⊥
-  IsTyped g (RegionNew p h i) a = ⊥
+  pub rule : Scope → Expression → Rule typed.Expression
+  rule g (Number p n) = gives (typed.Number n)
+  rule g (Character p c) = gives (typed.Number c)
+  rule g (Variable x) = read (meaning_of g x) x.place
+  rule g (Call x es) = Part (rule_all g es) (λ as'. called (meaning_of g x) x.place es as')
+  rule g (Bracketed p e) = rule g e
+  rule g (Prefixed p o e) = Part (rule g e) (λ a. prefixed (unary_operator o) (place_of e) a)
+  rule g (Binary e os) = Part (rule g e) (λ a. Part (rule_chain g (place_of e) (type_of a) os) (λ bs. gives (typed.Binary a bs Int)))
+  rule g (Assign e v) = Part (rule_target g (place_of e) e (rule g e)) (λ l. Part (rule g v) (λ b. assigned l (place_of v) b))
+  rule g (Null p) = Refused not_built
+  rule g (HeapRegion p) = Refused not_built
+  rule g (UniqueRegion p) = Refused not_built
+  rule g (NumberOfElements p e) = Refused not_built
+  rule g (FreeUnique p e) = Refused not_built
+  rule g (FreeKey p k) = Refused not_built
+  rule g (Chained e ps) = Refused not_built
+  rule g (New p i) = Refused not_built
+  rule g (RegionNew p h i) = Refused not_built
 
-  pub AreTyped : Scope → Expressions → List typed.Expression → Type 0
-  AreTyped g NoExpressions as' = as' ≡ []
-  AreTyped g (MoreExpressions e es) as' = (a : typed.Expression) × (bs : List typed.Expression) × IsTyped g e a × AreTyped g es bs × (as' ≡ a ∷ bs)
+  pub rule_all : Scope → Expressions → Rule (List typed.Expression)
+  rule_all g NoExpressions = gives []
+  rule_all g (MoreExpressions e es) = Part (rule g e) (λ a. Part (rule_all g es) (λ as'. gives (a ∷ as')))
 
-  -- the operators of a chain, behind a left operand of this type
-  pub IsChain : Scope → ValueType → Operations → typed.Operations → Type 0
-  IsChain g left NoOperations as' = (left ≡ Value Int) × (as' ≡ typed.NoOperations)
-  IsChain g left (ThenOperation o p e os) as' = (a : typed.Expression) × (bs : typed.Operations) × IsTyped g e a × (left ≡ Value Int) × (type_of a ≡ Value Int) × IsChain g (Value Int) os bs × (as' ≡ then_operation o a bs)
+  -- the operators of a chain that begins at this place, behind a left operand of this type
+  pub rule_chain : Scope → Place → ValueType → Operations → Rule typed.Operations
+  rule_chain g p left NoOperations = Own (int_wanted left p) typed.NoOperations
+  rule_chain g p left (ThenOperation o q e os) =
+      Part (Part (rule g e) (λ a. joined left p o (place_of e) a)) (λ put. Part (rule_chain g p (Value Int) os) (λ bs. gives (put bs)))
+
+  -- The left side of an assignment, which begins at this place: a name is looked up, and anything else is walked by its rule as an
+  -- expression before it is found to be no place.
+  pub rule_target : Scope → Place → Expression → Rule typed.Expression → Rule (Lvalue × Ty)
+  rule_target g p (Variable x) walked = place_meant (meaning_of g x) x.place p
+  rule_target g p (Bracketed q e) walked = rule_target g p e walked
+  rule_target g p e walked = Part walked (λ a. Refused (fault_at codes.NotAPlace p))
 
 -- ---- statements
 
--- an initial value, where there is one
-abbrev pub IsInitial : Scope → Option Expression → Ty → Option Converted → Type 0
-IsInitial g None t v = v ≡ None
-IsInitial g (Some e) t v = (a : typed.Expression) × (c : Converted) × IsTyped g e a × IsConverted a t c × (v ≡ Some c)
+abbrev pub rule_condition : Scope → Expression → Rule typed.Expression
+rule_condition g e = Part (rule g e) (λ a. Own (int_wanted (type_of a) (place_of e)) a)
 
--- a value is returned by a function with a result, and by no other
-abbrev pub IsReturned : Scope → Option Expression → Option Converted → Type 0
-IsReturned g None v = (g.result ≡ None) × (v ≡ None)
-IsReturned g (Some e) v = (a : typed.Expression) × (t : Ty) × (c : Converted) × IsTyped g e a × (g.result ≡ Some t) × IsConverted a t c × (v ≡ Some c)
+-- A value is returned by a function with a result, and by no other. `return` stands at the first place, the value at the second.
+abbrev pub returned : Option Ty → Place → Place → typed.Expression → Rule (Option Converted)
+returned None p q a = Refused (fault_at codes.TypeMismatch p)
+returned (Some t) p q a = Own (conversion (type_of a) t q) (Some (converted a t))
+
+abbrev pub rule_returned : Scope → Place → Option Expression → Rule (Option Converted)
+rule_returned g p None = Own (demand codes.TypeMismatch p (is_left_out g.result) ∷ []) None
+rule_returned g p (Some e) = Part (rule g e) (λ a. returned g.result p (place_of e) a)
+
+-- the name of a local is new in its block
+abbrev pub new_demanded : Scope → Named → Demand
+new_demanded g x = demand codes.DeclaredTwice x.place (not (is_declared g x))
+
+-- the initial value of a local of this type, where there is one
+abbrev pub rule_initial : Scope → Named → Ty → Option Expression → Rule (Option Converted)
+rule_initial g x t None = Own (new_demanded g x ∷ []) None
+rule_initial g x t (Some e) = Part (rule g e) (λ a. Own (new_demanded g x ∷ conversion (type_of a) t (place_of e)) (Some (converted a t)))
+
+-- a statement at this place that stands in loops alone
+abbrev pub in_loop_alone : Scope → Place → typed.Statement → Rule typed.Statement
+in_loop_alone g p s = Own (demand codes.OutsideLoop p g.in_loop ∷ []) s
+
+-- behind an item of a block: a local is in scope behind its declaration
+abbrev pub behind_item : Scope → Item → Scope
+behind_item g (Execute s) = behind g s
+behind_item g (Local w x v) = with_local g x (type_written w)
+behind_item g i = g
 
 abbrev mutual
-  pub IsTypedStatement : Scope → Statement → typed.Statement → Type 0
-  IsTypedStatement g (Block b) s = (js : typed.Items) × IsTypedBody (in_block g) b js × (s ≡ typed.Block g.next_region js)
-  IsTypedStatement g (Empty p) s = s ≡ typed.Empty
-  IsTypedStatement g (Evaluate e) s = (a : typed.Expression) × IsTyped g e a × (s ≡ typed.Evaluate a)
-  IsTypedStatement g (If p e t) s = (a : typed.Expression) × (b : typed.Statement) × IsTyped g e a × (type_of a ≡ Value Int) × IsTypedStatement g t b × (s ≡ typed.If a b typed.Empty)
-  IsTypedStatement g (IfElse p e t u) s =
-      (a : typed.Expression) × (b c : typed.Statement) × IsTyped g e a × (type_of a ≡ Value Int) × IsTypedStatement g t b × IsTypedStatement (behind g t) u c × (s ≡ typed.If a b c)
-  IsTypedStatement g (While p e t) s = (a : typed.Expression) × (b : typed.Statement) × IsTyped g e a × (type_of a ≡ Value Int) × IsTypedStatement (in_body g) t b × (s ≡ typed.While p a b)
-  IsTypedStatement g (Return p v) s = (c : Option Converted) × IsReturned g v c × (s ≡ typed.Return c)
-  IsTypedStatement g (Break p) s = (g.in_loop ≡ true) × (s ≡ typed.Break)
-  IsTypedStatement g (Continue p) s = (g.in_loop ≡ true) × (s ≡ typed.Continue)
-  IsTypedStatement g (Labelled l b) s = ⊥
-  IsTypedStatement g (Swap a b) s = ⊥
-  IsTypedStatement g (Throw p x v) s = ⊥
-  IsTypedStatement g (Try p t cs) s = ⊥
+  pub rule_statement : Scope → Statement → Rule typed.Statement
+  rule_statement g (Block b) = Part (rule_body (in_block g) b) (λ js. gives (typed.Block g.next_region js))
+  rule_statement g (Empty p) = gives typed.Empty
+  rule_statement g (Evaluate e) = Part (rule g e) (λ a. gives (typed.Evaluate a))
+  rule_statement g (If p e t) = Part (rule_condition g e) (λ a. Part (rule_statement g t) (λ b. gives (typed.If a b typed.Empty)))
+  rule_statement g (IfElse p e t u) =
+      Part (rule_condition g e) (λ a. Part (rule_statement g t) (λ b. Part (rule_statement (behind g t) u) (λ c. gives (typed.If a b c))))
+  rule_statement g (While p e t) = Part (rule_condition g e) (λ a. Part (rule_statement (in_body g) t) (λ b. gives (typed.While p a b)))
+  rule_statement g (Return p v) = Part (rule_returned g p v) (λ c. gives (typed.Return c))
+  rule_statement g (Break p) = in_loop_alone g p typed.Break
+  rule_statement g (Continue p) = in_loop_alone g p typed.Continue
+  rule_statement g (Labelled l b) = Refused not_built
+  rule_statement g (Swap a b) = Refused not_built
+  rule_statement g (Throw p x v) = Refused not_built
+  rule_statement g (Try p t cs) = Refused not_built
 
-  pub IsTypedBody : Scope → Body → typed.Items → Type 0
-  IsTypedBody g (Braces p is q) js = AreTypedItems g is js
+  pub rule_body : Scope → Body → Rule typed.Items
+  rule_body g (Braces p is q) = rule_items g is
 
-  pub AreTypedItems : Scope → Items → typed.Items → Type 0
-  AreTypedItems g NoItems js = js ≡ typed.NoItems
-  AreTypedItems g (MoreItems (Execute s) is) js = (t : typed.Statement) × (ks : typed.Items) × IsTypedStatement g s t × AreTypedItems (behind g s) is ks × (js ≡ typed.MoreItems (typed.Execute t) ks)
-  -- a local is in scope behind its declaration
-  AreTypedItems g (MoreItems (Local w x v) is) js =
-      (c : Option Converted) × (ks : typed.Items) × IsInitial g v (type_written w) c × (is_declared g x ≡ false)
-      × AreTypedItems (with_local g x (type_written w)) is ks × (js ≡ typed.MoreItems (typed.Declare g.next_local (type_written w) c) ks)
-  AreTypedItems g (MoreItems (Region r h k) is) js = ⊥
-  AreTypedItems g (MoreItems (Alias r t x y) is) js = ⊥
-  AreTypedItems g (MoreItems (DynamicRegion r k) is) js = ⊥
+  pub rule_items : Scope → Items → Rule typed.Items
+  rule_items g NoItems = gives typed.NoItems
+  rule_items g (MoreItems i is) = Part (rule_item g i) (λ j. Part (rule_items (behind_item g i) is) (λ js. gives (typed.MoreItems j js)))
+
+  pub rule_item : Scope → Item → Rule typed.Item
+  rule_item g (Execute s) = Part (rule_statement g s) (λ t. gives (typed.Execute t))
+  rule_item g (Local w x v) = Part (rule_initial g x (type_written w) v) (λ c. gives (typed.Declare g.next_local (type_written w) c))
+  rule_item g (Region r h k) = Refused not_built
+  rule_item g (Alias r t x y) = Refused not_built
+  rule_item g (DynamicRegion r k) = Refused not_built
 
 -- ---- heads of declarations
 
@@ -193,9 +244,9 @@ types_of [] = []
 types_of (m ∷ ms) = type_written m.of_type ∷ types_of ms
 
 -- the names of parameters differ from each other and from those before
-abbrev pub AreNewNames : List ℕ → List Member → Type 0
-AreNewNames known [] = Unit {0}
-AreNewNames known (m ∷ ms) = (list_any (nat_eq m.name.name) known ≡ false) × AreNewNames (m.name.name ∷ known) ms
+abbrev pub distinct_demanded : List ℕ → List Member → List Demand
+distinct_demanded known [] = []
+distinct_demanded known (m ∷ ms) = demand codes.DeclaredTwice m.name.place (not (list_any (nat_eq m.name.name) known)) ∷ distinct_demanded (m.name.name ∷ known) ms
 
 -- `main` is `int main()` or `int main(void)`
 abbrev pub is_main_head : Option WrittenType → Parameters → Bool
@@ -205,13 +256,19 @@ is_main_head r ps = not (is_left_out r) && is_empty (members_of ps.list)
 abbrev pub is_taken : (regions known : List ℕ) → ℕ → Bool
 is_taken regions known x = list_any (nat_eq x) known || list_any (nat_eq x) regions
 
--- a declaration's head, where these names are declared before it, these regions before the program, and `main` has this number
--- among the names
-abbrev pub IsHead : (main : ℕ) (regions known : List ℕ) → Declaration → Type 0
-IsHead main regions known (StructType s rs fs) = ⊥
-IsHead main regions known (Exceptions cs) = ⊥
-IsHead main regions known (Global w x v) = (list_any (nat_eq x.name) known ≡ false) × (nat_eq x.name main ≡ false)
-IsHead main regions known (Function r x ps b) = (is_taken regions known x.name ≡ false) × (nat_eq x.name main && not (is_main_head r ps) ≡ false) × AreNewNames [] (members_of ps.list)
+-- a name at this place is new, and is not that of `main` where `main` may not stand
+abbrev pub head_demanded : Place → (is_new is_no_main : Bool) → List Demand
+head_demanded p is_new is_no_main = demand codes.DeclaredTwice p is_new ∷ demand codes.BadMain p is_no_main ∷ []
+
+-- A declaration's head, where these names are declared before it, these regions before the program, and `main` has this number
+-- among the names. The parameters come behind the name.
+abbrev pub rule_head : (main : ℕ) (regions known : List ℕ) → Declaration → Rule (Unit {0})
+rule_head main regions known (StructType s rs fs) = Refused not_built
+rule_head main regions known (Exceptions cs) = Refused not_built
+rule_head main regions known (Global w x v) = demands (head_demanded x.place (not (list_any (nat_eq x.name) known)) (not (nat_eq x.name main)))
+rule_head main regions known (Function r x ps b) =
+    Part (demands (head_demanded x.place (not (is_taken regions known x.name)) (not (nat_eq x.name main) || is_main_head r ps)))
+    (λ u. demands (distinct_demanded [] (members_of ps.list)))
 
 -- the names of functions and globals that a declaration adds
 abbrev pub with_names : Declaration → List ℕ → List ℕ
@@ -220,9 +277,9 @@ with_names (Exceptions cs) known = known
 with_names (Global w x v) known = x.name ∷ known
 with_names (Function r x ps b) known = x.name ∷ known
 
-abbrev pub AreHeads : (main : ℕ) (regions known : List ℕ) → List Declaration → Type 0
-AreHeads main regions known [] = Unit {0}
-AreHeads main regions known (d ∷ ds) = IsHead main regions known d × AreHeads main regions (with_names d known) ds
+abbrev pub rule_heads : (main : ℕ) (regions known : List ℕ) → List Declaration → Rule (Unit {0})
+rule_heads main regions known [] = gives tt
+rule_heads main regions known (d ∷ ds) = Part (rule_head main regions known d) (λ u. rule_heads main regions (with_names d known) ds)
 
 -- a function or a global of this name is declared
 abbrev pub declares : ℕ → List Declaration → Bool
@@ -245,20 +302,20 @@ declared_from n m (Function r x ps b ∷ ds) =
 
 -- the texts of the functions that are declared beforehand, and of `main`
 abbrev pub putchar_text : List ℕ
-putchar_text = codes "putchar"
+putchar_text = bytes "putchar"
 
 abbrev pub getchar_text : List ℕ
-getchar_text = codes "getchar"
+getchar_text = bytes "getchar"
 
 abbrev pub main_text : List ℕ
-main_text = codes "main"
+main_text = bytes "main"
 
 -- and of the regions: that of the heap, and that of unique pointers
 abbrev pub heap_text : List ℕ
-heap_text = codes "H"
+heap_text = bytes "H"
 
 abbrev pub unique_text : List ℕ
-unique_text = codes "U"
+unique_text = bytes "U"
 
 -- `int putchar(int)` and `int getchar()`
 abbrev pub putchar_declared : List (List ℕ) → Declared
@@ -331,13 +388,14 @@ function_of r x ms is q js = record {
   end = q;
 }
 
-abbrev pub AreFunctions : List Declared → List Declaration → List typed.Function → Type 0
-AreFunctions ds [] fs = fs ≡ []
-AreFunctions ds (StructType s rs ms ∷ tree) fs = ⊥
-AreFunctions ds (Exceptions cs ∷ tree) fs = ⊥
-AreFunctions ds (Global w x v ∷ tree) fs = AreFunctions ds tree fs
-AreFunctions ds (Function r x ps (Braces p is q) ∷ tree) fs =
-    (js : typed.Items) × (gs : List typed.Function) × AreTypedItems (body_scope ds r (members_of ps.list)) is js × AreFunctions ds tree gs × (fs ≡ function_of r x (members_of ps.list) is q js ∷ gs)
+abbrev pub rule_functions : List Declared → List Declaration → Rule (List typed.Function)
+rule_functions ds [] = gives []
+rule_functions ds (StructType s rs ms ∷ tree) = Refused not_built
+rule_functions ds (Exceptions cs ∷ tree) = Refused not_built
+rule_functions ds (Global w x v ∷ tree) = rule_functions ds tree
+rule_functions ds (Function r x ps (Braces p is q) ∷ tree) =
+    Part (Part (rule_items (body_scope ds r (members_of ps.list)) is) (λ js. gives (function_of r x (members_of ps.list) is q js)))
+    (λ h. Part (rule_functions ds tree) (λ hs. gives (h ∷ hs)))
 
 -- ---- programs
 
@@ -364,13 +422,31 @@ function_number main (Exceptions cs ∷ tree) = function_number main tree
 function_number main (Global w x v ∷ tree) = function_number main tree
 function_number main (Function r x ps b ∷ tree) = if nat_eq x.name main then 0 else suc (function_number main tree)
 
+abbrev pub program_of : ℕ → List Declaration → List typed.Function → typed.Program
+program_of main tree fs = record { structs = []; exceptions = []; globals = globals_of tree; functions = fs; main = function_number main tree }
+
+-- where no place of the text is at fault
+abbrev pub start : Place
+start = record { line = 1; column = 1 }
+
+-- a program whose names have the numbers of their texts in the list
+abbrev pub rule_program : List (List ℕ) → List Declaration → Rule typed.Program
+rule_program texts tree =
+    Part (demands (demand codes.NotBuiltYet start (is_int_program tree) ∷ []))
+    (λ u. Part (rule_heads (number_of texts main_text) (regions_before texts) (known_before texts) tree)
+    (λ v. Part (demands (demand codes.BadMain start (declares (number_of texts main_text) tree) ∷ []))
+    (λ w. Part (rule_functions (declared texts tree) tree) (λ fs. gives (program_of (number_of texts main_text) tree fs)))))
+
+-- ---- what the rules say
+
 -- The program is well typed, and this is its typed tree; its names have the numbers of their texts in the list.
-pub record IsTypedProgram (texts : List (List ℕ)) (tree : List Declaration) (p : typed.Program) : Type 0 where
-  pub int_part : is_int_program tree ≡ true
-  pub structs : p.structs ≡ []
-  pub exceptions : p.exceptions ≡ []
-  pub heads : AreHeads (number_of texts main_text) (regions_before texts) (known_before texts) tree
-  pub has_main : declares (number_of texts main_text) tree ≡ true
-  pub functions : AreFunctions (declared texts tree) tree p.functions
-  pub globals : p.globals ≡ globals_of tree
-  pub main : p.main ≡ function_number (number_of texts main_text) tree
+abbrev pub IsTypedProgram : List (List ℕ) → List Declaration → typed.Program → Type 0
+IsTypedProgram texts tree p = Derives (rule_program texts tree) p
+
+-- The program is refused with this fault.
+abbrev pub IsRefusedProgram : List (List ℕ) → List Declaration → Fault → Type 0
+IsRefusedProgram texts tree f = Refuses (rule_program texts tree) f
+
+-- the typed tree of a program, or its fault
+abbrev pub check_of : List (List ℕ) → List Declaration → Checked typed.Program
+check_of texts tree = run (rule_program texts tree)

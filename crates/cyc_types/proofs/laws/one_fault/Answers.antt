@@ -1,5 +1,6 @@
-use Rattle.cyc_types.proofs.Answered.{one_fault}
+use Rattle.cyc_types.specs.TypingRules.{rule_program}
+use Rattle.cyc_types.proofs.RuleLaws.{is_decided}
 use Rattle.cyc_types.proofs.laws.one_fault.Goals as goal
 
 pub returns : goal.returns
-returns c = one_fault
+returns c = λ texts tree f g. (is_decided (rule_program texts tree)).same f g

@@ -1,5 +1,6 @@
-use Rattle.cyc_types.proofs.Answered.{one_typed_tree}
+use Rattle.cyc_types.specs.TypingRules.{rule_program}
+use Rattle.cyc_types.proofs.RuleLaws.{is_decided}
 use Rattle.cyc_types.proofs.laws.one_typed_tree.Goals as goal
 
 pub returns : goal.returns
-returns c = one_typed_tree
+returns c = λ texts tree p q. (is_decided (rule_program texts tree)).one p q

@@ -10,10 +10,11 @@ use Rattle.cyc_syntax.specs.Trees as trees
 use Rattle.cyc_syntax.proofs.TreeViewLemmas.{view_statement_block}
 use Rattle.cyc_types.specs.TypedTrees as nodes
 use Rattle.cyc_types.specs.TypedTreeView as typed_view
-use Rattle.cyc_types.specs.Checking.{and_then, check_statement, check_items}
+use Rattle.cyc_types.specs.Rules.{and_then, run}
+use Rattle.cyc_types.specs.TypingRules.{rule_statement, rule_items, rule_item}
 use Rattle.cyc_check.specs.declared.checker.Checker.{Checker}
-use Rattle.cyc_check.specs.Code.{Gives, Stops}
-use Rattle.cyc_check.specs.Checkers.{scope_of, one_item, behind_statement, behind_block, in_block}
+use Rattle.cyc_check.specs.Code.{Gives, Stops, view_boxed_statement}
+use Rattle.cyc_check.specs.Checkers.{scope_of, behind_statement, behind_block, in_block}
 use Rattle.cyc_check.proofs.Loops.{drop_all}
 use Rattle.cyc_check.proofs.Walks.{Walked, walk_goes_on, walk_fails, walk_gives}
 use Rattle.cyc_check.proofs.Nested.{stops_within, otherwise_stops}
@@ -24,12 +25,12 @@ check_block-returns-in_err-items-clause-gives t c =
     let next : c.in-Some.next ≡ suc c.args.self.now.next_region = omega (arith, c.in-Some.ensures.1) in
     let p = err_from_is_err_and c.from_residual.result c.from_residual.ensures.1 in
     rw (p.1, p.2)
-    (stops_within c.in_err-items.field-0.0 (check_items (scope_of (in_block c.args.self.now)) (items_of c.args.items.now)) (λ js. Ok (nodes.Block c.args.self.now.next_region js))
-    (subst (λ (k : ℕ). Stops c.in_err-items.field-0.0 (check_items (scope_of (record (in_block c.args.self.now) { next_region = k })) (items_of c.args.items.now))) next c.in_err-items.ensures.gives))
+    (stops_within c.in_err-items.field-0.0 (run (rule_items (scope_of (in_block c.args.self.now)) (items_of c.args.items.now))) (λ js. Ok (nodes.Block c.args.self.now.next_region js))
+    (subst (λ (k : ℕ). Stops c.in_err-items.field-0.0 (run (rule_items (scope_of (record (in_block c.args.self.now) { next_region = k })) (items_of c.args.items.now)))) next c.in_err-items.ensures.gives))
 
 pub check_item-returns-in-Local-clause-gives : goal.check_item-returns-in-Local-clause-gives
 check_item-returns-in-Local-clause-gives t c =
-    subst (λ i. Gives typed_view.view_item c.declare_local.result (one_item i (scope_of c.args.self.now))) (sym (ap view_item c.in-Local.is)) c.declare_local.ensures.gives
+    subst (λ i. Gives typed_view.view_item c.declare_local.result (run (rule_item (scope_of c.args.self.now) i))) (sym (ap view_item c.in-Local.is)) c.declare_local.ensures.gives
 
 pub check_items-returns-in_err-item-clause-gives : goal.check_items-returns-in_err-item-clause-gives
 check_items-returns-in_err-item-clause-gives t c =
@@ -68,16 +69,16 @@ check_statement-returns-in_err-otherwise-in-If-default-default-default-Some-clau
     let e = c.in_err-otherwise-in-If-default-default-default-Some.field-0.0 in
     let p = err_from_is_err_and (c.from_residual-in_err-otherwise-in-If-default-default-default-Some).result (c.from_residual-in_err-otherwise-in-If-default-default-default-Some).ensures.1 in
     rw (p.1, p.2)
-    (subst (λ s. Stops e (check_statement (scope_of c.args.self.now) s)) (sym is)
+    (subst (λ s. Stops e (run (rule_statement (scope_of c.args.self.now) s))) (sym is)
     (otherwise_stops e (scope_of c.args.self.now) (place_of_span c.in-If-default-default-default-Some.span) (view_expression c.in-If-default-default-default-Some.condition) (view_statement c.deref-in-If-default-default-default-Some.result.now) (view_statement c.deref-in-If-default-default-default-Some-2.result.now) _ _
     c.in_ok-condition-in-If-default-default-default-Some.ensures c.in_ok-then-in-If-default-default-default-Some.ensures.gives
-    (subst (λ (k : Checker). Stops e (check_statement (scope_of k) (view_statement c.deref-in-If-default-default-default-Some-2.result.now))) c.in_ok-then-in-If-default-default-default-Some.ensures.behind c.in_err-otherwise-in-If-default-default-default-Some.ensures.gives)))
+    (subst (λ (k : Checker). Stops e (run (rule_statement (scope_of k) (view_statement c.deref-in-If-default-default-default-Some-2.result.now)))) c.in_ok-then-in-If-default-default-default-Some.ensures.behind c.in_err-otherwise-in-If-default-default-default-Some.ensures.gives)))
 
 pub check_statement-returns-in-Block-clause-gives : goal.check_statement-returns-in-Block-clause-gives
 check_statement-returns-in-Block-clause-gives t c =
-    subst (λ s. Gives typed_view.view_statement c.check_block.result (check_statement (scope_of c.args.self.now) s))
+    subst (λ s. Gives view_boxed_statement c.check_block.result (run (rule_statement (scope_of c.args.self.now) s)))
     (sym (ap view_statement c.in-Block.is ∙ view_statement_block c.in-Block.block))
-    (subst (λ is. Gives typed_view.view_statement c.check_block.result (and_then (check_items (scope_of (in_block c.args.self.now)) (items_of is)) (λ js. Ok (nodes.Block c.args.self.now.next_region js)))) c.deref.ensures.value c.check_block.ensures.gives)
+    (subst (λ is. Gives view_boxed_statement c.check_block.result (and_then (run (rule_items (scope_of (in_block c.args.self.now)) (items_of is))) (λ js. Ok (nodes.Block c.args.self.now.next_region js)))) c.deref.ensures.value c.check_block.ensures.gives)
 
 pub check_statement-returns-in-Block-clause-behind : goal.check_statement-returns-in-Block-clause-behind
 check_statement-returns-in-Block-clause-behind t c =

@@ -1,6 +1,6 @@
 use Rattle.std.proofs.Common.{map, option_map, length, ◌-◌, Ok, sym, ap, ◌∙◌}
 use Rattle.cyc_syntax.specs.TreeView.{view_member, view_type, view_name, place_of_span, items_of}
-use Rattle.cyc_types.specs.Checking.{and_then}
+use Rattle.cyc_types.specs.Rules.{and_then}
 use Rattle.cyc_types.specs.TypedTreeView as typed_view
 use Rattle.cyc_types.specs.TypeView.{view_ty}
 use Rattle.cyc_types.specs.TypingRules.{body_scope, function_of}

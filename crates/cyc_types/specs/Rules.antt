@@ -1,0 +1,111 @@
+-- A RULE AS A VALUE. A rule says three things at once: what is derived by it, which fault it refuses with, and what a checker
+-- computes. They are three readings of the one value, and agree for every rule (`proofs/RuleLaws`).
+-- A construct has demands of its own, and parts. Its parts are walked first, in order; then, of all its demands that are broken,
+-- the one of the lowest code is the fault, and at one code the first. (The order is this project's own choice.)
+use Rattle.std.specs.Prelude.{◌≡◌, ◌⊎◌, ℕ, ◌<◌, ◌≤◌, Bool, true, false, nat_lt, if◌then◌else◌, List, [], ◌∷◌, ◌++◌, Option, Some, None, Result, Ok, Err}
+use Rattle.cyc_words.specs.declared.fault.Code.{Code}
+use Rattle.cyc_words.specs.declared.fault.Code.TheVariants as codes
+use Rattle.cyc_words.specs.declared.fault.Fault.{Fault}
+use Rattle.cyc_words.specs.Fault.{number_of}
+use Rattle.cyc_syntax.specs.Symbols.{Place}
+
+abbrev pub Checked : Type 0 → Type 0
+Checked A = Result A Fault
+
+abbrev pub and_then : {A B : Type 0} → Checked A → (A → Checked B) → Checked B
+and_then (Ok a) next = next a
+and_then (Err f) next = Err f
+
+abbrev pub fault_at : Code → Place → Fault
+fault_at c p = record { code = c; line = p.line; column = p.column }
+
+-- a tree that goes beyond the int language, whatever else it breaks
+abbrev pub not_built : Fault
+not_built = record { code = codes.NotBuiltYet; line = 1; column = 1 }
+
+-- ---- demands
+
+-- what a construct asks, and whether it is so
+pub record Demand : Type 0 where
+  pub code : Code
+  pub place : Place
+  pub kept : Bool
+
+abbrev pub demand : Code → Place → Bool → Demand
+demand c p k = record { code = c; place = p; kept = k }
+
+abbrev pub fault_of : Demand → Fault
+fault_of d = fault_at d.code d.place
+
+abbrev pub AllKept : List Demand → Type 0
+AllKept [] = Unit {0}
+AllKept (d ∷ ds) = (d.kept ≡ true) × AllKept ds
+
+-- each is kept or has a higher code than this
+abbrev pub AreAbove : ℕ → List Demand → Type 0
+AreAbove n [] = Unit {0}
+AreAbove n (d ∷ ds) = ((d.kept ≡ true) ⊎ (n < number_of d.code)) × AreAbove n ds
+
+-- each is kept or has no lower code than this
+abbrev pub AreNotBelow : ℕ → List Demand → Type 0
+AreNotBelow n [] = Unit {0}
+AreNotBelow n (d ∷ ds) = ((d.kept ≡ true) ⊎ (n ≤ number_of d.code)) × AreNotBelow n ds
+
+-- of the broken demands the one of the lowest code, and at one code the first, is this fault
+abbrev pub IsFaultOf : List Demand → Fault → Type 0
+IsFaultOf ds f =
+    (before : List Demand) × (d : Demand) × (after : List Demand) × (ds ≡ before ++ (d ∷ after)) × (d.kept ≡ false)
+    × AreAbove (number_of d.code) before × AreNotBelow (number_of d.code) after × (f ≡ fault_of d)
+
+-- the first of two faults, unless the second has a lower code
+abbrev pub lesser : Option Fault → Fault → Option Fault
+lesser None f = Some f
+lesser (Some e) f = if nat_lt (number_of f.code) (number_of e.code) then Some f else Some e
+
+-- the fault behind a demand, where this one is known before it
+abbrev pub noted : Option Fault → Demand → Option Fault
+noted known d = if d.kept then known else lesser known (fault_of d)
+
+abbrev pub settled : Option Fault → List Demand → Option Fault
+settled known [] = known
+settled known (d ∷ ds) = settled (noted known d) ds
+
+-- ---- rules
+
+pub data Rule : Type 0 → Type 1 where
+  -- nothing is derived, and the fault is this
+  Refused : {A : Type 0} → Fault → Rule A
+  -- where all demands are kept, this is derived
+  Own : {A : Type 0} → List Demand → A → Rule A
+  -- a part, and then what its tree leads to
+  Part : {A B : Type 0} → Rule B → (B → Rule A) → Rule A
+
+-- this is derived, and nothing is demanded
+abbrev pub gives : {A : Type 0} → A → Rule A
+gives a = Own [] a
+
+-- demands of which nothing is made
+abbrev pub demands : List Demand → Rule (Unit {0})
+demands ds = Own ds tt
+
+-- by the rule this is derived
+abbrev pub Derives : {A : Type 0} → Rule A → A → Type 0
+Derives (Refused f) a = ⊥
+Derives (Own ds b) a = AllKept ds × (a ≡ b)
+Derives (Part {B = B} r next) a = (b : B) × Derives r b × Derives (next b) a
+
+-- the rule refuses with this fault
+abbrev pub Refuses : {A : Type 0} → Rule A → Fault → Type 0
+Refuses (Refused g) f = f ≡ g
+Refuses (Own ds b) f = IsFaultOf ds f
+Refuses (Part {B = B} r next) f = Refuses r f ⊎ ((b : B) × Derives r b × Refuses (next b) f)
+
+abbrev pub unless : {A : Type 0} → Option Fault → A → Checked A
+unless None a = Ok a
+unless (Some f) a = Err f
+
+-- what a checker computes
+abbrev pub run : {A : Type 0} → Rule A → Checked A
+run (Refused f) = Err f
+run (Own ds a) = unless (settled None ds) a
+run (Part r next) = and_then (run r) (λ b. run (next b))
