@@ -1,6 +1,6 @@
 -- What the code of operands, of plans and of tests leaves in registers.
 use Rattle.std.proofs.Common.{◌≡◌, ◌≢◌, ℕ, ◌-◌, ◌/◌, ◌%◌, ◌^◌, ◌<◌, ◌≤◌, Bool, true, false, List, [], ◌∷◌, ◌++◌, refl, sym, ap, subst, ◌∙◌, arith}
-use Rattle.std.specs.Prelude.{if◌then◌else◌, bit_or}
+use Rattle.std.specs.Prelude.{◌==◌, nat_lt, if◌then◌else◌, bit_or}
 use Rattle.std.proofs.lemmas.Bool.{eqb-true}
 use Rattle.cyc_words.specs.Word.{IsWord, add_of, sltu_of, sign_extended}
 use Rattle.cyc_words.proofs.WordLemmas.{sign_extended_high}
@@ -11,10 +11,6 @@ use Rattle.cyc_isa.specs.Effect.{memory_address, load_upper_result}
 use Rattle.cyc_machine.specs.declared.constants.TheConstants.{ARGUMENT}
 use Rattle.cyc_plain.specs.declared.instruction.Operand.{Operand}
 use Rattle.cyc_plain.specs.declared.instruction.Operand.TheVariants as operands
-use Rattle.cyc_plain.specs.declared.instruction.UnaryOperator.{UnaryOperator}
-use Rattle.cyc_plain.specs.declared.instruction.UnaryOperator.TheVariants as unary
-use Rattle.cyc_plain.specs.declared.instruction.Comparison.{Comparison}
-use Rattle.cyc_plain.specs.declared.instruction.Comparison.TheVariants as comparisons
 use Rattle.cyc_plain.specs.State.{Words, put}
 use Rattle.cyc_plain.specs.Step.{operand_word}
 use Rattle.cyc_plain.proofs.SlotLaws.{put-same, put-other}
@@ -25,10 +21,11 @@ use Rattle.cyc_select.specs.declared.plan.Operation.TheVariants as operations
 use Rattle.cyc_select.specs.declared.plan.Outcome.{Outcome}
 use Rattle.cyc_select.specs.declared.plan.Outcome.TheVariants as outcomes
 use Rattle.cyc_select.specs.declared.plan.Plan.{Plan}
-use Rattle.cyc_select.specs.Plans.{comparison_plan, unary_plan}
-use Rattle.cyc_select.specs.Selection.{slot_offset, word_code, load_code, is_zero_word, operand_code, operand_register, operands_code, operation_code, outcome_code, operation_of, computed_code, divided_code, add_immediate, minus}
+use Rattle.cyc_select.specs.Numbers.{fits_signed, is_zero_word}
+use Rattle.cyc_select.specs.Selection.{slot_offset, small, or_immediate, load_upper, constant, word_code, load_code, operand_code, operand_register, operands_code, operation_code, outcome_code, operation_of, computed_code, divided_code, add_immediate, minus}
 use Rattle.cyc_select.proofs.Blocks.{Puts, Keeps, IsScratch, puts_keeps, keeps_append, after_both}
 use Rattle.cyc_select.proofs.Cells.{IsCell}
+use Rattle.cyc_select.proofs.Halves.{fits_is, zero_is}
 use Rattle.cyc_select.proofs.Operations.{two_halves, zero_test, not_zero_test}
 use Rattle.cyc_select.proofs.Plans.{operation_result, outcome_result, operation_word, plan_word}
 use Rattle.cyc_select.proofs.Views.{IsWritable}
@@ -37,10 +34,35 @@ use Rattle.cyc_select.proofs.Walks.{after_r, after_w}
 module _ (globals stack : ℕ) where
   -- ---- words
 
-  pub word_puts : (q m : Words) (target word : ℕ) → IsWritable (target % 32) → IsWord word → Puts globals stack (word_code target word) q m (target % 32) (target % 32) word
-  word_puts q m target word writable fits =
-      let upper : ℕ = load_upper_result (word / 2 ^ 16) in
-      record {
+  pub word_puts : (q m : Words) (target word : ℕ) → q ZERO ≡ 0 → IsWritable (target % 32) → IsWord word → Puts globals stack (word_code target word) q m (target % 32) (target % 32) word
+  word_puts q m target word zero writable fits = go (fits_signed word) (nat_lt word (2 ^ 16)) (word % 2 ^ 16 == 0) refl refl
+    where
+      upper : ℕ
+      upper = load_upper_result (word / 2 ^ 16)
+
+      go : (a b c : Bool) → fits_signed word ≡ a → (word % 2 ^ 16 == 0) ≡ c
+          → Puts globals stack (if a then small target (word % 2 ^ 16) ∷ [] else (if b then or_immediate target word ∷ [] else (if c then load_upper target word ∷ [] else constant target word))) q m (target % 32) (target % 32) word
+      go true b c extended whole = record {
+        safe = (writable, tt);
+        memory = refl;
+        result =
+            put-same q (target % 32) (add_of (q ZERO) (sign_extended (word % 2 ^ 16)))
+            ∙ (ap (λ (x : ℕ). add_of x (sign_extended (word % 2 ^ 16))) zero ∙ (ap (add_of 0) (fits_is word fits extended) ∙ (let e : add_of 0 word ≡ word = omega arith in e)));
+        others = λ n below other. put-other q (target % 32) n (add_of (q ZERO) (sign_extended (word % 2 ^ 16))) other;
+      }
+      go false true c extended whole = record {
+        safe = (writable, tt);
+        memory = refl;
+        result = put-same q (target % 32) (bit_or (q ZERO) word) ∙ (ap (λ (x : ℕ). bit_or x word) zero ∙ refl);
+        others = λ n below other. put-other q (target % 32) n (bit_or (q ZERO) word) other;
+      }
+      go false false true extended whole = record {
+        safe = (writable, tt);
+        memory = refl;
+        result = put-same q (target % 32) (load_upper_result (word / 2 ^ 16)) ∙ (let e : load_upper_result (word / 2 ^ 16) ≡ word = omega (arith, eqb-true (word % 2 ^ 16) 0 whole) in e);
+        others = λ n below other. put-other q (target % 32) n (load_upper_result (word / 2 ^ 16)) other;
+      }
+      go false false false extended whole = record {
         safe = (writable, (writable, tt));
         memory = refl;
         result =
@@ -72,16 +94,12 @@ module _ (globals stack : ℕ) where
           ∙ (ap (λ (b : ℕ). w (memory_address b (slot_offset frame number))) same ∙ held.1));
       others = λ n below other. put-other q (target % 32) n (m (memory_address (q FRAME) (slot_offset frame number))) other;
     }
-    load_puts target writable (operands.Word word) held = word_puts q m target word writable held
-
-    is_zero : (o : Operand) → is_zero_word o ≡ true → operand_word slots o ≡ 0
-    is_zero (operands.Slot number) is = absurd (let e : false ≡ true = is in cc)
-    is_zero (operands.Word word) is = eqb-true word 0 is
+    load_puts target writable (operands.Word word) held = word_puts q m target word zero writable held
 
     operand_either : (target : ℕ) → IsWritable (target % 32) → (o : Operand) → IsHeld frame base w slots o → (b : Bool) → is_zero_word o ≡ b
         → Puts globals stack (if b then [] else load_code frame target o) q m (target % 32) ((if b then ZERO else target) % 32) (operand_word slots o)
     operand_either target writable o held true is =
-        record { safe = tt; memory = refl; result = zero ∙ sym (is_zero o is); others = λ n below other. refl }
+        record { safe = tt; memory = refl; result = zero ∙ sym (zero_is slots o is); others = λ n below other. refl }
     operand_either target writable o held false is = load_puts target writable o held
 
     pub operand_puts : (target : ℕ) → IsWritable (target % 32) → (o : Operand) → IsHeld frame base w slots o
@@ -134,21 +152,6 @@ module _ (globals stack : ℕ) where
   IsComputable (operations.MultiplyDivide Divide from) a b = (b ≢ 0) × (a ≡ 2 ^ 31 → b ≡ 2 ^ 32 - 1 → ⊥)
   IsComputable operation a b = Unit {0}
 
-  pub comparison_computable : (comparison : Comparison) (left right : Operand) (a b : ℕ) → IsComputable (comparison_plan comparison left right).operation a b
-  comparison_computable comparisons.Equal left right a b = tt
-  comparison_computable comparisons.NotEqual left right a b = tt
-  comparison_computable comparisons.Less left right a b = tt
-  comparison_computable comparisons.LessOrEqual left right a b = tt
-  comparison_computable comparisons.Greater left right a b = tt
-  comparison_computable comparisons.GreaterOrEqual left right a b = tt
-  comparison_computable comparisons.LessUnsigned left right a b = tt
-  comparison_computable comparisons.GreaterOrEqualUnsigned left right a b = tt
-
-  pub unary_computable : (operator : UnaryOperator) (operand : Operand) (a b : ℕ) → IsComputable (unary_plan operator operand).operation a b
-  unary_computable unary.Negate operand a b = tt
-  unary_computable unary.Complement operand a b = tt
-  unary_computable unary.Not operand a b = comparison_computable comparisons.Equal operand (operands.Word 0) a b
-
   not_high : (n k : ℕ) → n < 32 → 32 ≤ k → n ≢ k
   not_high n k below above same = omega (arith, below, above, same)
 
@@ -161,7 +164,11 @@ module _ (globals stack : ℕ) where
       → Puts globals stack (operation_code o left right) q m FIRST FIRST (operation_result o (q (left % 32)) (q (right % 32)))
   operation_puts (operations.Arithmetic op) q m left right fine =
       record { safe = (refl, tt); memory = refl; result = refl; others = λ n below other. put-other q FIRST n _ other }
+  operation_puts (operations.Immediate op half) q m left right fine =
+      record { safe = (refl, tt); memory = refl; result = refl; others = λ n below other. put-other q FIRST n _ other }
   operation_puts (operations.Shift op) q m left right fine =
+      record { safe = (refl, tt); memory = refl; result = refl; others = λ n below other. put-other q FIRST n _ other }
+  operation_puts (operations.ShiftBy op amount) q m left right fine =
       record { safe = (refl, tt); memory = refl; result = refl; others = λ n below other. put-other q FIRST n _ other }
   operation_puts (operations.MultiplyDivide Multiply High) q m left right fine = record {
     safe = (tt, (refl, tt));

@@ -15,7 +15,7 @@ use Rattle.cyc_select.specs.declared.constants.TheConstants.{LINES_FOR_EACH, STA
 use Rattle.cyc_select.specs.Selection.{ending_count, count_of, function_count, functions_count, function_line, instruction_line, code_lines, function_lines}
 use Rattle.cyc_select.specs.Plans.{unary_plan, test_of}
 use Rattle.cyc_select.specs.Emission.{AreReached, AreFew, most_lines, instruction_lines, function_starts, AreReady, AreTables}
-use Rattle.cyc_select.proofs.Counts.{load_small, operand_small, plan_small, test_small, operator_small}
+use Rattle.cyc_select.proofs.Counts.{word_small, load_small, operand_small, plan_small, test_small, operator_small}
 
 -- ---- an instruction has few lines for each unit of its size
 
@@ -38,7 +38,7 @@ count_small program function few (plain.ReadByte destination) = omega arith
 count_small program function few (plain.WriteByte source) = omega (arith, load_small source)
 count_small program function few (plain.LoadGlobal destination global) = omega arith
 count_small program function few (plain.StoreGlobal global source) = omega (arith, operand_small source)
-count_small program function few (plain.Uncaught tag value) = omega (arith, load_small value)
+count_small program function few (plain.Uncaught tag value) = omega (arith, word_small tag, load_small value)
 
 code_small : (program : Program) (function : ℕ) → AreFew program → (code : List Instruction) → sum_by (count_of program function) code ≤ LINES_FOR_EACH * sum_by instruction_size code
 code_small program function few [] = omega arith

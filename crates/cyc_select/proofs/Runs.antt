@@ -1,5 +1,5 @@
 -- Each step of the plain machine is matched by steps of the labelled machine through the place's own lines.
-use Rattle.std.proofs.Common.{◌≡◌, ◌≢◌, ℕ, zero, suc, ◌+◌, ◌-◌, ◌*◌, ◌^◌, ◌<◌, ◌≤◌, Bool, true, false, List, ◌++◌, length, Option, Some, None, slice_get, refl, sym, ap, subst, ◌∙◌, arith, inl, inr}
+use Rattle.std.proofs.Common.{◌≡◌, ◌≢◌, ℕ, zero, suc, ◌+◌, ◌-◌, ◌*◌, ◌^◌, ◌<◌, ◌≤◌, Bool, true, false, not, List, ◌++◌, length, Option, Some, None, slice_get, refl, sym, ap, subst, ◌∙◌, arith, inl, inr}
 use Rattle.std.specs.Prelude.{if◌then◌else◌}
 use Rattle.std.specs.List.{range_with_len}
 use Rattle.std.proofs.lemmas.Bool.{cases_lt, eq-eqb, ne_eqb}
@@ -33,8 +33,11 @@ use Rattle.cyc_frame.specs.declared.frame.Frame.{Frame}
 use Rattle.cyc_select.specs.Labelled.{Labelled, IsFormed, AreAddresses}
 use Rattle.cyc_select.specs.Machine as labelled
 use Rattle.cyc_select.specs.Machine.{State, Running, Ended, machine}
-use Rattle.cyc_select.specs.Selection.{body, behind, body_count, behind_count, load_count, divide_code, operator_count, instruction_line}
+use Rattle.cyc_select.specs.Selection.{body, behind, body_count, behind_count, load_count, ordinary, divide_code, plan_code, plan_count, is_tested, part_of, count_of, operator_count, instruction_line}
 use Rattle.cyc_select.proofs.Lines.{line_next}
+use Rattle.cyc_select.specs.Numbers.{is_plain_divisor}
+use Rattle.cyc_select.specs.Plans.{binary_plan}
+use Rattle.cyc_select.proofs.Halves.{divisor_is}
 use Rattle.cyc_select.proofs.Operations.{negated_quotient, negated_remainder}
 use Rattle.cyc_select.proofs.Plans.{multiply_divide_result}
 use Rattle.cyc_select.proofs.Walks.{Stands, stands_front, stands_back, Rises, rising_distinct, rising_inside, comes_map, Quiet, Walk}
@@ -155,7 +158,7 @@ module _ (program : Program) (well : IsWellFormed program) (words : HasWords pro
     quotient_goes : (operator : BinaryOperator) (which : MoveFromOp) (destination : ℕ) (left right : Operand) → IsAt (plain.Binary operator destination left right) → destination < slots → IsThere left → IsThere right
         → ((b : ℕ) → b ≡ 0 → has_no_result operator b ≡ true) → ((b : ℕ) → b ≢ 0 → has_no_result operator b ≡ false)
         → ((a b : ℕ) → binary_result operator a b ≡ multiply_divide_result Divide which a b) → ((a : ℕ) → IsWord a → multiply_divide_result Divide which (sub_of 0 a) 1 ≡ multiply_divide_result Divide which a (2 ^ 32 - 1))
-        → operator_count operator left right ≡ load_count left + load_count right + 7
+        → count_of program c.active.function (plain.Binary operator destination left right) ≡ load_count left + load_count right + 7
         → Stands code here (divide_code (frame_at frames c.active.function) here which destination left right) → Goes (load_count left + load_count right + 7)
     quotient_goes operator which destination left right at below l t none some result negated counted stands =
         let nonzero = divides c never operator destination left right at none in
@@ -164,14 +167,39 @@ module _ (program : Program) (well : IsWellFormed program) (words : HasWords pro
         ∙ ap (λ (x : ℕ). gives c destination x) (result (operand_word c.active.slots left) (operand_word c.active.slots right)))
         nonzero counted negated stands
 
+    tested_goes : (operator : BinaryOperator) (destination : ℕ) (left right : Operand) → IsAt (plain.Binary operator destination left right) → destination < slots → IsThere left → IsThere right → is_tested operator right ≡ true
+        → count_of program c.active.function (plain.Binary operator destination left right) ≡ load_count left + load_count right + 7
+        → Stands code here (divide_code (frame_at frames c.active.function) here (part_of operator) destination left right) → Goes (load_count left + load_count right + 7)
+    tested_goes binary.Divide d l t at a b e tested counted stands =
+        quotient_goes binary.Divide Low d l t at a b e (λ n is_zero. eq-eqb n 0 is_zero) (λ n other. ne_eqb n 0 other) (λ x y. refl) negated_quotient counted stands
+    tested_goes binary.Remainder d l t at a b e tested counted stands =
+        quotient_goes binary.Remainder High d l t at a b e (λ n is_zero. eq-eqb n 0 is_zero) (λ n other. ne_eqb n 0 other) (λ x y. refl) negated_remainder counted stands
+    tested_goes operator d l t at a b e tested counted stands = absurd (let e : false ≡ true = tested in cc)
+
+    not_true : (b : Bool) → not b ≡ false → b ≡ true
+    not_true true is = refl
+    not_true false is = absurd (let e : true ≡ false = is in cc)
+
+    -- by a plain divisor there is a result
+    has_result : (operator : BinaryOperator) (right : Operand) → is_tested operator right ≡ false → has_no_result operator (operand_word c.active.slots right) ≡ false
+    has_result binary.Divide right fine = ne_eqb (operand_word c.active.slots right) 0 (divisor_is c.active.slots right (not_true (is_plain_divisor right) fine)).0
+    has_result binary.Remainder right fine = ne_eqb (operand_word c.active.slots right) 0 (divisor_is c.active.slots right (not_true (is_plain_divisor right) fine)).0
+    has_result operator right fine = refl
+
     operator_goes : (operator : BinaryOperator) (destination : ℕ) (left right : Operand) → IsAt (plain.Binary operator destination left right) → destination < slots → IsThere left → IsThere right
         → StandsHere (plain.Binary operator destination left right) → Goes (operator_count operator left right)
-    operator_goes binary.Divide d l t at a b e stands =
-        quotient_goes binary.Divide Low d l t at a b e (λ n is_zero. eq-eqb n 0 is_zero) (λ n other. ne_eqb n 0 other) (λ x y. refl) negated_quotient refl stands
-    operator_goes binary.Remainder d l t at a b e stands =
-        quotient_goes binary.Remainder High d l t at a b e (λ n is_zero. eq-eqb n 0 is_zero) (λ n other. ne_eqb n 0 other) (λ x y. refl) negated_remainder refl stands
-    operator_goes operator d l t at a b e stands =
-        binary_goes program well frames fit code formed addresses pages calls few c run r w base now s operator d l t at a b e tt refl (omega arith) stands
+    operator_goes operator d l t at a b e stands = go (is_tested operator t) refl stands (omega arith)
+      where
+        go : (tested : Bool) → is_tested operator t ≡ tested
+            → Stands code here (if tested then divide_code (frame_at frames c.active.function) here (part_of operator) d l t else ordinary (plan_code (frame_at frames c.active.function) (binary_plan operator l t) d))
+            → count_of program c.active.function (plain.Binary operator d l t) ≡ (if is_tested operator t then load_count l + load_count t + 7 else plan_count (binary_plan operator l t))
+            → Goes (if tested then load_count l + load_count t + 7 else plan_count (binary_plan operator l t))
+        go true tested stands counted =
+            tested_goes operator d l t at a b e tested (counted ∙ ap (λ (x : Bool). if x then load_count l + load_count t + 7 else plan_count (binary_plan operator l t)) tested) stands
+        go false tested stands counted =
+            binary_goes program well frames fit code formed addresses pages calls few c run r w base now s operator d l t at a b e tested
+            (ap (λ (x : Bool). if x then states.Stuck c.output c.input else gives c d (binary_result operator (operand_word c.active.slots l) (operand_word c.active.slots t))) (has_result operator t tested))
+            (counted ∙ ap (λ (x : Bool). if x then load_count l + load_count t + 7 else plan_count (binary_plan operator l t)) tested) stands
 
     instruction_goes : (i : Instruction) → IsAt i → IsInRange program (routine_at program c.active.function) i → HasWord i → StandsHere i → Goes (body_count program c.active.function i)
     instruction_goes (plain.Move destination source) at (a, b) fits stands = move_goes program well frames fit code formed addresses pages calls few c run r w base now s destination source at a (b, fits) stands

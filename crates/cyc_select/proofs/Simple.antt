@@ -22,7 +22,6 @@ use Rattle.cyc_plain.specs.declared.instruction.Instruction.TheVariants as plain
 use Rattle.cyc_plain.specs.declared.instruction.UnaryOperator.{UnaryOperator}
 use Rattle.cyc_plain.specs.declared.instruction.BinaryOperator.{BinaryOperator}
 use Rattle.cyc_plain.specs.declared.instruction.Comparison.{Comparison}
-use Rattle.cyc_plain.specs.declared.instruction.Comparison.TheVariants as comparisons
 use Rattle.cyc_plain.specs.declared.instruction.Operand.{Operand}
 use Rattle.cyc_plain.specs.declared.instruction.Operand.TheVariants as operands
 use Rattle.cyc_plain.specs.Operators.{unary_result, binary_result, compares}
@@ -42,20 +41,22 @@ use Rattle.cyc_select.specs.declared.constants.TheConstants.{FIRST, SECOND, THIR
 use Rattle.cyc_select.specs.declared.plan.Plan.{Plan}
 use Rattle.cyc_select.specs.declared.plan.Test.{Test}
 use Rattle.cyc_select.specs.declared.plan.Test.TheVariants as tests
-use Rattle.cyc_select.specs.Plans.{comparison_plan, unary_plan, binary_plan, test_of}
+use Rattle.cyc_select.specs.Plans.{unary_plan, binary_plan, test_of}
 use Rattle.cyc_select.specs.Labelled.{Labelled, IsFormed}
 use Rattle.cyc_select.specs.Machine as labelled
 use Rattle.cyc_select.specs.Machine.{State, Running, Ended}
-use Rattle.cyc_select.specs.Selection.{store_slot, slot_offset, small, arithmetic_of, ordinary, syscall, upper_of_global, at_global, word_code, load_code, is_zero_word, operand_code, operand_register, operands_code, operation_of, computed_code, plan_code, branch_on, branch_code, divided_code, divide_code, word_count, load_count, operand_count, plan_count, test_count, operator_count, body, body_count, count_of, instruction_line}
+use Rattle.cyc_select.specs.Numbers.{is_zero_word}
+use Rattle.cyc_select.specs.Selection.{store_slot, slot_offset, small, arithmetic_of, ordinary, syscall, upper_of_global, at_global, word_code, load_code, operand_code, operand_register, operands_code, operation_of, computed_code, plan_code, branch_on, branch_code, divided_code, divide_code, word_count, load_count, operand_count, plan_count, test_count, is_tested, body, body_count, count_of, instruction_line}
 use Rattle.cyc_select.proofs.Blocks.{Keeps, puts_keeps, after_both, safe_append}
 use Rattle.cyc_select.proofs.Calls.{length_ordinary}
 use Rattle.cyc_select.proofs.Cells.{IsCell}
-use Rattle.cyc_select.proofs.Computing.{IsHeld, IsComputable, word_puts, load_puts, operand_puts, operands_put, operation_leaves, plan_leaves, divided_put, first_scratch, argument_scratch, comparison_computable, unary_computable}
+use Rattle.cyc_select.proofs.Computing.{IsHeld, IsComputable, word_puts, load_puts, operand_puts, operands_put, operation_leaves, plan_leaves, divided_put, first_scratch, argument_scratch}
 use Rattle.cyc_select.proofs.Counts.{length_word, length_load, length_operand, length_computed, length_test, length_divided}
 use Rattle.cyc_select.proofs.Effects.{byte_of}
+use Rattle.cyc_select.proofs.Halves.{divisor_is}
 use Rattle.cyc_select.proofs.Lines.{line_next}
 use Rattle.cyc_select.proofs.Operations.{add_small, global_lies}
-use Rattle.cyc_select.proofs.Plans.{multiply_divide_result, OfTest, operation_word, plan_word, unary_word, binary_word, test_taken, test_goes, of_unary, of_binary, of_test}
+use Rattle.cyc_select.proofs.Plans.{multiply_divide_result, AllOfTest, operation_word, plan_word, unary_word, binary_word, test_taken, test_goes, all_unary, all_binary, all_test}
 use Rattle.cyc_select.proofs.Walks.{Stands, stands_front, stands_back, stands_first, stands_behind, after_r, after_w, after_w-append, AreSafe, Walk, now_at, now_is, walk_end, walk_few, walk_from, walk_block, walk_branch, walk_jump, walk_get, walk_put, walk_uncaught}
 use Rattle.cyc_select.proofs.Standing.{Standing, slot_cell, slot_word_is, global_cell, standing_global, standing_registers, standing_at}
 use Rattle.cyc_select.proofs.Matches.{At, Reached, reached, reached_gives, reached_at, within}
@@ -154,31 +155,48 @@ module _ (program : Program) (well : IsWellFormed program) (frames : List Frame)
       below refl (omega (arith, length_operand frame FIRST source)) (omega arith) stands
 
   -- a word that is computed goes to a slot
-  plan_goes : (i : Instruction) → IsAt i → (plan : Plan) (destination word : ℕ) → Held plan.left × Held plan.right → IsComputable globals_length (words_per_call * calls) plan.operation (word_of plan.left) (word_of plan.right)
+  plan_goes : (i : Instruction) → IsAt i → (plan : Plan) (destination word : ℕ) → Held plan.left × Held plan.right × IsComputable globals_length (words_per_call * calls) plan.operation (word_of plan.left) (word_of plan.right)
       → plan_word c.active.slots plan ≡ word → destination < slots → performed program zeros c i ≡ gives c destination word → count_of program c.active.function i ≡ plan_count plan
       → Stands code here (ordinary (plan_code frame plan destination)) → Goes 1 here (here + plan_count plan) (Running run)
-  plan_goes i at_i plan destination word (l, t) fine is below does counted stands =
+  plan_goes i at_i plan destination word (l, t, fine) is below does counted stands =
       let leaves = plan_leaves globals_length (words_per_call * calls) frame (r 29) w c.active.slots r w s.zero_is refl refl plan l t fine in
       gives_by i at_i (computed_code frame plan) FIRST destination word (plan_count plan) leaves.keeps (leaves.result ∙ is)
       below does (omega (arith, length_computed frame plan)) counted stands
+
+  -- a plan whose operands are there, and which the machine computes of them
+  abbrev IsPlanThere : Plan → Type 0
+  IsPlanThere plan =
+      Held plan.left × Held plan.right × IsComputable globals_length (words_per_call * calls) plan.operation (word_of plan.left) (word_of plan.right)
+
+  zero_held : Held (operands.Word 0)
+  zero_held = omega arith
+
+  unary_there : (operator : UnaryOperator) (operand : Operand) → Held operand → IsPlanThere (unary_plan operator operand)
+  unary_there = all_unary Held zero_held IsPlanThere (λ op left right outcome l t. (l, t, tt)) (λ op left half outcome fits l. (l, zero_held, tt))
+
+  binary_there : (operator : BinaryOperator) (left right : Operand) → is_tested operator right ≡ false → Held left → Held right → IsPlanThere (binary_plan operator left right)
+  binary_there =
+      all_binary Held zero_held IsPlanThere (λ op left right outcome l t. (l, t, tt)) (λ op left half outcome fits l. (l, zero_held, tt))
+      (λ op left right l t. (l, t, tt)) (λ op left right amount l. (l, zero_held, tt)) (λ left right l t. (l, t, tt))
+      (λ from left right plain_divisor l t.
+      let is = divisor_is c.active.slots right plain_divisor in
+      (l, t, (is.0, λ least minus_one. is.1 minus_one)))
 
   pub unary_goes : (operator : UnaryOperator) (destination : ℕ) (operand : Operand) → IsAt (plain.Unary operator destination operand) → destination < slots → IsThere operand
       → Stands code here (body program frames c.active.function here (plain.Unary operator destination operand)) → Goes 1 here (here + body_count program c.active.function (plain.Unary operator destination operand)) (Running run)
   unary_goes operator destination operand at_i below there stands =
       plan_goes (plain.Unary operator destination operand) at_i (unary_plan operator operand) destination (unary_result operator (word_of operand))
-      (of_unary Held (omega arith) operand (held operand there) operator) (unary_computable globals_length (words_per_call * calls) operator operand _ _)
-      (unary_word c.active.slots operand (is_word operand there) operator) below refl (omega arith) stands
+      (unary_there operator operand (held operand there)) (unary_word c.active.slots operand (is_word operand there) operator) below refl (omega arith) stands
 
-  -- an operator whose plan is right for these operands
+  -- an operator that has a plan
   pub binary_goes : (operator : BinaryOperator) (destination : ℕ) (left right : Operand) → IsAt (plain.Binary operator destination left right) → destination < slots → IsThere left → IsThere right
-      → IsComputable globals_length (words_per_call * calls) (binary_plan operator left right).operation (word_of (binary_plan operator left right).left) (word_of (binary_plan operator left right).right)
+      → is_tested operator right ≡ false
       → performed program zeros c (plain.Binary operator destination left right) ≡ gives c destination (binary_result operator (word_of left) (word_of right))
       → count_of program c.active.function (plain.Binary operator destination left right) ≡ plan_count (binary_plan operator left right)
       → Stands code here (ordinary (plan_code frame (binary_plan operator left right) destination)) → Goes 1 here (here + plan_count (binary_plan operator left right)) (Running run)
-  binary_goes operator destination left right at_i below l t fine does counted stands =
+  binary_goes operator destination left right at_i below l t has_plan does counted stands =
       plan_goes (plain.Binary operator destination left right) at_i (binary_plan operator left right) destination (binary_result operator (word_of left) (word_of right))
-      (of_binary Held (omega arith) left right (held left l) (held right t) operator) fine
-      (binary_word c.active.slots left right (is_word left l) (is_word right t) operator) below does counted stands
+      (binary_there operator left right has_plan (held left l) (held right t)) (binary_word c.active.slots left right (is_word left l) (is_word right t) operator) below does counted stands
 
   -- ---- division
 
@@ -209,7 +227,7 @@ module _ (program : Program) (well : IsWellFormed program) (frames : List Frame)
 
   module _ (operator : BinaryOperator) (which : MoveFromOp) (destination : ℕ) (left right : Operand) (at_i : IsAt (plain.Binary operator destination left right)) (below : destination < slots) (left_there : IsThere left) (right_there : IsThere right)
       (does : performed program zeros c (plain.Binary operator destination left right) ≡ gives c destination (result_of which (word_of left) (word_of right)))
-      (nonzero : word_of right ≢ 0) (counted : operator_count operator left right ≡ load_count left + load_count right + 7)
+      (nonzero : word_of right ≢ 0) (counted : count_of program c.active.function (plain.Binary operator destination left right) ≡ load_count left + load_count right + 7)
       (negated : (a : ℕ) → IsWord a → result_of which (sub_of 0 a) 1 ≡ result_of which a (2 ^ 32 - 1)) where
     -- the lines of the operands
     abbrev loads : ℕ
@@ -351,36 +369,32 @@ module _ (program : Program) (well : IsWellFormed program) (frames : List Frame)
       (reached_at program well frames fit code formed addresses pages calls few c i at_i r w base s (at c (if taken then target else c.active.next + 1)) (line (if taken then target else c.active.next + 1)) e (after_r is r w) (after_w is r w)
       refl refl refl refl refl refl does refl keeps.zero keeps.base keeps.left keeps.back keeps.memory after))))
 
-  -- what a test computes can be computed
-  abbrev IsTestComputable : Test → Type 0
-  IsTestComputable (tests.Operands op left right) = Unit {0}
-  IsTestComputable (tests.Computed plan) = IsComputable globals_length (words_per_call * calls) plan.operation (word_of plan.left) (word_of plan.right)
+  abbrev IsTestThere : Test → Type 0
+  IsTestThere = AllOfTest Held zero_held IsPlanThere (λ op left right outcome l t. (l, t, tt)) (λ op left half outcome fits l. (l, zero_held, tt))
 
-  test_goes_by : (i : Instruction) → IsAt i → (test : Test) (target : ℕ) (taken : Bool) → OfTest Held (omega arith) test → IsTestComputable test → test_taken c.active.slots test ≡ taken
+  test_there : (comparison : Comparison) (left right : Operand) → Held left → Held right → IsTestThere (test_of comparison left right)
+  test_there = all_test Held zero_held IsPlanThere (λ op left right outcome l t. (l, t, tt)) (λ op left half outcome fits l. (l, zero_held, tt))
+
+  test_goes_by : (i : Instruction) → IsAt i → (test : Test) (target : ℕ) (taken : Bool) → IsTestThere test → test_taken c.active.slots test ≡ taken
       → performed program zeros c i ≡ states.Running (at c (if taken then target else c.active.next + 1)) → count_of program c.active.function i ≡ test_count test + 1
       → Stands code here (branch_code frame test (instruction_line program c.active.function target)) → Goes 1 here (here + (test_count test + 1)) (Running run)
-  test_goes_by i at_i (tests.Operands op left right) target taken (l, t) fine is does counted stands =
+  test_goes_by i at_i (tests.Operands op left right) target taken (l, t) is does counted stands =
       let loaded = operands_put globals_length (words_per_call * calls) frame (r 29) w c.active.slots r w s.zero_is refl refl left right l t in
       branch_by i at_i (operands_code frame left right) op (operand_register FIRST left) (operand_register SECOND right) target (test_count (tests.Operands op left right) + 1) taken loaded.keeps
       (ap (λ (x : ℕ). branch_taken op x (after_r (operands_code frame left right) r w (operand_register SECOND right % 32))) loaded.left_is ∙ (ap (branch_taken op (word_of left)) loaded.right_is ∙ is))
       does (omega (arith, length_test frame (tests.Operands op left right))) counted stands
-  test_goes_by i at_i (tests.Computed plan) target taken (l, t) fine is does counted stands =
+  test_goes_by i at_i (tests.Computed plan) target taken (l, t, fine) is does counted stands =
       let leaves = operation_leaves globals_length (words_per_call * calls) frame (r 29) w c.active.slots r w s.zero_is refl refl plan l t fine in
       branch_by i at_i (operation_of frame plan) (branch_on plan.outcome) FIRST ZERO target (test_count (tests.Computed plan) + 1) taken leaves.keeps
       (ap (λ (x : ℕ). branch_taken (branch_on plan.outcome) x (after_r (operation_of frame plan) r w ZERO)) leaves.result
       ∙ (ap (branch_taken (branch_on plan.outcome) (operation_word c.active.slots plan)) (leaves.keeps.zero ∙ s.zero_is) ∙ is))
       does (omega (arith, length_test frame (tests.Computed plan))) counted stands
 
-  test_computable : (comparison : Comparison) (left right : Operand) → IsTestComputable (test_of comparison left right)
-  test_computable comparisons.Equal left right = tt
-  test_computable comparisons.NotEqual left right = tt
-  test_computable comparison left right = comparison_computable globals_length (words_per_call * calls) comparison left right (word_of (comparison_plan comparison left right).left) (word_of (comparison_plan comparison left right).right)
-
   pub branch_goes : (comparison : Comparison) (left right : Operand) (target : ℕ) → IsAt (plain.Branch comparison left right target) → IsThere left → IsThere right
       → Stands code here (body program frames c.active.function here (plain.Branch comparison left right target)) → Goes 1 here (here + body_count program c.active.function (plain.Branch comparison left right target)) (Running run)
   branch_goes comparison left right target at_i l t stands =
       test_goes_by (plain.Branch comparison left right target) at_i (test_of comparison left right) target (compares comparison (word_of left) (word_of right))
-      (of_test Held (omega arith) left right (held left l) (held right t) comparison) (test_computable comparison left right)
+      (test_there comparison left right (held left l) (held right t))
       (test_goes c.active.slots left right (is_word left l) (is_word right t) comparison) refl (omega arith) stands
 
   -- ---- bytes
@@ -502,7 +516,7 @@ module _ (program : Program) (well : IsWellFormed program) (frames : List Frame)
       let is : List Instr = word_code ARGUMENT tag in
       let js : List Instr = load_code frame SECOND_ARGUMENT value in
       let last : List Instr = small SERVICE END_UNCAUGHT ∷ syscall ∷ [] in
-      let first = word_puts globals_length (words_per_call * calls) r w ARGUMENT tag refl fits in
+      let first = word_puts globals_length (words_per_call * calls) r w ARGUMENT tag s.zero_is refl fits in
       let keeps = puts_keeps globals_length (words_per_call * calls) is r w ARGUMENT _ _ (argument_scratch globals_length (words_per_call * calls)) first in
       let second = load_puts globals_length (words_per_call * calls) frame (r 29) w c.active.slots (after_r is r w) (after_w is r w) (keeps.zero ∙ s.zero_is) keeps.base keeps.memory SECOND_ARGUMENT refl value (held value there) in
       let q : Words = after_r js (after_r is r w) (after_w is r w) in

@@ -1,6 +1,6 @@
 -- The code has few words for each unit of the program's size.
 use Rattle.std.proofs.Common.{◌≡◌, ℕ, suc, ◌+◌, ◌*◌, ◌≤◌, Bool, true, false, List, [], ◌∷◌, ◌++◌, length, refl, ap, arith, length-append}
-use Rattle.std.specs.Prelude.{sum_by, ◌==◌}
+use Rattle.std.specs.Prelude.{sum_by, ◌==◌, if◌then◌else◌}
 use Rattle.std.specs.List.{range_with_len}
 use Rattle.std.proofs.lemmas.List.Sums.{sum_by-cons, sum_by-append}
 use Rattle.std.proofs.lemmas.Option.{get_or_from_slice_get}
@@ -8,11 +8,9 @@ use Rattle.cyc_isa.specs.declared.instr.Instr.{Instr}
 use Rattle.cyc_plain.specs.declared.instruction.Instruction.{Instruction}
 use Rattle.cyc_plain.specs.declared.instruction.Instruction.TheVariants as plain
 use Rattle.cyc_plain.specs.declared.instruction.BinaryOperator.{BinaryOperator}
-use Rattle.cyc_plain.specs.declared.instruction.BinaryOperator.TheVariants as binary
 use Rattle.cyc_plain.specs.declared.instruction.Operand.{Operand}
 use Rattle.cyc_isa.specs.declared.instr.MemoryOp.TheVariants.{StoreWord}
 use Rattle.cyc_isa.specs.declared.instr.MoveFromOp.{MoveFromOp}
-use Rattle.cyc_isa.specs.declared.instr.MoveFromOp.TheVariants.{High, Low}
 use Rattle.cyc_machine.specs.declared.constants.TheConstants.{ARGUMENT, END_UNCAUGHT, PUT_BYTE, SECOND_ARGUMENT, SERVICE}
 use Rattle.cyc_plain.specs.Program.{Routine, Program, routine_at, instruction_size, size}
 use Rattle.cyc_frame.specs.Layout.{frame_at}
@@ -26,11 +24,11 @@ use Rattle.cyc_select.specs.declared.plan.Test.TheVariants as tests
 use Rattle.cyc_select.specs.Plans.{unary_plan, binary_plan, test_of}
 use Rattle.cyc_select.specs.Labelled.{Labelled, words_of, all_words}
 use Rattle.cyc_select.specs.Selected.{words_at}
-use Rattle.cyc_select.specs.Selection.{ordinary, copies, store_all, store_slot, upper_of_global, at_global, word_code, load_code, load_count, operand_code, operand_register, plan_code, test_code, branch_line, branch_code, quotient_code, divided_code, divide_code, result_registers, ending_code, operator_code, body, behind, count_of, function_count, function_line, instruction_line, code_lines, function_lines, small, syscall, store, add_immediate, minus, push_frame, load}
+use Rattle.cyc_select.specs.Selection.{ordinary, copies, store_all, store_slot, upper_of_global, at_global, word_code, load_code, load_count, operand_code, operand_register, plan_code, test_code, branch_line, branch_code, quotient_code, divided_code, divide_code, is_tested, part_of, result_registers, ending_code, operator_code, body, behind, count_of, function_count, function_line, instruction_line, code_lines, function_lines, small, syscall, store, add_immediate, minus, push_frame, load}
 use Rattle.cyc_isa.specs.Decoding.{register_of}
 use Rattle.cyc_isa.specs.declared.instr.BranchOp.TheVariants as branch
 use Rattle.cyc_select.proofs.Calls.{length-copies}
-use Rattle.cyc_select.proofs.Counts.{load_small, operand_small, plan_small, test_small, length_word, length_load, length_operand, length_plan, length_test, length_divided}
+use Rattle.cyc_select.proofs.Counts.{word_small, load_small, operand_small, plan_small, test_small, length_word, length_load, length_operand, length_plan, length_test, length_divided}
 use Rattle.cyc_select.proofs.Returns.{loaded, length_loaded, length_stores, length_registers}
 use Rattle.cyc_select.proofs.Walks.{Stands}
 
@@ -54,10 +52,14 @@ module _ (program : Program) (frames : List Frame) (few_results : (function : �
   plan_words : (frame : Frame) (plan : Plan) (destination : ℕ) → all_words (ordinary (plan_code frame plan destination)) ≤ 8
   plan_words frame plan destination = omega (arith, words_ordinary (plan_code frame plan destination), length_plan frame plan destination, plan_small plan)
 
+  words_either : (b : Bool) (divided planned : List Line) → all_words divided ≤ 14 → all_words planned ≤ 8 → all_words (if b then divided else planned) ≤ 14
+  words_either true divided planned few small = few
+  words_either false divided planned few small = omega (arith, small)
+
   operator_words : (frame : Frame) (here : ℕ) (operator : BinaryOperator) (destination : ℕ) (left right : Operand) → all_words (operator_code frame here operator destination left right) ≤ 14
-  operator_words frame here binary.Divide d l r = divide_words frame here Low d l r
-  operator_words frame here binary.Remainder d l r = divide_words frame here High d l r
-  operator_words frame here operator d l r = omega (arith, plan_words frame (binary_plan operator l r) d)
+  operator_words frame here operator destination left right =
+      words_either (is_tested operator right) (divide_code frame here (part_of operator) destination left right) (ordinary (plan_code frame (binary_plan operator left right) destination))
+      (divide_words frame here (part_of operator) destination left right) (plan_words frame (binary_plan operator left right) destination)
 
   branch_words : (test : Test) (label : ℕ) → words_of (branch_line test label) ≤ 4
   branch_words (tests.Operands op left right) label = omega arith
@@ -104,7 +106,7 @@ module _ (program : Program) (frames : List Frame) (few_results : (function : �
   body_words function here (plain.Uncaught tag value) =
       let last : List Instr = small SERVICE END_UNCAUGHT ∷ syscall ∷ [] in
       let loads : List Instr = load_code (frame_at frames function) SECOND_ARGUMENT value ++ last in
-      omega (arith, words_ordinary (word_code ARGUMENT tag ++ loads), length-append (word_code ARGUMENT tag) loads, length_word ARGUMENT tag, length-append (load_code (frame_at frames function) SECOND_ARGUMENT value) last, length_load (frame_at frames function) SECOND_ARGUMENT value, load_small value)
+      omega (arith, words_ordinary (word_code ARGUMENT tag ++ loads), length-append (word_code ARGUMENT tag) loads, length_word ARGUMENT tag, length-append (load_code (frame_at frames function) SECOND_ARGUMENT value) last, length_load (frame_at frames function) SECOND_ARGUMENT value, load_small value, word_small tag)
 
   pub code_words : (function here : ℕ) (code : List Instruction) → all_words (code_lines program frames function here code) ≤ 16 * sum_by instruction_size code
   code_words function here [] = omega arith

@@ -5,14 +5,12 @@ use Rattle.std.proofs.lemmas.List.Sums.{sum_by-cons}
 use Rattle.cyc_plain.specs.declared.instruction.Instruction.{Instruction}
 use Rattle.cyc_plain.specs.declared.instruction.Instruction.TheVariants as plain
 use Rattle.cyc_plain.specs.declared.instruction.BinaryOperator.{BinaryOperator}
-use Rattle.cyc_plain.specs.declared.instruction.BinaryOperator.TheVariants as binary
 use Rattle.cyc_plain.specs.declared.instruction.Operand.{Operand}
 use Rattle.cyc_isa.specs.Decoding.{register_of}
 use Rattle.cyc_isa.specs.declared.instr.Instr.{Instr}
 use Rattle.cyc_isa.specs.declared.instr.BranchOp.TheVariants as branch
 use Rattle.cyc_isa.specs.declared.instr.MemoryOp.TheVariants.{StoreWord}
 use Rattle.cyc_isa.specs.declared.instr.MoveFromOp.{MoveFromOp}
-use Rattle.cyc_isa.specs.declared.instr.MoveFromOp.TheVariants.{High, Low}
 use Rattle.cyc_machine.specs.declared.constants.TheConstants.{ARGUMENT, END_UNCAUGHT, PUT_BYTE, SECOND_ARGUMENT, SERVICE}
 use Rattle.cyc_plain.specs.Program.{Routine, Program, no_routine, routine_at}
 use Rattle.cyc_plain.specs.Step.{instruction_at}
@@ -25,7 +23,7 @@ use Rattle.cyc_select.specs.declared.code.Line.TheVariants as lines
 use Rattle.cyc_select.specs.declared.plan.Plan.{Plan}
 use Rattle.cyc_select.specs.Labelled.{Labelled}
 use Rattle.cyc_select.specs.Plans.{unary_plan, binary_plan, test_of}
-use Rattle.cyc_select.specs.Selection.{ordinary, copies, store_all, store_slot, small, syscall, upper_of_global, at_global, word_code, load_code, load_count, operand_code, operand_register, plan_code, plan_count, test_code, branch_line, quotient_code, divided_code, divide_code, result_registers, ending_code, ending_count, operator_code, operator_count, body, behind, body_count, behind_count, count_of, function_count, functions_count, function_line, instruction_line, code_lines, function_lines, start_lines, select_of}
+use Rattle.cyc_select.specs.Selection.{ordinary, copies, store_all, store_slot, small, syscall, upper_of_global, at_global, word_code, load_code, load_count, operand_code, operand_register, plan_code, plan_count, test_code, branch_line, quotient_code, divided_code, divide_code, is_tested, part_of, result_registers, ending_code, ending_count, operator_code, operator_count, body, behind, body_count, behind_count, count_of, function_count, functions_count, function_line, instruction_line, code_lines, function_lines, start_lines, select_of}
 use Rattle.cyc_select.proofs.Calls.{length_ordinary, length-copies}
 use Rattle.cyc_select.proofs.Counts.{length_word, length_load, length_operand, length_plan, length_test, length_divided}
 use Rattle.cyc_select.proofs.Returns.{loaded, length_loaded, length_stores, length_registers}
@@ -48,10 +46,14 @@ module _ (program : Program) (frames : List Frame) (few_results : (function : �
   length_planned : (frame : Frame) (plan : Plan) (destination : ℕ) → length (ordinary (plan_code frame plan destination)) ≡ plan_count plan
   length_planned frame plan destination = length_ordinary (plan_code frame plan destination) ∙ length_plan frame plan destination
 
+  length_either : (b : Bool) (divided planned : List Line) (m n : ℕ) → length divided ≡ m → length planned ≡ n → length (if b then divided else planned) ≡ (if b then m else n)
+  length_either true divided planned m n first second = first
+  length_either false divided planned m n first second = second
+
   length_operator : (frame : Frame) (here : ℕ) (operator : BinaryOperator) (destination : ℕ) (left right : Operand) → length (operator_code frame here operator destination left right) ≡ operator_count operator left right
-  length_operator frame here binary.Divide d l r = length_divide frame here Low d l r
-  length_operator frame here binary.Remainder d l r = length_divide frame here High d l r
-  length_operator frame here operator d l r = length_planned frame (binary_plan operator l r) d
+  length_operator frame here operator destination left right =
+      length_either (is_tested operator right) (divide_code frame here (part_of operator) destination left right) (ordinary (plan_code frame (binary_plan operator left right) destination)) _ _
+      (length_divide frame here (part_of operator) destination left right) (length_planned frame (binary_plan operator left right) destination)
 
   pub length_body : (function here : ℕ) (i : Instruction) → length (body program frames function here i) ≡ body_count program function i
   length_body function here (plain.Move destination source) =

@@ -3,10 +3,11 @@
 --
 -- Frames grow downward from the end of the stack. The return address of the call that starts the program is 0. Which
 -- registers have what is in the module `constants`.
-use Rattle.std.specs.Prelude.{ℕ, zero, suc, ◌+◌, ◌-◌, ◌*◌, ◌/◌, ◌%◌, ◌^◌, ◌==◌, Bool, false, if◌then◌else◌, List, [], ◌∷◌, ◌++◌, map, sum_by, take}
-use Rattle.cyc_isa.specs.Decoding.{register_of, trap_code_of}
+use Rattle.std.specs.Prelude.{ℕ, zero, suc, ◌+◌, ◌-◌, ◌*◌, ◌/◌, ◌%◌, ◌^◌, ◌==◌, Bool, false, not, nat_lt, if◌then◌else◌, List, [], ◌∷◌, ◌++◌, map, sum_by, take}
+use Rattle.cyc_isa.specs.Decoding.{register_of, shift_amount_of, trap_code_of}
 use Rattle.cyc_isa.specs.declared.instr.Instr.{Instr}
 use Rattle.cyc_isa.specs.declared.instr.Instr.TheVariants as machine
+use Rattle.cyc_isa.specs.declared.instr.ImmediateOp.{ImmediateOp}
 use Rattle.cyc_isa.specs.declared.instr.ImmediateOp.TheVariants as immediate
 use Rattle.cyc_isa.specs.declared.instr.MemoryOp.{MemoryOp}
 use Rattle.cyc_isa.specs.declared.instr.MemoryOp.TheVariants.{LoadWord, StoreWord}
@@ -42,6 +43,7 @@ use Rattle.cyc_select.specs.declared.plan.Outcome.TheVariants as outcomes
 use Rattle.cyc_select.specs.declared.plan.Plan.{Plan}
 use Rattle.cyc_select.specs.declared.plan.Test.{Test}
 use Rattle.cyc_select.specs.declared.plan.Test.TheVariants as tests
+use Rattle.cyc_select.specs.Numbers.{fits_signed, is_zero_word, is_plain_divisor}
 use Rattle.cyc_select.specs.Plans.{unary_plan, binary_plan, test_of}
 
 -- ---- single instructions
@@ -100,6 +102,12 @@ arithmetic_of op left right = machine.Arithmetic op (register_of FIRST) (registe
 abbrev pub shift_of : ShiftOp → (source by : ℕ) → Instr
 shift_of op source by = machine.ShiftVariable op (register_of FIRST) (register_of source) (register_of by)
 
+abbrev pub immediate_of : ImmediateOp → (left half : ℕ) → Instr
+immediate_of op left half = machine.Immediate op (register_of FIRST) (register_of left) half
+
+abbrev pub shift_by_of : ShiftOp → (source amount : ℕ) → Instr
+shift_by_of op source amount = machine.Shift op (register_of FIRST) (register_of source) (shift_amount_of amount)
+
 abbrev pub multiply_divide_of : MultiplyDivideOp → (left right : ℕ) → Instr
 multiply_divide_of op left right = machine.MultiplyDivide op (register_of left) (register_of right)
 
@@ -126,8 +134,17 @@ pop_frame frame = add_immediate FRAME FRAME (4 * frame.words)
 
 -- ---- operands
 
+-- a word into a register, by one instruction where its half can stand in it, and by the two halves elsewhere
+abbrev pub or_immediate : (target half : ℕ) → Instr
+or_immediate target half = machine.Immediate immediate.Or (register_of target) (register_of ZERO) half
+
 abbrev pub word_code : (target word : ℕ) → List Instr
-word_code target word = constant target word
+word_code target word =
+    if fits_signed word
+    then small target (word % 2 ^ 16) ∷ []
+    else (if nat_lt word (2 ^ 16)
+    then or_immediate target word ∷ []
+    else (if word % 2 ^ 16 == 0 then load_upper target word ∷ [] else constant target word))
 
 -- an operand into a register
 abbrev pub load_code : Frame → (target : ℕ) → Operand → List Instr
@@ -135,10 +152,6 @@ load_code frame target (operands.Slot number) = load_slot frame target number �
 load_code frame target (operands.Word word) = word_code target word
 
 -- An operand in a register: the word 0 is in one, and any other comes into this one.
-abbrev pub is_zero_word : Operand → Bool
-is_zero_word (operands.Slot number) = false
-is_zero_word (operands.Word word) = word == 0
-
 abbrev pub operand_code : Frame → (register : ℕ) → Operand → List Instr
 operand_code frame register operand = if is_zero_word operand then [] else load_code frame register operand
 
@@ -150,7 +163,9 @@ operand_register register operand = if is_zero_word operand then ZERO else regis
 -- of the words in two registers, into the first operand's
 abbrev pub operation_code : Operation → (left right : ℕ) → List Instr
 operation_code (operations.Arithmetic op) left right = arithmetic_of op left right ∷ []
+operation_code (operations.Immediate op half) left right = immediate_of op left half ∷ []
 operation_code (operations.Shift op) left right = shift_of op left right ∷ []
+operation_code (operations.ShiftBy op amount) left right = shift_by_of op left amount ∷ []
 operation_code (operations.MultiplyDivide op from) left right = multiply_divide_of op left right ∷ move_from_of from ∷ []
 
 -- of the word in that register
@@ -196,7 +211,10 @@ branch_line (tests.Computed plan) label =
 -- ---- how many lines
 
 abbrev pub word_count : ℕ → ℕ
-word_count word = 2
+word_count word =
+    if fits_signed word
+    then 1
+    else (if nat_lt word (2 ^ 16) then 1 else (if word % 2 ^ 16 == 0 then 1 else 2))
 
 abbrev pub load_count : Operand → ℕ
 load_count (operands.Slot number) = 1
@@ -207,7 +225,9 @@ operand_count operand = if is_zero_word operand then 0 else load_count operand
 
 abbrev pub operation_count : Operation → ℕ
 operation_count (operations.Arithmetic op) = 1
+operation_count (operations.Immediate op half) = 1
 operation_count (operations.Shift op) = 1
+operation_count (operations.ShiftBy op amount) = 1
 operation_count (operations.MultiplyDivide op from) = 2
 
 abbrev pub outcome_count : Outcome → ℕ
@@ -226,10 +246,17 @@ abbrev pub test_count : Test → ℕ
 test_count (tests.Operands op left right) = operand_count left + operand_count right
 test_count (tests.Computed plan) = count_of_operation plan
 
+-- a division that has lines of its own, by a divisor that may be -1
+abbrev pub is_tested : BinaryOperator → (divisor : Operand) → Bool
+is_tested binary.Divide divisor = not (is_plain_divisor divisor)
+is_tested binary.Remainder divisor = not (is_plain_divisor divisor)
+is_tested operator right = false
+
 abbrev pub operator_count : BinaryOperator → (left right : Operand) → ℕ
-operator_count binary.Divide left right = load_count left + load_count right + 7
-operator_count binary.Remainder left right = load_count left + load_count right + 7
-operator_count operator left right = plan_count (binary_plan operator left right)
+operator_count operator left right =
+    if is_tested operator right
+    then load_count left + load_count right + 7
+    else plan_count (binary_plan operator left right)
 
 -- ---- blocks
 
@@ -262,11 +289,16 @@ divide_code frame here which destination left right =
     ++ lines.Branch branch.NotEqual (register_of SECOND) (register_of THIRD) (here + (load_count left + load_count right) + 4)
     ∷ quotient_code frame which destination
 
+-- which result of a division is read
+abbrev pub part_of : BinaryOperator → MoveFromOp
+part_of binary.Remainder = High
+part_of operator = Low
+
 abbrev pub operator_code : Frame → (here : ℕ) → BinaryOperator → (destination : ℕ) → (left right : Operand) → List Line
-operator_code frame here binary.Divide destination left right = divide_code frame here Low destination left right
-operator_code frame here binary.Remainder destination left right = divide_code frame here High destination left right
 operator_code frame here operator destination left right =
-    ordinary (plan_code frame (binary_plan operator left right) destination)
+    if is_tested operator right
+    then divide_code frame here (part_of operator) destination left right
+    else ordinary (plan_code frame (binary_plan operator left right) destination)
 
 -- arguments from the caller's slots to the first slots of the callee, whose frame is the current one already
 abbrev pub copies : (caller callee : Frame) → (source slot count : ℕ) → List Instr
@@ -362,7 +394,7 @@ store_global frame global source =
 abbrev pub uncaught_code : Frame → (tag : ℕ) → Operand → List Line
 uncaught_code frame tag value =
     ordinary (
-    word_code ARGUMENT tag ++ load_code frame SECOND_ARGUMENT value ++ small SERVICE END_UNCAUGHT ∷ syscall ∷ [])
+    word_code ARGUMENT tag ++ (load_code frame SECOND_ARGUMENT value ++ small SERVICE END_UNCAUGHT ∷ syscall ∷ []))
 
 -- A call of the function whose first line has this label. Where no more may be under way the run ends; otherwise the
 -- return address is kept, and the callee's frame is the current one.

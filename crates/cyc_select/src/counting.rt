@@ -7,7 +7,7 @@ ghost use Rattle.cyc_select.specs.Emission.{AreFew, most_lines, instruction_line
 
 use crate::constants::{LINES_FOR_EACH, START_LINES};
 use crate::operands::{load_count, operand_count, word_count};
-use crate::operators::{plan_count, test_count};
+use crate::operators::{is_tested, plan_count, test_count};
 use crate::plan::{binary_plan, test_of, unary_plan};
 use cyc_plain::{BinaryOperator, GREATEST_VALUE, Instruction, MOST_SIZE, Operand, Plain};
 use std::alloc::{AllocError, Global};
@@ -23,11 +23,10 @@ pub(crate) fn results_of(plain: &Plain, function: usize) -> usize
 fn operator_count(operator: BinaryOperator, left: Operand, right: Operand) -> usize
     ensures { result ≡ operator_count operator left right }
 {
-    match operator {
-        BinaryOperator::Divide | BinaryOperator::Remainder => {
-            load_count(left) + load_count(right) + 7
-        }
-        _ => plan_count(binary_plan(operator, left, right)),
+    if is_tested(operator, right) {
+        load_count(left) + load_count(right) + 7
+    } else {
+        plan_count(binary_plan(operator, left, right))
     }
 }
 

@@ -1,24 +1,15 @@
 //! The lines that bring an operand into a register.
 ghost use Rattle.std.specs.Prelude.{◌≡◌, ◌≤◌, OnOk};
-ghost use Rattle.cyc_select.specs.Selection.{ordinary, word_code, load_code, is_zero_word, operand_code, operand_register, word_count, load_count, operand_count};
+ghost use Rattle.cyc_select.specs.Selection.{ordinary, word_code, load_code, operand_code, operand_register, word_count, load_count, operand_count};
 ghost use Rattle.cyc_select.specs.Emission.{AddsLines, IsFound};
 
 use crate::constants::ZERO;
 use crate::emitter::Emitter;
-use crate::instructions::{load_slot, load_upper, or_lower};
+use crate::instructions::{load_slot, load_upper, or_immediate, or_lower, small};
+use crate::numbers::{fits_signed, is_zero_word};
 use cyc_frame::Frame;
 use cyc_plain::Operand;
 use std::alloc::AllocError;
-
-/// Whether an operand is the word 0, which is in a register already.
-fn is_zero_word(operand: Operand) -> bool
-    ensures { result ≡ is_zero_word operand }
-{
-    match operand {
-        Operand::Slot { .. } => false,
-        Operand::Word { word } => word == 0,
-    }
-}
 
 /// The register of an operand, which is this one where it comes into one.
 pub(crate) fn operand_register(register: u8, operand: Operand) -> u8
@@ -35,7 +26,11 @@ pub(crate) fn word_count(word: u32) -> usize
     ensures value { result ≡ word_count word }
     ensures few { result ≤ 2 }
 {
-    2
+    if fits_signed(word) || word < 0x1_0000 || word % 0x1_0000 == 0 {
+        1
+    } else {
+        2
+    }
 }
 
 /// The lines of an operand that comes into a register.
@@ -66,6 +61,15 @@ impl Emitter {
     pub(crate) fn word(&mut self, target: u8, word: u32) -> Result<(), AllocError>
         ensures { AddsLines result self.old self.new (ordinary (word_code target word)) }
     {
+        if fits_signed(word) {
+            return self.ordinary(&[small(target, (word % 0x1_0000) as u16)]);
+        }
+        if word < 0x1_0000 {
+            return self.ordinary(&[or_immediate(target, word as u16)]);
+        }
+        if word % 0x1_0000 == 0 {
+            return self.ordinary(&[load_upper(target, word)]);
+        }
         self.ordinary(&[load_upper(target, word), or_lower(target, word)])
     }
 

@@ -1,17 +1,21 @@
 //! The lines of an operator, of a test, and of what else a function does with its own slots.
 ghost use Rattle.std.specs.Prelude.{◌≡◌, ◌+◌, ◌*◌, ◌<◌, ◌≤◌, ◌^◌, [], ◌∷◌, ◌++◌, OnOk};
-ghost use Rattle.cyc_plain.specs.declared.instruction.BinaryOperator.TheVariants as binary;
-ghost use Rattle.cyc_select.specs.Selection.{load_slot, store_slot, small, syscall, arithmetic_of, shift_of, multiply_divide_of, move_from_of, upper_of_global, at_global, operation_code, outcome_code, operands_code, operation_of, computed_code, plan_code, test_code, branch_on, branch_line, operation_count, outcome_count, count_of_operation, plan_count, test_count, ordinary, quotient_code, loads_code, divided_code, divide_code, operator_code, move_code, branch_code, write_code, load_global, store_global, uncaught_code};
+ghost use Rattle.cyc_select.specs.Selection.{load_slot, store_slot, small, syscall, arithmetic_of, immediate_of, shift_of, shift_by_of, multiply_divide_of, move_from_of, upper_of_global, at_global, operation_code, outcome_code, operands_code, operation_of, computed_code, plan_code, test_code, branch_on, branch_line, operation_count, outcome_count, count_of_operation, plan_count, test_count, ordinary, quotient_code, loads_code, divided_code, divide_code, is_tested, part_of, operator_code, move_code, branch_code, write_code, load_global, store_global, uncaught_code};
 ghost use Rattle.cyc_select.specs.Emission.{AddsLines, IsReached, IsFound, IsPlanFound, IsTestFound, most_lines};
 
 use crate::code::Line;
 use crate::constants::{FIRST, SECOND, THIRD, ZERO};
 use crate::emitter::Emitter;
-use crate::instructions::{add_immediate, is_zero, minus, register, small, store_slot, syscall};
+use crate::instructions::{
+    add_immediate, is_zero, minus, register, shift_amount, small, store_slot, syscall,
+};
+use crate::numbers::is_plain_divisor;
 use crate::operands::{load_count, operand_count, operand_register};
 use crate::plan::{Operation, Outcome, Plan, Test, binary_plan};
 use cyc_frame::Frame;
-use cyc_isa::{ArithmeticOp, BranchOp, Instr, MemoryOp, MoveFromOp, MultiplyDivideOp, ShiftOp};
+use cyc_isa::{
+    ArithmeticOp, BranchOp, ImmediateOp, Instr, MemoryOp, MoveFromOp, MultiplyDivideOp, ShiftOp,
+};
 use cyc_machine::constants::{
     ARGUMENT, DATA_BASE, END_UNCAUGHT, GET_BYTE, PUT_BYTE, SECOND_ARGUMENT, SERVICE,
 };
@@ -46,6 +50,30 @@ fn shift(op: ShiftOp, source: u8, by: u8) -> Instr
         destination: register(FIRST),
         source: register(source),
         by: register(by),
+    }
+}
+
+/// An operation on a register and a number.
+fn immediate(op: ImmediateOp, left: u8, half: u16) -> Instr
+    ensures { result ≡ immediate_of op left half }
+{
+    Instr::Immediate {
+        op,
+        target: register(FIRST),
+        source: register(left),
+        immediate: half,
+    }
+}
+
+/// A shift by a number, which counts modulo 32.
+fn shift_by(op: ShiftOp, source: u8, amount: u8) -> Instr
+    ensures { result ≡ shift_by_of op source amount }
+{
+    Instr::Shift {
+        op,
+        destination: register(FIRST),
+        source: register(source),
+        amount: shift_amount(amount),
     }
 }
 
@@ -99,7 +127,10 @@ fn operation_count(operation: Operation) -> usize
     ensures few { result ≤ 2 }
 {
     match operation {
-        Operation::Arithmetic { .. } | Operation::Shift { .. } => 1,
+        Operation::Arithmetic { .. }
+        | Operation::Immediate { .. }
+        | Operation::Shift { .. }
+        | Operation::ShiftBy { .. } => 1,
         Operation::MultiplyDivide { .. } => 2,
     }
 }
@@ -170,6 +201,26 @@ fn branch_line(test: Test, label: usize) -> Line
     }
 }
 
+/// Whether a division has lines of its own, since its divisor may be -1.
+pub(crate) fn is_tested(operator: BinaryOperator, divisor: Operand) -> bool
+    ensures { result ≡ is_tested operator divisor }
+{
+    match operator {
+        BinaryOperator::Divide | BinaryOperator::Remainder => !is_plain_divisor(divisor),
+        _ => false,
+    }
+}
+
+/// Which result of a division is read.
+fn part_of(operator: BinaryOperator) -> MoveFromOp
+    ensures { result ≡ part_of operator }
+{
+    match operator {
+        BinaryOperator::Remainder => MoveFromOp::High,
+        _ => MoveFromOp::Low,
+    }
+}
+
 impl Emitter {
     /// An operand is copied into a slot.
     pub(crate) fn copy(
@@ -192,7 +243,9 @@ impl Emitter {
     {
         match operation {
             Operation::Arithmetic { op } => self.ordinary(&[arithmetic(op, left, right)]),
+            Operation::Immediate { op, half } => self.ordinary(&[immediate(op, left, half)]),
             Operation::Shift { op } => self.ordinary(&[shift(op, left, right)]),
+            Operation::ShiftBy { op, amount } => self.ordinary(&[shift_by(op, left, amount)]),
             Operation::MultiplyDivide { op, from } => {
                 self.ordinary(&[multiply_divide(op, left, right), move_from(from)])
             }
@@ -363,10 +416,8 @@ impl Emitter {
         requires right { IsFound frame parts.right }
         ensures { AddsLines result self.old self.new (operator_code frame here operator parts.destination parts.left parts.right) }
     {
-        match operator {
-            BinaryOperator::Divide => return self.divide(frame, here, MoveFromOp::Low, parts),
-            BinaryOperator::Remainder => return self.divide(frame, here, MoveFromOp::High, parts),
-            _ => {}
+        if is_tested(operator, parts.right) {
+            return self.divide(frame, here, part_of(operator), parts);
         }
         let plan = binary_plan(operator, parts.left, parts.right);
         self.plan(frame, plan, parts.destination)
