@@ -1,11 +1,11 @@
 #!/usr/bin/env python3
-"""How fast the machine runs, beside qemu-mips on the same instructions. Not a test: it prints figures.
+"""How fast the machine runs and loads, beside an interpreter in C and qemu-mips. Not a test: it prints figures.
 
     make bench
 
-A loop of seven instructions (a load, a store, arithmetic, a branch and its delay slot) is laid out twice: as an image
-for `cyclone run`, which ends by the machine's service, and as a Linux executable for qemu-mips, which ends by a
-system call. Each is run three times, and the fastest counts.
+Five loops are laid out twice: as images for `cyclone run` and for the interpreter (interpreter.c, compiled by gcc -O2), which
+end by the machine's service, and as Linux executables for qemu-mips, which end by a system call. Each is run five times, in
+turn, and the least processor time counts.
 """
 import os
 import shutil
@@ -18,24 +18,90 @@ import time
 HERE = os.path.dirname(os.path.abspath(__file__))
 PROGRAM = os.path.join(HERE, "..", "crates", "cyclone", "out", "cyclone")
 TEXT, DATA = 0x00400000, 0x10000000
-TURNS = 40_000_000
+TURNS = 20_000_000
+MOST = 10_000_000_000
+NOP = 0
 
-LOOP = [
-    0x3C080000 | TURNS >> 16,  # lui   $8, upper half of the turns
-    0x35080000 | TURNS & 0xFFFF,  # ori   $8, $8, lower half
-    0x3C091000,  # lui   $9, 0x1000: the data range
-    0x8D2A0000,  # lw    $10, 0($9)
-    0x254A0001,  # addiu $10, $10, 1
-    0xAD2A0000,  # sw    $10, 0($9)
-    0x016A5821,  # addu  $11, $11, $10
-    0x2508FFFF,  # addiu $8, $8, -1
-    0x1500FFFA,  # bne   $8, $0, back to the load
-    0x01686026,  # xor   $12, $11, $8, in the delay slot
+
+def immediate(op, t, s, i):
+    return op << 26 | s << 21 | t << 16 | i & 0xFFFF
+
+
+def registers(funct, d, s, t, amount=0):
+    return s << 21 | t << 16 | d << 11 | amount << 6 | funct
+
+
+def lui(t, i):
+    return immediate(15, t, 0, i)
+
+
+def ori(t, s, i):
+    return immediate(13, t, s, i)
+
+
+def addiu(t, s, i):
+    return immediate(9, t, s, i)
+
+
+def lw(t, i, s):
+    return immediate(35, t, s, i)
+
+
+def sw(t, i, s):
+    return immediate(43, t, s, i)
+
+
+def addu(d, s, t):
+    return registers(33, d, s, t)
+
+
+def branch(op, s, t, over):
+    """A branch that goes over so many words behind its delay slot; `op` 4 is beq, 5 bne, 7 bgtz, and 1 bltz."""
+    return immediate(op, t, s, over)
+
+
+def jump(op, number):
+    """A jump to the word of text with this number; `op` 2 is j, 3 is jal."""
+    return op << 26 | (TEXT >> 2) + number
+
+
+START = [lui(8, TURNS >> 16), ori(8, 8, TURNS & 0xFFFF), lui(9, DATA >> 16)]
+
+
+def loop(body, slot):
+    """So many turns of a body; register 9 points to the data range, and register 8 counts."""
+    return START + body + [addiu(8, 8, -1), branch(5, 8, 0, -len(body) - 2), slot]
+
+
+ARITHMETIC = [
+    addu(11, 11, 10), addiu(10, 10, 7), registers(38, 12, 11, 8), registers(0, 13, 0, 12, 3), registers(35, 14, 13, 11),
+    registers(36, 15, 14, 12), registers(42, 16, 15, 11), registers(37, 17, 16, 15), registers(2, 18, 0, 17, 2),
+]
+MEMORY = [
+    lw(10, 0, 9), addiu(10, 10, 1), sw(10, 0, 9), lw(11, -4, 29), addu(11, 11, 10), sw(11, -4, 29), lw(12, 4, 9), sw(12, -8, 29),
+]
+BRANCHES = [
+    registers(43, 11, 10, 8), branch(4, 11, 0, 2), addiu(10, 10, 1), addiu(12, 12, 1), branch(7, 12, 0, 2), NOP, addiu(12, 12, 3),
+    branch(1, 12, 0, 3), NOP, branch(5, 10, 8, 1), NOP,
+]
+CALLS = START + [
+    jump(3, 10), addiu(4, 4, 3), addiu(8, 8, -1), branch(5, 8, 0, -4), NOP, jump(2, 16), NOP,
+    # a function: it keeps the way back on the stack
+    addiu(29, 29, -8), sw(31, 4, 29), addu(2, 4, 2), lw(31, 4, 29), registers(8, 0, 31, 0), addiu(29, 29, 8),
+]
+MIXED = [lw(10, 0, 9), addiu(10, 10, 1), sw(10, 0, 9), addu(11, 11, 10)]
+
+# what it is, its words, and how many instructions it executes before its end
+LOOPS = [
+    ("arithmetic", loop(ARITHMETIC, registers(43, 19, 18, 17)), 3 + 12 * TURNS),
+    ("loads and stores", loop(MEMORY, addu(13, 13, 12)), 3 + 11 * TURNS),
+    ("branches", loop(BRANCHES, NOP), 3 + 25 * TURNS // 2),
+    ("calls", CALLS, 3 + 11 * TURNS + 2),
+    ("some of each", loop(MIXED, registers(38, 12, 11, 8)), 3 + 7 * TURNS),
 ]
 # service 3 returns register 4; system call 4001 is exit
-OURS = [0x24040007, 0x24020003, 0x0000000C]
-LINUX = [0x24040007, 0x24020FA1, 0x0000000C]
-COUNT = 3 + 7 * TURNS + 3
+OURS = [addiu(4, 0, 7), addiu(2, 0, 3), 0x0000000C]
+LINUX = [addiu(4, 0, 7), addiu(2, 0, 4001), 0x0000000C]
 
 
 def executable(words):
@@ -50,34 +116,64 @@ def executable(words):
     return front + bytes(0x1000 - len(front)) + text + bytes(0x1000 - len(text))
 
 
-def seconds(words, status):
-    """The fastest of three runs."""
-    best = None
-    for _ in range(3):
-        start = time.perf_counter()
-        done = subprocess.run(words, stdout=subprocess.DEVNULL, stderr=subprocess.DEVNULL)
-        taken = time.perf_counter() - start
-        if done.returncode != status:
-            sys.exit(f"{words[0]}: status {done.returncode} in place of {status}")
-        best = taken if best is None else min(best, taken)
-    return best
+def processor_time(words, status):
+    """The processor time of a run, in seconds."""
+    process = subprocess.Popen(words, stdout=subprocess.DEVNULL, stderr=subprocess.DEVNULL)
+    _, ended, usage = os.wait4(process.pid, 0)
+    process.returncode = os.waitstatus_to_exitcode(ended)
+    if process.returncode != status:
+        sys.exit(f"{words[0]}: status {process.returncode} in place of {status}")
+    return usage.ru_utime + usage.ru_stime
+
+
+def runners(folder):
+    """The programs that there are, each with the words that run a file."""
+    found = [("cyclone run", OURS, lambda path: [PROGRAM, "run", "--steps", str(MOST), path])]
+    if shutil.which("gcc"):
+        interpreter = os.path.join(folder, "interpreter")
+        subprocess.run(["gcc", "-O2", "-o", interpreter, os.path.join(HERE, "interpreter.c")], check=True)
+        found.append(("C interpreter", OURS, lambda path: [interpreter, path, str(MOST)]))
+    if shutil.which("qemu-mips"):
+        found.append(("qemu-mips", LINUX, lambda path: ["qemu-mips", path]))
+    else:
+        print("qemu-mips is not here (Debian's qemu-user has it)")
+    return found
+
+
+def load_time(folder):
+    """The least wall time of a run of three instructions, and of a call that does nothing, in seconds."""
+    path = os.path.join(folder, "short.elf")
+    with open(path, "wb") as file:
+        file.write(executable(OURS))
+    best = {}
+    for _ in range(40):
+        for words in ([PROGRAM, "run", path], [PROGRAM, "--version"]):
+            start = time.perf_counter()
+            subprocess.run(words, stdout=subprocess.DEVNULL, stderr=subprocess.DEVNULL)
+            taken = time.perf_counter() - start
+            best[words[1]] = min(best.get(words[1], taken), taken)
+    return best["run"], best["--version"]
 
 
 def main():
     with tempfile.TemporaryDirectory() as folder:
-        ours, linux = os.path.join(folder, "ours.elf"), os.path.join(folder, "linux.elf")
-        for path, end in ((ours, OURS), (linux, LINUX)):
-            with open(path, "wb") as file:
-                file.write(executable(LOOP + end))
-            os.chmod(path, 0o755)
-        print(f"{COUNT} instructions: a loop of arithmetic, a load and a store")
-        taken = seconds([PROGRAM, "run", ours], 7)
-        print(f"cyclone run: {taken:.2f} s, {COUNT / taken / 1e6:.0f} million instructions a second")
-        if shutil.which("qemu-mips"):
-            taken = seconds(["qemu-mips", linux], 7)
-            print(f"qemu-mips:   {taken:.2f} s, {COUNT / taken / 1e6:.0f} million instructions a second")
-        else:
-            print("qemu-mips is not here (Debian's qemu-user has it)")
+        found = runners(folder)
+        print(f"million instructions a second, and the ratio to the C interpreter: {', '.join(name for name, _, _ in found)}")
+        for name, words, count in LOOPS:
+            best = {}
+            for _ in range(5):
+                for runner, end, command in found:
+                    path = os.path.join(folder, f"{len(end)}{end[1]}.elf")
+                    with open(path, "wb") as file:
+                        file.write(executable(words + end))
+                    os.chmod(path, 0o755)
+                    taken = processor_time(command(path), 7)
+                    best[runner] = min(best.get(runner, taken), taken)
+            speeds = [f"{(count + 3) / best[runner] / 1e6:.0f}" for runner, _, _ in found]
+            ratio = f", {best['C interpreter'] / best['cyclone run']:.2f}" if "C interpreter" in best else ""
+            print(f"{name}: {', '.join(speeds)}{ratio}")
+        run, nothing = load_time(folder)
+        print(f"loading and running three instructions: {run * 1e3:.1f} ms, a call that does nothing: {nothing * 1e3:.1f} ms")
 
 
 if __name__ == "__main__":
