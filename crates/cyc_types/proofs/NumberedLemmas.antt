@@ -16,7 +16,8 @@ use Rattle.cyc_types.specs.IntPart.{is_empty, is_left_out}
 use Rattle.cyc_types.specs.Scopes.{Signature, Meaning, Unknown, Routine, Declared, LocalVariable, Scope, meaning_in, meaning_among, meaning_of, locals_in, body_locals, item_locals, one_item_locals, blocks_in, body_blocks, item_blocks, one_item_blocks, behind, in_block, in_body, with_local}
 use Rattle.cyc_types.specs.Scopes as scopes
 use Rattle.cyc_types.specs.Rules.{Rule, Derives}
-use Rattle.cyc_types.specs.TypingRules.{type_written, unary_operator, then_operation, read, place_meant, prefixed, passed, called, rule, rule_all, rule_chain, rule_target, rule_condition, returned, rule_returned, rule_initial, behind_item, rule_statement, rule_body, rule_items, rule_item, members_of, result_of, types_of, is_main_head, rule_heads, declares, declared_from, putchar_text, getchar_text, main_text, declared, known_before, regions_before, parameter_locals, body_scope, declared_types, item_types, rule_functions, globals_of, function_number, IsTypedProgram}
+use Rattle.cyc_types.specs.Declarations.{declared_types, item_types}
+use Rattle.cyc_types.specs.TypingRules.{type_written, unary_operator, then_operation, read, place_meant, prefixed, passed, called, rule, rule_all, rule_chain, rule_target, rule_condition, returned, rule_returned, rule_initial, behind_item, rule_statement, rule_body, rule_items, rule_item, members_of, result_of, types_of, is_main_head, rule_heads, declares, declared_from, putchar_text, getchar_text, main_text, declared, known_before, regions_before, parameter_locals, body_scope, rule_functions, globals_of, function_number, IsTypedProgram}
 use Rattle.cyc_types.proofs.ProgramParts.{parts}
 use Rattle.cyc_types.specs.Numbered.{signatures_of, Numbering, IsSignature, argument_count, IsWithin, IsNumbered, IsNumberedConverted, AreNumberedArguments, AreNumberedOperations, IsNumberedReturn, IsNumberedInitial, IsNumberedStatement, AreNumberedItems, AreNumberedFunctions, IsNumberedProgram}
 
