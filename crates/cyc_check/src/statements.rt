@@ -47,11 +47,7 @@ fn evaluation(alloc: Global, value: Box<typed::Expr>) -> Result<Box<typed::Stmt>
 }
 
 #[inline(never)]
-fn block_of(
-    alloc: Global,
-    region: usize,
-    items: Vec<typed::Item>,
-) -> Result<Box<typed::Stmt>, Stop>
+fn block_of(alloc: Global, region: usize, items: Vec<typed::Item>) -> Result<Box<typed::Stmt>, Stop>
     ensures { Gives view_boxed_statement result (Ok (nodes.Block region (typed_view.items_of items.items))) }
 {
     boxed(alloc, typed::Stmt::Block { region, items })

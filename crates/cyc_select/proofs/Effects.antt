@@ -108,7 +108,7 @@ module _ (globals stack : ℕ) (c : Configuration) (r w : Words) (view : View gl
   performed (Branch op left right offset) next safe goes = absurd safe
   performed (BranchZero op source offset) next safe goes = absurd safe
   performed (Jump op index) next safe goes = absurd safe
-  performed (Shift op destination source amount) next safe goes = absurd safe
+  performed (Shift op destination source amount) next safe goes = performs_to c (Shift op destination source amount) (after (machine_of c) (Shift op destination source amount)) next refl refl goes
   performed (JumpRegister source) next safe goes = absurd safe
   performed (JumpRegisterLink destination source) next safe goes = absurd safe
   performed (Exception op code) next safe goes = absurd safe
@@ -140,7 +140,9 @@ module _ (globals stack : ℕ) (c : Configuration) (r w : Words) (view : View gl
   moved_view (Branch op left right offset) safe = absurd safe
   moved_view (BranchZero op source offset) safe = absurd safe
   moved_view (Jump op index) safe = absurd safe
-  moved_view (Shift op destination source amount) safe = absurd safe
+  moved_view (Shift op destination source amount) safe =
+      view_put globals stack c r w view destination.number (shift_result op (word_in c source.number) amount.bits) (shift_result op (r source.number) amount.bits) (c.line + 1) destination.in_range safe
+      (ap (λ (n : ℕ). shift_result op n amount.bits) (view.reg source.number source.in_range))
   moved_view (JumpRegister source) safe = absurd safe
   moved_view (JumpRegisterLink destination source) safe = absurd safe
   moved_view (Exception op code) safe = absurd safe

@@ -4,7 +4,7 @@ use Rattle.std.specs.Prelude.{◌==◌, if◌then◌else◌, slice_set, slice_in
 use Rattle.std.proofs.lemmas.Bool.{cases_eq, cond-false}
 use Rattle.std.proofs.lemmas.List.{get_or-set_same, get_or-set_other, length-set}
 use Rattle.cyc_isa.specs.declared.instr.Instr.{Instr}
-use Rattle.cyc_isa.specs.declared.instr.Instr.TheVariants.{Immediate, LoadUpper, Memory, ShiftVariable, MoveFrom, MultiplyDivide, Arithmetic}
+use Rattle.cyc_isa.specs.declared.instr.Instr.TheVariants.{Immediate, LoadUpper, Memory, Shift, ShiftVariable, MoveFrom, MultiplyDivide, Arithmetic}
 use Rattle.cyc_isa.specs.declared.instr.MemoryOp.TheVariants.{LoadWord, StoreWord}
 use Rattle.cyc_isa.specs.declared.instr.MoveFromOp.TheVariants.{High, Low}
 use Rattle.cyc_isa.specs.declared.instr.MultiplyDivideOp.TheVariants.{Multiply, Divide}
@@ -36,6 +36,7 @@ abbrev pub does_r : Instr → (r w : Words) → Words
 does_r (Immediate op target source half) r w = put r target.number (immediate_result op (r source.number) half)
 does_r (LoadUpper target half) r w = put r target.number (load_upper_result half)
 does_r (Memory LoadWord target base offset) r w = put r target.number (w (memory_address (r base.number) offset))
+does_r (Shift op destination source amount) r w = put r destination.number (shift_result op (r source.number) amount.bits)
 does_r (ShiftVariable op destination source by) r w = put r destination.number (shift_result op (r source.number) (r by.number))
 does_r (MoveFrom High destination) r w = put r destination.number (r 32)
 does_r (MoveFrom Low destination) r w = put r destination.number (r 33)
@@ -58,6 +59,7 @@ IsSafe globals stack (LoadUpper target half) r = IsWritable target.number
 IsSafe globals stack (Memory LoadWord target base offset) r =
     IsWritable target.number × IsCell globals stack (memory_address (r base.number) offset)
 IsSafe globals stack (Memory StoreWord source base offset) r = IsCell globals stack (memory_address (r base.number) offset)
+IsSafe globals stack (Shift op destination source amount) r = IsWritable destination.number
 IsSafe globals stack (ShiftVariable op destination source by) r = IsWritable destination.number
 IsSafe globals stack (MoveFrom op destination) r = IsWritable destination.number
 IsSafe globals stack (MultiplyDivide Multiply left right) r = Unit {0}

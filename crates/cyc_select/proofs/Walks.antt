@@ -79,6 +79,15 @@ pub stands_back : (code : Labelled) (k : ℕ) (xs ys : List Line) → Stands cod
 stands_back code k [] ys stands = stands_to code k (k + 0) ys (omega arith) stands
 stands_back code k (x ∷ xs) ys (first, rest) = stands_to code (k + 1 + length xs) (k + suc (length xs)) ys (omega arith) (stands_back code (k + 1) xs ys rest)
 
+-- the same of ordinary lines
+pub stands_first : (code : Labelled) (k : ℕ) (xs ys : List Instr) → Stands code k (ordinary (xs ++ ys)) → Stands code k (ordinary xs)
+stands_first code k [] ys stands = tt
+stands_first code k (x ∷ xs) ys (first, rest) = (first, stands_first code (k + 1) xs ys rest)
+
+pub stands_behind : (code : Labelled) (k : ℕ) (xs ys : List Instr) → Stands code k (ordinary (xs ++ ys)) → Stands code (k + length xs) (ordinary ys)
+stands_behind code k [] ys stands = stands_to code k (k + 0) (ordinary ys) (omega arith) stands
+stands_behind code k (x ∷ xs) ys (first, rest) = stands_to code (k + 1 + length xs) (k + suc (length xs)) (ordinary ys) (omega arith) (stands_behind code (k + 1) xs ys rest)
+
 -- ---- one after another
 
 abbrev pub after_r : List Instr → (r w : Words) → Words
@@ -115,7 +124,7 @@ does_words_r (Memory StoreWord source base offset) r w fits all mem = all
 does_words_r (Branch op left right offset) r w fits all mem = all
 does_words_r (BranchZero op source offset) r w fits all mem = all
 does_words_r (Jump op index) r w fits all mem = all
-does_words_r (Shift op destination source amount) r w fits all mem = all
+does_words_r (Shift op destination source amount) r w fits all mem = put_words r destination.number _ all (IsWord-shift_result op (r source.number) amount.bits (all source.number))
 does_words_r (ShiftVariable op destination source by) r w fits all mem = put_words r destination.number _ all (IsWord-shift_result op (r source.number) (r by.number) (all source.number))
 does_words_r (JumpRegister source) r w fits all mem = all
 does_words_r (JumpRegisterLink destination source) r w fits all mem = all
@@ -153,7 +162,7 @@ safe_ordinary globals stack (Memory op target base offset) r safe = refl
 safe_ordinary globals stack (Branch op left right offset) r safe = absurd safe
 safe_ordinary globals stack (BranchZero op source offset) r safe = absurd safe
 safe_ordinary globals stack (Jump op index) r safe = absurd safe
-safe_ordinary globals stack (Shift op destination source amount) r safe = absurd safe
+safe_ordinary globals stack (Shift op destination source amount) r safe = refl
 safe_ordinary globals stack (ShiftVariable op destination source by) r safe = refl
 safe_ordinary globals stack (JumpRegister source) r safe = absurd safe
 safe_ordinary globals stack (JumpRegisterLink destination source) r safe = absurd safe

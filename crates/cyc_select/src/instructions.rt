@@ -1,12 +1,12 @@
 //! Single instructions of the machine, by what they are used for.
 ghost use Rattle.std.specs.Prelude.{◌≡◌, ◌+◌, ◌*◌, ◌<◌, ◌≤◌};
-ghost use Rattle.cyc_isa.specs.Decoding.{register_of, trap_code_of};
-ghost use Rattle.cyc_select.specs.Selection.{load, store, load_slot, store_slot, add_immediate, small, minus, is_zero, syscall, load_upper, or_lower, push_frame, pop_frame};
+ghost use Rattle.cyc_isa.specs.Decoding.{register_of, shift_amount_of, trap_code_of};
+ghost use Rattle.cyc_select.specs.Selection.{load, store, load_slot, store_slot, add_immediate, small, or_immediate, minus, is_zero, syscall, load_upper, or_lower, push_frame, pop_frame};
 ghost use Rattle.cyc_select.specs.Emission.{IsReached};
 
 use crate::constants::{FRAME, ZERO};
 use cyc_frame::{Frame, MOST_FRAME_WORDS};
-use cyc_isa::{ExceptionOp, ImmediateOp, Instr, MemoryOp, Register, TrapCode};
+use cyc_isa::{ExceptionOp, ImmediateOp, Instr, MemoryOp, Register, ShiftAmount, TrapCode};
 
 /// The register of this number, which counts modulo 32.
 pub(crate) fn register(number: u8) -> Register
@@ -15,6 +15,13 @@ pub(crate) fn register(number: u8) -> Register
     Register {
         number: number % 32,
     }
+}
+
+/// How far a shift goes, which counts modulo 32.
+pub(crate) fn shift_amount(number: u8) -> ShiftAmount
+    ensures { result ≡ shift_amount_of number }
+{
+    ShiftAmount { bits: number % 32 }
 }
 
 /// The offset of a word from a frame's lowest address on, in bytes.
@@ -90,6 +97,18 @@ pub(crate) fn small(target: u8, number: u16) -> Instr
     ensures { result ≡ small target number }
 {
     add_immediate(target, ZERO, number)
+}
+
+/// A half that zeros come before.
+pub(crate) fn or_immediate(target: u8, half: u16) -> Instr
+    ensures { result ≡ or_immediate target half }
+{
+    Instr::Immediate {
+        op: ImmediateOp::Or,
+        target: register(target),
+        source: register(ZERO),
+        immediate: half,
+    }
 }
 
 /// 1 where the register is 0, and 0 elsewhere.

@@ -8,7 +8,10 @@ pub mod constants;
 mod counting;
 mod emitter;
 mod instructions;
+mod numbers;
+mod operands;
 mod operators;
+mod plan;
 mod selection;
 mod tables;
 

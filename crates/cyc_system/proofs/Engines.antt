@@ -1,6 +1,6 @@
 -- The loop of the engine: what it has done so far is a run of the machine on every input that goes on from what was
 -- read.
-use Rattle.std.proofs.Common.{◌≡◌, ℕ, zero, suc, ◌+◌, ◌<◌, List, [], ◌∷◌, ◌++◌, drop, Bool, true, false, Option, None, Some, Result, Ok, Err, refl, sym, ap, subst, ◌∙◌, arith, append_assoc, append-nil, inr}
+use Rattle.std.proofs.Common.{◌≡◌, ℕ, zero, suc, ◌+◌, ◌-◌, ◌<◌, ◌≤◌, List, [], ◌∷◌, ◌++◌, drop, Bool, true, false, Option, None, Some, Result, Ok, Err, refl, sym, ap, subst, ◌∙◌, arith, append_assoc, append-nil, inr}
 use Rattle.std.specs.Prelude.{unwrap_or, is_none, slice_get, MatchBool}
 use Rattle.std.specs.Io.KnownBytes.{Keeps, Appends, Consumes, IsAtEnd}
 use Rattle.cyc_words.proofs.DeviceLemmas.{Keeps-refl, Appends-nil, Appends-append, Consumes-nil, Consumes-append}
@@ -10,7 +10,7 @@ use Rattle.cyc_machine.specs.declared.event.Event.TheVariants.{Ran, WantsByte, P
 use Rattle.cyc_machine.specs.declared.phase.Phase.TheVariants.{Running, Waiting}
 use Rattle.cyc_machine.specs.State.{State}
 use Rattle.cyc_machine.specs.Step.{Step, given, given_in}
-use Rattle.cyc_machine.specs.Run.{World, told, Goes, Run, end_in}
+use Rattle.cyc_machine.specs.Run.{World, told, Goes, Run, RunsQuietly, TellsLast, IsStretch, end_in}
 use Rattle.cyc_elf.specs.declared.fault.ElfFault.{ElfFault}
 use Rattle.cyc_elf.specs.Image.{ImageContents}
 use Rattle.cyc_machine.specs.declared.fault.LoadFault.TheVariants as load
@@ -181,6 +181,35 @@ Progress-turn start old now new count seen seen' machine machine' p (Puts byte, 
     (quiet start old now new count seen machine machine' (Puts byte) s (byte ∷ []) p step is refl kept printed (λ rest. refl))
 Progress-turn start old now new count seen seen' machine machine' p (Ended end, s, step, none) = absurd none
 
+-- instructions that only ran
+pub Progress-quiet : (start : List ℕ → World) (old now : Devices) (count more : ℕ) (seen : Bool) (machine machine' : State)
+    → Progress start old now count seen machine → RunsQuietly more machine machine' → Progress start old now (count + more) seen machine'
+Progress-quiet start old now count zero seen machine machine' p run =
+    subst (λ (k : ℕ). Progress start old now k seen machine') (let same : count ≡ count + zero = omega arith in same)
+    (subst (λ (m : State). Progress start old now count seen m) (sym run) p)
+Progress-quiet start old now count (suc more) seen machine machine' p (mid, run, step) =
+    subst (λ (k : ℕ). Progress start old now k seen machine') (let same : count + more + 1 ≡ count + suc more = omega arith in same)
+    (Progress-turn start old now now (count + more) seen seen mid machine' (Progress-quiet start old now count more seen machine mid p run)
+    (Ran, machine', step, (refl, refl, (Keeps-refl now.remaining, Keeps-refl now.written))))
+
+-- a stretch that ends with something else than that it ran
+pub tells_last : (most : ℕ) (old : State) (count : ℕ) (event : Event) (new : State) → (event ≡ Ran → ⊥) → IsStretch most old count event new → TellsLast most old count event new
+tells_last most old count Ran new other stretch = absurd (other refl)
+tells_last most old count WantsByte new other stretch = stretch
+tells_last most old count (Puts byte) new other stretch = stretch
+tells_last most old count (Ended end) new other stretch = stretch
+
+-- no stretch is too long
+pub stretch_few : (most : ℕ) (old : State) (count : ℕ) (event : Event) (new : State) → IsStretch most old count event new → count ≤ most
+stretch_few most old count Ran new stretch = omega (arith, stretch.0)
+stretch_few most old count WantsByte new stretch = stretch.few
+stretch_few most old count (Puts byte) new stretch = stretch.few
+stretch_few most old count (Ended end) new stretch = stretch.few
+
+-- a stretch that does not
+pub only_ran : (most : ℕ) (old : State) (count : ℕ) (event : Event) (new : State) → event ≡ Ran → IsStretch most old count event new → RunsQuietly count old new
+only_ran most old count event new ran stretch = (subst (λ (e : Event). IsStretch most old count e new) ran stretch).1
+
 -- What the loop answers.
 
 -- the rest of the input, where the reader tells it: one that fits what was read
@@ -284,3 +313,30 @@ answers_run read image limits budget machine old new result is inside begins run
     subst (λ r. Answers r limits budget old new result) (sym is)
     (loaded (has_outside image) (Refuses (Load load.Outside) old new result) (Starts (start_world image limits) budget old new result) inside
     (inr (subst (λ m. Runs (λ input. record { machine = m; output = []; input = input }) budget old new result) begins runs)))
+
+-- A stretch that ends with something else than that it ran: what was told is answered.
+
+pub Progress-stretch : (start : List ℕ → World) (old now new : Devices) (count most more : ℕ) (seen seen' : Bool) (machine mid machine' : State) (event : Event) → Progress start old now count seen machine
+    → (event ≡ Ran → ⊥) → IsStretch most machine more event mid → ((before : State) → Step before event mid → Turned before machine' seen seen' now new (Ok None))
+    → Progress start old new (count + more) seen' machine'
+Progress-stretch start old now new count most more seen seen' machine mid machine' event p other stretch turned =
+    let t = tells_last most machine more event mid other stretch in
+    let same : count + t.quiet + 1 ≡ count + more = omega (arith, t.counted) in
+    subst (λ (k : ℕ). Progress start old new k seen' machine') same
+    (Progress-turn start old now new (count + t.quiet) seen seen' t.before machine' (Progress-quiet start old now count t.quiet seen machine t.before p t.runs) (turned t.before t.last))
+
+pub stops_after : (start : List ℕ → World) (old now new : Devices) (count budget more : ℕ) (seen seen' : Bool) (machine mid machine' : State) (event : Event) (end : End) → Progress start old now count seen machine → count < budget
+    → (event ≡ Ran → ⊥) → IsStretch (budget - count) machine more event mid → ((before : State) → Step before event mid → Turned before machine' seen seen' now new (Ok (Some end)))
+    → Runs start budget old new (Ok (record { stop = stops.End end; count = count + more }))
+stops_after start old now new count budget more seen seen' machine mid machine' event end p below other stretch turned =
+    let t = tells_last (budget - count) machine more event mid other stretch in
+    let same : count + t.quiet + 1 ≡ count + more = omega (arith, t.counted) in
+    subst (λ (k : ℕ). Runs start budget old new (Ok (record { stop = stops.End end; count = k }))) same
+    (stops_at start old now new (count + t.quiet) budget seen seen' t.before machine' end (Progress-quiet start old now count t.quiet seen machine t.before p t.runs) (omega (arith, t.counted, t.few)) (turned t.before t.last))
+
+pub fails_after : (start : List ℕ → World) (old now new : Devices) (count budget more : ℕ) (seen seen' : Bool) (machine mid machine' : State) (event : Event) (e : RunFault) → Progress start old now count seen machine → count < budget
+    → (event ≡ Ran → ⊥) → IsStretch (budget - count) machine more event mid → ((before : State) → Step before event mid → Turned before machine' seen seen' now new (Err e))
+    → Runs start budget old new (Err e)
+fails_after start old now new count budget more seen seen' machine mid machine' event e p below other stretch turned =
+    let t = tells_last (budget - count) machine more event mid other stretch in
+    fails_at start old now new (count + t.quiet) budget seen seen' t.before machine' e (Progress-quiet start old now count t.quiet seen machine t.before p t.runs) (omega (arith, t.counted, t.few)) (turned t.before t.last)

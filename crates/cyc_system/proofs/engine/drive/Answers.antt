@@ -1,22 +1,31 @@
 use Rattle.std.proofs.Common.{◌∙◌, arith}
 use Rattle.std.proofs.lemmas.Result.{err_from_is_err_and}
-use Rattle.cyc_system.proofs.Engines.{Progress-turn, spends, stops_at, fails_at}
+use Rattle.cyc_system.proofs.Engines.{Progress-quiet, Progress-stretch, only_ran, stretch_few, spends, stops_after, fails_after}
 use Rattle.cyc_system.proofs.engine.drive.Goals as goal
 
-pub returns-in_err-end-clause-runs : goal.returns-in_err-end-clause-runs
-returns-in_err-end-clause-runs g c =
+pub loop-count-preserved-in-Ran : goal.loop-count-preserved-in-Ran
+loop-count-preserved-in-Ran g c = record {
+  progress = Progress-quiet _ _ _ _ _ _ _ _ c.loop-count.invariant.progress (only_ran _ _ _ c.go-stretch.result.event _ c.in-Ran.is c.go-stretch.ensures);
+  reader = c.loop-count.invariant.reader;
+  writer = c.loop-count.invariant.writer;
+  few = omega (arith, stretch_few _ _ _ c.go-stretch.result.event _ c.go-stretch.ensures);
+}
+
+pub returns-in_err-end-in_default-clause-runs : goal.returns-in_err-end-in_default-clause-runs
+returns-in_err-end-in_default-clause-runs g c =
     let p = err_from_is_err_and c.from_residual.result c.from_residual.ensures.1 in
-    rw (p.1, p.2) (fails_at _ _ _ _ _ _ _ c.turn.new.seen _ c.turn.new.machine _ c.loop-count.invariant.progress c.loop-count-test.true c.in_err-end.ensures.turned)
+    rw (p.1, p.2) (fails_after _ _ _ _ _ _ _ _ c.respond.new.seen _ _ c.respond.new.machine c.go-stretch.result.event _ c.loop-count.invariant.progress c.loop-count-test.true c.in_default.not-Ran c.go-stretch.ensures c.in_err-end-in_default.ensures.turned)
 
 pub returns-in-Some-clause-runs : goal.returns-in-Some-clause-runs
 returns-in-Some-clause-runs g c =
-    stops_at _ _ _ _ _ _ _ c.turn.new.seen _ c.turn.new.machine _ c.loop-count.invariant.progress c.loop-count-test.true (rw c.in-Some.is at c.in_ok-end.ensures.turned)
+    stops_after _ _ _ _ _ _ _ _ c.respond.new.seen _ _ c.respond.new.machine c.go-stretch.result.event _ c.loop-count.invariant.progress c.loop-count-test.true c.in_default.not-Ran c.go-stretch.ensures (rw c.in-Some.is at c.in_ok-end-in_default.ensures.turned)
 
 pub loop-count-preserved : goal.loop-count-preserved
 loop-count-preserved g c = record {
-  progress = Progress-turn _ _ _ _ _ _ _ _ _ c.loop-count.invariant.progress (rw c.in_default.is at c.in_ok-end.ensures.turned);
-  reader = c.in_ok-end.ensures.reader ∙ c.loop-count.invariant.reader;
-  writer = c.in_ok-end.ensures.writer ∙ c.loop-count.invariant.writer;
+  progress = Progress-stretch _ _ _ _ _ _ _ _ _ _ _ _ c.go-stretch.result.event c.loop-count.invariant.progress c.in_default.not-Ran c.go-stretch.ensures (rw c.in_default-2.is at c.in_ok-end-in_default.ensures.turned);
+  reader = c.in_ok-end-in_default.ensures.reader ∙ c.loop-count.invariant.reader;
+  writer = c.in_ok-end-in_default.ensures.writer ∙ c.loop-count.invariant.writer;
+  few = omega (arith, stretch_few _ _ _ c.go-stretch.result.event _ c.go-stretch.ensures);
 }
 
 pub returns-clause-runs : goal.returns-clause-runs

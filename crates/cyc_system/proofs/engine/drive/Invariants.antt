@@ -1,4 +1,4 @@
-use Rattle.std.proofs.Common.{◌≡◌, []}
+use Rattle.std.proofs.Common.{◌≡◌, ◌-◌, ◌≤◌, []}
 use Rattle.cyc_system.proofs.Engines.{Progress}
 use Rattle.cyc_system.proofs.engine.drive.Given as goal
 
@@ -10,4 +10,8 @@ invariant-loop-count g l = record {
       l.count l.seen l.machine;
   reader : g.R.ByteIn.failed l.reader ≡ g.R.ByteIn.failed l.fn.reader;
   writer : g.W.ByteOut.failed l.writer ≡ g.W.ByteOut.failed l.fn.writer;
+  few : l.count ≤ l.budget;
 }
+
+abbrev pub decreases-loop-count : goal.decreases-loop-count
+decreases-loop-count g l = l.budget - l.count

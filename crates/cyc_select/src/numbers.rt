@@ -1,0 +1,109 @@
+//! Numbers that stand in an instruction.
+ghost use Rattle.std.specs.Prelude.{◌≡◌};
+ghost use Rattle.cyc_select.specs.Numbers.{fits_signed, half_of, signed_half, negated_half, next_half, low_half, is_word, is_zero_word, is_plain_divisor, shift_amount};
+
+use cyc_plain::Operand;
+use cyc_words::{add, sub};
+
+/// Whether a word is its lower half extended by its sign.
+pub(crate) fn fits_signed(word: u32) -> bool
+    ensures { result ≡ fits_signed word }
+{
+    word < 0x8000 || 0xffff_8000 <= word
+}
+
+/// The half that is this word where it is extended by its sign.
+fn half_of(word: u32) -> Option<u16>
+    ensures { result ≡ half_of word }
+{
+    if fits_signed(word) {
+        Some((word % 0x1_0000) as u16)
+    } else {
+        None
+    }
+}
+
+/// The half that is an operand's word.
+pub(crate) fn signed_half(operand: Operand) -> Option<u16>
+    ensures { result ≡ signed_half operand }
+{
+    match operand {
+        Operand::Slot { .. } => None,
+        Operand::Word { word } => half_of(word),
+    }
+}
+
+/// The half that is an operand's word with the other sign.
+pub(crate) fn negated_half(operand: Operand) -> Option<u16>
+    ensures { result ≡ negated_half operand }
+{
+    match operand {
+        Operand::Slot { .. } => None,
+        Operand::Word { word } => half_of(sub(0, word)),
+    }
+}
+
+/// The half that is one more than an operand's word.
+pub(crate) fn next_half(operand: Operand) -> Option<u16>
+    ensures { result ≡ next_half operand }
+{
+    match operand {
+        Operand::Slot { .. } => None,
+        Operand::Word { word } => half_of(add(word, 1)),
+    }
+}
+
+/// The half that is an operand's word where zeros come before it.
+pub(crate) fn low_half(operand: Operand) -> Option<u16>
+    ensures { result ≡ low_half operand }
+{
+    match operand {
+        Operand::Slot { .. } => None,
+        Operand::Word { word } => {
+            if word < 0x1_0000 {
+                Some(word as u16)
+            } else {
+                None
+            }
+        }
+    }
+}
+
+pub(crate) fn is_word(operand: Operand) -> bool
+    ensures { result ≡ is_word operand }
+{
+    match operand {
+        Operand::Slot { .. } => false,
+        Operand::Word { .. } => true,
+    }
+}
+
+/// Whether an operand is the word 0, which is in a register already.
+pub(crate) fn is_zero_word(operand: Operand) -> bool
+    ensures { result ≡ is_zero_word operand }
+{
+    match operand {
+        Operand::Slot { .. } => false,
+        Operand::Word { word } => word == 0,
+    }
+}
+
+/// Whether an operand is a word by which the machine divides any other.
+pub(crate) fn is_plain_divisor(operand: Operand) -> bool
+    ensures { result ≡ is_plain_divisor operand }
+{
+    match operand {
+        Operand::Slot { .. } => false,
+        Operand::Word { word } => word != 0 && word != u32::MAX,
+    }
+}
+
+/// How far a shift goes by an operand that is a word.
+pub(crate) fn shift_amount(operand: Operand) -> Option<u8>
+    ensures { result ≡ shift_amount operand }
+{
+    match operand {
+        Operand::Slot { .. } => None,
+        Operand::Word { word } => Some((word % 32) as u8),
+    }
+}

@@ -1,0 +1,401 @@
+//! How the machine computes what an operator or a comparison says: by which instructions, and of which operands.
+ghost use Rattle.std.specs.Prelude.{◌≡◌};
+ghost use Rattle.cyc_select.specs.Plans.{arithmetic_plan, immediate_plan, immediate_or, shift_plan, multiply_divide_plan, mirrored, zero_plan, equal_plan, less_plan, less_unsigned_plan, at_most_plan, compared_plan, is_mirrored, comparison_plan, unary_plan, sum_plan, difference_plan, bits_plan, operator_plan, is_swapped, binary_plan, test_of};
+
+use crate::numbers::{
+    is_word, is_zero_word, low_half, negated_half, next_half, shift_amount, signed_half,
+};
+use cyc_isa::{ArithmeticOp, BranchOp, ImmediateOp, MoveFromOp, MultiplyDivideOp, ShiftOp};
+use cyc_plain::{BinaryOperator, Comparison, Operand, UnaryOperator};
+
+/// What makes a word of the words in two registers, or of that in the left one and a number.
+#[derive(Clone, Copy)]
+pub(crate) enum Operation {
+    Arithmetic {
+        op: ArithmeticOp,
+    },
+    /// The right one stands in the instruction.
+    Immediate {
+        op: ImmediateOp,
+        half: u16,
+    },
+    /// The left one is shifted.
+    Shift {
+        op: ShiftOp,
+    },
+    /// By a number that stands in the instruction.
+    ShiftBy {
+        op: ShiftOp,
+        amount: u8,
+    },
+    /// A word of their product, or a result of their division.
+    MultiplyDivide {
+        op: MultiplyDivideOp,
+        from: MoveFromOp,
+    },
+}
+
+/// What is made of such a word.
+#[derive(Clone, Copy)]
+pub(crate) enum Outcome {
+    AsItIs,
+    /// 1 where it is 0, and 0 elsewhere.
+    WhetherZero,
+    /// 0 where it is 0, and 1 elsewhere.
+    WhetherNotZero,
+}
+
+/// A word that is computed of two operands. Where a number stands in the instruction, the right one is the word 0, which
+/// needs no line.
+#[derive(Clone, Copy)]
+pub(crate) struct Plan {
+    pub(crate) operation: Operation,
+    pub(crate) left: Operand,
+    pub(crate) right: Operand,
+    pub(crate) outcome: Outcome,
+}
+
+/// What a branch tests.
+#[derive(Clone, Copy)]
+pub(crate) enum Test {
+    /// Two operands.
+    Operands {
+        op: BranchOp,
+        left: Operand,
+        right: Operand,
+    },
+    /// Whether a word that is computed is not 0.
+    Computed {
+        plan: Plan,
+    },
+}
+
+fn arithmetic_plan(op: ArithmeticOp, left: Operand, right: Operand, outcome: Outcome) -> Plan
+    ensures { result ≡ arithmetic_plan op left right outcome }
+{
+    Plan {
+        operation: Operation::Arithmetic { op },
+        left,
+        right,
+        outcome,
+    }
+}
+
+fn immediate_plan(op: ImmediateOp, left: Operand, half: u16, outcome: Outcome) -> Plan
+    ensures { result ≡ immediate_plan op left half outcome }
+{
+    Plan {
+        operation: Operation::Immediate { op, half },
+        left,
+        right: Operand::Word { word: 0 },
+        outcome,
+    }
+}
+
+/// A plan with a number in the instruction, if there is one, and otherwise another.
+fn immediate_or(
+    half: Option<u16>,
+    op: ImmediateOp,
+    left: Operand,
+    outcome: Outcome,
+    other: Plan,
+) -> Plan
+    ensures { result ≡ immediate_or half op left outcome other }
+{
+    match half {
+        Some(half) => immediate_plan(op, left, half, outcome),
+        None => other,
+    }
+}
+
+fn shift_plan(op: ShiftOp, left: Operand, right: Operand) -> Plan
+    ensures { result ≡ shift_plan op left right }
+{
+    let (operation, right) = match shift_amount(right) {
+        Some(amount) => (Operation::ShiftBy { op, amount }, Operand::Word { word: 0 }),
+        None => (Operation::Shift { op }, right),
+    };
+    Plan {
+        operation,
+        left,
+        right,
+        outcome: Outcome::AsItIs,
+    }
+}
+
+fn multiply_divide_plan(
+    op: MultiplyDivideOp,
+    from: MoveFromOp,
+    left: Operand,
+    right: Operand,
+) -> Plan
+    ensures { result ≡ multiply_divide_plan op from left right }
+{
+    Plan {
+        operation: Operation::MultiplyDivide { op, from },
+        left,
+        right,
+        outcome: Outcome::AsItIs,
+    }
+}
+
+/// The comparison with its operands the other way round.
+fn mirrored(comparison: Comparison) -> Comparison
+    ensures { result ≡ mirrored comparison }
+{
+    match comparison {
+        Comparison::Less => Comparison::Greater,
+        Comparison::LessOrEqual => Comparison::GreaterOrEqual,
+        Comparison::Greater => Comparison::Less,
+        Comparison::GreaterOrEqual => Comparison::LessOrEqual,
+        _ => comparison,
+    }
+}
+
+/// Whether a word is 0, or is not.
+fn zero_plan(operand: Operand, holds: bool) -> Plan
+    ensures { result ≡ zero_plan operand holds }
+{
+    if holds {
+        immediate_plan(ImmediateOp::SetLessUnsigned, operand, 1, Outcome::AsItIs)
+    } else {
+        arithmetic_plan(
+            ArithmeticOp::SetLessUnsigned,
+            Operand::Word { word: 0 },
+            operand,
+            Outcome::AsItIs,
+        )
+    }
+}
+
+/// Whether two words are equal, or are not: their difference is 0, or is not.
+fn equal_plan(left: Operand, right: Operand, holds: bool) -> Plan
+    ensures { result ≡ equal_plan left right holds }
+{
+    if is_zero_word(right) {
+        return zero_plan(left, holds);
+    }
+    let outcome = if holds {
+        Outcome::WhetherZero
+    } else {
+        Outcome::WhetherNotZero
+    };
+    let difference = arithmetic_plan(ArithmeticOp::SubtractUnsigned, left, right, outcome);
+    immediate_or(
+        negated_half(right),
+        ImmediateOp::AddUnsigned,
+        left,
+        outcome,
+        difference,
+    )
+}
+
+/// Whether the left word is less than the right one, or is not.
+fn less_plan(left: Operand, right: Operand, outcome: Outcome) -> Plan
+    ensures { result ≡ less_plan left right outcome }
+{
+    let of_registers = arithmetic_plan(ArithmeticOp::SetLess, left, right, outcome);
+    immediate_or(
+        signed_half(right),
+        ImmediateOp::SetLess,
+        left,
+        outcome,
+        of_registers,
+    )
+}
+
+fn less_unsigned_plan(left: Operand, right: Operand, outcome: Outcome) -> Plan
+    ensures { result ≡ less_unsigned_plan left right outcome }
+{
+    let of_registers = arithmetic_plan(ArithmeticOp::SetLessUnsigned, left, right, outcome);
+    immediate_or(
+        signed_half(right),
+        ImmediateOp::SetLessUnsigned,
+        left,
+        outcome,
+        of_registers,
+    )
+}
+
+/// Whether the left word is at most the right one, which is whether it is less than one more, or is not.
+fn at_most_plan(left: Operand, right: Operand, holds: bool) -> Plan
+    ensures { result ≡ at_most_plan left right holds }
+{
+    let (less, greater) = if holds {
+        (Outcome::AsItIs, Outcome::WhetherZero)
+    } else {
+        (Outcome::WhetherZero, Outcome::AsItIs)
+    };
+    let of_registers = arithmetic_plan(ArithmeticOp::SetLess, right, left, greater);
+    immediate_or(
+        next_half(right),
+        ImmediateOp::SetLess,
+        left,
+        less,
+        of_registers,
+    )
+}
+
+/// Whether a comparison holds whose left operand is no word, as far as that can be had.
+fn compared_plan(comparison: Comparison, left: Operand, right: Operand) -> Plan
+    ensures { result ≡ compared_plan comparison left right }
+{
+    match comparison {
+        Comparison::Equal => equal_plan(left, right, true),
+        Comparison::NotEqual => equal_plan(left, right, false),
+        Comparison::Less => less_plan(left, right, Outcome::AsItIs),
+        Comparison::LessOrEqual => at_most_plan(left, right, true),
+        Comparison::Greater => at_most_plan(left, right, false),
+        Comparison::GreaterOrEqual => less_plan(left, right, Outcome::WhetherZero),
+        Comparison::LessUnsigned => less_unsigned_plan(left, right, Outcome::AsItIs),
+        Comparison::GreaterOrEqualUnsigned => {
+            less_unsigned_plan(left, right, Outcome::WhetherZero)
+        }
+    }
+}
+
+/// Whether the operands are better the other way round: the left one is a word, and the comparison can be mirrored.
+fn is_mirrored(comparison: Comparison, left: Operand) -> bool
+    ensures { result ≡ is_mirrored comparison left }
+{
+    match comparison {
+        Comparison::LessUnsigned | Comparison::GreaterOrEqualUnsigned => false,
+        _ => is_word(left),
+    }
+}
+
+/// Whether a comparison holds: 1 or 0.
+pub(crate) fn comparison_plan(comparison: Comparison, left: Operand, right: Operand) -> Plan
+    ensures { result ≡ comparison_plan comparison left right }
+{
+    if is_mirrored(comparison, left) {
+        compared_plan(mirrored(comparison), right, left)
+    } else {
+        compared_plan(comparison, left, right)
+    }
+}
+
+pub(crate) fn unary_plan(operator: UnaryOperator, operand: Operand) -> Plan
+    ensures { result ≡ unary_plan operator operand }
+{
+    let zero = Operand::Word { word: 0 };
+    let difference = ArithmeticOp::SubtractUnsigned;
+    match operator {
+        UnaryOperator::Negate => arithmetic_plan(difference, zero, operand, Outcome::AsItIs),
+        UnaryOperator::Complement => {
+            arithmetic_plan(ArithmeticOp::Nor, zero, operand, Outcome::AsItIs)
+        }
+        UnaryOperator::Not => comparison_plan(Comparison::Equal, operand, zero),
+    }
+}
+
+fn sum_plan(left: Operand, right: Operand) -> Plan
+    ensures { result ≡ sum_plan left right }
+{
+    let of_registers = arithmetic_plan(ArithmeticOp::AddUnsigned, left, right, Outcome::AsItIs);
+    immediate_or(
+        signed_half(right),
+        ImmediateOp::AddUnsigned,
+        left,
+        Outcome::AsItIs,
+        of_registers,
+    )
+}
+
+fn difference_plan(left: Operand, right: Operand) -> Plan
+    ensures { result ≡ difference_plan left right }
+{
+    let op = ArithmeticOp::SubtractUnsigned;
+    let of_registers = arithmetic_plan(op, left, right, Outcome::AsItIs);
+    immediate_or(
+        negated_half(right),
+        ImmediateOp::AddUnsigned,
+        left,
+        Outcome::AsItIs,
+        of_registers,
+    )
+}
+
+/// An operation on bits, of registers and of a register and a number.
+fn bits_plan(op: ArithmeticOp, number_op: ImmediateOp, left: Operand, right: Operand) -> Plan
+    ensures { result ≡ bits_plan op number_op left right }
+{
+    let of_registers = arithmetic_plan(op, left, right, Outcome::AsItIs);
+    immediate_or(
+        low_half(right),
+        number_op,
+        left,
+        Outcome::AsItIs,
+        of_registers,
+    )
+}
+
+/// An operator on two operands of which the left one is no word, as far as that can be had. (A division's plan is for a
+/// divisor by which the machine divides any word.)
+fn operator_plan(operator: BinaryOperator, left: Operand, right: Operand) -> Plan
+    ensures { result ≡ operator_plan operator left right }
+{
+    let product = MultiplyDivideOp::Multiply;
+    let quotient = MultiplyDivideOp::Divide;
+    match operator {
+        BinaryOperator::Add => sum_plan(left, right),
+        BinaryOperator::Subtract => difference_plan(left, right),
+        BinaryOperator::And => bits_plan(ArithmeticOp::And, ImmediateOp::And, left, right),
+        BinaryOperator::Or => bits_plan(ArithmeticOp::Or, ImmediateOp::Or, left, right),
+        BinaryOperator::Xor => bits_plan(ArithmeticOp::Xor, ImmediateOp::Xor, left, right),
+        BinaryOperator::ShiftLeft => shift_plan(ShiftOp::Left, left, right),
+        BinaryOperator::ShiftRight => shift_plan(ShiftOp::RightArithmetic, left, right),
+        BinaryOperator::Equal => comparison_plan(Comparison::Equal, left, right),
+        BinaryOperator::NotEqual => comparison_plan(Comparison::NotEqual, left, right),
+        BinaryOperator::Less => comparison_plan(Comparison::Less, left, right),
+        BinaryOperator::LessOrEqual => comparison_plan(Comparison::LessOrEqual, left, right),
+        BinaryOperator::Greater => comparison_plan(Comparison::Greater, left, right),
+        BinaryOperator::GreaterOrEqual => comparison_plan(Comparison::GreaterOrEqual, left, right),
+        BinaryOperator::Multiply => multiply_divide_plan(product, MoveFromOp::Low, left, right),
+        BinaryOperator::Divide => multiply_divide_plan(quotient, MoveFromOp::Low, left, right),
+        BinaryOperator::Remainder => multiply_divide_plan(quotient, MoveFromOp::High, left, right),
+    }
+}
+
+/// Whether the operands are better the other way round: the left one is a word, and the operator commutes.
+fn is_swapped(operator: BinaryOperator, left: Operand) -> bool
+    ensures { result ≡ is_swapped operator left }
+{
+    match operator {
+        BinaryOperator::Add | BinaryOperator::And | BinaryOperator::Or | BinaryOperator::Xor =>
+            is_word(left),
+        _ => false,
+    }
+}
+
+/// An operator on two operands.
+pub(crate) fn binary_plan(operator: BinaryOperator, left: Operand, right: Operand) -> Plan
+    ensures { result ≡ binary_plan operator left right }
+{
+    if is_swapped(operator, left) {
+        operator_plan(operator, right, left)
+    } else {
+        operator_plan(operator, left, right)
+    }
+}
+
+/// What a branch tests.
+pub(crate) fn test_of(comparison: Comparison, left: Operand, right: Operand) -> Test
+    ensures { result ≡ test_of comparison left right }
+{
+    match comparison {
+        Comparison::Equal => Test::Operands {
+            op: BranchOp::Equal,
+            left,
+            right,
+        },
+        Comparison::NotEqual => Test::Operands {
+            op: BranchOp::NotEqual,
+            left,
+            right,
+        },
+        _ => Test::Computed {
+            plan: comparison_plan(comparison, left, right),
+        },
+    }
+}
