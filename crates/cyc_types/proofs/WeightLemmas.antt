@@ -18,7 +18,7 @@ use Rattle.cyc_types.specs.Declarations.{item_types}
 use Rattle.cyc_types.specs.TypingRules.{type_written, unary_operator, then_operation, read, prefixed, passed, called, rule, rule_all, rule_chain, rule_target, rule_condition, returned, rule_returned, rule_initial, rule_statement, rule_body, rule_items, members_of, types_of, declared, body_scope, function_of, rule_functions, constant_of, globals_of, IsTypedProgram}
 use Rattle.cyc_types.specs.Weight.{expression_weight, converted_weight, arguments_weight, more_arguments_weight, operations_weight, else_weight, statement_weight, items_weight, constant_weight, global_weight, function_weight, program_weight}
 use Rattle.cyc_types.proofs.ProgramParts.{parts}
-use Rattle.cyc_types.proofs.NumberedLemmas.{items_counted}
+use Rattle.cyc_types.proofs.WellTypedLemmas.{items_counted}
 
 -- ---- expressions
 
