@@ -3,7 +3,7 @@ use Rattle.std.proofs.Common.{◌≡◌, ℕ, zero, suc, ◌+◌, ◌*◌, ◌�
 use Rattle.cyc_syntax.specs.declared.tree.BinaryOperator.{BinaryOperator}
 use Rattle.cyc_syntax.specs.declared.tree.BinaryOperator.TheVariants as operators
 use Rattle.cyc_syntax.specs.Symbols.{Place}
-use Rattle.cyc_syntax.specs.Trees.{Named, BaseType, Int, WrittenType, Expression, Number, Character, Null, HeapRegion, UniqueRegion, Variable, Call, Bracketed, NumberOfElements, FreeUnique, FreeKey, Chained, Prefixed, New, RegionNew, Binary, Assign, Expressions, NoExpressions, MoreExpressions, Operations, NoOperations, ThenOperation, Statement, Block, Labelled, Empty, Evaluate, Swap, If, IfElse, While, Return, Break, Continue, Throw, Try, Body, Braces, Items, NoItems, MoreItems, Execute, Local, Region, Alias, DynamicRegion, Member, GlobalValue, Positive, Negative, Byte, NullPointer, ParameterList, Void, Listed, Declaration, StructType, Exceptions, Global, Function, place_of}
+use Rattle.cyc_syntax.specs.Trees.{Named, BaseType, Int, WrittenType, Expression, Number, Character, Variable, Call, Bracketed, Prefixed, Binary, Assign, Expressions, NoExpressions, MoreExpressions, Operations, NoOperations, ThenOperation, Statement, Block, Labelled, Empty, Evaluate, If, IfElse, While, Return, Break, Continue, Try, Body, Braces, Items, NoItems, MoreItems, Execute, Local, Member, GlobalValue, Positive, Negative, Byte, NullPointer, ParameterList, Void, Listed, Declaration, StructType, Exceptions, Global, Function, place_of}
 use Rattle.cyc_types.specs.declared.typed.UnaryOperator.{UnaryOperator}
 use Rattle.cyc_syntax.specs.Weight.{sum_of, separated_weight, optional_weight, type_weight, member_weight, value_weight, parameter_list_weight, result_weight, tree_weight}
 use Rattle.cyc_syntax.specs.Weight as written

@@ -1,5 +1,5 @@
 -- What the typing rules derive is well typed.
-use Rattle.std.proofs.Common.{◌≡◌, ℕ, zero, suc, ◌+◌, ◌≤◌, ◌<◌, Bool, true, false, cond, not, nat_eq, ◌||◌, ◌⊎◌, List, [], ◌∷◌, ◌++◌, Option, Some, None, map, length, slice_get, inl, inr, refl, sym, ap, subst, ◌∙◌, arith}
+use Rattle.std.proofs.Common.{◌≡◌, ℕ, zero, suc, ◌+◌, ◌≤◌, Bool, true, false, cond, not, nat_eq, ◌||◌, List, [], ◌∷◌, ◌++◌, Option, Some, None, map, length, slice_get, inl, inr, refl, sym, ap, subst, ◌∙◌, arith}
 use Rattle.std.specs.Prelude.{Contains}
 use Rattle.std.proofs.lemmas.Bool.{eqb-true}
 use Rattle.cyc_syntax.specs.declared.tree.BinaryOperator.{BinaryOperator}
@@ -19,9 +19,9 @@ use Rattle.cyc_types.specs.IntPart.{is_empty, is_left_out}
 use Rattle.cyc_types.specs.Scopes.{Meaning, Unknown, Routine, Declared, LocalVariable, Scope, meaning_in, meaning_among, meaning_of, locals_in, body_locals, item_locals, blocks_in, body_blocks, item_blocks, in_block, in_body, with_local}
 use Rattle.cyc_types.specs.Scopes as scopes
 use Rattle.cyc_types.specs.Rules.{Demand, AllKept, Rule, Derives}
-use Rattle.cyc_types.specs.TypingRules.{type_written, is_int, conversion, converted, unary_operator, then_operation, read, place_meant, prefixed, assigned, passed, arguments_demanded, called, rule, rule_all, rule_chain, rule_target, rule_condition, returned, rule_returned, rule_initial, rule_statement, rule_body, rule_items, members_of, result_of, types_of, is_main_head, rule_heads, declares, declared_from, putchar_text, getchar_text, main_text, declared, known_before, regions_before, parameter_locals, body_scope, function_of, rule_functions, globals_of, function_number, IsTypedProgram}
+use Rattle.cyc_types.specs.TypingRules.{type_written, is_int, conversion, converted, unary_operator, then_operation, read, place_meant, prefixed, passed, arguments_demanded, called, rule, rule_all, rule_chain, rule_target, rule_condition, returned, rule_returned, rule_initial, rule_statement, rule_body, rule_items, members_of, result_of, types_of, is_main_head, rule_heads, declares, declared_from, putchar_text, getchar_text, main_text, declared, known_before, regions_before, parameter_locals, body_scope, function_of, rule_functions, globals_of, function_number, IsTypedProgram}
 use Rattle.cyc_types.specs.Declarations.{declared_types, item_types, declared_regions, item_regions}
-use Rattle.cyc_types.specs.WellTyped.{FunctionType, LocalInScope, Context, HasLocal, IsVariable, function_type, IsCallee, Converts, WellTyped, IsConverted, ArePassed, IsChain, behind, open_block, IsInitial, IsReturned, WellTypedStatement, WellTypedItems, type_of_function, parameters_in_scope, body_context, IsWellTypedFunction, AreWellTypedFunctions, IsWellTypedProgram}
+use Rattle.cyc_types.specs.WellTyped.{FunctionType, LocalInScope, Context, HasLocal, IsVariable, function_type, IsCallee, WellTyped, IsConverted, ArePassed, IsChain, behind, open_block, IsInitial, IsReturned, WellTypedStatement, WellTypedItems, type_of_function, parameters_in_scope, body_context, IsWellTypedFunction, AreWellTypedFunctions, IsWellTypedProgram}
 use Rattle.cyc_types.proofs.ProgramParts.{parts}
 
 -- ---- what a typed statement declares, by its tree
@@ -344,7 +344,7 @@ module _ (p : typed.Program) (h : typed.Function) where
           condition_well g r fits e a d,
           statement_well g r fits s b (λ i j x same at_i. inside i j x same (front_of (declared_types b) (declared_types c) i x at_i)) (omega arith) ds,
           subst (λ z. WellTypedStatement z c) (behind_same g r s b ds)
-          (statement_well (scopes.behind g s) r (going_on g r s fits) v c (behind_locals g.next_local (locals_in s) (declared_types b) (declared_types c) (statement_counted g s b ds) inside) (omega arith) es),
+              (statement_well (scopes.behind g s) r (going_on g r s fits) v c (behind_locals g.next_local (locals_in s) (declared_types b) (declared_types c) (statement_counted g s b ds) inside) (omega arith) es),
         )
     statement_well g r fits (While q e s) t k l (a, d, (b, ds, (u, eq))) =
         subst (WellTypedStatement (at g r)) (sym eq)
@@ -367,7 +367,7 @@ module _ (p : typed.Program) (h : typed.Function) where
         subst (WellTypedItems (at g r)) (sym whole) (
           statement_well g r fits s t (λ i n x same at_i. inside i n x same (front_of (declared_types t) (item_types ks) i x at_i)) (omega arith) d,
           subst (λ z. WellTypedItems z ks) (behind_same g r s t d)
-          (items_well (scopes.behind g s) r (going_on g r s fits) is ks (behind_locals g.next_local (locals_in s) (declared_types t) (item_types ks) (statement_counted g s t d) inside) (omega arith) ds),
+              (items_well (scopes.behind g s) r (going_on g r s fits) is ks (behind_locals g.next_local (locals_in s) (declared_types t) (item_types ks) (statement_counted g s t d) inside) (omega arith) ds),
         )
     items_well g r fits (MoreItems (Local w x v) is) js k l (j, (c, d, (u, is_j)), (ks, ds, (y, eq))) =
         let whole : js ≡ typed.MoreItems (typed.Declare g.next_local (type_written w) c) ks = eq ∙ ap (λ i. typed.MoreItems i ks) is_j in

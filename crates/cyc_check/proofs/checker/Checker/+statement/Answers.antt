@@ -1,8 +1,7 @@
 use borrow.Enum.Total.{values_d_at}
 use borrow.Enum.Known.{ValuesAt}
 use Rattle.cyc_syntax.specs.contracts.tree.Stmt.{enum}
-use Rattle.std.proofs.Common.{rules, arith, ◌≡◌, ℕ, suc, Some, Ok, OnOk, ◌+◌, ◌≤◌, length, drop, get_or, ◌∷◌, sym, ap, subst, ◌∙◌}
-use Rattle.std.proofs.lemmas.List.{drop_more}
+use Rattle.std.proofs.Common.{arith, ◌≡◌, ℕ, suc, Some, Ok, OnOk, ◌+◌, drop, sym, ap, subst, ◌∙◌}
 use Rattle.std.proofs.lemmas.Result.{err_from_is_err_and}
 use Rattle.cyc_syntax.specs.declared.tree.Stmt.TheVariants as stmt
 use Rattle.cyc_syntax.specs.TreeView.{place_of_span, view_expression, view_statement, view_item, items_of}
