@@ -1,5 +1,5 @@
 -- The int language has int locals only, as many as its blocks declare.
-use Rattle.std.proofs.Common.{◌≡◌, ℕ, zero, suc, ◌+◌, ◌-◌, length, Option, List, [], ◌∷◌, ◌++◌, map, Ok, Err, refl, sym, ap, subst, ◌∙◌, arith}
+use Rattle.std.proofs.Common.{◌≡◌, ℕ, zero, suc, ◌+◌, ◌-◌, length, Option, List, [], ◌∷◌, ◌++◌, map, Ok, Err, refl, sym, ap, ◌∙◌, arith}
 use Rattle.std.proofs.lemmas.List.{map-append}
 use Rattle.cyc_syntax.specs.declared.tree.Member.{Member as MemberCode}
 use Rattle.cyc_syntax.specs.Symbols.{Place}
@@ -11,7 +11,8 @@ use Rattle.cyc_types.specs.TypeView.{view_ty}
 use Rattle.cyc_types.specs.Types.{Ty, Int}
 use Rattle.cyc_types.specs.Scopes.{Scope, locals_in, body_locals, item_locals, item_blocks, behind, in_block, in_body, with_local}
 use Rattle.cyc_types.specs.TypedTrees as typed
-use Rattle.cyc_types.specs.TypingRules.{type_written, rule_statement, rule_body, rule_items, declared_types, item_types, types_of, result_of, function_of}
+use Rattle.cyc_types.specs.Declarations.{declared_types, item_types}
+use Rattle.cyc_types.specs.TypingRules.{type_written, rule_statement, rule_body, rule_items, types_of, result_of, function_of}
 use Rattle.cyc_types.specs.Rules.{Checked, Derives, run}
 use Rattle.cyc_types.proofs.RuleLaws.{answers_tree}
 use Rattle.cyc_check.specs.Code.{ints}

@@ -1,7 +1,7 @@
 //! What the checker asks of a typed expression: the type of its value.
 ghost use Rattle.std.specs.Prelude.{◌≡◌};
 ghost use Rattle.cyc_types.specs.Types.{Value};
-ghost use Rattle.cyc_types.specs.TypeView.{view_ty};
+ghost use Rattle.cyc_types.specs.TypeView.{view_ty, view_value_type};
 ghost use Rattle.cyc_types.specs.TypedTrees.{type_of};
 ghost use Rattle.cyc_types.specs.TypedTreeView.{view_expression};
 ghost use Rattle.cyc_types.specs.TypingRules.{is_int};
@@ -36,20 +36,19 @@ impl<'a> Given<'a> {
             typed::Expr::Copy { of_type, .. } | typed::Expr::Binary { of_type, .. } => {
                 Given::Value(of_type)
             }
-            typed::Expr::Call {
-                result: of_type,
-                ..
+            typed::Expr::Call { result, .. } | typed::Expr::Assign { result, .. } => {
+                Given::of(result)
             }
-            | typed::Expr::Assign {
-                result: of_type,
-                ..
-            } => {
-                match of_type {
-                    ValueType::Void => Given::Void,
-                    ValueType::Null => Given::Null,
-                    ValueType::Value { of_type } => Given::Value(of_type),
-                }
-            }
+        }
+    }
+
+    fn of(value_type: &'a ValueType) -> Given<'a>
+        ensures { view_given result ≡ view_value_type value_type.now }
+    {
+        match value_type {
+            ValueType::Void => Given::Void,
+            ValueType::Null => Given::Null,
+            ValueType::Value { of_type } => Given::Value(of_type),
         }
     }
 

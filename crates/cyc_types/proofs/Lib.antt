@@ -3,6 +3,7 @@ pub mod RuleLaws
 pub mod ProgramParts
 pub mod FlowAnswered
 pub mod TypedTreeViewLemmas
+pub mod WellTypedLemmas
 pub mod NumberedLemmas
 pub mod WeightLemmas
 -- what the proofs of this crate cite

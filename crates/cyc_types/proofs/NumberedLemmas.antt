@@ -1,310 +1,117 @@
--- The typed tree of a program keeps its numbers in range.
-use Rattle.std.specs.Prelude.{nat_eq, length, slice_get}
-use Rattle.std.proofs.lemmas.Bool.{eqb-true}
-use Rattle.std.proofs.Common.{◌≡◌, ℕ, suc, ◌+◌, ◌≤◌, ◌<◌, Bool, true, false, cond, not, ◌&&◌, ◌||◌, List, [], ◌∷◌, ◌++◌, Option, Some, None, refl, sym, ap, subst, ◌∙◌, arith}
-use Rattle.cyc_syntax.specs.declared.tree.BinaryOperator.{BinaryOperator}
-use Rattle.cyc_syntax.specs.declared.tree.BinaryOperator.TheVariants as operators
-use Rattle.cyc_syntax.specs.Names.{number_of}
-use Rattle.cyc_syntax.specs.Symbols.{Place}
-use Rattle.cyc_syntax.specs.Trees.{Named, WrittenType, Expression, Number, Character, Null, HeapRegion, UniqueRegion, Variable, Call, Bracketed, NumberOfElements, FreeUnique, FreeKey, Chained, Prefixed, New, RegionNew, Binary, Assign, Expressions, NoExpressions, MoreExpressions, Operations, NoOperations, ThenOperation, Statement, Block, Labelled, Empty, Evaluate, Swap, If, IfElse, While, Return, Break, Continue, Throw, Try, Body, Braces, Items, NoItems, MoreItems, Execute, Local, Region, Alias, DynamicRegion, Member, Parameters, Declaration, StructType, Exceptions, Global, Function, place_of}
+-- A well typed program keeps its numbers in range.
+use Rattle.std.proofs.Common.{◌≡◌, ℕ, suc, ◌<◌, List, [], ◌∷◌, Option, Some, None, map, length, slice_get, refl, ap, subst, ◌∙◌, arith, length-append}
+use Rattle.std.proofs.lemmas.Option.{slice_get-map, slice_get_within}
+use Rattle.cyc_syntax.specs.Trees.{Declaration}
+use Rattle.cyc_types.specs.declared.typed.Callee.{Callee}
 use Rattle.cyc_types.specs.declared.typed.Callee.TheVariants as callees
-use Rattle.cyc_types.specs.declared.typed.UnaryOperator.{UnaryOperator}
 use Rattle.cyc_types.specs.Types.{Ty, Int, ValueType, Value}
-use Rattle.cyc_types.specs.TypedTrees.{Lvalue, Converted}
-use Rattle.cyc_types.specs.TypedTrees as typed
-use Rattle.cyc_types.specs.IntPart.{is_empty, is_left_out}
-use Rattle.cyc_types.specs.Scopes.{Signature, Meaning, Unknown, Routine, Declared, LocalVariable, Scope, meaning_in, meaning_among, meaning_of, locals_in, body_locals, item_locals, one_item_locals, blocks_in, body_blocks, item_blocks, one_item_blocks, behind, in_block, in_body, with_local}
-use Rattle.cyc_types.specs.Scopes as scopes
-use Rattle.cyc_types.specs.Rules.{Rule, Derives}
-use Rattle.cyc_types.specs.TypingRules.{type_written, unary_operator, then_operation, read, place_meant, prefixed, passed, called, rule, rule_all, rule_chain, rule_target, rule_condition, returned, rule_returned, rule_initial, behind_item, rule_statement, rule_body, rule_items, rule_item, members_of, result_of, types_of, is_main_head, rule_heads, declares, declared_from, putchar_text, getchar_text, main_text, declared, known_before, regions_before, parameter_locals, body_scope, declared_types, item_types, rule_functions, globals_of, function_number, IsTypedProgram}
-use Rattle.cyc_types.proofs.ProgramParts.{parts}
-use Rattle.cyc_types.specs.Numbered.{signatures_of, Numbering, IsSignature, argument_count, IsWithin, IsNumbered, IsNumberedConverted, AreNumberedArguments, AreNumberedOperations, IsNumberedReturn, IsNumberedInitial, IsNumberedStatement, AreNumberedItems, AreNumberedFunctions, IsNumberedProgram}
+use Rattle.cyc_types.specs.TypedTrees.{Lvalue, Local, Global, Expression, Number, Copy, Call, Unary, Binary, Assign, Converted, Convert, Arguments, NoArguments, MoreArguments, Operations, NoOperations, ThenCompute, ThenTest, Statement, Block, Empty, Evaluate, If, While, Return, Break, Continue, Items, NoItems, MoreItems, Execute, Declare, GlobalVariable, Function, Program}
+use Rattle.cyc_types.specs.Scopes.{Signature}
+use Rattle.cyc_types.specs.TypingRules.{IsTypedProgram}
+use Rattle.cyc_types.specs.WellTyped.{FunctionType, Context, IsVariable, IsCallee, WellTyped, IsConverted, ArePassed, IsChain, behind, in_block, in_body, with_local, IsInitial, IsReturned, WellTypedStatement, WellTypedItems, type_of_function, body_context, AreWellTypedFunctions, IsWellTypedProgram}
+use Rattle.cyc_types.specs.Numbered.{signatures_of, Numbering, IsSignature, argument_count, IsWithin, IsNumbered, IsNumberedConverted, AreNumberedArguments, AreNumberedOperations, IsNumberedReturn, IsNumberedInitial, IsNumberedStatement, AreNumberedItems, numbering_of, AreNumberedFunctions, IsNumberedProgram}
+use Rattle.cyc_types.proofs.WellTypedLemmas.{program_well}
 
--- ---- what names mean is in range
+abbrev signature_in : FunctionType → Signature
+signature_in s = record { parameters = s.parameters; result = s.result }
 
-abbrev IsMeant : Numbering → Meaning → Type 0
-IsMeant b Unknown = Unit {0}
-IsMeant b (scopes.Variable l t) = IsWithin b l
-IsMeant b (Routine f s) = IsSignature b f s
-
-abbrev pub AreBelow : ℕ → List LocalVariable → Type 0
-AreBelow n [] = Unit {0}
-AreBelow n (v ∷ vs) = (v.number < n) × AreBelow n vs
-
--- of a scope
-record Fits (b : Numbering) (vs : List LocalVariable) (ds : List Declared) (result : Option Ty) : Type 0 where
-  pub locals : AreBelow b.locals vs
-  pub program : (x : ℕ) → IsMeant b (meaning_in ds x)
-  pub same : result ≡ b.result
-
-by_cond : (b : Numbering) (c : Bool) (m n : Meaning) → IsMeant b m → IsMeant b n → IsMeant b (cond c m n)
-by_cond b true m n h k = h
-by_cond b false m n h k = k
-
-among : (b : Numbering) (vs : List LocalVariable) (ds : List Declared) (x : Named) → AreBelow b.locals vs → ((y : ℕ) → IsMeant b (meaning_in ds y)) → IsMeant b (meaning_among vs ds x)
-among b [] ds x below h = h x.name
-among b (v ∷ vs) ds x (less, below) h = by_cond b (nat_eq v.name x.name) (scopes.Variable (typed.Local x.place v.number) v.of_type) (meaning_among vs ds x) less (among b vs ds x below h)
+-- what there is to name is what is known
+record Agrees (b : Numbering) (gs : List Ty) (fs : List FunctionType) (vs : List Ty) (n : ℕ) (r : Option Ty) : Type 0 where
+  pub globals : length gs ≡ b.globals
+  pub functions : map signature_in fs ≡ b.functions
+  pub variables : length vs ≡ b.locals
+  pub regions : n ≡ b.regions
+  pub result : r ≡ b.result
 
 module _ (b : Numbering) where
-  -- ---- expressions
+  abbrev AgreesWith : Context → Type 0
+  AgreesWith c = Agrees b c.globals c.functions c.variables c.region_count c.result
 
-  abbrev AreNumbered : List typed.Expression → Type 0
-  AreNumbered [] = Unit {0}
-  AreNumbered (a ∷ as') = IsNumbered b a × AreNumbered as'
+  within : (c : Context) → AgreesWith c → (l : Lvalue) (t : Ty) → IsVariable c l t → IsWithin b l
+  within c k (Local p n) t (there, known) = let l : n < length c.variables = slice_get_within c.variables n t known in omega (arith, l, k.variables)
+  within c k (Global n) t known = let l : n < length c.globals = slice_get_within c.globals n t known in omega (arith, l, k.globals)
 
-  read_numbered : (m : Meaning) (p : Place) (a : typed.Expression) → IsMeant b m → Derives (read m p) a → IsNumbered b a
-  read_numbered Unknown p a h k = absurd k
-  read_numbered (scopes.Variable l t) p a h (u, eq) = subst (IsNumbered b) (sym eq) h
-  read_numbered (Routine f s) p a h k = absurd k
-
-  place_numbered : (m : Meaning) (p q : Place) (l : Lvalue × Ty) → IsMeant b m → Derives (place_meant m p q) l → IsWithin b l.0
-  place_numbered Unknown p q l h k = absurd k
-  place_numbered (scopes.Variable m t) p q l h (u, eq) = subst (λ (z : Lvalue × Ty). IsWithin b z.0) (sym eq) h
-  place_numbered (Routine f s) p q l h k = absurd k
-
-  prefixed_numbered : (o : Option UnaryOperator) (p : Place) (a c : typed.Expression) → IsNumbered b a → Derives (prefixed o p a) c → IsNumbered b c
-  prefixed_numbered None p a c h k = absurd k
-  prefixed_numbered (Some u) p a c h (k, eq) = subst (IsNumbered b) (sym eq) h
-
-  passed_numbered : (as' : List typed.Expression) (ts : List Ty) → AreNumbered as' → length as' ≡ length ts → (argument_count (passed as' ts) ≡ length ts) × AreNumberedArguments b (passed as' ts)
-  passed_numbered [] [] h same = (refl, tt)
-  passed_numbered [] (t ∷ ts) h same = absurd (omega arith)
-  passed_numbered (a ∷ as') [] h same = absurd (omega arith)
-  passed_numbered (a ∷ as') (t ∷ ts) (h, hs) same =
-      let more : (argument_count (passed as' ts) ≡ length ts) × AreNumberedArguments b (passed as' ts) = passed_numbered as' ts hs (omega arith) in
-      (ap suc more.0, (h, more.1))
-
-  called_numbered : (m : Meaning) (p : Place) (es : Expressions) (as' : List typed.Expression) (a : typed.Expression) → IsMeant b m → AreNumbered as' → Derives (called m p es as') a → IsNumbered b a
-  called_numbered Unknown p es as' a h hs k = absurd k
-  called_numbered (scopes.Variable l t) p es as' a h hs k = absurd k
-  called_numbered (Routine f s) p es as' a h hs ((same, ks), eq) =
-      let all : (argument_count (passed as' s.parameters) ≡ length s.parameters) × AreNumberedArguments b (passed as' s.parameters) =
-      passed_numbered as' s.parameters hs (eqb-true (length as') (length s.parameters) same) in
-      subst (IsNumbered b) (sym eq) (s, h, all.0, refl, all.1)
-
-  operation_numbered : (o : BinaryOperator) (a : typed.Expression) (os : typed.Operations) → IsNumbered b a → AreNumberedOperations b os → AreNumberedOperations b (then_operation o a os)
-  operation_numbered operators.OrElse a os h k = (h, k)
-  operation_numbered o a os h k = (h, k)
-
-  meant : (g : Scope) (x : Named) → Fits b g.locals g.program g.result → IsMeant b (meaning_of g x)
-  meant g x fits = among b g.locals g.program x fits.locals fits.program
-
-  target_numbered : (g : Scope) (p : Place) (e : Expression) (walked : Rule typed.Expression) (l : Lvalue × Ty) → Fits b g.locals g.program g.result → Derives (rule_target g p e walked) l → IsWithin b l.0
-  target_numbered g p (Variable x) walked l fits h = place_numbered (meaning_of g x) x.place p l (meant g x fits) h
-  target_numbered g p (Bracketed q e) walked l fits h = target_numbered g p e walked l fits h
-  target_numbered g p e walked l fits (a, h, k) = absurd k
+  callee : (c : Context) → AgreesWith c → (f : Callee) (s : FunctionType) → IsCallee c f s → IsSignature b f (signature_in s)
+  callee c k callees.Putchar s is = ap signature_in is
+  callee c k callees.Getchar s is = ap signature_in is
+  callee c k (callees.Function n) s is =
+      subst (λ ss. slice_get ss n ≡ Some (signature_in s)) k.functions (slice_get-map signature_in c.functions n ∙ ap (λ (o : Option FunctionType). elim o as (λ _. Option Signature) [ None ↦ None | Some x ↦ Some (signature_in x) ]) is)
 
   mutual
-    expression_numbered : (g : Scope) → Fits b g.locals g.program g.result → (e : Expression) (a : typed.Expression) → Derives (rule g e) a → IsNumbered b a
-    expression_numbered g fits (Number p n) a (u, eq) = subst (IsNumbered b) (sym eq) tt
-    expression_numbered g fits (Character p c) a (u, eq) = subst (IsNumbered b) (sym eq) tt
-    expression_numbered g fits (Variable x) a h = read_numbered (meaning_of g x) x.place a (meant g x fits) h
-    expression_numbered g fits (Call x es) a (bs, hs, k) = called_numbered (meaning_of g x) x.place es bs a (meant g x fits) (expressions_numbered g fits es bs hs) k
-    expression_numbered g fits (Bracketed p e) a h = expression_numbered g fits e a h
-    expression_numbered g fits (Prefixed p o e) a (c, h, k) = prefixed_numbered (unary_operator o) (place_of e) c a (expression_numbered g fits e c h) k
-    expression_numbered g fits (Binary e os) a (c, h, (bs, hs, (u, eq))) =
-        subst (IsNumbered b) (sym eq) (expression_numbered g fits e c h, chain_numbered g fits (place_of e) (typed.type_of c) os bs hs)
-    expression_numbered g fits (Assign e v) a (l, tg, (c, h, (k, eq))) =
-        subst (IsNumbered b) (sym eq) (target_numbered g (place_of e) e (rule g e) l fits tg, expression_numbered g fits v c h)
-    expression_numbered g fits e a h = absurd h
+    numbered : (c : Context) → AgreesWith c → (a : Expression) (t : ValueType) → WellTyped c a t → IsNumbered b a
+    numbered c k (Number n) t w = tt
+    numbered c k (Copy l u) t (v, eq) = within c k l u v
+    numbered c k (Call f ds u) t (s, is, none, passed, live, outlives, result, eq) =
+        let (count, all) = passed_numbered c k s.parameters ds passed in (signature_in s, callee c k f s is, count, result, all)
+    numbered c k (Unary o a) t (w, eq) = numbered c k a (Value Int) w
+    numbered c k (Binary a os u) t (v, w, chain, eq) = (numbered c k a v w, chain_numbered c k v os u chain)
+    numbered c k (Assign l d u) t (v, place, w, eq, same) = (within c k l v place, converted_numbered c k d v w)
+    numbered c k a t w = absurd w
 
-    expressions_numbered : (g : Scope) → Fits b g.locals g.program g.result → (es : Expressions) (as' : List typed.Expression) → Derives (rule_all g es) as' → AreNumbered as'
-    expressions_numbered g fits NoExpressions as' (u, eq) = subst AreNumbered (sym eq) tt
-    expressions_numbered g fits (MoreExpressions e es) as' (a, h, (bs, hs, (u, eq))) = subst AreNumbered (sym eq) (expression_numbered g fits e a h, expressions_numbered g fits es bs hs)
+    converted_numbered : (c : Context) → AgreesWith c → (d : Converted) (t : Ty) → IsConverted c d t → IsNumberedConverted b d
+    converted_numbered c k (Convert from to a) t (v, w, converts) = numbered c k a v w
 
-    chain_numbered : (g : Scope) → Fits b g.locals g.program g.result → (p : Place) (left : ValueType) (os : Operations) (as' : typed.Operations) → Derives (rule_chain g p left os) as' → AreNumberedOperations b as'
-    chain_numbered g fits p left NoOperations as' (k, eq) = subst (AreNumberedOperations b) (sym eq) tt
-    chain_numbered g fits p left (ThenOperation o q e os) as' (put, (a, h, (k, is)), (bs, hs, (u, eq))) =
-        subst (AreNumberedOperations b) (sym (eq ∙ ap (λ f. f bs) is)) (operation_numbered o a bs (expression_numbered g fits e a h) (chain_numbered g fits p (Value Int) os bs hs))
+    passed_numbered : (c : Context) → AgreesWith c → (ts : List Ty) (ds : Arguments) → ArePassed c ts ds → (argument_count ds ≡ length ts) × AreNumberedArguments b ds
+    passed_numbered c k [] NoArguments w = (refl, tt)
+    passed_numbered c k (t ∷ ts) (MoreArguments d ds) (w, ws) = let (count, all) = passed_numbered c k ts ds ws in (ap suc count, (converted_numbered c k d t w, all))
+    passed_numbered c k ts ds w = absurd w
 
-  -- ---- statements
+    chain_numbered : (c : Context) → AgreesWith c → (left : ValueType) (os : Operations) (u : Ty) → IsChain c left os u → AreNumberedOperations b os
+    chain_numbered c k left NoOperations u w = tt
+    chain_numbered c k left (ThenCompute o a os) u (l, w, ws) = (numbered c k a (Value Int) w, chain_numbered c k (Value Int) os u ws)
+    chain_numbered c k left (ThenTest o a os) u (l, w, ws) = (numbered c k a (Value Int) w, chain_numbered c k (Value Int) os u ws)
+    chain_numbered c k left os u w = absurd w
 
-  initial_numbered : (g : Scope) → Fits b g.locals g.program g.result → (x : Named) (v : Option Expression) (t : Ty) (c : Option Converted) → Derives (rule_initial g x t v) c → IsNumberedInitial b c
-  initial_numbered g fits x None t c (k, eq) = subst (IsNumberedInitial b) (sym eq) tt
-  initial_numbered g fits x (Some e) t c (a, h, (k, eq)) = subst (IsNumberedInitial b) (sym eq) (expression_numbered g fits e a h)
+  initial_numbered : (c : Context) → AgreesWith c → (v : Option Converted) (t : Ty) → IsInitial c v t → IsNumberedInitial b v
+  initial_numbered c k None t w = tt
+  initial_numbered c k (Some d) t w = converted_numbered c k d t w
 
-  value_numbered : (r : Option Ty) (p q : Place) (a : typed.Expression) (c : Option Converted) → IsNumbered b a → Derives (returned r p q a) c → IsNumberedReturn b r c
-  value_numbered None p q a c h k = absurd k
-  value_numbered (Some t) p q a c h (k, eq) = subst (IsNumberedReturn b (Some t)) (sym eq) h
-
-  nothing_numbered : (r : Option Ty) → is_left_out r ≡ true → IsNumberedReturn b r None
-  nothing_numbered None k = tt
-  nothing_numbered (Some t) k = absurd (cc)
-
-  returned_numbered : (g : Scope) → Fits b g.locals g.program g.result → (p : Place) (v : Option Expression) (c : Option Converted) → Derives (rule_returned g p v) c → IsNumberedReturn b b.result c
-  returned_numbered g fits p None c ((k, u), eq) = subst (λ z. IsNumberedReturn b z c) fits.same (subst (IsNumberedReturn b g.result) (sym eq) (nothing_numbered g.result k))
-  returned_numbered g fits p (Some e) c (a, h, k) = subst (λ z. IsNumberedReturn b z c) fits.same (value_numbered g.result p (place_of e) a c (expression_numbered g fits e a h) k)
-
-  condition_numbered : (g : Scope) → Fits b g.locals g.program g.result → (e : Expression) (a : typed.Expression) → Derives (rule_condition g e) a → IsNumbered b a
-  condition_numbered g fits e a (c, h, (k, eq)) = subst (IsNumbered b) (sym eq) (expression_numbered g fits e c h)
-
-  declaring : (g : Scope) (x : Named) (t : Ty) → Fits b g.locals g.program g.result → g.next_local < b.locals → Fits b (with_local g x t).locals g.program g.result
-  declaring g x t fits less = record { locals = (less, fits.locals); program = fits.program; same = fits.same }
+  returned_numbered : (c : Context) → AgreesWith c → (r : Option Ty) (v : Option Converted) → IsReturned c r v → IsNumberedReturn b r v
+  returned_numbered c k None None w = tt
+  returned_numbered c k (Some t) (Some d) w = converted_numbered c k d t w
+  returned_numbered c k r v w = absurd w
 
   mutual
-    statement_numbered : (g : Scope) → Fits b g.locals g.program g.result → (s : Statement) (t : typed.Statement) → g.next_local + locals_in s ≤ b.locals → g.next_region + blocks_in s ≤ b.regions
-        → Derives (rule_statement g s) t → IsNumberedStatement b g.in_loop t
-    statement_numbered g fits (Block c) t l r (js, h, (u, eq)) = subst (IsNumberedStatement b g.in_loop) (sym eq) (omega arith, body_numbered (in_block g) fits c js l (omega arith) h)
-    statement_numbered g fits (Empty p) t l r (u, eq) = subst (IsNumberedStatement b g.in_loop) (sym eq) tt
-    statement_numbered g fits (Evaluate e) t l r (a, h, (u, eq)) = subst (IsNumberedStatement b g.in_loop) (sym eq) (expression_numbered g fits e a h)
-    statement_numbered g fits (If p e u) t l r (a, h, (c, k, (w, eq))) =
-        subst (IsNumberedStatement b g.in_loop) (sym eq) (condition_numbered g fits e a h, statement_numbered g fits u c l r k, tt)
-    statement_numbered g fits (IfElse p e u v) t l r (a, h, (c, k, (d, m, (w, eq)))) =
-        subst (IsNumberedStatement b g.in_loop) (sym eq) (condition_numbered g fits e a h, statement_numbered g fits u c (omega arith) (omega arith) k, statement_numbered (behind g u) fits v d (omega arith) (omega arith) m)
-    statement_numbered g fits (While p e u) t l r (a, h, (c, k, (w, eq))) = subst (IsNumberedStatement b g.in_loop) (sym eq) (condition_numbered g fits e a h, statement_numbered (in_body g) fits u c l r k)
-    statement_numbered g fits (Return p v) t l r (c, h, (u, eq)) = subst (IsNumberedStatement b g.in_loop) (sym eq) (returned_numbered g fits p v c h)
-    statement_numbered g fits (Break p) t l r ((i, u), eq) = subst (IsNumberedStatement b g.in_loop) (sym eq) i
-    statement_numbered g fits (Continue p) t l r ((i, u), eq) = subst (IsNumberedStatement b g.in_loop) (sym eq) i
-    statement_numbered g fits s t l r h = absurd h
+    statement_numbered : (c : Context) → AgreesWith c → (s : Statement) → WellTypedStatement c s → IsNumberedStatement b c.in_loop s
+    statement_numbered c k (Block r js) (is, few, w) = (omega (arith, few, k.regions), items_numbered (in_block c) k js w)
+    statement_numbered c k Empty w = tt
+    statement_numbered c k (Evaluate a) (t, w) = numbered c k a t w
+    statement_numbered c k (If a s t) (w, x, y) = (numbered c k a (Value Int) w, statement_numbered c k s x, statement_numbered (behind c s) k t y)
+    statement_numbered c k (While p a s) (w, x) = (numbered c k a (Value Int) w, statement_numbered (in_body c) k s x)
+    statement_numbered c k (Return v) w = subst (λ r. IsNumberedReturn b r v) k.result (returned_numbered c k c.result v w)
+    statement_numbered c k Break w = w
+    statement_numbered c k Continue w = w
+    statement_numbered c k s w = absurd w
 
-    body_numbered : (g : Scope) → Fits b g.locals g.program g.result → (c : Body) (js : typed.Items) → g.next_local + body_locals c ≤ b.locals → g.next_region + body_blocks c ≤ b.regions
-        → Derives (rule_body g c) js → AreNumberedItems b g.in_loop js
-    body_numbered g fits (Braces p is q) js l r h = items_numbered g fits is js l r h
+    items_numbered : (c : Context) → AgreesWith c → (js : Items) → WellTypedItems c js → AreNumberedItems b c.in_loop js
+    items_numbered c k NoItems w = tt
+    items_numbered c k (MoreItems (Execute s) js) (w, ws) = (statement_numbered c k s w, items_numbered (behind c s) k js ws)
+    items_numbered c k (MoreItems (Declare n t v) js) (is, known, live, w, ws) =
+        let l : n < length c.variables = slice_get_within c.variables n t known in
+        (omega (arith, l, k.variables), initial_numbered c k v t w, items_numbered (with_local c t) k js ws)
+    items_numbered c k js w = absurd w
 
-    items_numbered : (g : Scope) → Fits b g.locals g.program g.result → (is : Items) (js : typed.Items) → g.next_local + item_locals is ≤ b.locals → g.next_region + item_blocks is ≤ b.regions
-        → Derives (rule_items g is) js → AreNumberedItems b g.in_loop js
-    items_numbered g fits NoItems js l r (u, eq) = subst (AreNumberedItems b g.in_loop) (sym eq) tt
-    items_numbered g fits (MoreItems (Execute s) is) js l r (j, (t, h, (u, is_j)), (ks, hs, (w, eq))) =
-        subst (AreNumberedItems b g.in_loop) (sym (eq ∙ ap (λ i. typed.MoreItems i ks) is_j))
-        (statement_numbered g fits s t (omega arith) (omega arith) h, items_numbered (behind g s) fits is ks (omega arith) (omega arith) hs)
-    items_numbered g fits (MoreItems (Local w x v) is) js l r (j, (c, h, (u, is_j)), (ks, hs, (y, eq))) =
-        subst (AreNumberedItems b g.in_loop) (sym (eq ∙ ap (λ i. typed.MoreItems i ks) is_j))
-        (omega arith, initial_numbered g fits x v (type_written w) c h, items_numbered (with_local g x (type_written w)) (declaring g x (type_written w) fits (omega arith)) is ks (omega arith) (omega arith) hs)
-    items_numbered g fits (MoreItems i is) js l r (j, h, hs) = absurd h
+signatures : (hs : List Function) → map signature_in (map type_of_function hs) ≡ signatures_of hs
+signatures [] = refl
+signatures (h ∷ hs) = ap (λ ss. record { parameters = h.parameters; result = h.result } ∷ ss) (signatures hs)
 
--- ---- how many locals a typed statement declares
+count_types : (gs : List GlobalVariable) → length (map (λ (g : GlobalVariable). g.of_type) gs) ≡ length gs
+count_types [] = refl
+count_types (g ∷ gs) = ap suc (count_types gs)
 
-count-append : {A : Type 0} (xs ys : List A) → length (xs ++ ys) ≡ length xs + length ys
-count-append [] ys = omega arith
-count-append (x ∷ xs) ys = let e : length (xs ++ ys) ≡ length xs + length ys = count-append xs ys in omega arith
+functions_numbered : (p : Program) (hs : List Function) → AreWellTypedFunctions p hs → AreNumberedFunctions (length p.globals) (signatures_of p.functions) hs
+functions_numbered p [] w = tt
+functions_numbered p (h ∷ hs) (w, ws) =
+    let agrees : AgreesWith (numbering_of (length p.globals) (signatures_of p.functions) h) (body_context p h) =
+    record { globals = count_types p.globals; functions = signatures p.functions; variables = length-append h.parameters h.locals; regions = refl; result = refl } in
+    (items_numbered (numbering_of (length p.globals) (signatures_of p.functions) h) (body_context p h) agrees h.body w.body, functions_numbered p hs ws)
 
-mutual
-  statement_counted : (g : Scope) (s : Statement) (t : typed.Statement) → Derives (rule_statement g s) t → length (declared_types t) ≡ locals_in s
-  statement_counted g (Block c) t (js, h, (u, eq)) = ap (λ z. length (declared_types z)) eq ∙ body_counted (in_block g) c js h
-  statement_counted g (Empty p) t (u, eq) = ap (λ z. length (declared_types z)) eq
-  statement_counted g (Evaluate e) t (a, h, (u, eq)) = ap (λ z. length (declared_types z)) eq
-  statement_counted g (If p e u) t (a, h, (c, k, (w, eq))) =
-      ap (λ z. length (declared_types z)) eq ∙ (count-append (declared_types c) [] ∙ (let e : length (declared_types c) ≡ locals_in u = statement_counted g u c k in omega arith))
-  statement_counted g (IfElse p e u v) t (a, h, (c, k, (d, m, (w, eq)))) =
-      ap (λ z. length (declared_types z)) eq ∙ (count-append (declared_types c) (declared_types d)
-      ∙ (let e : length (declared_types c) ≡ locals_in u = statement_counted g u c k in let f : length (declared_types d) ≡ locals_in v = statement_counted (behind g u) v d m in omega arith))
-  statement_counted g (While p e u) t (a, h, (c, k, (w, eq))) = ap (λ z. length (declared_types z)) eq ∙ statement_counted (in_body g) u c k
-  statement_counted g (Return p v) t (c, h, (u, eq)) = ap (λ z. length (declared_types z)) eq
-  statement_counted g (Break p) t (k, eq) = ap (λ z. length (declared_types z)) eq
-  statement_counted g (Continue p) t (k, eq) = ap (λ z. length (declared_types z)) eq
-  statement_counted g s t h = absurd h
+is_numbered : (p : Program) → IsWellTypedProgram p → IsNumberedProgram p
+is_numbered p w = record {
+  functions = functions_numbered p p.functions w.functions;
+  main = subst (λ ss. slice_get ss p.main ≡ Some (record { parameters = []; result = Some Int })) (signatures p.functions)
+      (slice_get-map signature_in (map type_of_function p.functions) p.main ∙ ap (λ (o : Option FunctionType). elim o as (λ _. Option Signature) [ None ↦ None | Some x ↦ Some (signature_in x) ]) w.main);
+}
 
-  body_counted : (g : Scope) (c : Body) (js : typed.Items) → Derives (rule_body g c) js → length (item_types js) ≡ body_locals c
-  body_counted g (Braces p is q) js h = items_counted g is js h
-
-  pub items_counted : (g : Scope) (is : Items) (js : typed.Items) → Derives (rule_items g is) js → length (item_types js) ≡ item_locals is
-  items_counted g NoItems js (u, eq) = ap (λ z. length (item_types z)) eq
-  items_counted g (MoreItems (Execute s) is) js (j, (t, h, (u, is_j)), (ks, hs, (w, eq))) =
-      ap (λ z. length (item_types z)) (eq ∙ ap (λ i. typed.MoreItems i ks) is_j) ∙ (count-append (declared_types t) (item_types ks)
-      ∙ (let e : length (declared_types t) ≡ locals_in s = statement_counted g s t h in let f : length (item_types ks) ≡ item_locals is = items_counted (behind g s) is ks hs in omega arith))
-  items_counted g (MoreItems (Local w x v) is) js (j, (c, h, (u, is_j)), (ks, hs, (y, eq))) =
-      ap (λ z. length (item_types z)) (eq ∙ ap (λ i. typed.MoreItems i ks) is_j)
-      ∙ (let f : length (item_types ks) ≡ item_locals is = items_counted (with_local g x (type_written w)) is ks hs in omega arith)
-  items_counted g (MoreItems i is) js (j, h, hs) = absurd h
-
--- ---- programs
-
--- the signatures of the functions that are declared
-abbrev signatures_in : List Declaration → List Signature
-signatures_in [] = []
-signatures_in (StructType s rs fs ∷ ds) = signatures_in ds
-signatures_in (Exceptions cs ∷ ds) = signatures_in ds
-signatures_in (Global w x v ∷ ds) = signatures_in ds
-signatures_in (Function r x ps b ∷ ds) = record { parameters = types_of (members_of ps.list); result = result_of r } ∷ signatures_in ds
-
-signatures : (ds : List Declared) (tree : List Declaration) (fs : List typed.Function) → Derives (rule_functions ds tree) fs → signatures_of fs ≡ signatures_in tree
-signatures ds [] fs (u, eq) = ap signatures_of eq
-signatures ds (StructType s rs ms ∷ tree) fs h = absurd h
-signatures ds (Exceptions cs ∷ tree) fs h = absurd h
-signatures ds (Global w x v ∷ tree) fs h = signatures ds tree fs h
-signatures ds (Function r x ps (Braces p is q) ∷ tree) fs (f, (js, h, (u, is_f)), (gs, hs, (v, eq))) =
-    ap signatures_of (eq ∙ ap (λ k. k ∷ gs) is_f) ∙ ap (λ ss. record { parameters = types_of (members_of ps.list); result = result_of r } ∷ ss) (signatures ds tree gs hs)
-
--- the functions from this number on are these
-abbrev Holds : Numbering → ℕ → List Signature → Type 0
-Holds b m ss = (k j : ℕ) (s : Signature) → j ≡ m + k → slice_get ss k ≡ Some s → slice_get b.functions j ≡ Some s
-
-declared_meant : (b : Numbering) (n m : ℕ) (tree : List Declaration) → n + length (globals_of tree) ≤ b.globals → Holds b m (signatures_in tree) → (x : ℕ) → IsMeant b (meaning_in (declared_from n m tree) x)
-declared_meant b n m [] l h x = tt
-declared_meant b n m (StructType s rs fs ∷ ds) l h x = declared_meant b n m ds l h x
-declared_meant b n m (Exceptions cs ∷ ds) l h x = declared_meant b n m ds l h x
-declared_meant b n m (Global w y v ∷ ds) l h x = by_cond b (nat_eq y.name x) (scopes.Variable (typed.Global n) (type_written w)) _ (omega arith) (declared_meant b (suc n) m ds (omega arith) h x)
-declared_meant b n m (Function r y ps c ∷ ds) l h x =
-    by_cond b (nat_eq y.name x) (Routine (callees.Function m) (record { parameters = types_of (members_of ps.list); result = result_of r })) _
-    (h 0 m _ (omega arith) refl) (declared_meant b n (suc m) ds l (λ k j s e i. h (suc k) j s (omega arith) i) x)
-
-all_meant : (b : Numbering) (texts : List (List ℕ)) (tree : List Declaration) → length (globals_of tree) ≤ b.globals → Holds b 0 (signatures_in tree) → (x : ℕ) → IsMeant b (meaning_in (declared texts tree) x)
-all_meant b texts tree l h x =
-    by_cond b (nat_eq (number_of texts putchar_text) x) (Routine callees.Putchar (record { parameters = Int ∷ []; result = Some Int })) _ refl
-    (by_cond b (nat_eq (number_of texts getchar_text) x) (Routine callees.Getchar (record { parameters = []; result = Some Int })) _ refl (declared_meant b 0 0 tree (omega arith) h x))
-
-pub parameters_below : (total n : ℕ) (ms : List Member) (vs : List LocalVariable) → n + length ms ≤ total → AreBelow total vs → AreBelow total (parameter_locals ms n vs)
-parameters_below total n [] vs l h = h
-parameters_below total n (m ∷ ms) vs l h = parameters_below total (suc n) ms _ (omega arith) (omega arith, h)
-
-pub types_counted : (ms : List Member) → length (types_of ms) ≡ length ms
-types_counted [] = refl
-types_counted (m ∷ ms) = ap suc (types_counted ms)
-
-functions_numbered : (globals : ℕ) (functions : List Signature) (ds : List Declared) → ((b : Numbering) → b.globals ≡ globals → b.functions ≡ functions → (x : ℕ) → IsMeant b (meaning_in ds x))
-    → (tree : List Declaration) (fs : List typed.Function) → Derives (rule_functions ds tree) fs → AreNumberedFunctions globals functions fs
-functions_numbered globals functions ds means [] fs (u, eq) = subst (AreNumberedFunctions globals functions) (sym eq) tt
-functions_numbered globals functions ds means (StructType s rs ms ∷ tree) fs h = absurd h
-functions_numbered globals functions ds means (Exceptions cs ∷ tree) fs h = absurd h
-functions_numbered globals functions ds means (Global w x v ∷ tree) fs h = functions_numbered globals functions ds means tree fs h
-functions_numbered globals functions ds means (Function r x ps (Braces p is q) ∷ tree) fs (f, (js, h, (u, is_f)), (gs, hs, (v, eq))) =
-    let ms : List Member = members_of ps.list in
-    let b : Numbering = record { globals = globals; functions = functions; locals = length (types_of ms) + length (item_types js); regions = suc (item_blocks is); result = result_of r } in
-    let e : length (types_of ms) ≡ length ms = types_counted ms in
-    let f : length (item_types js) ≡ item_locals is = items_counted (body_scope ds r ms) is js h in
-    subst (AreNumberedFunctions globals functions) (sym (eq ∙ ap (λ k. k ∷ gs) is_f)) (
-      items_numbered b (body_scope ds r ms) (record { locals = parameters_below (length (types_of ms) + length (item_types js)) 0 ms [] (omega arith) tt; program = means b refl refl; same = refl }) is js (omega arith) (omega arith) h,
-      functions_numbered globals functions ds means tree gs hs,
-    )
-
--- ---- main
-
-main_signature : (r : Option WrittenType) (ps : Parameters) → is_main_head r ps ≡ true → ◌≡◌ {A = Signature} (record { parameters = types_of (members_of ps.list); result = result_of r }) (record { parameters = []; result = Some Int })
-main_signature None ps h = absurd (cc)
-main_signature (Some w) ps h = go (members_of ps.list) refl h
-  where
-    go : (ms : List Member) → members_of ps.list ≡ ms → is_empty (members_of ps.list) ≡ true → ◌≡◌ {A = Signature} (record { parameters = types_of (members_of ps.list); result = Some Int }) (record { parameters = []; result = Some Int })
-    go [] e i = rw e refl
-    go (m ∷ ms) e i = absurd (let k : is_empty (m ∷ ms) ≡ true = ap is_empty (sym e) ∙ i in cc)
-
-not_main : (c d : Bool) → not c ≡ true → c || d ≡ true → d ≡ true
-not_main true d e h = absurd (cc)
-not_main false d e h = h
-
-main_numbered : (main : ℕ) (regions known : List ℕ) (tree : List Declaration) → Derives (rule_heads main regions known tree) tt → declares main tree ≡ true
-    → slice_get (signatures_in tree) (function_number main tree) ≡ Some (record { parameters = []; result = Some Int })
-main_numbered main regions known [] h d = absurd (cc)
-main_numbered main regions known (StructType s rs fs ∷ ds) (u, h, hs) d = absurd h
-main_numbered main regions known (Exceptions cs ∷ ds) (u, h, hs) d = absurd h
-main_numbered main regions known (Global w x v ∷ ds) (u, ((n, (m, k)), e), hs) d = main_numbered main regions (x.name ∷ known) ds hs (not_main (nat_eq x.name main) (declares main ds) m d)
-main_numbered main regions known (Function r x ps b ∷ ds) (u, (y, ((n, (m, k)), e), h), hs) d = go (nat_eq x.name main) m d (λ i. main_numbered main regions (x.name ∷ known) ds hs i)
-  where
-    go : (c : Bool) → not c || is_main_head r ps ≡ true → c || declares main ds ≡ true
-        → (declares main ds ≡ true → slice_get (signatures_in ds) (function_number main ds) ≡ Some (record { parameters = []; result = Some Int }))
-        → slice_get (signatures_in (Function r x ps b ∷ ds)) (cond c 0 (suc (function_number main ds))) ≡ Some (record { parameters = []; result = Some Int })
-    go true e i rest = ap Some (main_signature r ps e)
-    go false e i rest = rest i
-
-pub program_numbered : (texts : List (List ℕ)) (tree : List Declaration) (p : typed.Program) → IsTypedProgram texts tree p → IsNumberedProgram p
-program_numbered texts tree p is =
-    let h = parts texts tree p is in
-    let same : signatures_of p.functions ≡ signatures_in tree = signatures (declared texts tree) tree p.functions h.functions in
-    record {
-      functions = functions_numbered (length p.globals) (signatures_of p.functions) (declared texts tree)
-          (λ b g f. all_meant b texts tree (subst (λ gs. length gs ≤ b.globals) h.globals (subst (λ z. length p.globals ≤ z) (sym g) (omega arith)))
-          (λ k j s e i. subst (λ ss. slice_get ss j ≡ Some s) (sym f) (subst (λ ss. slice_get ss j ≡ Some s) (sym same) (subst (λ z. slice_get (signatures_in tree) z ≡ Some s) (let c : k ≡ j = omega arith in c) i))))
-          tree p.functions h.functions;
-      main = subst (λ ss. slice_get ss p.main ≡ Some (record { parameters = []; result = Some Int })) (sym same)
-          (subst (λ n. slice_get (signatures_in tree) n ≡ Some (record { parameters = []; result = Some Int })) (sym h.main)
-          (main_numbered (number_of texts main_text) (regions_before texts) (known_before texts) tree h.heads h.has_main));
-    }
+pub program_numbered : (texts : List (List ℕ)) (tree : List Declaration) (p : Program) → IsTypedProgram texts tree p → IsNumberedProgram p
+program_numbered texts tree p h = is_numbered p (program_well texts tree p h)

@@ -3,7 +3,7 @@ use Rattle.std.proofs.Common.{◌≡◌, ℕ, zero, suc, ◌+◌, ◌*◌, ◌�
 use Rattle.cyc_syntax.specs.declared.tree.BinaryOperator.{BinaryOperator}
 use Rattle.cyc_syntax.specs.declared.tree.BinaryOperator.TheVariants as operators
 use Rattle.cyc_syntax.specs.Symbols.{Place}
-use Rattle.cyc_syntax.specs.Trees.{Named, BaseType, Int, WrittenType, Expression, Number, Character, Null, HeapRegion, UniqueRegion, Variable, Call, Bracketed, NumberOfElements, FreeUnique, FreeKey, Chained, Prefixed, New, RegionNew, Binary, Assign, Expressions, NoExpressions, MoreExpressions, Operations, NoOperations, ThenOperation, Statement, Block, Labelled, Empty, Evaluate, Swap, If, IfElse, While, Return, Break, Continue, Throw, Try, Body, Braces, Items, NoItems, MoreItems, Execute, Local, Region, Alias, DynamicRegion, Member, GlobalValue, Positive, Negative, Byte, NullPointer, ParameterList, Void, Listed, Declaration, StructType, Exceptions, Global, Function, place_of}
+use Rattle.cyc_syntax.specs.Trees.{Named, BaseType, Int, WrittenType, Expression, Number, Character, Variable, Call, Bracketed, Prefixed, Binary, Assign, Expressions, NoExpressions, MoreExpressions, Operations, NoOperations, ThenOperation, Statement, Block, Labelled, Empty, Evaluate, If, IfElse, While, Return, Break, Continue, Try, Body, Braces, Items, NoItems, MoreItems, Execute, Local, Member, GlobalValue, Positive, Negative, Byte, NullPointer, ParameterList, Void, Listed, Declaration, StructType, Exceptions, Global, Function, place_of}
 use Rattle.cyc_types.specs.declared.typed.UnaryOperator.{UnaryOperator}
 use Rattle.cyc_syntax.specs.Weight.{sum_of, separated_weight, optional_weight, type_weight, member_weight, value_weight, parameter_list_weight, result_weight, tree_weight}
 use Rattle.cyc_syntax.specs.Weight as written
@@ -14,10 +14,11 @@ use Rattle.cyc_types.specs.TypedTrees as typed
 use Rattle.cyc_types.specs.Scopes.{Meaning, Unknown, Routine, Declared, Scope, meaning_of, locals_in, body_locals, item_locals, blocks_in, body_blocks, item_blocks, behind, in_block, in_body, with_local}
 use Rattle.cyc_types.specs.Scopes as scopes
 use Rattle.cyc_types.specs.Rules.{Rule, Derives}
-use Rattle.cyc_types.specs.TypingRules.{type_written, unary_operator, then_operation, read, prefixed, passed, called, rule, rule_all, rule_chain, rule_target, rule_condition, returned, rule_returned, rule_initial, rule_statement, rule_body, rule_items, members_of, types_of, declared, body_scope, item_types, function_of, rule_functions, constant_of, globals_of, IsTypedProgram}
+use Rattle.cyc_types.specs.Declarations.{item_types}
+use Rattle.cyc_types.specs.TypingRules.{type_written, unary_operator, then_operation, read, prefixed, passed, called, rule, rule_all, rule_chain, rule_target, rule_condition, returned, rule_returned, rule_initial, rule_statement, rule_body, rule_items, members_of, types_of, declared, body_scope, function_of, rule_functions, constant_of, globals_of, IsTypedProgram}
 use Rattle.cyc_types.specs.Weight.{expression_weight, converted_weight, arguments_weight, more_arguments_weight, operations_weight, else_weight, statement_weight, items_weight, constant_weight, global_weight, function_weight, program_weight}
 use Rattle.cyc_types.proofs.ProgramParts.{parts}
-use Rattle.cyc_types.proofs.NumberedLemmas.{items_counted}
+use Rattle.cyc_types.proofs.WellTypedLemmas.{items_counted}
 
 -- ---- expressions
 

@@ -4,12 +4,14 @@ pub mod Types
 pub mod TypeView
 pub mod TypedTrees
 pub mod TypedTreeView
+pub mod Declarations
 pub mod IntPart
 pub mod Scopes
 pub mod Rules
 pub mod TypingRules
 pub mod FlowRules
 pub mod FlowRefusals
+pub mod WellTyped
 pub mod Numbered
 pub mod Weight
 pub mod Outlives

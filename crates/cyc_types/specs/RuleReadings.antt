@@ -1,12 +1,12 @@
 -- The rules in their usual form. What a rule value derives and refuses with computes to a statement on trees, so each reading here is
 -- the rule itself: `refl` proves it.
-use Rattle.std.specs.Prelude.{◌≡◌, ◌⊎◌, ℕ, suc, Bool, true, not, nat_eq, List, [], ◌∷◌, ◌++◌, Option, Some, None, length, refl}
+use Rattle.std.specs.Prelude.{◌≡◌, ◌⊎◌, ℕ, true, not, nat_eq, List, [], ◌∷◌, Option, Some, length, refl}
 use Rattle.cyc_words.specs.declared.fault.Code.TheVariants as codes
 use Rattle.cyc_words.specs.declared.fault.Fault.{Fault}
 use Rattle.cyc_syntax.specs.declared.tree.PrefixOperator.TheVariants as prefixes
 use Rattle.cyc_syntax.specs.declared.tree.BinaryOperator.{BinaryOperator}
 use Rattle.cyc_syntax.specs.Symbols.{Place}
-use Rattle.cyc_syntax.specs.Trees.{Named, WrittenType, Expression, Number, Variable, Bracketed, Prefixed, Binary, Assign, Expressions, NoExpressions, MoreExpressions, Operations, NoOperations, ThenOperation, Statement, Block, If, While, Return, Break, Items, MoreItems, Execute, Local, Braces, place_of}
+use Rattle.cyc_syntax.specs.Trees.{Named, Expression, Number, Prefixed, Binary, Assign, Expressions, Operations, ThenOperation, Statement, Block, While, Break, Items, Braces, place_of}
 use Rattle.cyc_types.specs.declared.typed.Callee.{Callee}
 use Rattle.cyc_types.specs.declared.typed.Kind.TheVariants as kinds
 use Rattle.cyc_types.specs.declared.typed.UnaryOperator.TheVariants as unary
@@ -15,8 +15,8 @@ use Rattle.cyc_types.specs.TypedTrees.{Lvalue, Converted, Convert, type_of}
 use Rattle.cyc_types.specs.TypedTrees as typed
 use Rattle.cyc_types.specs.Scopes.{Signature, Meaning, Unknown, Routine, Scope, is_declared, in_block, in_body}
 use Rattle.cyc_types.specs.Scopes as scopes
-use Rattle.cyc_types.specs.Rules.{fault_at, not_built, Demand, demand, AllKept, IsFaultOf, Derives, Refuses}
-use Rattle.cyc_types.specs.TypingRules.{type_written, is_int, conversion, then_operation, read, passed, arguments_demanded, called, rule, rule_all, rule_chain, rule_target, rule_condition, rule_initial, rule_statement, rule_body, rule_items}
+use Rattle.cyc_types.specs.Rules.{fault_at, demand, AllKept, IsFaultOf, Derives, Refuses}
+use Rattle.cyc_types.specs.TypingRules.{is_int, conversion, then_operation, read, passed, arguments_demanded, called, rule, rule_chain, rule_target, rule_condition, rule_initial, rule_statement, rule_items}
 
 module _ (g : Scope) where
   -- ---- expressions

@@ -23,6 +23,7 @@ use Rattle.cyc_types.specs.declared.typed.LogicalOperator.TheVariants as logical
 use Rattle.cyc_types.specs.Types.{Ty, Int, ValueType, Value, result_type}
 use Rattle.cyc_types.specs.TypedTrees.{Lvalue, Converted, Convert, type_of}
 use Rattle.cyc_types.specs.TypedTrees as typed
+use Rattle.cyc_types.specs.Declarations.{item_types}
 use Rattle.cyc_types.specs.IntPart.{is_empty, is_left_out, is_int_program}
 use Rattle.cyc_types.specs.Scopes.{Signature, Meaning, Unknown, Routine, Declared, LocalVariable, Scope, meaning_of, is_declared, item_blocks, behind, in_block, in_body, with_local}
 use Rattle.cyc_types.specs.Scopes as scopes
@@ -352,25 +353,6 @@ body_scope ds r ms = record {
   in_loop = false;
   result = result_of r;
 }
-
--- the types of the locals that are declared, in order
-abbrev mutual
-  pub declared_types : typed.Statement → List Ty
-  declared_types (typed.Block r js) = item_types js
-  declared_types typed.Empty = []
-  declared_types (typed.Evaluate a) = []
-  declared_types (typed.If a s t) = declared_types s ++ declared_types t
-  declared_types (typed.While p a s) = declared_types s
-  declared_types (typed.Return v) = []
-  declared_types typed.Break = []
-  declared_types typed.Continue = []
-  declared_types s = []
-
-  pub item_types : typed.Items → List Ty
-  item_types typed.NoItems = []
-  item_types (typed.MoreItems (typed.Execute s) js) = declared_types s ++ item_types js
-  item_types (typed.MoreItems (typed.Declare n t v) js) = t ∷ item_types js
-  item_types (typed.MoreItems j js) = item_types js
 
 abbrev pub function_of : Option WrittenType → Named → List Member → Items → Place → typed.Items → typed.Function
 function_of r x ms is q js = record {

@@ -8,6 +8,7 @@ ghost use Rattle.cyc_types.specs.TypingRules.{IsTypedProgram, IsRefusedProgram, 
 ghost use Rattle.cyc_types.specs.FlowRules.{IsAllowedProgram};
 ghost use Rattle.cyc_types.specs.FlowRefusals.{IsStoppedProgram};
 ghost use Rattle.cyc_types.specs.FlowChecking.{flow_of};
+ghost use Rattle.cyc_types.specs.WellTyped.{IsWellTypedProgram};
 ghost use Rattle.cyc_types.specs.Numbered.{IsNumberedProgram};
 ghost use Rattle.cyc_types.specs.Weight.{else_weight, statement_weight, function_weight, program_weight};
 
@@ -46,6 +47,11 @@ pub fn one_flow_fault()
 pub fn flow_checking_is_flow()
     ensures kept { (program : Program) → (flow_of program ≡ Ok tt) ↔ IsAllowedProgram program }
     ensures refused { (program : Program) (f : Fault) → (flow_of program ≡ Err f) ↔ IsStoppedProgram program f }
+{}
+
+/// What the typing rules derive is well typed.
+pub fn typed_trees_are_well_typed()
+    ensures { (texts : List (List ℕ)) (tree : List Declaration) (p : Program) → IsTypedProgram texts tree p → IsWellTypedProgram p }
 {}
 
 /// The typed tree of a program keeps its numbers in range, its calls in step with its functions, and its breaks in loops.

@@ -1,8 +1,7 @@
 use borrow.Enum.Total.{values_d_at}
 use borrow.Enum.Known.{ValuesAt}
 use Rattle.cyc_syntax.specs.contracts.tree.Stmt.{enum}
-use Rattle.std.proofs.Common.{rules, arith, ◌≡◌, ℕ, suc, Some, Ok, OnOk, ◌+◌, ◌≤◌, length, drop, get_or, ◌∷◌, sym, ap, subst, ◌∙◌}
-use Rattle.std.proofs.lemmas.List.{drop_more}
+use Rattle.std.proofs.Common.{arith, ◌≡◌, ℕ, suc, Some, Ok, OnOk, ◌+◌, drop, sym, ap, subst, ◌∙◌}
 use Rattle.std.proofs.lemmas.Result.{err_from_is_err_and}
 use Rattle.cyc_syntax.specs.declared.tree.Stmt.TheVariants as stmt
 use Rattle.cyc_syntax.specs.TreeView.{place_of_span, view_expression, view_statement, view_item, items_of}
@@ -15,7 +14,7 @@ use Rattle.cyc_types.specs.TypingRules.{rule_statement, rule_items, rule_item}
 use Rattle.cyc_check.specs.declared.checker.Checker.{Checker}
 use Rattle.cyc_check.specs.Code.{Gives, Stops, view_boxed_statement}
 use Rattle.cyc_check.specs.Checkers.{scope_of, behind_statement, behind_block, in_block}
-use Rattle.cyc_check.proofs.Loops.{drop_all}
+use Rattle.cyc_check.proofs.Loops.{read, drop_all}
 use Rattle.cyc_check.proofs.Walks.{Walked, walk_goes_on, walk_fails, walk_gives}
 use Rattle.cyc_check.proofs.Nested.{stops_within, otherwise_stops}
 use Rattle.cyc_check.proofs.checker.Checker.+statement.Goals as goal
@@ -34,9 +33,7 @@ check_item-returns-in-Local-clause-gives t c =
 
 pub check_items-returns-in_err-item-clause-gives : goal.check_items-returns-in_err-item-clause-gives
 check_items-returns-in_err-item-clause-gives t c =
-    let there : get_or c.args.items.now c.loop-item.item-index c.item-item.result ≡ c.item-item.result = search rules in
-    let is : drop c.loop-item.item-index c.args.items.now ≡ c.item-item.result ∷ drop (c.loop-item.item-index + 1) c.args.items.now =
-    drop_more c.args.items.now c.loop-item.item-index c.item-item.result c.loop-item-test.true ∙ ap (λ x. x ∷ drop (c.loop-item.item-index + 1) c.args.items.now) there in
+    let is = read c.args.items.now c.loop-item.item-index c.item-item.result c.loop-item-test.true c.item-item.is in
     let p = err_from_is_err_and c.from_residual.result c.from_residual.ensures.1 in
     rw (p.1, p.2)
     (walk_fails c.in_err-item.field-0.0 c.args.self.now c.loop-item.self c.loop-item.all.items (view_item c.item-item.result) (items_of (drop (c.loop-item.item-index + 1) c.args.items.now)) (items_of c.args.items.now)
@@ -44,18 +41,15 @@ check_items-returns-in_err-item-clause-gives t c =
 
 pub check_items-loop-item-preserved : goal.check_items-loop-item-preserved
 check_items-loop-item-preserved t c =
-    let there : get_or c.args.items.now c.loop-item.item-index c.item-item.result ≡ c.item-item.result = search rules in
-    let is : drop c.loop-item.item-index c.args.items.now ≡ c.item-item.result ∷ drop (c.loop-item.item-index + 1) c.args.items.now =
-    drop_more c.args.items.now c.loop-item.item-index c.item-item.result c.loop-item-test.true ∙ ap (λ x. x ∷ drop (c.loop-item.item-index + 1) c.args.items.now) there in
+    let is = read c.args.items.now c.loop-item.item-index c.item-item.result c.loop-item-test.true c.item-item.is in
     rw (c.in_ok-item.ensures.behind, c.in_ok-push.ensures.items)
     (walk_goes_on c.args.self.now c.loop-item.self c.loop-item.all.items (view_item c.item-item.result) (items_of (drop (c.loop-item.item-index + 1) c.args.items.now)) (items_of c.args.items.now) c.in_ok-item.item
     (subst (λ xs. Walked c.args.self.now c.loop-item.self c.loop-item.all.items (items_of xs) (items_of c.args.items.now)) is c.loop-item.invariant) c.in_ok-item.ensures.gives)
 
 pub check_items-returns-clause-gives : goal.check_items-returns-clause-gives
 check_items-returns-clause-gives t c =
-    let le : length c.args.items.now ≤ c.loop-item.item-index = search rules in
     walk_gives c.args.self.now c.loop-item.self c.loop-item.all.items (items_of c.args.items.now)
-    (subst (λ xs. Walked c.args.self.now c.loop-item.self c.loop-item.all.items (items_of xs) (items_of c.args.items.now)) (drop_all c.args.items.now c.loop-item.item-index le) c.loop-item.invariant)
+    (subst (λ xs. Walked c.args.self.now c.loop-item.self c.loop-item.all.items (items_of xs) (items_of c.args.items.now)) (drop_all c.args.items.now c.loop-item.item-index c.loop-item-test.false) c.loop-item.invariant)
 
 pub check_statement-returns-in_err-otherwise-in-If-default-default-default-Some-clause-gives : goal.check_statement-returns-in_err-otherwise-in-If-default-default-default-Some-clause-gives
 check_statement-returns-in_err-otherwise-in-If-default-default-default-Some-clause-gives t c =
