@@ -32,14 +32,14 @@ module _ (source : Program) where
   mutual
     pub value_depth : (g : ℕ) (locals : ℕ → Option ℕ) (p : ℕ) (frames : List Frame) (k : List Entry) → ValueStack source g locals p frames k → calls_in k ≡ suc (length frames)
     value_depth g locals p frames [] stack = absurd stack
-    value_depth g locals p frames (Needs (ConvertTo kind) ∷ k) (q, at, stack) = omega (arith, value_depth g locals q frames k stack)
+    value_depth g locals p frames (Needs (ConvertTo from to) ∷ k) (q, at, stack) = omega (arith, value_depth g locals q frames k stack)
     value_depth g locals p frames (Needs (Operate o) ∷ k) (at, stack) = omega (arith, value_depth g locals (p + 1) frames k stack)
     value_depth g locals p frames (Needs (Chain os) ∷ k) (q, at, stack) = omega (arith, value_depth g locals q frames k stack)
     value_depth g locals p frames (Needs (Apply o left) ∷ k) (q, at, stack) = omega (arith, value_depth g locals q frames k stack)
     value_depth g locals p frames (Needs Decide ∷ k) (q, at, stack) = omega (arith, value_depth g locals q frames k stack)
     value_depth g locals p frames (Needs (Store place) ∷ k) (l, q, at, is, stack) = omega (arith, value_depth g locals q frames k stack)
     value_depth g locals p frames (Needs (Pass f before cs) ∷ k) (m, q, all, at, call, long, stack) = omega (arith, value_depth g locals q frames k stack)
-    value_depth g locals p frames (Needs (Initialise n kind) ∷ k) (loop, at, below, stack) = omega (arith, statement_depth g loop (p + 1) frames k stack)
+    value_depth g locals p frames (Needs (Initialise n kind items) ∷ k) (loop, q, at, below, items_at, stack) = omega (arith, statement_depth g loop q frames k stack)
     value_depth g locals p frames (Needs (Choose s t) ∷ k) (loop, r, q, at, at_s, jump, at_t, stack) = omega (arith, statement_depth g loop q frames k stack)
     value_depth g locals p frames (Needs (Test a s) ∷ k) (loop, outer, q, at, r, jump, body, back, stack) = omega (arith, statement_depth g outer q frames k stack)
     value_depth g locals p frames (Needs Return ∷ k) (loop, q, at, one, stack) = omega (arith, statement_depth g loop q frames k stack)

@@ -7,5 +7,11 @@ pub mod NestingLemmas
 pub mod Nested
 pub mod ListLemmas
 -- examples
+pub mod ExampleTrees
 pub mod Examples
+pub mod HeapExamples
+pub mod ExceptionExamples
+pub mod UniqueExamples
+pub mod RegionExamples
+pub mod DeadExamples
 pub mod ValueExamples
