@@ -3,6 +3,7 @@ use Rattle.std.proofs.Common.{◌≡◌, ℕ, zero, suc, ◌+◌, ◌≤◌, ◌
 use Rattle.std.proofs.lemmas.Option.{same_Some, none-some}
 use Rattle.cyc_words.specs.Word.{signed}
 use Rattle.cyc_words.specs.Ending.{Returned, Uncaught}
+use Rattle.cyc_types.specs.declared.typed.Kind.{Kind}
 use Rattle.cyc_types.specs.Types.{Ty}
 use Rattle.cyc_types.specs.TypedTrees.{Expression, Converted, Convert, Statement, Block, Empty, Evaluate, If, While, Break, Continue, Items, NoItems, MoreItems, Execute, Declare, Function, Program}
 use Rattle.cyc_types.specs.TypedTrees as typed
@@ -13,8 +14,8 @@ use Rattle.cyc_plain.specs.State as plain
 use Rattle.cyc_plain.specs.State.{Words, copied, Activation, Frame, Store, Configuration}
 use Rattle.cyc_plain.specs.Step.{at}
 use Rattle.cyc_plain.proofs.SlotLaws.{copied-inside, copied-below}
-use Rattle.cyc_meaning.specs.Values.{Value, Int, kind_of}
-use Rattle.cyc_meaning.specs.State.{Region, World, Environment, variable, made, opened, closed, with_local, region_at, ConvertTo, Initialise, Choose, Return, Entry, Needs, Discard, Rest, Join, Loop, CloseRegion, Caller, Main, Focus, Evaluating, Executing, Proceeding, Breaking, Continuing, Returning, Throwing, Running}
+use Rattle.cyc_meaning.specs.Values.{Value, Int, kind_of, Operand}
+use Rattle.cyc_meaning.specs.State.{Region, World, Environment, variable, made, opened, closed, with_local, region_at, ConvertTo, Initialise, Choose, Return, Entry, Needs, NeedsPlace, Discard, Rest, Join, Loop, CloseRegion, CloseLexical, EndLoan, Handler, Caller, Main, Focus, Evaluating, Executing, Proceeding, Breaking, Continuing, Returning, Throwing, Running}
 use Rattle.cyc_meaning.specs.Step.{inside, region_end, step}
 use Rattle.cyc_lower.specs.Lowering.{break_target, results_of, lower_function, lower_program}
 use Rattle.cyc_lower.proofs.Stands.{At, ItemsAt}
