@@ -1,7 +1,8 @@
 #!/usr/bin/env bash
 # The gate: every proof, must-fail edit and test of the crates (rt ci), then the command-line suite, the examples and random
 # programs on the program that this has just proved and built. Before the last line stands what it cost, by crate and part, which
-# is in out/gate.md too. The last line is `N passed, M failed` over all of it.
+# is in out/gate.md too, as far as it came also where the gate is stopped. (rt ci says which edits were refused at its end alone.)
+# The last line is `N passed, M failed` over all of it.
 set -u
 cd "$(dirname "$0")/.."
 log=$(mktemp)
@@ -16,7 +17,7 @@ add() {
   local name=$1 status count good bad
   shift
   echo "== $name"
-  python3 tests/gate_table.py measure "$costs" "$name" "$@" 2>&1 | tee "$log" | sed -u "s/^\([0-9]* passed, [0-9]* failed\)\$/$name: \1/"
+  python3 tests/gate_table.py measure "$costs" out/gate.md "$name" "$@" 2>&1 | tee "$log" | sed -u "s/^\([0-9]* passed, [0-9]* failed\)\$/$name: \1/"
   status=${PIPESTATUS[0]}
   count=$(grep -E '^[0-9]+ passed, [0-9]+ failed$' "$log" | tail -n 1)
   good=0

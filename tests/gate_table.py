@@ -1,11 +1,12 @@
 #!/usr/bin/env python3
 """Says what the gate's parts cost: by crate, its proof, its tests and its must-fail edits.
 
-    python3 tests/gate_table.py measure RECORD NAME COMMAND [WORD ..]
+    python3 tests/gate_table.py measure RECORD TABLE NAME COMMAND [WORD ..]
     python3 tests/gate_table.py show RECORD
 
 `measure` runs a command, ends as it ends, and appends to the file RECORD what it cost: the seconds on the clock, and those of
 processors, of the whole command and of the checks that the prover does in it. `show` prints the table of what was recorded.
+While the command runs, the file TABLE has the table as far as it goes, so that a gate that is stopped leaves one.
 
 The prover's processes are looked at once a second. Their words say which crate each is of, and which part of the gate: of
 a check that ends between two looks, what it did since the last one is not seen. The sums are of the operating system, exact.
@@ -22,6 +23,8 @@ from collections import namedtuple
 
 # How often the processes are looked at, in seconds.
 EVERY = 1.0
+# After how many looks the table so far is written.
+LOOKS_A_TABLE = 20
 PARTS = ("proof", "tests", "edits")
 TICK = os.sysconf("SC_CLK_TCK")
 
@@ -109,7 +112,15 @@ class Account:
 
     def rows(self):
         """For each crate and part the seconds of processors and on the clock."""
-        return [[*part, round(sum(spent.values()), 1), round(self.lasted[part], 1)] for part, spent in self.spent.items()]
+        return [
+            [*part, round(sum(spent.values()), 1), round(self.lasted[part], 1), self.each(spent)]
+            for part, spent in self.spent.items()
+        ]
+
+    @staticmethod
+    def each(spent):
+        """The seconds of processors of each check, in the order in which they began."""
+        return [round(seconds, 1) for (_, started), seconds in sorted(spent.items(), key=lambda it: it[0][1])]
 
 
 def used(process, below):
@@ -117,18 +128,25 @@ def used(process, below):
     return process.seconds + sum(used(it, below) for it in below.get(process.pid, []))
 
 
-def measure(record, name, words):
-    """Runs a command, and appends what it cost to the record."""
+def measure(record, shown, name, words):
+    """Runs a command, and appends what it cost to the record. Writes the table so far to a file while it runs."""
     started = time.monotonic()
     command = subprocess.Popen(words)
     account, done = Account(command.pid), threading.Event()
 
+    def cost(processors):
+        clock = round(time.monotonic() - started, 1)
+        return {"name": name, "processors": round(processors, 1), "clock": clock, "checks": account.rows()}
+
     def watch():
-        last = started
+        last, looks = started, 0
         while not done.wait(EVERY):
             now = time.monotonic()
             account.take(running(), now - last)
-            last = now
+            last, looks = now, looks + 1
+            if looks % LOOKS_A_TABLE == 0:
+                so_far = cost(sum(row[2] for row in account.rows()))
+                write_table(shown, [*recorded(record), so_far], f"Not finished: this is as far as {name} came.")
 
     watching = threading.Thread(target=watch, daemon=True)
     watching.start()
@@ -136,22 +154,60 @@ def measure(record, name, words):
     done.set()
     watching.join()
     spent = resource.getrusage(resource.RUSAGE_CHILDREN)
-    whole = {
-        "name": name,
-        "processors": round(spent.ru_utime + spent.ru_stime, 1),
-        "clock": round(time.monotonic() - started, 1),
-        "checks": account.rows(),
-    }
     with open(record, "a", encoding="utf-8") as file:
-        file.write(json.dumps(whole) + "\n")
+        file.write(json.dumps(cost(spent.ru_utime + spent.ru_stime)) + "\n")
     return status if status >= 0 else 128 - status
+
+
+def recorded(record):
+    """What the record has of each command."""
+    if not os.path.exists(record):
+        return []
+    with open(record, encoding="utf-8") as file:
+        return [json.loads(line) for line in file]
+
+
+def lines_now(wholes):
+    """The lines of the table of what was recorded on this machine, today."""
+    return table(wholes, len(os.sched_getaffinity(0)), datetime.date.today())
+
+
+def write_table(path, wholes, remark):
+    """Writes the table to a file, with a remark before it."""
+    os.makedirs(os.path.dirname(path) or ".", exist_ok=True)
+    with open(path, "w", encoding="utf-8") as file:
+        file.write("\n".join([remark, "", *lines_now(wholes)]) + "\n")
+
+
+def edits_of(crate):
+    """The names of a crate's must-fail edits, in the order in which `rt ci` tries them."""
+    folder = os.path.join(os.path.dirname(os.path.dirname(os.path.abspath(__file__))), "crates", crate, "must-fail")
+    if not os.path.isdir(folder):
+        return []
+    return sorted(name for name in os.listdir(folder) if name.endswith(".edit"))
+
+
+def edit_lines(wholes):
+    """The lines of the table of must-fail edits. The first of a crate pays a proof from nothing. The last check of a crate with
+    several is of the crate without an edit."""
+    lines = ["| Must-fail edits | Checks | First | Dearest other |", "|---|---|---|---|"]
+    rows = [(row[0], row[4]) for whole in wholes for row in whole["checks"] if row[1] == "edits"]
+    for crate, each in sorted(rows, key=lambda it: -sum(it[1])):
+        names, others = edits_of(crate), each[1:]
+        shown = "-"
+        if others:
+            at = max(range(len(others)), key=lambda it: others[it]) + 1
+            name = f"`{names[at].removesuffix('.edit')}`" if at < len(names) else f"check {at + 1}"
+            shown = f"{each[at]:.0f} {name}"
+        lines.append(f"| `{crate}` | {len(each)} | {each[0]:.0f} | {shown} |")
+    return lines if rows else []
 
 
 def table(wholes, cores, day):
     """The lines of the table of what was recorded."""
     costs, order = {}, []
     for whole in wholes:
-        for crate, part, processors, clock in whole["checks"]:
+        for crate, part, processors, clock, _ in whole["checks"]:
             if crate not in order:
                 order.append(crate)
             before = costs.get((crate, part), (0.0, 0.0))
@@ -173,6 +229,9 @@ def table(wholes, cores, day):
         name = f"{whole['name']}, the rest" if whole["checks"] else whole["name"]
         lines.append(row(name, [None] * 3, rest))
     processors, clock = (sum(whole[it] for whole in wholes) for it in ("processors", "clock"))
+    edits = edit_lines(wholes)
+    if edits:
+        lines += ["", *edits]
     lines.append("")
     lines.append("Seconds of processors, and in brackets those on the clock while such a check ran.")
     lines.append(f"The whole gate: {processors / 60:.1f} processor minutes in {clock / 60:.1f} minutes, on {cores} processors, {day}.")
@@ -180,12 +239,10 @@ def table(wholes, cores, day):
 
 
 def main(words):
-    if words[:1] == ["measure"] and len(words) > 3:
-        return measure(words[1], words[2], words[3:])
+    if words[:1] == ["measure"] and len(words) > 4:
+        return measure(words[1], words[2], words[3], words[4:])
     if words[:1] == ["show"] and len(words) == 2:
-        with open(words[1], encoding="utf-8") as file:
-            wholes = [json.loads(line) for line in file]
-        print("\n".join(table(wholes, len(os.sched_getaffinity(0)), datetime.date.today())))
+        print("\n".join(lines_now(recorded(words[1]))))
         return 0
     print(__doc__, end="", file=sys.stderr)
     return 2

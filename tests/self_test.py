@@ -164,6 +164,10 @@ COSTS = """\
 | proofs, the rest | - | - | - | 1 |
 | suite | - | - | - | 40 |
 
+| Must-fail edits | Checks | First | Dearest other |
+|---|---|---|---|
+| `low` | 2 | 1 | 1 check 2 |
+
 Seconds of processors, and in brackets those on the clock while such a check ran.
 The whole gate: 1.0 processor minutes in 0.5 minutes, on 4 processors, 2026-01-01."""
 

@@ -98,9 +98,6 @@ table_again file (h ∷ hs) place front rest len fits is =
 
 -- ---- the bytes
 
-padded_above : (n : ℕ) → n ≤ padded n
-padded_above n = omega arith
-
 length-stored : (s : SegmentContents) → length (stored s) ≡ padded (length s.bytes)
 length-stored s = omega (arith, length-append s.bytes (replicate (padded (length s.bytes) - length s.bytes) 0), length-replicate {A = ℕ} (padded (length s.bytes) - length s.bytes) 0)
 

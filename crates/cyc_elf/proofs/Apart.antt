@@ -129,10 +129,6 @@ are_apart-false es (h ∷ hs) e =
 
 -- ---- headers in order
 
-one_bound : (b : Bool) → one b ≤ 1
-one_bound true = omega arith
-one_bound false = omega arith
-
 -- a header with no memory covers nothing
 empty-covers : (h : ProgramHeader) (a : ℕ) → h.memory_size ≡ 0 → one (covers h a) ≡ 0
 empty-covers h a none = ap one (covers-outside h a (λ q. omega (arith, q.low, q.high, none)))

@@ -8,6 +8,5 @@ pub mod Sound
 -- the writer
 pub mod Appends
 pub mod Writes
-pub mod Few
 -- what is written is read as the same image
 pub mod Again

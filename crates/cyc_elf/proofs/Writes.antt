@@ -1,9 +1,9 @@
 -- The writer's loop over the segments.
-use Rattle.std.proofs.Common.{◌≡◌, ℕ, ◌+◌, ◌*◌, ◌^◌, ◌<◌, ◌≤◌, List, [], ◌∷◌, ◌++◌, length, map, get_or, drop, All, refl, sym, ap, subst, ◌∙◌, append_assoc, add-one, drop-cons}
+use Rattle.std.proofs.Common.{◌≡◌, ℕ, ◌+◌, ◌^◌, ◌<◌, ◌≤◌, List, [], ◌∷◌, ◌++◌, length, map, get_or, drop, All, refl, sym, ap, subst, ◌∙◌, append_assoc, add-one, drop-cons}
 use Rattle.std.specs.List.{flat_map}
-use Rattle.std.proofs.lemmas.List.{append-nil, drop_all, length-map}
+use Rattle.std.proofs.lemmas.List.{drop_all}
 use Rattle.std.proofs.lemmas.List.Concat.{flat_map-cons}
-use Rattle.std.proofs.lemmas.List.Elements.{All-nil, All-cons, All-head, All-tail}
+use Rattle.std.proofs.lemmas.List.Elements.{All-cons, All-head, All-tail}
 use Rattle.cyc_elf.specs.declared.image.Segment.{Segment}
 use Rattle.cyc_elf.specs.Header.{ProgramHeader}
 use Rattle.cyc_elf.specs.Image.{segment_contents, padded}
@@ -24,19 +24,12 @@ headers_left-at xs i offset x lt here =
     let split : drop i xs ≡ x ∷ drop (i + 1) xs = rw add-one (drop-cons xs i x lt ∙ rw (← here) refl) in
     ap (λ (ys : List Segment). headers_of offset (map segment_contents ys)) split
 
-headers_left-start : (xs : List Segment) → headers_whole xs ≡ headers_left (52 + 32 * length xs) 0 xs
-headers_left-start xs = ap (λ (n : ℕ). headers_of (52 + 32 * n) (map segment_contents xs)) (length-map xs segment_contents)
-
 -- what holds with `rest` left of the headers: their offsets fit, what was written goes on with them, and the
 -- numbers of those written fit
 pub record IsAt (out start : List ℕ) (rest whole : List ProgramHeader) : Type 0 where
   pub fit : All (λ h. h.offset < 2 ^ 32) rest
   pub bytes : out ++ flat_map program_header rest ≡ start ++ flat_map program_header whole
   pub words : All IsInWords rest → All IsInWords whole
-
-pub is_at_start : (start : List ℕ) (xs : List Segment) → All (λ h. h.offset < 2 ^ 32) (headers_whole xs) → IsAt start start (headers_left (52 + 32 * length xs) 0 xs) (headers_whole xs)
-is_at_start start xs fit =
-    subst (λ (hs : List ProgramHeader). IsAt start start hs (headers_whole xs)) (headers_left-start xs) (record { fit = fit; bytes = refl; words = λ all. all })
 
 -- one header more
 pub goes_on : (out after start : List ℕ) (h : ProgramHeader) (rest rest' whole : List ProgramHeader) → rest ≡ h ∷ rest' → after ≡ out ++ program_header h → IsInWords h → IsAt out start rest whole → IsAt after start rest' whole
@@ -60,13 +53,3 @@ offset_fits out start h rest rest' whole split at =
 -- behind the last
 none_left : (xs : List Segment) (i offset : ℕ) → length xs ≤ i → headers_left offset i xs ≡ []
 none_left xs i offset le = ap (λ (ys : List Segment). headers_of offset (map segment_contents ys)) (drop_all i xs le)
-
-pub bytes_whole : (out start : List ℕ) (offset i : ℕ) (xs : List Segment) → length xs ≤ i → IsAt out start (headers_left offset i xs) (headers_whole xs) → out ≡ start ++ flat_map program_header (headers_whole xs)
-bytes_whole out start offset i xs le at =
-    sym (append-nil out) ∙ sym (ap (λ (hs : List ProgramHeader). out ++ flat_map program_header hs) (none_left xs i offset le)) ∙ at.bytes
-
-pub words_whole : (out start : List ℕ) (offset i : ℕ) (xs : List Segment) → length xs ≤ i → IsAt out start (headers_left offset i xs) (headers_whole xs) → All IsInWords (headers_whole xs)
-words_whole out start offset i xs le at = at.words (subst (All IsInWords) (sym (none_left xs i offset le)) (All-nil IsInWords))
-
-pub size_at : (xs : List Segment) (i : ℕ) (x : Segment) → i < length xs → x ≡ get_or xs i x → All (λ s. length s.bytes.items ≤ s.size) xs → length x.bytes.items ≤ x.size
-size_at xs i x lt here each = subst (λ (s : Segment). length s.bytes.items ≤ s.size) (sym here) (each i x lt)

@@ -14,7 +14,7 @@ use Rattle.cyc_types.specs.TypedTreeView.{view_expression, view_statement, items
 use Rattle.cyc_types.proofs.TypedTreeViewLemmas.{view_block}
 use Rattle.cyc_plain.specs.declared.instruction.Instruction.{Instruction}
 use Rattle.cyc_plain.specs.declared.instruction.Instruction.TheVariants as instructions
-use Rattle.cyc_lower.specs.Lowering.{expression_code, statement_code, items_code, break_target, continue_target}
+use Rattle.cyc_lower.specs.Lowering.{jump_if_zero, expression_code, statement_code, items_code, break_target, continue_target}
 use Rattle.cyc_lower.specs.Emission.{item_code, loop_code}
 use Rattle.cyc_lower.proofs.Emitting.{Lowers, same_slot, written_back}
 
@@ -76,7 +76,7 @@ module _ (old condition : List Instruction) (x y : Instruction) (first second : 
 
 module _ (value : Stmt) (e : Expr) (b b' : Box Stmt Heap) (is : value ≡ stmt.If e b b') (s t : Stmt) (at : s ≡ b.value) (at' : t ≡ b'.value) (head d : ℕ) (old : List Instruction) (x y : Instruction) (m0 m1 m2 m3 m4 m5 m6 : List Instruction) (p1 p2 : ℕ) where
   pub made_if : m0 ≡ old ++ expression_code (view_expression e) (length old) d → p1 ≡ length m0 → m1 ≡ m0 ++ x ∷ [] → m2 ≡ m1 ++ statement_code (view_statement s) (length m1) head d → p2 ≡ length m2 → m3 ≡ m2 ++ y ∷ []
-      → m4 ≡ set m3 p1 (instructions.JumpIfZero d (length m3)) → m5 ≡ m4 ++ statement_code (view_statement t) (length m4) head d → m6 ≡ set m5 p2 (instructions.Jump (length m5))
+      → m4 ≡ set m3 p1 (jump_if_zero d (length m3)) → m5 ≡ m4 ++ statement_code (view_statement t) (length m4) head d → m6 ≡ set m5 p2 (instructions.Jump (length m5))
       → m6 ≡ old ++ statement_code (view_statement value) (length old) head d
   made_if e0 h1 e1 e2 h2 e3 e4 e5 e6 =
       let condition = expression_code (view_expression e) (length old) d in
@@ -86,10 +86,10 @@ module _ (value : Stmt) (e : Expr) (b b' : Box Stmt Heap) (is : value ≡ stmt.I
       let q = p + length (first p) + 1 in
       let tree : view_statement value ≡ If (view_expression e) (view_statement s) (view_statement t)
       = ap view_statement is ∙ ap (λ (z : Stmt). If (view_expression e) (view_statement z) (view_statement b'.value)) (sym at) ∙ ap (λ (z : Stmt). If (view_expression e) (view_statement s) (view_statement z)) (sym at') in
-      branched old condition x y first second (λ (n : ℕ). instructions.JumpIfZero d n) (λ (n : ℕ). instructions.Jump n) m0 m1 m2 m3 m4 m5 m6
-      e0 e1 e2 e3 (e4 ∙ ap (λ (n : ℕ). set m3 n (instructions.JumpIfZero d (length m3))) h1) e5 (e6 ∙ ap (λ (n : ℕ). set m5 n (instructions.Jump (length m5))) h2)
+      branched old condition x y first second (λ (n : ℕ). jump_if_zero d n) (λ (n : ℕ). instructions.Jump n) m0 m1 m2 m3 m4 m5 m6
+      e0 e1 e2 e3 (e4 ∙ ap (λ (n : ℕ). set m3 n (jump_if_zero d (length m3))) h1) e5 (e6 ∙ ap (λ (n : ℕ). set m5 n (instructions.Jump (length m5))) h2)
       p refl q refl
-      ∙ ap (λ (l : List Instruction). old ++ l) (sym (append_assoc condition (instructions.JumpIfZero d q ∷ first p) (instructions.Jump (q + length (second q)) ∷ second q)))
+      ∙ ap (λ (l : List Instruction). old ++ l) (sym (append_assoc condition (jump_if_zero d q ∷ first p) (instructions.Jump (q + length (second q)) ∷ second q)))
       ∙ ap (λ (z : Statement). old ++ statement_code z (length old) head d) (sym tree)
 
 -- ---- loops
@@ -126,7 +126,7 @@ module _ (old : List Instruction) (into x test back : Instruction) (first second
       ∙ append_assoc old (into ∷ []) (out (q + length (second q) + 1) ∷ whole)
 
 module _ (a : Expression) (s : Statement) (d : ℕ) (old : List Instruction) (x : Instruction) (m1 m2 m3 m4 m5 m6 m7 : List Instruction) (head leaving : ℕ) (here : head ≡ length old) where
-  pub made_loop : m1 ≡ old ++ instructions.Jump (continue_target head) ∷ [] → leaving ≡ length m1 → m2 ≡ m1 ++ x ∷ [] → m3 ≡ m2 ++ expression_code a (length m2) d → m4 ≡ m3 ++ instructions.JumpIfZero d leaving ∷ []
+  pub made_loop : m1 ≡ old ++ instructions.Jump (continue_target head) ∷ [] → leaving ≡ length m1 → m2 ≡ m1 ++ x ∷ [] → m3 ≡ m2 ++ expression_code a (length m2) d → m4 ≡ m3 ++ jump_if_zero d leaving ∷ []
       → m5 ≡ m4 ++ statement_code s (length m4) head d → m6 ≡ m5 ++ instructions.Jump (continue_target head) ∷ [] → m7 ≡ set m6 leaving (instructions.Jump (length m6))
       → m7 ≡ old ++ loop_code a s (length old) d
   made_loop e1 k e2 e3 e4 e5 e6 e7 =
@@ -136,12 +136,12 @@ module _ (a : Expression) (s : Statement) (d : ℕ) (old : List Instruction) (x 
       let p = begin + 2 in
       let q = p + length (first p) + 1 in
       let left : leaving ≡ begin + 1 = k ∙ ap length e1 ∙ length-append old (instructions.Jump (continue_target head) ∷ []) in
-      looped old (instructions.Jump (continue_target begin)) x (instructions.JumpIfZero d (break_target begin)) (instructions.Jump (continue_target begin)) first second (λ (n : ℕ). instructions.Jump n) m1 m2 m3 m4 m5 m6 m7
+      looped old (instructions.Jump (continue_target begin)) x (jump_if_zero d (break_target begin)) (instructions.Jump (continue_target begin)) first second (λ (n : ℕ). instructions.Jump n) m1 m2 m3 m4 m5 m6 m7
       (e1 ∙ ap (λ (n : ℕ). old ++ instructions.Jump (continue_target n) ∷ []) here) e2 e3
-      (e4 ∙ ap (λ (n : ℕ). m3 ++ instructions.JumpIfZero d n ∷ []) left)
+      (e4 ∙ ap (λ (n : ℕ). m3 ++ jump_if_zero d n ∷ []) left)
       (e5 ∙ ap (λ (n : ℕ). m4 ++ statement_code s (length m4) n d) here)
       (e6 ∙ ap (λ (n : ℕ). m5 ++ instructions.Jump (continue_target n) ∷ []) here)
       (e7 ∙ ap (λ (n : ℕ). set m6 n (instructions.Jump (length m6))) left)
       p refl q refl
       ∙ ap (λ (l : List Instruction). old ++ instructions.Jump (continue_target begin) ∷ instructions.Jump (q + length (second q) + 1) ∷ l)
-      (sym (append_assoc (first p) (instructions.JumpIfZero d (break_target begin) ∷ second q) (instructions.Jump (continue_target begin) ∷ [])))
+      (sym (append_assoc (first p) (jump_if_zero d (break_target begin) ∷ second q) (instructions.Jump (continue_target begin) ∷ [])))

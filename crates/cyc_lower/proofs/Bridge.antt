@@ -12,10 +12,11 @@ use Rattle.cyc_types.specs.Types.{Ty}
 use Rattle.cyc_types.specs.TypedTrees.{Lvalue, Local, Global, Expression, Number, Copy, Call, Unary, Binary, Assign, Converted, Convert, Arguments, NoArguments, MoreArguments, Operations, NoOperations, ThenCompute, ThenTest, Statement, Block, Empty, Evaluate, If, While, Return, Break, Continue, Items, NoItems, MoreItems, Execute, Declare, Function, Program}
 use Rattle.cyc_types.specs.Scopes.{Signature}
 use Rattle.cyc_types.specs.Numbered.{Numbering, argument_count, IsWithin, IsNumbered, IsNumberedConverted, AreNumberedArguments, AreNumberedOperations, IsNumberedReturn, IsNumberedInitial, IsNumberedStatement, AreNumberedItems, numbering_of, signatures_of, AreNumberedFunctions, IsNumberedProgram}
+use Rattle.cyc_plain.specs.declared.instruction.Operand.TheVariants as operands
 use Rattle.cyc_plain.specs.declared.instruction.Instruction.{Instruction}
 use Rattle.cyc_plain.specs.declared.instruction.Instruction.TheVariants as instructions
 use Rattle.cyc_plain.specs.Program.{Routine, no_routine, routine_at}
-use Rattle.cyc_lower.specs.Lowering.{binary_operator, break_target, continue_target, conversion_code, operator_code, truth_code, load_code, store_code, call_code, test_code, expression_code, converted_code, arguments_code, operations_code, return_code, declaration_code, statement_code, items_code, function_code, first_temporary, results_of, lower_function, lower_program}
+use Rattle.cyc_lower.specs.Lowering.{jump_if_zero, jump_if_nonzero, binary_operator, break_target, continue_target, conversion_code, operator_code, truth_code, load_code, store_code, call_code, test_code, expression_code, converted_code, arguments_code, operations_code, return_code, declaration_code, statement_code, items_code, function_code, first_temporary, results_of, lower_function, lower_program}
 use Rattle.cyc_lower.proofs.Stands.{At, HasAt, has_front, has_back, has_all, ConversionAt, OperatorAt, LoadAt, StoreAt, CallAt, ExpressionAt, ConvertedAt, ArgumentsAt, OperationsAt, ReturnAt, DeclarationAt, StatementAt, ItemsAt}
 use Rattle.cyc_lower.proofs.Relation.{bounds_in, bounds_at}
 use Rattle.cyc_lower.proofs.Calls.{FunctionsStand}
@@ -28,12 +29,12 @@ module _ (code : List Instruction) (b : Numbering) where
   -- ---- expressions
 
   conversion_stands : (to : Kind) (d p q : ℕ) → p + length (conversion_code to p d) ≡ q → HasAt code p (conversion_code to p d) → ConversionAt code b to d p q
-  conversion_stands kinds.NonNull d p q end (jump, (uncaught, none)) = (subst (λ t. At code p (instructions.JumpIfNonzero d t)) end jump, uncaught, end)
+  conversion_stands kinds.NonNull d p q end (jump, (uncaught, none)) = (subst (λ t. At code p (jump_if_nonzero d t)) end jump, uncaught, end)
   conversion_stands to d p q end has = omega (arith, end)
 
   operator_stands : (o : Operator) (d p q : ℕ) → p + length (operator_code o p d) ≡ q → HasAt code p (operator_code o p d) → OperatorAt code b o d p q
-  operator_stands operators.Divide d p q end (jump, (uncaught, (here, none))) = (jump, uncaught, subst (λ t. At code t (instructions.Binary (binary_operator operators.Divide) d d (suc d))) (let e : p + 1 + 1 ≡ p + 2 = omega arith in e) here, omega (arith, end))
-  operator_stands operators.Remainder d p q end (jump, (uncaught, (here, none))) = (jump, uncaught, subst (λ t. At code t (instructions.Binary (binary_operator operators.Remainder) d d (suc d))) (let e : p + 1 + 1 ≡ p + 2 = omega arith in e) here, omega (arith, end))
+  operator_stands operators.Divide d p q end (jump, (uncaught, (here, none))) = (jump, uncaught, subst (λ t. At code t (instructions.Binary (binary_operator operators.Divide) d (operands.Slot d) (operands.Slot (suc d)))) (let e : p + 1 + 1 ≡ p + 2 = omega arith in e) here, omega (arith, end))
+  operator_stands operators.Remainder d p q end (jump, (uncaught, (here, none))) = (jump, uncaught, subst (λ t. At code t (instructions.Binary (binary_operator operators.Remainder) d (operands.Slot d) (operands.Slot (suc d)))) (let e : p + 1 + 1 ≡ p + 2 = omega arith in e) here, omega (arith, end))
   operator_stands o d p q end (here, none) = (here, end)
 
   load_stands : (l : Lvalue) (d p q : ℕ) → IsWithin b l → p + length (load_code l d) ≡ q → HasAt code p (load_code l d) → LoadAt code b l d p q
@@ -149,7 +150,7 @@ module _ (code : List Instruction) (b : Numbering) where
         let then_code = statement_code s (m + 1) loop d in
         let r = m + 1 + length then_code in
         let else_code = statement_code t (r + 1) loop d in
-        let jump_first = instructions.JumpIfZero d (r + 1) ∷ then_code in
+        let jump_first = jump_if_zero d (r + 1) ∷ then_code in
         let jump_second = instructions.Jump (r + 1 + length else_code) ∷ else_code in
         let front = condition ++ jump_first in
         let long : length front ≡ length condition + suc (length then_code) = length-append condition jump_first in
@@ -169,7 +170,7 @@ module _ (code : List Instruction) (b : Numbering) where
         let m = p + 2 + length condition in
         let body = statement_code s (m + 1) p d in
         let r = m + 1 + length body in
-        let test = instructions.JumpIfZero d (break_target p) ∷ body in
+        let test = jump_if_zero d (break_target p) ∷ body in
         let again = instructions.Jump (continue_target p) ∷ [] in
         let (enter, (leave, inner)) = has in
         let inner_has = subst (λ x. HasAt code x ((condition ++ test) ++ again)) (let e : p + 1 + 1 ≡ p + 2 = omega arith in e) inner in

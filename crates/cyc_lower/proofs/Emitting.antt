@@ -21,8 +21,11 @@ use Rattle.cyc_types.specs.TypedTrees.{Lvalue, Local, Global, Expression, Number
 use Rattle.cyc_types.specs.TypedTreeView.{view_expression, view_converted, arguments_of, operations_of}
 use Rattle.cyc_types.specs.Numbered.{argument_count}
 use Rattle.cyc_types.proofs.TypedTreeViewLemmas.{view_call, view_binary}
+use Rattle.cyc_plain.specs.declared.instruction.Operand.TheVariants as operands
 use Rattle.cyc_plain.specs.declared.instruction.Instruction.{Instruction}
-use Rattle.cyc_lower.specs.Lowering.{load_code, operator_code, call_code, test_jump, truth_code, expression_code, converted_code, arguments_code, operations_code}
+use Rattle.cyc_plain.specs.declared.instruction.Instruction.TheVariants as instructions
+use Rattle.cyc_meaning.specs.Operators.{division_by_zero}
+use Rattle.cyc_lower.specs.Lowering.{jump_if_nonzero, binary_operator, checked_code, load_code, operator_code, call_code, test_jump, truth_code, expression_code, converted_code, arguments_code, operations_code}
 use Rattle.cyc_lower.specs.Emission.{operation_code}
 
 -- ---- no expression is without code
@@ -191,3 +194,17 @@ module _ (value : Operation) (o : LogicalOperator) (e : Expr) (is : value ≡ op
   made_test here b m t p n =
       tested old x (λ (q : ℕ). expression_code (view_expression e) q d) (λ (q : ℕ). test_jump o d q) begun made patched new (truth_code d) place here target b m t p n
       ∙ ap (λ (y : Operation). old ++ operation_code y (length old) d) (sym is)
+
+-- a division behind its test
+module _ (o : Operator) (old m1 m2 m3 : List Instruction) (d : ℕ) where
+  pub made_checked : m1 ≡ old ++ jump_if_nonzero (d + 1) (length old + 2) ∷ [] → m2 ≡ m1 ++ instructions.Uncaught division_by_zero (operands.Slot (d + 1)) ∷ []
+      → m3 ≡ m2 ++ instructions.Binary (binary_operator o) d (operands.Slot d) (operands.Slot (d + 1)) ∷ [] → m3 ≡ old ++ checked_code o (length old) d
+  made_checked e1 e2 e3 =
+      let jump = jump_if_nonzero (d + 1) (length old + 2) in
+      let raise = instructions.Uncaught division_by_zero (operands.Slot (d + 1)) in
+      let divide = instructions.Binary (binary_operator o) d (operands.Slot d) (operands.Slot (d + 1)) in
+      e3
+      ∙ ap (λ (l : List Instruction). l ++ divide ∷ []) (e2 ∙ ap (λ (l : List Instruction). l ++ raise ∷ []) e1 ∙ append_assoc old (jump ∷ []) (raise ∷ []))
+      ∙ append_assoc old (jump ∷ raise ∷ []) (divide ∷ [])
+      ∙ ap (λ (n : ℕ). old ++ jump_if_nonzero n (length old + 2) ∷ instructions.Uncaught division_by_zero (operands.Slot n) ∷ instructions.Binary (binary_operator o) d (operands.Slot d) (operands.Slot n) ∷ [])
+      (let e : d + 1 ≡ suc d = omega arith in e)

@@ -14,7 +14,8 @@ use Rattle.cyc_types.specs.TypedTrees.{Local, Global, Expression, Number, Copy, 
 use Rattle.cyc_types.specs.declared.region.Region.TheVariants.{Heap}
 use Rattle.cyc_syntax.specs.declared.tree.PointerKind.TheVariants.{Nullable, NonNull}
 use Rattle.cyc_plain.specs.declared.instruction.Instruction.{Instruction}
-use Rattle.cyc_plain.specs.declared.instruction.Instruction.TheVariants.{Move, Jump, JumpIfZero, JumpIfNonzero}
+use Rattle.cyc_plain.specs.declared.instruction.Operand.TheVariants.{Slot}
+use Rattle.cyc_plain.specs.declared.instruction.Instruction.TheVariants.{Move, Jump}
 use Rattle.cyc_plain.specs.declared.instruction.Instruction.TheVariants as instructions
 use Rattle.cyc_plain.specs.declared.instruction.BinaryOperator.TheVariants as plain_binary
 use Rattle.cyc_words.specs.Simulation.{Status, Ended}
@@ -25,7 +26,7 @@ use Rattle.cyc_plain.proofs.RunLaws.{zeros}
 use Rattle.cyc_meaning.specs.State.{status_of as status_of_source}
 use Rattle.cyc_meaning.specs.Run.{limited_run}
 use Rattle.cyc_meaning.specs.FrameCount.{frame_count, expression_need}
-use Rattle.cyc_lower.specs.Lowering.{function_code, lower_program}
+use Rattle.cyc_lower.specs.Lowering.{jump_if_zero, jump_if_nonzero, function_code, lower_program}
 use Rattle.cyc_meaning.specs.SourceMachine.{status_in}
 
 -- ---- trees
@@ -260,15 +261,16 @@ code_of_body body = function_code (function [] ints body)
 
 -- a loop, with its two jumps in front
 loop_code : code_of_body (all (While nowhere (local 0) Break ∷ returns (local 1) ∷ [])) ≡
-    Jump 2 ∷ Jump 6 ∷ Move 2 0 ∷ JumpIfZero 2 1 ∷ Jump 1 ∷ Jump 2
-    ∷ Move 2 1 ∷ instructions.Return 2
+    Jump 2 ∷ Jump 6 ∷ Move 2 (Slot 0) ∷ jump_if_zero 2 1 ∷ Jump 1 ∷ Jump 2
+    ∷ Move 2 (Slot 1) ∷ instructions.Return 2
     ∷ instructions.Return 2 ∷ []
 loop_code = refl
 
 -- a branch, and a division with its test
 branch_code : code_of_body (all (If (local 0) (Evaluate (two (local 0) (ThenCompute Divide (local 1) NoOperations))) Empty ∷ [])) ≡
-    Move 2 0 ∷ JumpIfZero 2 8
-    ∷ Move 2 0 ∷ Move 3 1 ∷ JumpIfNonzero 3 6 ∷ instructions.Uncaught 4 3 ∷ instructions.Binary plain_binary.Divide 2 2 3
+    Move 2 (Slot 0) ∷ jump_if_zero 2 8
+    ∷ Move 2 (Slot 0) ∷ Move 3 (Slot 1) ∷ jump_if_nonzero 3 6 ∷ instructions.Uncaught 4 (Slot 3)
+    ∷ instructions.Binary plain_binary.Divide 2 (Slot 2) (Slot 3)
     ∷ Jump 8
     ∷ instructions.Return 2 ∷ []
 branch_code = refl

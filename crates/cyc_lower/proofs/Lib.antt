@@ -23,7 +23,6 @@ pub mod WellFormed
 pub mod WordLemmas
 pub mod Sizes
 pub mod Weights
-pub mod Needs
 pub mod NeedBounds
 -- the code that emits, and that counts
 pub mod Emitting

@@ -18,7 +18,7 @@ use Rattle.cyc_lower.specs.declared.limits.TheConstants.{MOST_FUNCTIONS}
 use Rattle.cyc_lower.specs.Lowered.{AreLoweredFunctions, CanBeLowered, HasTooMany, IsAccepted, IsLowered, size_per_weight}
 use Rattle.cyc_lower.proofs.Routines.{one_too_many}
 use Rattle.cyc_lower.proofs.Sizes.{function_size}
-use Rattle.cyc_lower.proofs.WellFormed.{well_formed}
+use Rattle.cyc_lower.proofs.WellFormed.{globals_counted, well_formed}
 use Rattle.cyc_lower.proofs.WordLemmas.{has_words}
 use Rattle.cyc_lower.proofs.Whole.{follows}
 
@@ -31,6 +31,7 @@ is_lowered source fit = record {
   well_formed = well_formed source fit.is_numbered fit.few_globals;
   words = has_words source fit.of_words;
   functions = functions_lowered source.functions;
+  globals = sym (globals_counted source.globals);
   follows = λ pages calls input some_page some_call. follows source fit.is_numbered pages calls input some_page some_call;
 }
 

@@ -3,6 +3,7 @@ use Rattle.std.proofs.Common.{◌≡◌, ℕ, suc, ◌+◌, ◌≤◌, ◌<◌, 
 use Rattle.std.specs.Prelude.{◌⊎◌}
 use Rattle.cyc_types.specs.TypedTrees.{Lvalue, Expression, Statement, Function, Program}
 use Rattle.cyc_types.specs.Numbered.{Numbering, numbering_of, signatures_of, argument_count}
+use Rattle.cyc_plain.specs.declared.instruction.Operand.TheVariants as operands
 use Rattle.cyc_plain.specs.declared.instruction.Instruction.{Instruction}
 use Rattle.cyc_plain.specs.declared.instruction.Instruction.TheVariants as instructions
 use Rattle.cyc_plain.specs.Program.{routine_at}
@@ -11,7 +12,7 @@ use Rattle.cyc_plain.specs.State as plain
 use Rattle.cyc_meaning.specs.Values.{Value, Int, Null, Thin, Fat, Handle, Key, Operand, Cell}
 use Rattle.cyc_meaning.specs.State.{Sort, Heap, Globals, Stack, Lexical, Dynamic, Region, Object, World, counted, first_classes, Environment, ConvertTo, Operate, Chain, Apply, Decide, Store, Pass, Initialise, Choose, Test, Return, Entry, Needs, NeedsPlace, Discard, Rest, Join, Loop, CloseRegion, CloseLexical, EndLoan, Handler, Caller, Main, calls_in, Focus, Evaluating, Given, Executing, Proceeding, Calling, Entering, Binding, Breaking, Continuing, Returning, Throwing, State, Running, Ended}
 use Rattle.cyc_meaning.specs.Step.{object_of}
-use Rattle.cyc_lower.specs.Lowering.{slot_of, unary_operator, break_target, continue_target, results_of, lower_program}
+use Rattle.cyc_lower.specs.Lowering.{jump_if_zero, slot_of, unary_operator, break_target, continue_target, results_of, lower_program}
 use Rattle.cyc_lower.proofs.Stands.{At, ConversionAt, OperatorAt, TruthAt, StoreAt, CallAt, ExpressionAt, ArgumentsAt, OperationsAt, StatementAt, ItemsAt}
 
 -- ---- values in slots
@@ -164,7 +165,7 @@ module _ (source : Program) where
   abbrev pub LoopAt : ℕ → Expression → Statement → (loop q : ℕ) → Type 0
   LoopAt g condition body loop q = (m : ℕ) × (r : ℕ) × At (code_of g) (break_target loop) (instructions.Jump q)
       × ExpressionAt (code_of g) (bounds_at g) condition (base_of g) (continue_target loop) m
-      × At (code_of g) m (instructions.JumpIfZero (base_of g) (break_target loop))
+      × At (code_of g) m (jump_if_zero (base_of g) (break_target loop))
       × StatementAt (code_of g) (bounds_at g) body loop (base_of g) (m + 1) r
       × At (code_of g) r (instructions.Jump (continue_target loop)) × (break_target loop < q)
 
@@ -189,7 +190,7 @@ module _ (source : Program) where
     ValueStack g locals p frames (Needs (ConvertTo from to) ∷ k) =
         (q : ℕ) × ConversionAt (code_of g) (bounds_at g) to (top g k) p q × ValueStack g locals q frames k
     ValueStack g locals p frames (Needs (Operate operator) ∷ k) =
-        At (code_of g) p (instructions.Unary (unary_operator operator) (top g k) (top g k)) × ValueStack g locals (p + 1) frames k
+        At (code_of g) p (instructions.Unary (unary_operator operator) (top g k) (operands.Slot (top g k))) × ValueStack g locals (p + 1) frames k
     ValueStack g locals p frames (Needs (Chain operations) ∷ k) =
         (q : ℕ) × OperationsAt (code_of g) (bounds_at g) operations (top g k) p q × ValueStack g locals q frames k
     ValueStack g locals p frames (Needs (Apply operator left) ∷ k) =
@@ -203,15 +204,15 @@ module _ (source : Program) where
         × CallAt (code_of g) (bounds_at g) callee all (top g k) m q × (length before + suc (argument_count arguments) ≡ all)
         × ValueStack g locals q frames k
     ValueStack g locals p frames (Needs (Initialise number kind items) ∷ k) =
-        (loop : ℕ) × (q : ℕ) × At (code_of g) p (instructions.Move (slot_of number) (base_of g)) × (number < base_of g)
+        (loop : ℕ) × (q : ℕ) × At (code_of g) p (instructions.Move (slot_of number) (operands.Slot (base_of g))) × (number < base_of g)
         × ItemsAt (code_of g) (bounds_at g) items loop (base_of g) (p + 1) q × StatementStack g loop q frames k
     ValueStack g locals p frames (Needs (Choose then otherwise) ∷ k) =
-        (loop : ℕ) × (r : ℕ) × (q : ℕ) × At (code_of g) p (instructions.JumpIfZero (base_of g) (r + 1))
+        (loop : ℕ) × (r : ℕ) × (q : ℕ) × At (code_of g) p (jump_if_zero (base_of g) (r + 1))
         × StatementAt (code_of g) (bounds_at g) then loop (base_of g) (p + 1) r × At (code_of g) r (instructions.Jump q)
         × StatementAt (code_of g) (bounds_at g) otherwise loop (base_of g) (r + 1) q × StatementStack g loop q frames k
     ValueStack g locals p frames (Needs (Test condition body) ∷ k) =
         (loop : ℕ) × (outer : ℕ) × (q : ℕ) × LoopAt g condition body loop q
-        × (r : ℕ) × At (code_of g) p (instructions.JumpIfZero (base_of g) (break_target loop))
+        × (r : ℕ) × At (code_of g) p (jump_if_zero (base_of g) (break_target loop))
         × StatementAt (code_of g) (bounds_at g) body loop (base_of g) (p + 1) r
         × At (code_of g) r (instructions.Jump (continue_target loop)) × StatementStack g outer q frames k
     ValueStack g locals p frames (Needs Return ∷ k) =
@@ -281,7 +282,7 @@ module _ (source : Program) where
   abbrev pub Throws : (calls : ℕ) → (tag value : ℕ) → List Entry → World → Configuration → Type 0
   Throws calls tag value k w c =
       SharedAt calls w c × (calls_in k ≤ calls) × IsPlainStack k
-      × (s : ℕ) × At (code_of c.active.function) c.active.next (instructions.Uncaught tag s) × (c.active.slots s ≡ value)
+      × (s : ℕ) × At (code_of c.active.function) c.active.next (instructions.Uncaught tag (operands.Slot s)) × (c.active.slots s ≡ value)
 
   abbrev pub Related : (calls : ℕ) → Focus → List Entry → Environment → World → Configuration → Type 0
   Related calls (Throwing tag value) k e w c = Throws calls tag value k w c

@@ -14,10 +14,11 @@ use Rattle.cyc_types.specs.TypedTrees.{Lvalue, Local, Global, Expression, Number
 use Rattle.cyc_types.specs.Numbered.{argument_count}
 use Rattle.cyc_types.proofs.WeightLemmas.{some_token}
 use Rattle.cyc_types.specs.Weight.{expression_weight, converted_weight, arguments_weight, more_arguments_weight, operations_weight, else_weight, statement_weight, items_weight, function_weight}
+use Rattle.cyc_plain.specs.declared.instruction.Operand.TheVariants as operands
 use Rattle.cyc_plain.specs.declared.instruction.Instruction.{Instruction}
 use Rattle.cyc_plain.specs.declared.instruction.Instruction.TheVariants as instructions
 use Rattle.cyc_plain.specs.Program.{instruction_size, size}
-use Rattle.cyc_lower.specs.Lowering.{unary_operator, break_target, continue_target, conversion_code, operator_code, truth_code, load_code, store_code, call_code, test_code, expression_code, converted_code, arguments_code, operations_code, return_code, declaration_code, statement_code, items_code, first_temporary, lower_function}
+use Rattle.cyc_lower.specs.Lowering.{jump_if_zero, jump_if_nonzero, unary_operator, break_target, continue_target, conversion_code, operator_code, truth_code, load_code, store_code, call_code, test_code, expression_code, converted_code, arguments_code, operations_code, return_code, declaration_code, statement_code, items_code, first_temporary, lower_function}
 use Rattle.cyc_lower.specs.Lowered.{size_per_weight}
 
 abbrev code_size : List Instruction → ℕ
@@ -54,8 +55,8 @@ call_size callees.Getchar n d = omega arith
 call_size (callees.Function g) n d = omega arith
 
 test_size : (o : LogicalOperator) (operand : List Instruction) (p d : ℕ) → code_size (test_code o operand p d) ≤ 3 + code_size operand
-test_size logical.AndThen operand p d = omega (arith, both operand (truth_code d), cons (instructions.JumpIfZero d (p + 1 + length operand)) (operand ++ truth_code d))
-test_size logical.OrElse operand p d = omega (arith, both operand (truth_code d), cons (instructions.JumpIfNonzero d (p + 1 + length operand)) (operand ++ truth_code d))
+test_size logical.AndThen operand p d = omega (arith, both operand (truth_code d), cons (jump_if_zero d (p + 1 + length operand)) (operand ++ truth_code d))
+test_size logical.OrElse operand p d = omega (arith, both operand (truth_code d), cons (jump_if_nonzero d (p + 1 + length operand)) (operand ++ truth_code d))
 
 mutual
   expression_size : (a : Expression) (p d : ℕ) → code_size (expression_code a p d) ≤ 3 * expression_weight a
@@ -63,7 +64,7 @@ mutual
   expression_size (Copy l t) p d = omega (arith, load_size l d)
   expression_size (Call f cs t) p d =
       omega (arith, both (arguments_code cs p d) (call_code f (argument_count cs) d), arguments_size cs p d, call_size f (argument_count cs) d)
-  expression_size (Unary o a) p d = omega (arith, both (expression_code a p d) (instructions.Unary (unary_operator o) d d ∷ []), expression_size a p d)
+  expression_size (Unary o a) p d = omega (arith, both (expression_code a p d) (instructions.Unary (unary_operator o) d (operands.Slot d) ∷ []), expression_size a p d)
   expression_size (Binary a os t) p d =
       omega (arith, both (expression_code a p d) (operations_code os (p + length (expression_code a p d)) d), expression_size a p d, operations_size os (p + length (expression_code a p d)) d)
   expression_size (Assign l c t) p d = omega (arith, both (converted_code c p d) (store_code l d), converted_size c p d, store_size l d)
@@ -121,13 +122,13 @@ mutual
       let then_code = statement_code s (m + 1) loop d in
       let r = m + 1 + length then_code in
       let else_code = statement_code t (r + 1) loop d in
-      let jump_first = instructions.JumpIfZero d (r + 1) ∷ then_code in
+      let jump_first = jump_if_zero d (r + 1) ∷ then_code in
       let jump_second = instructions.Jump (r + 1 + length else_code) ∷ else_code in
       omega (
         arith,
         both (condition ++ jump_first) jump_second,
         both condition jump_first,
-        cons (instructions.JumpIfZero d (r + 1)) then_code,
+        cons (jump_if_zero d (r + 1)) then_code,
         cons (instructions.Jump (r + 1 + length else_code)) else_code,
         expression_size a p d,
         statement_size s (m + 1) loop d,
@@ -137,7 +138,7 @@ mutual
       let condition = expression_code a (p + 2) d in
       let m = p + 2 + length condition in
       let body = statement_code s (m + 1) p d in
-      let test = instructions.JumpIfZero d (break_target p) ∷ body in
+      let test = jump_if_zero d (break_target p) ∷ body in
       let again = instructions.Jump (continue_target p) ∷ [] in
       let rest = (condition ++ test) ++ again in
       let exit = instructions.Jump (m + 1 + length body + 1) in
@@ -147,7 +148,7 @@ mutual
         cons exit rest,
         both (condition ++ test) again,
         both condition test,
-        cons (instructions.JumpIfZero d (break_target p)) body,
+        cons (jump_if_zero d (break_target p)) body,
         expression_size a (p + 2) d,
         statement_size s (m + 1) p d,
       )
@@ -165,7 +166,7 @@ mutual
   items_size (MoreItems (Declare n t (Some c)) js) p loop d =
       let front = declaration_code n (Some c) p d in
       let q = p + length front in
-      omega (arith, both front (items_code js q loop d), both (converted_code c p d) (instructions.Move n d ∷ []), converted_size c p d, items_size js q loop d)
+      omega (arith, both front (items_code js q loop d), both (converted_code c p d) (instructions.Move n (operands.Slot d) ∷ []), converted_size c p d, items_size js q loop d)
   items_size (MoreItems j js) p loop d = omega (arith, items_size js p loop d)
 
 pub function_size : (h : Function) → size (lower_function h) ≤ size_per_weight * function_weight h

@@ -10,10 +10,11 @@ use Rattle.cyc_types.specs.TypedTrees.{Lvalue, Local, Global, Expression, Number
 use Rattle.cyc_types.specs.Numbered.{Numbering, argument_count}
 use Rattle.cyc_plain.specs.declared.instruction.UnaryOperator.TheVariants as plain_unary
 use Rattle.cyc_plain.specs.declared.instruction.BinaryOperator.TheVariants as plain_binary
+use Rattle.cyc_plain.specs.declared.instruction.Operand.TheVariants as operands
 use Rattle.cyc_plain.specs.declared.instruction.Instruction.{Instruction}
 use Rattle.cyc_plain.specs.declared.instruction.Instruction.TheVariants as instructions
 use Rattle.cyc_meaning.specs.Operators.{null_exception, division_by_zero}
-use Rattle.cyc_lower.specs.Lowering.{slot_of, unary_operator, binary_operator, test_jump, break_target, continue_target, results_of}
+use Rattle.cyc_lower.specs.Lowering.{jump_if_zero, jump_if_nonzero, slot_of, unary_operator, binary_operator, test_jump, break_target, continue_target, results_of}
 
 -- ---- lists of instructions in a code
 
@@ -59,43 +60,43 @@ has_all code back = has_from [] code back
 -- In a code of a function with these bounds, from p to q stands the code of this, whose value comes to slot d or is there.
 module _ (code : List Instruction) (bounds : Numbering) where
   abbrev pub ConversionAt : Kind → (d p q : ℕ) → Type 0
-  ConversionAt kinds.NonNull d p q = At code p (instructions.JumpIfNonzero d q) × At code (p + 1) (instructions.Uncaught null_exception d) × (p + 2 ≡ q)
+  ConversionAt kinds.NonNull d p q = At code p (jump_if_nonzero d q) × At code (p + 1) (instructions.Uncaught null_exception (operands.Slot d)) × (p + 2 ≡ q)
   ConversionAt to d p q = p ≡ q
 
   abbrev pub CheckedAt : Operator → (d p q : ℕ) → Type 0
   CheckedAt o d p q =
-      At code p (instructions.JumpIfNonzero (suc d) (p + 2)) × At code (p + 1) (instructions.Uncaught division_by_zero (suc d))
-      × At code (p + 2) (instructions.Binary (binary_operator o) d d (suc d)) × (p + 2 + 1 ≡ q)
+      At code p (jump_if_nonzero (suc d) (p + 2)) × At code (p + 1) (instructions.Uncaught division_by_zero (operands.Slot (suc d)))
+      × At code (p + 2) (instructions.Binary (binary_operator o) d (operands.Slot d) (operands.Slot (suc d))) × (p + 2 + 1 ≡ q)
 
   abbrev pub OperatorAt : Operator → (d p q : ℕ) → Type 0
   OperatorAt operators.Divide d p q = CheckedAt operators.Divide d p q
   OperatorAt operators.Remainder d p q = CheckedAt operators.Remainder d p q
-  OperatorAt o d p q = At code p (instructions.Binary (binary_operator o) d d (suc d)) × (p + 1 ≡ q)
+  OperatorAt o d p q = At code p (instructions.Binary (binary_operator o) d (operands.Slot d) (operands.Slot (suc d))) × (p + 1 ≡ q)
 
   abbrev pub TruthAt : (d p q : ℕ) → Type 0
-  TruthAt d p q = At code p (instructions.Unary plain_unary.Not d d) × At code (p + 1) (instructions.Unary plain_unary.Not d d) × (p + 1 + 1 ≡ q)
+  TruthAt d p q = At code p (instructions.Unary plain_unary.Not d (operands.Slot d)) × At code (p + 1) (instructions.Unary plain_unary.Not d (operands.Slot d)) × (p + 1 + 1 ≡ q)
 
   abbrev pub LoadAt : Lvalue → (d p q : ℕ) → Type 0
-  LoadAt (Local w n) d p q = At code p (instructions.Move d (slot_of n)) × (p + 1 ≡ q)
+  LoadAt (Local w n) d p q = At code p (instructions.Move d (operands.Slot (slot_of n))) × (p + 1 ≡ q)
   LoadAt (Global n) d p q = (n < bounds.globals) × At code p (instructions.LoadGlobal d n) × (p + 1 ≡ q)
 
   abbrev pub StoreAt : Lvalue → (d p q : ℕ) → Type 0
-  StoreAt (Local w n) d p q = At code p (instructions.Move (slot_of n) d) × (p + 1 ≡ q)
-  StoreAt (Global n) d p q = (n < bounds.globals) × At code p (instructions.StoreGlobal n d) × (p + 1 ≡ q)
+  StoreAt (Local w n) d p q = At code p (instructions.Move (slot_of n) (operands.Slot d)) × (p + 1 ≡ q)
+  StoreAt (Global n) d p q = (n < bounds.globals) × At code p (instructions.StoreGlobal n (operands.Slot d)) × (p + 1 ≡ q)
 
   abbrev pub CallAt : Callee → (arguments d p q : ℕ) → Type 0
   CallAt callees.Putchar arguments d p q =
-      At code p (instructions.WriteByte d) × At code (p + 1) (instructions.Constant (suc d) 255)
-      × At code (p + 1 + 1) (instructions.Binary plain_binary.And d d (suc d)) × (p + 1 + 1 + 1 ≡ q)
+      At code p (instructions.WriteByte (operands.Slot d)) × At code (p + 1) (instructions.Move (suc d) (operands.Word 255))
+      × At code (p + 1 + 1) (instructions.Binary plain_binary.And d (operands.Slot d) (operands.Slot (suc d))) × (p + 1 + 1 + 1 ≡ q)
   CallAt callees.Getchar arguments d p q = At code p (instructions.ReadByte d) × (p + 1 ≡ q)
   CallAt (callees.Function n) arguments d p q = At code p (instructions.Call n d arguments d) × (p + 1 ≡ q)
 
   abbrev mutual
     pub ExpressionAt : Expression → (d p q : ℕ) → Type 0
-    ExpressionAt (Number n) d p q = At code p (instructions.Constant d n) × (p + 1 ≡ q)
+    ExpressionAt (Number n) d p q = At code p (instructions.Move d (operands.Word n)) × (p + 1 ≡ q)
     ExpressionAt (Copy l t) d p q = LoadAt l d p q
     ExpressionAt (Call f cs t) d p q = (m : ℕ) × ArgumentsAt cs d p m × CallAt f (argument_count cs) d m q
-    ExpressionAt (Unary o a) d p q = (m : ℕ) × ExpressionAt a d p m × At code m (instructions.Unary (unary_operator o) d d) × (m + 1 ≡ q)
+    ExpressionAt (Unary o a) d p q = (m : ℕ) × ExpressionAt a d p m × At code m (instructions.Unary (unary_operator o) d (operands.Slot d)) × (m + 1 ≡ q)
     ExpressionAt (Binary a os t) d p q = (m : ℕ) × ExpressionAt a d p m × OperationsAt os d m q
     ExpressionAt (Assign l c t) d p q = (m : ℕ) × ConvertedAt c d p m × StoreAt l d m q
     ExpressionAt a d p q = ⊥
@@ -123,7 +124,7 @@ module _ (code : List Instruction) (bounds : Numbering) where
 
   abbrev pub DeclarationAt : ℕ → Option Converted → (d p q : ℕ) → Type 0
   DeclarationAt n None d p q = (n < bounds.locals) × (p ≡ q)
-  DeclarationAt n (Some c) d p q = (n < bounds.locals) × (m : ℕ) × ConvertedAt c d p m × At code m (instructions.Move (slot_of n) d) × (m + 1 ≡ q)
+  DeclarationAt n (Some c) d p q = (n < bounds.locals) × (m : ℕ) × ConvertedAt c d p m × At code m (instructions.Move (slot_of n) (operands.Slot d)) × (m + 1 ≡ q)
 
   -- in a loop that begins at this place
   abbrev mutual
@@ -132,11 +133,11 @@ module _ (code : List Instruction) (bounds : Numbering) where
     StatementAt Empty loop d p q = p ≡ q
     StatementAt (Evaluate a) loop d p q = ExpressionAt a d p q
     StatementAt (If a s t) loop d p q =
-        (m : ℕ) × (r : ℕ) × ExpressionAt a d p m × At code m (instructions.JumpIfZero d (r + 1)) × StatementAt s loop d (m + 1) r
+        (m : ℕ) × (r : ℕ) × ExpressionAt a d p m × At code m (jump_if_zero d (r + 1)) × StatementAt s loop d (m + 1) r
         × At code r (instructions.Jump q) × StatementAt t loop d (r + 1) q
     StatementAt (While w a s) loop d p q =
         (m : ℕ) × (r : ℕ) × At code p (instructions.Jump (continue_target p)) × At code (break_target p) (instructions.Jump q)
-        × ExpressionAt a d (continue_target p) m × At code m (instructions.JumpIfZero d (break_target p)) × StatementAt s p d (m + 1) r
+        × ExpressionAt a d (continue_target p) m × At code m (jump_if_zero d (break_target p)) × StatementAt s p d (m + 1) r
         × At code r (instructions.Jump (continue_target p)) × (r + 1 ≡ q) × (break_target p < q)
     StatementAt (Return v) loop d p q = ReturnAt v d p
     StatementAt Break loop d p q = At code p (instructions.Jump (break_target loop))

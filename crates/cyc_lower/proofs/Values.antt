@@ -13,6 +13,7 @@ use Rattle.cyc_types.specs.declared.typed.Operator.TheVariants as operators
 use Rattle.cyc_types.specs.declared.typed.LogicalOperator.{LogicalOperator}
 use Rattle.cyc_types.specs.declared.typed.LogicalOperator.TheVariants as logical
 use Rattle.cyc_types.specs.TypedTrees.{Lvalue, Local, Global, Expression, Arguments, Operations, NoOperations, ThenCompute, ThenTest, Statement, Items, Program}
+use Rattle.cyc_plain.specs.declared.instruction.Operand.TheVariants as operands
 use Rattle.cyc_plain.specs.declared.instruction.Instruction.{Instruction}
 use Rattle.cyc_plain.specs.declared.instruction.Instruction.TheVariants as instructions
 use Rattle.cyc_plain.specs.declared.instruction.UnaryOperator.TheVariants as plain_unary
@@ -28,7 +29,7 @@ use Rattle.cyc_meaning.specs.Operators.{Gives, Raises, has_no_result, binary_wor
 use Rattle.cyc_meaning.specs.Conversion.{conversion}
 use Rattle.cyc_meaning.specs.State.{World, Environment, variable, written, region_at, Awaiting, ConvertTo, Operate, Chain, Apply, Decide, Store, Pass, Initialise, Choose, Test, Return, Entry, Needs, Discard, Rest, Join, Loop, Evaluating, Given, Executing, Proceeding, Returning, Throwing, State, Running}
 use Rattle.cyc_meaning.specs.Step.{wrong, object_of, computed, stored_at, declared, passes, tested, awaits_right, chosen, looped, step}
-use Rattle.cyc_lower.specs.Lowering.{unary_operator, binary_operator, break_target, lower_program}
+use Rattle.cyc_lower.specs.Lowering.{jump_if_zero, jump_if_nonzero, unary_operator, binary_operator, break_target, lower_program}
 use Rattle.cyc_lower.proofs.Stands.{At, CheckedAt, TruthAt, StoreAt}
 use Rattle.cyc_lower.proofs.Relation.{Is, Holds, held, contents, callers, DataAt, SharedAt, ValueStack, Related, Matches, in_place, by_jump, code_of, bounds_at, base_of, top}
 use Rattle.cyc_lower.proofs.Data.{height-least, Holds-put, Holds-local, data_put, data_assigned, data_assigned_global, data_declared}
@@ -219,7 +220,7 @@ module _ (source : Program) (pages calls : ℕ) (some_page : 1 ≤ pages) where
   decided_at_once : (o : LogicalOperator) (b : Expression) (os : Operations) (v : Operand) (f : Bool) (k : List Entry) (e : Environment) (w : World) (c : Configuration) (i : Instruction) (m r q : ℕ)
       → step source (Running (Given v) (Needs (Chain (ThenTest o b os)) ∷ k) e w) ≡ Running (Given (int_of (if f then 0 else 1))) (Needs (Chain os) ∷ k) e w
       → At (code_of source c.active.function) c.active.next i → ((choice : Choice) → plain_step.performed (lower_program source) choice c i ≡ plain.Running (at c m))
-      → i ≢ instructions.Unary plain_unary.Not (top source c.active.function k) (top source c.active.function k)
+      → i ≢ instructions.Unary plain_unary.Not (top source c.active.function k) (operands.Slot (top source c.active.function k))
       → (c.active.slots (top source c.active.function k) == 0) ≡ f
       → SharedAt source calls w c → DataAt source c.active.function w.objects e.locals (callers k) c.active.slots c.globals c.frames
       → Holds c.active.slots (base_of source c.active.function) (held k)
@@ -230,7 +231,7 @@ module _ (source : Program) (pages calls : ℕ) (some_page : 1 ≤ pages) where
       let code = code_of source c.active.function in
       let d = top source c.active.function k in
       let there = at c m in
-      let negation = instructions.Unary plain_unary.Not d d in
+      let negation = instructions.Unary plain_unary.Not d (operands.Slot d) in
       let s = Running (Given v) (Needs (Chain (ThenTest o b os)) ∷ k) e w in
       three source pages calls some_page there (negated there k) does shared
       (shared_within source pages calls some_page w there shared) (shared_way source pages calls some_page (Given v) (Needs (Chain (ThenTest o b os)) ∷ k) e w there shared)
@@ -249,7 +250,7 @@ module _ (source : Program) (pages calls : ℕ) (some_page : 1 ≤ pages) where
       → IsMatched source pages calls some_page (Running (Given v) (Needs (Chain (ThenTest o b os)) ∷ k) e w) (plain.Running c)
   tests logical.AndThen b os v true k e w c told (shared, facts, (is, holds, (q, (m, r, jump, at_b, truths, ops), stack))) =
       let does = ap (λ (x : Option Bool). tested x logical.AndThen b os (k) e w) (zero_is v.value _ is ∙ ap Some told) in
-      decided_at_once logical.AndThen b os v true k e w c _ m r q does jump (λ choice. ap (λ x. plain_step.branches c x m) told) (λ same. let f : instructions.JumpIfZero _ m ≡ instructions.Unary plain_unary.Not _ _ = same in cc) told shared facts holds truths (q, ops, stack)
+      decided_at_once logical.AndThen b os v true k e w c _ m r q does jump (λ choice. ap (λ x. plain_step.branches c x m) told) (λ same. let f : jump_if_zero _ m ≡ instructions.Unary plain_unary.Not _ _ = same in cc) told shared facts holds truths (q, ops, stack)
   tests logical.AndThen b os v false k e w c told (shared, facts, (is, holds, (q, (m, r, jump, at_b, truths, ops), stack))) =
       let does = ap (λ (x : Option Bool). tested x logical.AndThen b os (k) e w) (zero_is v.value _ is ∙ ap Some told) in
       one source pages calls some_page does shared jump
@@ -262,7 +263,7 @@ module _ (source : Program) (pages calls : ℕ) (some_page : 1 ≤ pages) where
       (shared, facts, (m, at_b, holds, (r, truths, (q, ops, stack)))))
   tests logical.OrElse b os v false k e w c told (shared, facts, (is, holds, (q, (m, r, jump, at_b, truths, ops), stack))) =
       let does = ap (λ (x : Option Bool). tested x logical.OrElse b os (k) e w) (zero_is v.value _ is ∙ ap Some told) in
-      decided_at_once logical.OrElse b os v false k e w c _ m r q does jump (λ choice. ap (λ x. plain_step.branches c (not x) m) told) (λ same. let f : instructions.JumpIfNonzero _ m ≡ instructions.Unary plain_unary.Not _ _ = same in cc) told shared facts holds truths (q, ops, stack)
+      decided_at_once logical.OrElse b os v false k e w c _ m r q does jump (λ choice. ap (λ x. plain_step.branches c (not x) m) told) (λ same. let f : jump_if_nonzero _ m ≡ instructions.Unary plain_unary.Not _ _ = same in cc) told shared facts holds truths (q, ops, stack)
 
   -- the left operand fits
   awaited : (fits : Bool) (waiting : Awaiting) (b : Expression) (os : Operations) (k : List Entry) (e : Environment) (w : World) → IsWell (awaits_right fits waiting b os k e w)
@@ -377,7 +378,7 @@ module _ (source : Program) (pages calls : ℕ) (some_page : 1 ≤ pages) where
       let leave = break_target loop in
       two source pages calls some_page (at c leave) (ap (λ (x : Option Bool). looped x a s k e w) (zero_is v.value _ is ∙ ap Some told)) shared shared
       jump (λ choice. ap (λ x. plain_step.branches c x leave) told)
-      around.2 (other_place code c.active.next leave _ _ jump around.2 (λ same. let f : instructions.JumpIfZero (base_of source c.active.function) leave ≡ instructions.Jump q = same in cc))
+      around.2 (other_place code c.active.next leave _ _ jump around.2 (λ same. let f : jump_if_zero (base_of source c.active.function) leave ≡ instructions.Jump q = same in cc))
       (λ choice. (shared, facts, inl (outer, stack)))
   loops a s v false k e w c told (shared, facts, (is, holds, (loop, outer, q, around, r, jump, at_s, back, stack))) =
       one source pages calls some_page (ap (λ (x : Option Bool). looped x a s k e w) (zero_is v.value _ is ∙ ap Some told)) shared jump

@@ -17,6 +17,7 @@ use Rattle.cyc_types.specs.Types as types
 use Rattle.cyc_types.specs.TypedTrees.{Lvalue, Local, Global, Expression, Number, Copy, Call, Unary, Binary, Assign, Converted, Convert, Arguments, NoArguments, MoreArguments, Operations, NoOperations, ThenCompute, ThenTest, type_of, Statement, Block, Empty, Evaluate, If, While, Return, Break, Continue, Items, NoItems, MoreItems, Execute, Declare, GlobalVariable, Function, Program}
 use Rattle.cyc_types.specs.Scopes.{Signature}
 use Rattle.cyc_types.specs.Numbered.{Numbering, signature_of, signatures_of, IsSignature, argument_count, IsWithin, IsNumbered, IsNumberedConverted, AreNumberedArguments, AreNumberedOperations, IsNumberedReturn, IsNumberedInitial, IsNumberedStatement, AreNumberedItems, numbering_of, AreNumberedFunctions, IsNumberedProgram}
+use Rattle.cyc_plain.specs.declared.instruction.Operand.TheVariants as operands
 use Rattle.cyc_plain.specs.declared.instruction.Instruction.{Instruction}
 use Rattle.cyc_plain.specs.declared.instruction.Instruction.TheVariants as instructions
 use Rattle.cyc_plain.specs.Program.{Routine, Program as PlainProgram, no_routine, routine_at}
@@ -24,7 +25,7 @@ use Rattle.cyc_plain.specs.declared.limits.TheConstants.{MOST_GLOBALS}
 use Rattle.cyc_plain.specs.WellFormed.{IsInRange, IsRoutine, IsWellFormed, leaves}
 use Rattle.cyc_meaning.specs.Values.{words_of_kind}
 use Rattle.cyc_meaning.specs.FrameCount.{result_words, operand_words, converted_words, argument_words, expression_need, converted_need, arguments_need, operations_need, initial_need, statement_need, items_need, words_of_all}
-use Rattle.cyc_lower.specs.Lowering.{slot_of, unary_operator, break_target, continue_target, conversion_code, operator_code, truth_code, load_code, store_code, call_code, test_code, expression_code, converted_code, arguments_code, operations_code, return_code, declaration_code, statement_code, items_code, first_temporary, results_of, lower_function, lower_global, lower_program}
+use Rattle.cyc_lower.specs.Lowering.{jump_if_zero, slot_of, unary_operator, break_target, continue_target, conversion_code, operator_code, truth_code, load_code, store_code, call_code, test_code, expression_code, converted_code, arguments_code, operations_code, return_code, declaration_code, statement_code, items_code, first_temporary, results_of, lower_function, lower_global, lower_program}
 
 -- ---- lists
 
@@ -107,12 +108,12 @@ module _ (program : PlainProgram) (r : Routine) (b : Numbering) (locals : b.loca
   append x y first rest = all_append (IsInRange program r) x y first rest
 
   conversion_in : (to : Kind) (p d : ℕ) → d < r.slots → p + length (conversion_code to p d) < length r.code → AreIn (conversion_code to p d)
-  conversion_in kinds.NonNull p d few short = ((few, omega (arith, short)), (few, tt))
+  conversion_in kinds.NonNull p d few short = ((few, tt, omega (arith, short)), (few, tt))
   conversion_in to p d few short = tt
 
   operator_in : (o : Operator) (p d : ℕ) → suc d < r.slots → p + length (operator_code o p d) < length r.code → AreIn (operator_code o p d)
-  operator_in operators.Divide p d few short = ((few, omega (arith, short)), (few, ((omega (arith, few), omega (arith, few), few), tt)))
-  operator_in operators.Remainder p d few short = ((few, omega (arith, short)), (few, ((omega (arith, few), omega (arith, few), few), tt)))
+  operator_in operators.Divide p d few short = ((few, tt, omega (arith, short)), (few, ((omega (arith, few), omega (arith, few), few), tt)))
+  operator_in operators.Remainder p d few short = ((few, tt, omega (arith, short)), (few, ((omega (arith, few), omega (arith, few), few), tt)))
   operator_in o p d few short = ((omega (arith, few), omega (arith, few), few), tt)
 
   load_in : (l : Lvalue) (d : ℕ) → IsWithin b l → d < r.slots → AreIn (load_code l d)
@@ -128,7 +129,7 @@ module _ (program : PlainProgram) (r : Routine) (b : Numbering) (locals : b.loca
       let one : n ≡ 1 = many ∙ ap (λ (x : Signature). length x.parameters) signature in
       let gives : result_words t ≡ 1 = ap result_words (same ∙ ap (λ (x : Signature). result_type x.result) signature) in
       let room : d + 2 ≤ r.slots = omega (arith, few, enough, one, gives) in
-      (omega (arith, room), (omega (arith, room), ((omega (arith, room), omega (arith, room), omega (arith, room)), tt)))
+      (omega (arith, room), ((omega (arith, room), tt), ((omega (arith, room), omega (arith, room), omega (arith, room)), tt)))
   call_in callees.Getchar n t s d words signature many same enough few =
       let gives : result_words t ≡ 1 = ap result_words (same ∙ ap (λ (x : Signature). result_type x.result) signature) in
       (omega (arith, few, gives), tt)
@@ -147,16 +148,16 @@ module _ (program : PlainProgram) (r : Routine) (b : Numbering) (locals : b.loca
   test_in : (o : LogicalOperator) (operand : List Instruction) (p d : ℕ) → d < r.slots → p + length (test_code o operand p d) < length r.code → AreIn operand → AreIn (test_code o operand p d)
   test_in logical.AndThen operand p d few short inside =
       let long = length-append operand (truth_code d) in
-      ((few, omega (arith, short, long)), append operand (truth_code d) inside ((few, few), ((few, few), tt)))
+      ((few, tt, omega (arith, short, long)), append operand (truth_code d) inside ((few, few), ((few, few), tt)))
   test_in logical.OrElse operand p d few short inside =
       let long = length-append operand (truth_code d) in
-      ((few, omega (arith, short, long)), append operand (truth_code d) inside ((few, few), ((few, few), tt)))
+      ((few, tt, omega (arith, short, long)), append operand (truth_code d) inside ((few, few), ((few, few), tt)))
 
   -- ---- expressions
 
   mutual
     expression_in : (a : Expression) (p d : ℕ) → IsNumbered b a → d + expression_need a ≤ r.slots → p + length (expression_code a p d) < length r.code → AreIn (expression_code a p d)
-    expression_in (Number n) p d slice_get few short = (omega (arith, few), tt)
+    expression_in (Number n) p d slice_get few short = ((omega (arith, few), tt), tt)
     expression_in (Copy l t) p d slice_get few short = load_in l d slice_get (omega (arith, few, words_positive t))
     expression_in (Call f cs t) p d (s, signature, many, same, slice_get) few short =
         let front = arguments_code cs p d in
@@ -166,7 +167,7 @@ module _ (program : PlainProgram) (r : Routine) (b : Numbering) (locals : b.loca
         (call_in f (argument_count cs) t s d (argument_words cs) signature many same (arguments_words cs) (omega (arith, few)))
     expression_in (Unary o a) p d slice_get few short =
         let front = expression_code a p d in
-        let back = instructions.Unary (unary_operator o) d d ∷ [] in
+        let back = instructions.Unary (unary_operator o) d (operands.Slot d) ∷ [] in
         let room : d < r.slots = omega (arith, few) in
         append front back (expression_in a p d slice_get (omega (arith, few)) (omega (arith, short, length-append front back))) ((room, room), tt)
     expression_in (Binary a os t) p d (slice_get, rest) few short =
@@ -239,7 +240,7 @@ module _ (program : PlainProgram) (r : Routine) (b : Numbering) (locals : b.loca
   declaration_in n None p d within slice_get few short = tt
   declaration_in n (Some c) p d within slice_get few short =
       let front = converted_code c p d in
-      let back = instructions.Move (slot_of n) d ∷ [] in
+      let back = instructions.Move (slot_of n) (operands.Slot d) ∷ [] in
       append front back (converted_in c p d slice_get (omega (arith, few)) (omega (arith, few)) (omega (arith, short, length-append front back))) ((omega (arith, within, locals), omega (arith, few)), tt)
 
   mutual
@@ -253,19 +254,19 @@ module _ (program : PlainProgram) (r : Routine) (b : Numbering) (locals : b.loca
         let then_code = statement_code s (m + 1) loop d in
         let q = m + 1 + length then_code in
         let else_code = statement_code t (q + 1) loop d in
-        let jump_first = instructions.JumpIfZero d (q + 1) ∷ then_code in
+        let jump_first = jump_if_zero d (q + 1) ∷ then_code in
         let jump_second = instructions.Jump (q + 1 + length else_code) ∷ else_code in
         let long = length-append (condition ++ jump_first) jump_second in
         let long_front = length-append condition jump_first in
         append (condition ++ jump_first) jump_second
         (append condition jump_first (expression_in a p d numbered_a (omega (arith, few)) (omega (arith, short, long, long_front)))
-        ((omega (arith, few), omega (arith, short, long, long_front)), statement_in s in_loop (m + 1) loop d numbered_s around (omega (arith, few)) (omega (arith, short, long, long_front))))
+        ((omega (arith, few), tt, omega (arith, short, long, long_front)), statement_in s in_loop (m + 1) loop d numbered_s around (omega (arith, few)) (omega (arith, short, long, long_front))))
         (omega (arith, short, long, long_front), statement_in t in_loop (q + 1) loop d numbered_t around (omega (arith, few)) (omega (arith, short, long, long_front)))
     statement_in (While w a s) in_loop p loop d (numbered_a, numbered_s) around few short =
         let condition = expression_code a (p + 2) d in
         let m = p + 2 + length condition in
         let body = statement_code s (m + 1) p d in
-        let test = instructions.JumpIfZero d (break_target p) ∷ body in
+        let test = jump_if_zero d (break_target p) ∷ body in
         let again = instructions.Jump (continue_target p) ∷ [] in
         let long = length-append (condition ++ test) again in
         let long_front = length-append condition test in (
@@ -274,7 +275,7 @@ module _ (program : PlainProgram) (r : Routine) (b : Numbering) (locals : b.loca
             omega (arith, short, long, long_front),
             append (condition ++ test) again
                 (append condition test (expression_in a (p + 2) d numbered_a (omega (arith, few)) (omega (arith, short, long, long_front)))
-                ((omega (arith, few), omega (arith, short, long, long_front)), statement_in s true (m + 1) p d numbered_s (λ inside. omega (arith, short, long, long_front)) (omega (arith, few)) (omega (arith, short, long, long_front))))
+                ((omega (arith, few), tt, omega (arith, short, long, long_front)), statement_in s true (m + 1) p d numbered_s (λ inside. omega (arith, short, long, long_front)) (omega (arith, few)) (omega (arith, short, long, long_front))))
                 (omega (arith, short, long, long_front), tt),
           ),
         )
@@ -312,7 +313,7 @@ signatures_known (h ∷ hs) zero s there =
 signatures_known (h ∷ hs) (suc n) s there =
     let (few, parameters, results) = signatures_known hs n s there in (omega (arith, few), parameters, results)
 
-globals_counted : (gs : List GlobalVariable) → length gs ≡ length (map lower_global gs)
+pub globals_counted : (gs : List GlobalVariable) → length gs ≡ length (map lower_global gs)
 globals_counted [] = refl
 globals_counted (g ∷ gs) = ap suc (globals_counted gs)
 

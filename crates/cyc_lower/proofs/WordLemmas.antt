@@ -26,13 +26,13 @@ append : (x y : List Instruction) → HaveWords x → HaveWords y → HaveWords 
 append x y first rest = all_append HasWord x y first rest
 
 conversion_words : (to : Kind) (p d : ℕ) → HaveWords (conversion_code to p d)
-conversion_words kinds.NonNull p d = (tt, ((omega arith), tt))
+conversion_words kinds.NonNull p d = ((tt, omega arith), ((omega arith, tt), tt))
 conversion_words to p d = tt
 
 operator_words : (o : Operator) (p d : ℕ) → HaveWords (operator_code o p d)
-operator_words operators.Divide p d = (tt, ((omega arith), (tt, tt)))
-operator_words operators.Remainder p d = (tt, ((omega arith), (tt, tt)))
-operator_words o p d = (tt, tt)
+operator_words operators.Divide p d = ((tt, omega arith), ((omega arith, tt), ((tt, tt), tt)))
+operator_words operators.Remainder p d = ((tt, omega arith), ((omega arith, tt), ((tt, tt), tt)))
+operator_words o p d = ((tt, tt), tt)
 
 load_words : (l : Lvalue) (d : ℕ) → HaveWords (load_code l d)
 load_words (Local w n) d = (tt, tt)
@@ -43,13 +43,13 @@ store_words (Local w n) d = (tt, tt)
 store_words (Global n) d = (tt, tt)
 
 call_words : (f : Callee) (n d : ℕ) → HaveWords (call_code f n d)
-call_words callees.Putchar n d = (tt, ((omega arith), (tt, tt)))
+call_words callees.Putchar n d = (tt, (omega arith, ((tt, tt), tt)))
 call_words callees.Getchar n d = (tt, tt)
 call_words (callees.Function g) n d = (tt, tt)
 
 test_words : (o : LogicalOperator) (operand : List Instruction) (p d : ℕ) → HaveWords operand → HaveWords (test_code o operand p d)
-test_words logical.AndThen operand p d all = (tt, append operand (truth_code d) all (tt, (tt, tt)))
-test_words logical.OrElse operand p d all = (tt, append operand (truth_code d) all (tt, (tt, tt)))
+test_words logical.AndThen operand p d all = ((tt, omega arith), append operand (truth_code d) all (tt, (tt, tt)))
+test_words logical.OrElse operand p d all = ((tt, omega arith), append operand (truth_code d) all (tt, (tt, tt)))
 
 mutual
   expression_words : (a : Expression) (p d : ℕ) → IsOfWords a → HaveWords (expression_code a p d)
@@ -107,12 +107,12 @@ mutual
       let then_code = statement_code s (m + 1) loop d in
       let q = m + 1 + length then_code in
       append (condition ++ _ ∷ then_code) (_ ∷ statement_code t (q + 1) loop d)
-      (append condition (_ ∷ then_code) (expression_words a p d first) (tt, statement_words s (m + 1) loop d second)) (tt, statement_words t (q + 1) loop d third)
+      (append condition (_ ∷ then_code) (expression_words a p d first) ((tt, omega arith), statement_words s (m + 1) loop d second)) (tt, statement_words t (q + 1) loop d third)
   statement_words (While w a s) p loop d (first, second) =
       let condition = expression_code a (p + 2) d in
       let m = p + 2 + length condition in
       let body = statement_code s (m + 1) p d in
-      (tt, (tt, append (condition ++ _ ∷ body) _ (append condition (_ ∷ body) (expression_words a (p + 2) d first) (tt, statement_words s (m + 1) p d second)) (tt, tt)))
+      (tt, (tt, append (condition ++ _ ∷ body) _ (append condition (_ ∷ body) (expression_words a (p + 2) d first) ((tt, omega arith), statement_words s (m + 1) p d second)) (tt, tt)))
   statement_words (Return v) p loop d words = return_words v p d words
   statement_words Break p loop d words = (tt, tt)
   statement_words Continue p loop d words = (tt, tt)

@@ -53,11 +53,12 @@ AreLoweredFunctions [] (r ∷ rs) = ⊥
 AreLoweredFunctions (h ∷ hs) [] = ⊥
 
 -- A plain program for a source program: it is well formed, and does what the source does. Of each function it says where its
--- name stands and how large its frame may be.
+-- name stands and how large its frame may be, and it has as many globals as the source.
 pub record IsLowered (source : Program) (lowered : PlainProgram) : Type 0 where
   pub well_formed : IsWellFormed lowered
   pub words : HasWords lowered
   pub functions : AreLoweredFunctions source.functions lowered.functions
+  pub globals : length lowered.globals ≡ length source.globals
   pub follows : (pages calls : ℕ) (input : List ℕ) → 1 ≤ pages → 1 ≤ calls → FollowsSource source lowered pages calls input
 
 -- What is asked of the typed tree. That of a text has it all: it is slice_get, its constants are words, and it has fewer globals

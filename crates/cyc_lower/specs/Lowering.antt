@@ -23,6 +23,8 @@ use Rattle.cyc_plain.specs.declared.instruction.UnaryOperator.{UnaryOperator as 
 use Rattle.cyc_plain.specs.declared.instruction.UnaryOperator.TheVariants as plain_unary
 use Rattle.cyc_plain.specs.declared.instruction.BinaryOperator.{BinaryOperator as PlainBinary}
 use Rattle.cyc_plain.specs.declared.instruction.BinaryOperator.TheVariants as plain_binary
+use Rattle.cyc_plain.specs.declared.instruction.Comparison.TheVariants as comparisons
+use Rattle.cyc_plain.specs.declared.instruction.Operand.TheVariants as operands
 use Rattle.cyc_plain.specs.declared.instruction.Instruction.{Instruction}
 use Rattle.cyc_plain.specs.declared.instruction.Instruction.TheVariants as instructions
 use Rattle.cyc_plain.specs.Program.{Routine, Program as PlainProgram}
@@ -64,51 +66,58 @@ binary_operator operators.Remainder = plain_binary.Remainder
 
 -- ---- expressions
 
+-- jumps where the word in a slot is 0, and where it is another
+abbrev pub jump_if_zero : (d target : ℕ) → Instruction
+jump_if_zero d target = instructions.Branch comparisons.Equal (operands.Slot d) (operands.Word 0) target
+
+abbrev pub jump_if_nonzero : (d target : ℕ) → Instruction
+jump_if_nonzero d target = instructions.Branch comparisons.NotEqual (operands.Slot d) (operands.Word 0) target
+
 -- a division stands behind a test of the right operand, which is the 0 that the exception tells where it fails
 abbrev pub checked_code : Operator → (p d : ℕ) → List Instruction
 checked_code o p d =
-    instructions.JumpIfNonzero (suc d) (p + 2)
-    ∷ instructions.Uncaught division_by_zero (suc d)
-    ∷ instructions.Binary (binary_operator o) d d (suc d)
+    jump_if_nonzero (suc d) (p + 2)
+    ∷ instructions.Uncaught division_by_zero (operands.Slot (suc d))
+    ∷ instructions.Binary (binary_operator o) d (operands.Slot d) (operands.Slot (suc d))
     ∷ []
 
 -- Where a value may not be null it is tested. It is the 0 that the exception tells where it fails.
 abbrev pub conversion_code : (to : Kind) → (p d : ℕ) → List Instruction
 conversion_code kinds.NonNull p d =
-    instructions.JumpIfNonzero d (p + 2) ∷ instructions.Uncaught null_exception d ∷ []
+    jump_if_nonzero d (p + 2) ∷ instructions.Uncaught null_exception (operands.Slot d) ∷ []
 conversion_code to p d = []
 
 -- the operator applied to d and the slot behind it
 abbrev pub operator_code : Operator → (p d : ℕ) → List Instruction
 operator_code operators.Divide p d = checked_code operators.Divide p d
 operator_code operators.Remainder p d = checked_code operators.Remainder p d
-operator_code o p d = instructions.Binary (binary_operator o) d d (suc d) ∷ []
+operator_code o p d = instructions.Binary (binary_operator o) d (operands.Slot d) (operands.Slot (suc d)) ∷ []
 
 -- where the value in d decides, the next operand is jumped over
 abbrev pub test_jump : LogicalOperator → (d target : ℕ) → Instruction
-test_jump logical.AndThen d target = instructions.JumpIfZero d target
-test_jump logical.OrElse d target = instructions.JumpIfNonzero d target
+test_jump logical.AndThen d target = jump_if_zero d target
+test_jump logical.OrElse d target = jump_if_nonzero d target
 
 -- 0 stays 0, and any other word becomes 1
 abbrev pub truth_code : ℕ → List Instruction
-truth_code d = instructions.Unary plain_unary.Not d d ∷ instructions.Unary plain_unary.Not d d ∷ []
+truth_code d = instructions.Unary plain_unary.Not d (operands.Slot d) ∷ instructions.Unary plain_unary.Not d (operands.Slot d) ∷ []
 
 -- the value of a place
 abbrev pub load_code : Lvalue → (d : ℕ) → List Instruction
-load_code (Local p n) d = instructions.Move d (slot_of n) ∷ []
+load_code (Local p n) d = instructions.Move d (operands.Slot (slot_of n)) ∷ []
 load_code (Global n) d = instructions.LoadGlobal d n ∷ []
 
 -- a place gets the value in d, which stays there
 abbrev pub store_code : Lvalue → (d : ℕ) → List Instruction
-store_code (Local p n) d = instructions.Move (slot_of n) d ∷ []
-store_code (Global n) d = instructions.StoreGlobal n d ∷ []
+store_code (Local p n) d = instructions.Move (slot_of n) (operands.Slot d) ∷ []
+store_code (Global n) d = instructions.StoreGlobal n (operands.Slot d) ∷ []
 
 -- a call of so many arguments, which stand in the slots from d on
 abbrev pub call_code : Callee → (arguments d : ℕ) → List Instruction
 call_code callees.Putchar arguments d =
-    instructions.WriteByte d
-    ∷ instructions.Constant (suc d) 255
-    ∷ instructions.Binary plain_binary.And d d (suc d)
+    instructions.WriteByte (operands.Slot d)
+    ∷ instructions.Move (suc d) (operands.Word 255)
+    ∷ instructions.Binary plain_binary.And d (operands.Slot d) (operands.Slot (suc d))
     ∷ []
 call_code callees.Getchar arguments d = instructions.ReadByte d ∷ []
 call_code (callees.Function n) arguments d = instructions.Call n d arguments d ∷ []
@@ -124,13 +133,13 @@ test_code o operand p d = test_jump o d (p + 1 + length operand) ∷ operand ++ 
 -- The code of an expression that begins at place p and leaves its value in slot d.
 abbrev mutual
   pub expression_code : Expression → (p d : ℕ) → List Instruction
-  expression_code (Number n) p d = instructions.Constant d n ∷ []
+  expression_code (Number n) p d = instructions.Move d (operands.Word n) ∷ []
   expression_code (Copy l t) p d = load_code l d
   expression_code (Call f cs t) p d = arguments_code cs p d ++ call_code f (argument_count cs) d
-  expression_code (Unary o a) p d = expression_code a p d ++ instructions.Unary (unary_operator o) d d ∷ []
+  expression_code (Unary o a) p d = expression_code a p d ++ instructions.Unary (unary_operator o) d (operands.Slot d) ∷ []
   expression_code (Binary a os t) p d = expression_code a p d ++ operations_code os (p + length (expression_code a p d)) d
   expression_code (Assign l c t) p d = converted_code c p d ++ store_code l d
-  expression_code a p d = instructions.Constant d 0 ∷ []
+  expression_code a p d = instructions.Move d (operands.Word 0) ∷ []
 
   pub converted_code : Converted → (p d : ℕ) → List Instruction
   converted_code (Convert from to a) p d = expression_code a p d ++ conversion_code to (p + length (expression_code a p d)) d
@@ -158,7 +167,7 @@ abbrev mutual
 abbrev pub if_code : (condition then otherwise : List Instruction) → (p d : ℕ) → List Instruction
 if_code condition then otherwise p d =
     condition
-    ++ instructions.JumpIfZero d (p + length condition + 1 + length then + 1)
+    ++ jump_if_zero d (p + length condition + 1 + length then + 1)
     ∷ then
     ++ instructions.Jump (p + length condition + 1 + length then + 1 + length otherwise)
     ∷ otherwise
@@ -176,7 +185,7 @@ while_code condition body p d =
     instructions.Jump (continue_target p)
     ∷ instructions.Jump (p + 2 + length condition + 1 + length body + 1)
     ∷ condition
-    ++ instructions.JumpIfZero d (break_target p)
+    ++ jump_if_zero d (break_target p)
     ∷ body
     ++ instructions.Jump (continue_target p)
     ∷ []
@@ -188,7 +197,7 @@ return_code (Some c) p d = converted_code c p d ++ instructions.Return d ∷ []
 -- a local with an initial value gets it
 abbrev pub declaration_code : (number : ℕ) → Option Converted → (p d : ℕ) → List Instruction
 declaration_code n None p d = []
-declaration_code n (Some c) p d = converted_code c p d ++ instructions.Move (slot_of n) d ∷ []
+declaration_code n (Some c) p d = converted_code c p d ++ instructions.Move (slot_of n) (operands.Slot d) ∷ []
 
 -- The code of a statement that begins at place p, with the place where the loop round it begins and the slot for values.
 abbrev mutual

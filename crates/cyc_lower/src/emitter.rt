@@ -1,10 +1,11 @@
 //! Code that is being made.
 ghost use Rattle.std.specs.Prelude.{◌≡◌, ◌<◌, [], ◌∷◌, ◌++◌, length, set, IfOk};
 ghost use Rattle.cyc_types.specs.TypedTreeView.{view_lvalue};
-ghost use Rattle.cyc_lower.specs.Lowering.{load_code, store_code};
+ghost use Rattle.cyc_lower.specs.Lowering.{jump_if_zero, load_code, store_code};
 ghost use Rattle.cyc_lower.specs.Emission.{Appends};
 
-use cyc_plain::Instruction;
+use crate::operators::jump_if_zero;
+use cyc_plain::{Instruction, Operand};
 use cyc_types::typed::Lvalue;
 use std::alloc::{AllocError, Global};
 
@@ -67,16 +68,10 @@ impl Emitter {
     /// The same where the value in a slot is 0.
     pub(crate) fn jump_here_if_zero(&mut self, place: usize, slot: usize)
         requires { place < length self.old.code.items }
-        ensures { self.new.code.items ≡ set self.old.code.items place (Instruction.JumpIfZero slot (length self.old.code.items)) }
+        ensures { self.new.code.items ≡ set self.old.code.items place (jump_if_zero slot (length self.old.code.items)) }
     {
         let target = self.place();
-        self.patch(
-            place,
-            Instruction::JumpIfZero {
-                condition: slot,
-                target,
-            },
-        );
+        self.patch(place, jump_if_zero(slot, target));
     }
 
     /// The value of a place comes into a slot.
@@ -86,7 +81,7 @@ impl Emitter {
         self.emit(match source {
             Lvalue::Local { number, .. } => Instruction::Move {
                 destination: slot,
-                source: number,
+                source: Operand::Slot { number },
             },
             Lvalue::Global { number } => Instruction::LoadGlobal {
                 destination: slot,
@@ -102,11 +97,11 @@ impl Emitter {
         self.emit(match target {
             Lvalue::Local { number, .. } => Instruction::Move {
                 destination: number,
-                source: slot,
+                source: Operand::Slot { number: slot },
             },
             Lvalue::Global { number } => Instruction::StoreGlobal {
                 global: number,
-                source: slot,
+                source: Operand::Slot { number: slot },
             },
         })
     }

@@ -3,12 +3,12 @@
 ghost use Rattle.std.specs.Prelude.{◌≡◌, ◌+◌, ◌<◌, ◌≤◌, length};
 ghost use Rattle.cyc_types.specs.declared.typed.Callee.TheVariants as callees;
 ghost use Rattle.cyc_types.specs.TypedTreeView.{view_expression, view_converted, arguments_of, operations_of};
-ghost use Rattle.cyc_lower.specs.Lowering.{conversion_code, operator_code, truth_code, call_code, expression_code, converted_code, arguments_code, operations_code};
+ghost use Rattle.cyc_lower.specs.Lowering.{conversion_code, checked_code, operator_code, truth_code, call_code, expression_code, converted_code, arguments_code, operations_code};
 ghost use Rattle.cyc_lower.specs.Emission.{Appends, most_locals, operation_code};
 
 use crate::emitter::Emitter;
-use crate::operators::{binary_operator, test_jump, unary_operator};
-use cyc_plain::{BinaryOperator, Instruction, UnaryOperator};
+use crate::operators::{binary_operator, jump_if_nonzero, test_jump, unary_operator};
+use cyc_plain::{BinaryOperator, Instruction, Operand, UnaryOperator};
 use cyc_types::typed::{Callee, Converted, Expr, Kind, Operation, Operator};
 use std::alloc::AllocError;
 
@@ -18,29 +18,40 @@ const NULL_EXCEPTION: u32 = 1;
 const DIVISION_BY_ZERO: u32 = 4;
 
 impl Emitter {
+    /// A division of the value in a slot by that in the slot behind it, which is tested before.
+    fn checked(&mut self, operator: Operator, slot: usize) -> Result<(), AllocError>
+        requires { slot < most_locals + length self.old.code.items }
+        ensures { Appends result self.old self.new (checked_code operator (length self.old.code.items) slot) }
+    {
+        let right = slot + 1;
+        let behind = self.place() + 2;
+        self.emit(jump_if_nonzero(right, behind))?;
+        self.emit(Instruction::Uncaught {
+            tag: DIVISION_BY_ZERO,
+            value: Operand::Slot { number: right },
+        })?;
+        self.emit(Instruction::Binary {
+            operator: binary_operator(operator),
+            destination: slot,
+            left: Operand::Slot { number: slot },
+            right: Operand::Slot { number: right },
+        })
+    }
+
     /// An operator on the value in a slot and that in the slot behind it.
     fn operator(&mut self, operator: Operator, slot: usize) -> Result<(), AllocError>
         requires { slot < most_locals + length self.old.code.items }
         ensures { Appends result self.old self.new (operator_code operator (length self.old.code.items) slot) }
     {
-        let right = slot + 1;
-        if matches!(operator, Operator::Divide | Operator::Remainder) {
-            let behind = self.place() + 2;
-            self.emit(Instruction::JumpIfNonzero {
-                condition: right,
-                target: behind,
-            })?;
-            self.emit(Instruction::Uncaught {
-                tag: DIVISION_BY_ZERO,
-                value: right,
-            })?;
+        match operator {
+            Operator::Divide | Operator::Remainder => self.checked(operator, slot),
+            _ => self.emit(Instruction::Binary {
+                operator: binary_operator(operator),
+                destination: slot,
+                left: Operand::Slot { number: slot },
+                right: Operand::Slot { number: slot + 1 },
+            }),
         }
-        self.emit(Instruction::Binary {
-            operator: binary_operator(operator),
-            destination: slot,
-            left: slot,
-            right,
-        })
     }
 
     /// 0 stays 0, and any other word becomes 1.
@@ -50,7 +61,7 @@ impl Emitter {
         let not = Instruction::Unary {
             operator: UnaryOperator::Not,
             destination: slot,
-            operand: slot,
+            operand: Operand::Slot { number: slot },
         };
         self.emit(not)?;
         self.emit(not)
@@ -64,13 +75,10 @@ impl Emitter {
             return Ok(());
         }
         let behind = self.place() + 2;
-        self.emit(Instruction::JumpIfNonzero {
-            condition: slot,
-            target: behind,
-        })?;
+        self.emit(jump_if_nonzero(slot, behind))?;
         self.emit(Instruction::Uncaught {
             tag: NULL_EXCEPTION,
-            value: slot,
+            value: Operand::Slot { number: slot },
         })
     }
 
@@ -80,16 +88,18 @@ impl Emitter {
         ensures { Appends result self.old self.new (call_code callees.Putchar 0 slot) }
     {
         let mask = slot + 1;
-        self.emit(Instruction::WriteByte { source: slot })?;
-        self.emit(Instruction::Constant {
+        self.emit(Instruction::WriteByte {
+            source: Operand::Slot { number: slot },
+        })?;
+        self.emit(Instruction::Move {
             destination: mask,
-            word: 255,
+            source: Operand::Word { word: 255 },
         })?;
         self.emit(Instruction::Binary {
             operator: BinaryOperator::And,
             destination: slot,
-            left: slot,
-            right: mask,
+            left: Operand::Slot { number: slot },
+            right: Operand::Slot { number: mask },
         })
     }
 
@@ -116,9 +126,9 @@ impl Emitter {
         ensures { Appends result self.old self.new (expression_code (view_expression value.now) (length self.old.code.items) slot) }
     {
         match value {
-            Expr::Number { value } => self.emit(Instruction::Constant {
+            Expr::Number { value } => self.emit(Instruction::Move {
                 destination: slot,
-                word: *value,
+                source: Operand::Word { word: *value },
             }),
             Expr::Copy { source, .. } => self.load(*source, slot),
             Expr::Call {
@@ -134,7 +144,7 @@ impl Emitter {
                 self.emit(Instruction::Unary {
                     operator: unary_operator(*operator),
                     destination: slot,
-                    operand: slot,
+                    operand: Operand::Slot { number: slot },
                 })
             }
             Expr::Binary { first, rest, .. } => {

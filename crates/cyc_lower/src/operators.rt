@@ -1,8 +1,8 @@
 //! What operators become.
 ghost use Rattle.std.specs.Prelude.{◌≡◌};
-ghost use Rattle.cyc_lower.specs.Lowering.{unary_operator, binary_operator, test_jump};
+ghost use Rattle.cyc_lower.specs.Lowering.{unary_operator, binary_operator, jump_if_zero, jump_if_nonzero, test_jump};
 
-use cyc_plain::{BinaryOperator, Instruction, UnaryOperator};
+use cyc_plain::{BinaryOperator, Comparison, Instruction, Operand, UnaryOperator};
 use cyc_types::typed;
 
 pub(crate) fn unary_operator(operator: typed::UnaryOperator) -> UnaryOperator
@@ -38,6 +38,30 @@ pub(crate) fn binary_operator(operator: typed::Operator) -> BinaryOperator
     }
 }
 
+/// A jump where the word in a slot is 0.
+pub(crate) fn jump_if_zero(condition: usize, target: usize) -> Instruction
+    ensures { result ≡ jump_if_zero condition target }
+{
+    Instruction::Branch {
+        comparison: Comparison::Equal,
+        left: Operand::Slot { number: condition },
+        right: Operand::Word { word: 0 },
+        target,
+    }
+}
+
+/// A jump where the word in a slot is not 0.
+pub(crate) fn jump_if_nonzero(condition: usize, target: usize) -> Instruction
+    ensures { result ≡ jump_if_nonzero condition target }
+{
+    Instruction::Branch {
+        comparison: Comparison::NotEqual,
+        left: Operand::Slot { number: condition },
+        right: Operand::Word { word: 0 },
+        target,
+    }
+}
+
 /// The jump over an operand that `&&` or `||` leaves out where the value in this slot decides.
 pub(crate) fn test_jump(
     operator: typed::LogicalOperator,
@@ -47,7 +71,7 @@ pub(crate) fn test_jump(
     ensures { result ≡ test_jump operator condition target }
 {
     match operator {
-        typed::LogicalOperator::AndThen => Instruction::JumpIfZero { condition, target },
-        typed::LogicalOperator::OrElse => Instruction::JumpIfNonzero { condition, target },
+        typed::LogicalOperator::AndThen => jump_if_zero(condition, target),
+        typed::LogicalOperator::OrElse => jump_if_nonzero(condition, target),
     }
 }

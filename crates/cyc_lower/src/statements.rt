@@ -5,7 +5,8 @@ ghost use Rattle.cyc_lower.specs.Lowering.{break_target, continue_target, return
 ghost use Rattle.cyc_lower.specs.Emission.{Appends, most_locals, item_code, loop_code};
 
 use crate::emitter::Emitter;
-use cyc_plain::Instruction;
+use crate::operators::jump_if_zero;
+use cyc_plain::{Instruction, Operand};
 use cyc_types::typed::{Converted, Expr, Item, Stmt};
 use std::alloc::AllocError;
 
@@ -37,7 +38,7 @@ impl Emitter {
         self.converted(value, slot)?;
         self.emit(Instruction::Move {
             destination: number,
-            source: slot,
+            source: Operand::Slot { number: slot },
         })
     }
 
@@ -68,10 +69,7 @@ impl Emitter {
         self.continued(head)?;
         let leaving = self.reserve()?;
         self.expression(condition, slot)?;
-        self.emit(Instruction::JumpIfZero {
-            condition: slot,
-            target: leaving,
-        })?;
+        self.emit(jump_if_zero(slot, leaving))?;
         self.statement(body, head, slot)?;
         self.continued(head)?;
         self.jump_here(leaving);

@@ -5,6 +5,8 @@ pub mod ShapeLaws
 pub mod PhaseLaws
 pub mod RegisterLaws
 pub mod MemoryLaws
+-- the fast loop
+pub mod Operations
 -- loading
 pub mod Segments
 -- a run by computation, which nothing cites

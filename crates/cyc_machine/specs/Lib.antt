@@ -9,3 +9,4 @@ pub mod WorldMachine
 pub mod Shape
 -- how the code keeps its memory, which only the crate's own functions speak of
 pub mod Arrays
+pub mod Operations

@@ -51,3 +51,11 @@ pub enum Event {
     /// The run is over.
     Ended(End),
 }
+
+/// So many instructions, of which all but the last told only that they ran, and what the last one told: an event that is not `Ran`,
+/// or `Ran`, where there were to be no more.
+#[derive(Clone, Copy, Debug, PartialEq, Eq)]
+pub struct Stretch {
+    pub count: u64,
+    pub event: Event,
+}

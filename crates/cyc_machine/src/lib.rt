@@ -3,18 +3,20 @@
 
 pub mod constants;
 mod event;
+mod fast;
 mod fault;
 pub mod laws;
 mod limits;
 mod machine;
 mod memory;
+mod operation;
 mod phase;
 mod registers;
 mod results;
 mod start;
 mod text;
 
-pub use event::{Cause, End, Event};
+pub use event::{Cause, End, Event, Stretch};
 pub use fault::LoadFault;
 pub use limits::Limits;
 pub use machine::Machine;

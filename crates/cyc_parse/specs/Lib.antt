@@ -10,5 +10,6 @@ pub mod Declarations
 pub mod Answers
 -- and what the code has to do with them
 pub mod Code
+pub mod Boxes
 pub mod Steps
 pub mod StatementSteps

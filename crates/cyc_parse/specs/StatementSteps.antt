@@ -5,14 +5,28 @@ use Rattle.cyc_syntax.specs.declared.tokens.Keyword.TheVariants as words
 use Rattle.cyc_syntax.specs.declared.tokens.Sign.TheVariants as signs
 use Rattle.cyc_syntax.specs.declared.tree.Clause.{Clause}
 use Rattle.cyc_syntax.specs.Symbols.{Place}
-use Rattle.cyc_syntax.specs.Trees.{Statement, Return, Try, Item, Clauses, NoClauses, Default, Case}
+use Rattle.cyc_syntax.specs.Trees.{Statement, Block, Return, Try, Item, Clauses, NoClauses, Default, Case}
 use Rattle.cyc_syntax.specs.TreeView.{view_name, items_of}
-use Rattle.cyc_parse.specs.Parsing.{Parser, ◌>>=◌, ◌>>◌, pure, choose, if_starts, sign, word, identifier}
-use Rattle.cyc_parse.specs.Statements.{Nested, begins_item, is_case, is_default, return_value, caught, let_by, item}
+use Rattle.cyc_parse.specs.Parsing.{Parser, ◌>>=◌, ◌>>◌, pure, choose, advance, if_starts, sign, word, identifier}
+use Rattle.cyc_parse.specs.Statements.{Nested, begins_item, is_case, is_default, body, expression, behind, statement_from_name, return_value, caught, let_by, item}
+
+-- what goes on behind one symbol, given its place
+abbrev pub after_symbol : {A : Type 0} → (Place → Parser A) → Parser A
+after_symbol f = advance >>= f
 
 module _ (room : ℕ) (inner : Nested) where
   unfoldable pub return_statement : Place → Parser Statement
   return_statement p = return_value room inner >>= (λ v. sign (suc room) signs.Semicolon >> pure (Return p v))
+
+  -- a statement that begins with this name
+  unfoldable pub named_statement : ℕ → Parser Statement
+  named_statement x = advance >>= (λ p. statement_from_name room inner (record { name = x; place = p }))
+
+  unfoldable pub block_statement : Parser Statement
+  block_statement = body room inner >>= (λ b. pure (Block b))
+
+  unfoldable pub expression_statement : Parser Statement
+  expression_statement = expression room inner >>= behind room inner
 
   -- the brace that closes behind the clauses of a `try`
   unfoldable pub end_of_try : Place → Statement → Clauses → Parser Statement

@@ -1,12 +1,13 @@
 //! The parser of expressions: chains of binary operators by their levels, from the tightest. A function with `room`
 //! reads at a level of nesting below which so many are left.
-ghost use Rattle.std.specs.Prelude.{◌≡◌, suc, map, option_map, [], IfOk};
+ghost use Rattle.std.specs.Prelude.{◌≡◌, suc, map, option_map, [], Ok};
 ghost use Rattle.cyc_syntax.specs.TreeView.{place_of_span, view_name, view_expression, view_initial, expressions_of, postfixes_of, operations_of, then_postfix};
+ghost use Rattle.cyc_parse.specs.Boxes.{view_boxed, view_boxed_initial};
 ghost use Rattle.cyc_parse.specs.Code.{Gives};
 ghost use Rattle.cyc_parse.specs.Parsing.{next, starts, separated, more_items, opens_regions};
-ghost use Rattle.cyc_parse.specs.Steps.{after_comma, one_postfix, one_operation, then_operation, prefixed, created, created_in, freed_key, closed, bracketed, indexed, with_chain, operand, one_level};
+ghost use Rattle.cyc_parse.specs.Steps.{after_comma, one_postfix, one_operation, then_operation, prefixed, created, created_in, freed_key, bracketed, with_chain, operand, one_level};
 ghost use Rattle.cyc_syntax.specs.Grammar.{level};
-ghost use Rattle.cyc_syntax.specs.Trees.{NoPostfixes, NoOperations, Call, Fields};
+ghost use Rattle.cyc_syntax.specs.Trees.{NoPostfixes, NoOperations, Call, Plain, Fields};
 ghost use Rattle.cyc_parse.specs.Expressions.{binary_operator, chained, binary_of, nested, begins_expression, begins_initial, operator_at, operations, climb, group, arguments, from_name, primary, postfixes, with_postfixes, unary, assignment, binary, expression, values, fields, initial_from_name, array, initial};
 
 use crate::cursor::{Parser, refusal};
@@ -17,7 +18,6 @@ use cyc_syntax::{
     BinaryOperator, Expr, Ident, Initial, Keyword, Operation, Postfix, PrefixOperator, Sign,
 };
 use cyc_words::Span;
-use std::alloc::{AllocError, Global};
 
 /// The levels of the binary operators, of which the last is the loosest.
 pub(crate) const LEVELS: u32 = 10;
@@ -67,8 +67,8 @@ impl<'a> Parser<'a> {
 
     #[cycle(expression)]
     #[tactic(auto, unfolding(crate::specs::Expressions::nested, crate::specs::Parsing::refuse_item), using(crate::proofs::Levels::nested_unary))]
-    pub(crate) fn parse_unary(&mut self, room: u32) -> Result<Expr, Stop>
-        ensures { Gives view_expression result ((nested room).unary self.old) self.new }
+    pub(crate) fn parse_unary(&mut self, room: u32) -> Result<Box<Expr>, Stop>
+        ensures { Gives view_boxed result ((nested room).unary self.old) self.new }
     {
         if room == 0 {
             return Err(refusal(self.begins_expression(), Reason::TooDeep));
@@ -78,8 +78,8 @@ impl<'a> Parser<'a> {
 
     #[cycle(expression)]
     #[tactic(auto, unfolding(crate::specs::Expressions::nested, crate::specs::Parsing::refuse_item), using(crate::proofs::Levels::nested_binary))]
-    pub(crate) fn parse_binary(&mut self, room: u32) -> Result<Expr, Stop>
-        ensures { Gives view_expression result ((nested room).binary self.old) self.new }
+    pub(crate) fn parse_binary(&mut self, room: u32) -> Result<Box<Expr>, Stop>
+        ensures { Gives view_boxed result ((nested room).binary self.old) self.new }
     {
         if room == 0 {
             return Err(refusal(self.begins_expression(), Reason::TooDeep));
@@ -89,8 +89,8 @@ impl<'a> Parser<'a> {
 
     #[cycle(expression)]
     #[tactic(auto, unfolding(crate::specs::Expressions::nested, crate::specs::Parsing::refuse_item), using(crate::proofs::Levels::nested_expression))]
-    pub(crate) fn parse_expression(&mut self, room: u32) -> Result<Expr, Stop>
-        ensures { Gives view_expression result ((nested room).expression self.old) self.new }
+    pub(crate) fn parse_expression(&mut self, room: u32) -> Result<Box<Expr>, Stop>
+        ensures { Gives view_boxed result ((nested room).expression self.old) self.new }
     {
         if room == 0 {
             return Err(refusal(self.begins_expression(), Reason::TooDeep));
@@ -100,8 +100,8 @@ impl<'a> Parser<'a> {
 
     #[cycle(expression)]
     #[tactic(auto, unfolding(crate::specs::Expressions::nested, crate::specs::Parsing::refuse_item), using(crate::proofs::Levels::nested_group))]
-    pub(crate) fn parse_group(&mut self, room: u32) -> Result<Expr, Stop>
-        ensures { Gives view_expression result ((nested room).group self.old) self.new }
+    pub(crate) fn parse_group(&mut self, room: u32) -> Result<Box<Expr>, Stop>
+        ensures { Gives view_boxed result ((nested room).group self.old) self.new }
     {
         if room == 0 {
             return Err(refusal(self.sees(Sign::LeftParen), Reason::TooDeep));
@@ -111,8 +111,8 @@ impl<'a> Parser<'a> {
 
     #[cycle(expression)]
     #[tactic(auto, unfolding(crate::specs::Expressions::nested, crate::specs::Parsing::refuse_item), using(crate::proofs::Levels::nested_initial))]
-    fn parse_initial(&mut self, room: u32) -> Result<Initial, Stop>
-        ensures { Gives view_initial result ((nested room).initial self.old) self.new }
+    fn parse_initial(&mut self, room: u32) -> Result<Box<Initial>, Stop>
+        ensures { Gives view_boxed_initial result ((nested room).initial self.old) self.new }
     {
         if room == 0 {
             return Err(refusal(self.begins_initial(), Reason::TooDeep));
@@ -122,27 +122,62 @@ impl<'a> Parser<'a> {
 
     // ---- operands
 
-    // What is dropped where a parse stops is walked in each function that holds it: an expression at hand goes into a
-    // box at once, or to a function that holds it alone.
+    // What is dropped where a parse stops is walked in each function that holds it: an expression at hand is in a box,
+    // which is dropped by one call.
 
-    /// The bracket that closes behind an expression.
-    #[tactic(auto, unfolding(crate::specs::Steps::closed, crate::specs::Parsing::bind))]
-    fn close_group(&mut self, room: u32, inner: Expr) -> Result<Expr, Stop>
-        ensures { Gives view_expression result (closed room (view_expression inner) self.old) self.new }
+    /// An expression, in a box.
+    pub(crate) fn node(&self, value: Expr) -> Result<Box<Expr>, Stop>
+        ensures { Gives view_boxed result (Ok (view_expression value, self.now)) self.now }
     {
-        self.take_sign_inside(room, Sign::RightParen)?;
-        Ok(inner)
+        Ok(Box::new(self.alloc(), value)?)
+    }
+
+    /// An operand with the postfixes behind it.
+    #[tactic(auto, using(crate::proofs::Levels::chained_view, crate::proofs::Levels::no_postfixes))]
+    fn chained(&self, base: Box<Expr>, postfixes: Vec<Postfix>) -> Result<Box<Expr>, Stop>
+        ensures { Gives view_boxed result (Ok (chained (view_boxed base) (postfixes_of postfixes.items), self.now)) self.now }
+    {
+        if postfixes.is_empty() {
+            return Ok(base);
+        }
+        self.node(Expr::Chained { base, postfixes })
+    }
+
+    /// A first operand with the operators of one level behind it.
+    #[tactic(auto, using(crate::proofs::Levels::binary_view, crate::proofs::Levels::no_operations))]
+    fn joined(&self, first: Box<Expr>, rest: Vec<Operation>) -> Result<Box<Expr>, Stop>
+        ensures { Gives view_boxed result (Ok (binary_of (view_boxed first) (operations_of rest.items), self.now)) self.now }
+    {
+        if rest.is_empty() {
+            return Ok(first);
+        }
+        self.node(Expr::Binary { first, rest })
+    }
+
+    fn plain(&self, value: Box<Expr>) -> Result<Box<Initial>, Stop>
+        ensures { Gives view_boxed_initial result (Ok (Plain (view_boxed value), self.now)) self.now }
+    {
+        self.initial_node(Initial::Plain {
+            value: Box::into_inner(value),
+        })
+    }
+
+    fn initial_node(&self, value: Initial) -> Result<Box<Initial>, Stop>
+        ensures { Gives view_boxed_initial result (Ok (view_initial value, self.now)) self.now }
+    {
+        Ok(Box::new(self.alloc(), value)?)
     }
 
     /// An expression in round brackets.
     #[cycle(expression)]
-    #[tactic(auto, unfolding(crate::specs::Expressions::group, crate::specs::Steps::closed, crate::specs::Parsing::bind))]
-    pub(crate) fn parse_group_here(&mut self, room: u32) -> Result<Expr, Stop>
-        ensures { Gives view_expression result (group room (nested room) self.old) self.new }
+    #[tactic(auto, unfolding(crate::specs::Expressions::group, crate::specs::Parsing::bind))]
+    pub(crate) fn parse_group_here(&mut self, room: u32) -> Result<Box<Expr>, Stop>
+        ensures { Gives view_boxed result (group room (nested room) self.old) self.new }
     {
         self.take_sign(Sign::LeftParen)?;
         let inner = self.parse_expression(room)?;
-        self.close_group(room, inner)
+        self.take_sign_inside(room, Sign::RightParen)?;
+        Ok(inner)
     }
 
     #[cycle(expression)]
@@ -154,7 +189,8 @@ impl<'a> Parser<'a> {
             return Ok(None);
         }
         self.take_sign_inside(room, Sign::Comma)?;
-        Ok(Some(self.parse_expression(room)?))
+        let argument = self.parse_expression(room)?;
+        Ok(Some(Box::into_inner(argument)))
     }
 
     #[tactic(auto, unfolding(crate::specs::Parsing::more_items, crate::specs::Parsing::if_sees, crate::specs::Parsing::bind, crate::specs::Parsing::refuse_item))]
@@ -175,7 +211,7 @@ impl<'a> Parser<'a> {
     {
         let first = self.parse_expression(room)?;
         let mut arguments = Vec::new(self.alloc());
-        arguments.push(first)?;
+        arguments.push(Box::into_inner(first))?;
         for _ in 1..MAX_ITEMS {
             let Some(argument) = self.parse_argument_after_comma(room)? else {
                 return Ok(arguments);
@@ -202,56 +238,55 @@ impl<'a> Parser<'a> {
     /// An expression that begins with this name: a call or a variable.
     #[cycle(expression)]
     #[tactic(auto, unfolding(crate::specs::Expressions::from_name, crate::specs::Parsing::if_sees, crate::specs::Parsing::bind))]
-    pub(crate) fn parse_from_name(&mut self, room: u32, name: Ident) -> Result<Expr, Stop>
-        ensures { Gives view_expression result (from_name room (nested room) (view_name name) self.old) self.new }
+    pub(crate) fn parse_from_name(&mut self, room: u32, name: Ident) -> Result<Box<Expr>, Stop>
+        ensures { Gives view_boxed result (from_name room (nested room) (view_name name) self.old) self.new }
     {
         if !self.sees(Sign::LeftParen) {
-            return Ok(Expr::Variable { name });
+            return self.node(Expr::Variable { name });
         }
         self.take_sign(Sign::LeftParen)?;
         let arguments = self.parse_arguments(room)?;
         self.take_sign_inside(room, Sign::RightParen)?;
-        Ok(call(name, arguments))
+        self.node(call(name, arguments))
     }
 
     /// `free_ukey(..)`
     #[tactic(auto, unfolding(crate::specs::Expressions::primary, crate::specs::Parsing::choose, crate::specs::Parsing::bind, crate::specs::Steps::freed_key))]
-    fn parse_freed_key(&mut self, room: u32) -> Result<Expr, Stop>
-        ensures { Gives view_expression result (freed_key room self.old) self.new }
+    fn parse_freed_key(&mut self, room: u32) -> Result<Box<Expr>, Stop>
+        ensures { Gives view_boxed result (freed_key room self.old) self.new }
     {
         let span = self.advance()?;
         self.take_sign(Sign::LeftParen)?;
         let key = self.take_identifier_inside(room)?;
         self.take_sign_inside(room, Sign::RightParen)?;
-        Ok(Expr::FreeKey { span, key })
+        self.node(Expr::FreeKey { span, key })
     }
 
     /// An expression in round brackets, as a tree.
     #[cycle(expression)]
     #[tactic(auto, unfolding(crate::specs::Parsing::bind, crate::specs::Steps::bracketed))]
-    fn parse_bracketed(&mut self, room: u32) -> Result<Expr, Stop>
-        ensures { Gives view_expression result (bracketed room (nested room) self.old) self.new }
+    fn parse_bracketed(&mut self, room: u32) -> Result<Box<Expr>, Stop>
+        ensures { Gives view_boxed result (bracketed room (nested room) self.old) self.new }
     {
         let span = self.advance()?;
         let inner = self.parse_expression(room)?;
-        let inner = boxed(self.alloc(), inner)?;
         self.take_sign_inside(room, Sign::RightParen)?;
-        Ok(Expr::Bracketed { span, inner })
+        self.node(Expr::Bracketed { span, inner })
     }
 
     #[cycle(expression)]
     #[tactic(auto, unfolding(crate::specs::Expressions::primary, crate::specs::Parsing::choose, crate::specs::Parsing::bind, crate::specs::Steps::freed_key, crate::specs::Steps::bracketed))]
-    fn parse_primary(&mut self, room: u32) -> Result<Expr, Stop>
-        ensures { Gives view_expression result (primary room (nested room) self.old) self.new }
+    fn parse_primary(&mut self, room: u32) -> Result<Box<Expr>, Stop>
+        ensures { Gives view_boxed result (primary room (nested room) self.old) self.new }
     {
         match self.next() {
             Some(Terminal::Number(value)) => {
                 let span = self.advance()?;
-                Ok(Expr::Number { span, value })
+                self.node(Expr::Number { span, value })
             }
             Some(Terminal::Character(value)) => {
                 let span = self.advance()?;
-                Ok(Expr::Character { span, value })
+                self.node(Expr::Character { span, value })
             }
             Some(Terminal::Identifier(name)) => {
                 let span = self.advance()?;
@@ -259,27 +294,25 @@ impl<'a> Parser<'a> {
             }
             Some(Terminal::Word(Keyword::Null)) => {
                 let span = self.advance()?;
-                Ok(Expr::Null { span })
+                self.node(Expr::Null { span })
             }
             Some(Terminal::Word(Keyword::HeapRegion)) => {
                 let span = self.advance()?;
-                Ok(Expr::HeapRegion { span })
+                self.node(Expr::HeapRegion { span })
             }
             Some(Terminal::Word(Keyword::UniqueRegion)) => {
                 let span = self.advance()?;
-                Ok(Expr::UniqueRegion { span })
+                self.node(Expr::UniqueRegion { span })
             }
             Some(Terminal::Word(Keyword::NumberOfElements)) => {
                 let span = self.advance()?;
                 let pointer = self.parse_group_here(room)?;
-                let pointer = boxed(self.alloc(), pointer)?;
-                Ok(Expr::NumberOfElements { span, pointer })
+                self.node(Expr::NumberOfElements { span, pointer })
             }
             Some(Terminal::Word(Keyword::FreeUnique)) => {
                 let span = self.advance()?;
                 let pointer = self.parse_group_here(room)?;
-                let pointer = boxed(self.alloc(), pointer)?;
-                Ok(Expr::FreeUnique { span, pointer })
+                self.node(Expr::FreeUnique { span, pointer })
             }
             Some(Terminal::Word(Keyword::FreeKey)) => self.parse_freed_key(room),
             Some(Terminal::Mark(Sign::LeftParen)) => self.parse_bracketed(room),
@@ -287,25 +320,19 @@ impl<'a> Parser<'a> {
         }
     }
 
-    /// The bracket that closes behind an index.
-    #[tactic(auto, unfolding(crate::specs::Steps::indexed, crate::specs::Parsing::bind))]
-    fn close_index(&mut self, room: u32, index: Expr) -> Result<Option<Postfix>, Stop>
-        ensures { Gives (option_map then_postfix) result (indexed room (view_expression index) self.old) self.new }
-    {
-        self.take_sign_inside(room, Sign::RightBracket)?;
-        Ok(Some(Postfix::Index { index }))
-    }
-
     /// `[..]` or `->` and a field's name, if one comes next.
     #[cycle(expression)]
-    #[tactic(auto, unfolding(crate::specs::Steps::one_postfix, crate::specs::Steps::indexed, crate::specs::Parsing::if_sees, crate::specs::Parsing::bind))]
+    #[tactic(auto, unfolding(crate::specs::Steps::one_postfix, crate::specs::Parsing::if_sees, crate::specs::Parsing::bind))]
     fn parse_postfix(&mut self, room: u32) -> Result<Option<Postfix>, Stop>
         ensures { Gives (option_map then_postfix) result (one_postfix room (nested room) self.old) self.new }
     {
         if self.sees(Sign::LeftBracket) {
             self.take_sign(Sign::LeftBracket)?;
             let index = self.parse_expression(room)?;
-            return self.close_index(room, index);
+            self.take_sign_inside(room, Sign::RightBracket)?;
+            return Ok(Some(Postfix::Index {
+                index: Box::into_inner(index),
+            }));
         }
         if self.sees(Sign::Arrow) {
             self.take_sign(Sign::Arrow)?;
@@ -343,24 +370,27 @@ impl<'a> Parser<'a> {
     /// Goes on from an operand by its postfixes.
     #[cycle(expression)]
     #[tactic(auto, unfolding(crate::specs::Steps::with_chain, crate::specs::Parsing::bind))]
-    pub(crate) fn parse_rest_of_operand(&mut self, room: u32, base: Expr) -> Result<Expr, Stop>
-        ensures { Gives view_expression result (with_chain room (nested room) (view_expression base) self.old) self.new }
+    pub(crate) fn parse_rest_of_operand(
+        &mut self,
+        room: u32,
+        base: Box<Expr>,
+    ) -> Result<Box<Expr>, Stop>
+        ensures { Gives view_boxed result (with_chain room (nested room) (view_boxed base) self.old) self.new }
     {
         let postfixes = self.parse_postfixes(room)?;
-        Ok(chained(self.alloc(), base, postfixes)?)
+        self.chained(base, postfixes)
     }
 
     // ---- prefixes
 
     #[cycle(expression)]
     #[tactic(auto, unfolding(crate::specs::Steps::prefixed, crate::specs::Parsing::bind))]
-    fn parse_prefixed(&mut self, room: u32, operator: PrefixOperator) -> Result<Expr, Stop>
-        ensures { Gives view_expression result (prefixed (nested room) operator self.old) self.new }
+    fn parse_prefixed(&mut self, room: u32, operator: PrefixOperator) -> Result<Box<Expr>, Stop>
+        ensures { Gives view_boxed result (prefixed (nested room) operator self.old) self.new }
     {
         let span = self.advance()?;
         let operand = self.parse_unary(room)?;
-        let operand = boxed(self.alloc(), operand)?;
-        Ok(Expr::Prefixed {
+        self.node(Expr::Prefixed {
             span,
             operator,
             operand,
@@ -370,27 +400,24 @@ impl<'a> Parser<'a> {
     /// `new`
     #[cycle(expression)]
     #[tactic(auto, unfolding(crate::specs::Steps::created, crate::specs::Parsing::bind))]
-    fn parse_new(&mut self, room: u32) -> Result<Expr, Stop>
-        ensures { Gives view_expression result (created (nested room) self.old) self.new }
+    fn parse_new(&mut self, room: u32) -> Result<Box<Expr>, Stop>
+        ensures { Gives view_boxed result (created (nested room) self.old) self.new }
     {
         let span = self.advance()?;
         let value = self.parse_initial(room)?;
-        let value = boxed_initial(self.alloc(), value)?;
-        Ok(Expr::New { span, value })
+        self.node(Expr::New { span, value })
     }
 
     /// `rnew(..)`
     #[cycle(expression)]
     #[tactic(auto, unfolding(crate::specs::Steps::created_in, crate::specs::Parsing::bind))]
-    fn parse_region_new(&mut self, room: u32) -> Result<Expr, Stop>
-        ensures { Gives view_expression result (created_in (nested room) self.old) self.new }
+    fn parse_region_new(&mut self, room: u32) -> Result<Box<Expr>, Stop>
+        ensures { Gives view_boxed result (created_in (nested room) self.old) self.new }
     {
         let span = self.advance()?;
         let region = self.parse_group(room)?;
-        let region = boxed(self.alloc(), region)?;
         let value = self.parse_initial(room)?;
-        let value = boxed_initial(self.alloc(), value)?;
-        Ok(Expr::RegionNew {
+        self.node(Expr::RegionNew {
             span,
             region,
             value,
@@ -400,8 +427,8 @@ impl<'a> Parser<'a> {
     /// An operand with its prefixes and postfixes.
     #[cycle(expression)]
     #[tactic(auto, unfolding(crate::specs::Expressions::unary, crate::specs::Expressions::with_postfixes, crate::specs::Parsing::choose, crate::specs::Parsing::bind, crate::specs::Steps::prefixed, crate::specs::Steps::created, crate::specs::Steps::created_in, crate::specs::Steps::with_chain))]
-    pub(crate) fn parse_unary_here(&mut self, room: u32) -> Result<Expr, Stop>
-        ensures { Gives view_expression result (unary room (nested room) self.old) self.new }
+    pub(crate) fn parse_unary_here(&mut self, room: u32) -> Result<Box<Expr>, Stop>
+        ensures { Gives view_boxed result (unary room (nested room) self.old) self.new }
     {
         match self.next() {
             Some(Terminal::Mark(Sign::Minus)) => self.parse_prefixed(room, PrefixOperator::Negate),
@@ -455,7 +482,7 @@ impl<'a> Parser<'a> {
         Ok(Some(Operation {
             operator,
             span,
-            operand,
+            operand: Box::into_inner(operand),
         }))
     }
 
@@ -487,8 +514,13 @@ impl<'a> Parser<'a> {
     /// Goes on from a first operand by the operators of the levels up to this one.
     #[cycle(expression)]
     #[tactic(auto, using(crate::proofs::Levels::climb_step, crate::proofs::Levels::climb_none), unfolding(crate::specs::Steps::one_level))]
-    pub(crate) fn climb(&mut self, room: u32, level: u32, first: Expr) -> Result<Expr, Stop>
-        ensures { Gives view_expression result (climb (unary room (nested room)) level (view_expression first) self.old) self.new }
+    pub(crate) fn climb(
+        &mut self,
+        room: u32,
+        level: u32,
+        first: Box<Expr>,
+    ) -> Result<Box<Expr>, Stop>
+        ensures { Gives view_boxed result (climb (unary room (nested room)) level (view_boxed first) self.old) self.new }
     {
         if level == 0 {
             return Ok(first);
@@ -498,18 +530,18 @@ impl<'a> Parser<'a> {
 
     #[cycle(expression)]
     #[tactic(auto, unfolding(crate::specs::Steps::one_level, crate::specs::Parsing::bind))]
-    fn climb_level(&mut self, room: u32, below: u32, first: Expr) -> Result<Expr, Stop>
-        ensures { Gives view_expression result (one_level room (nested room) below (view_expression first) self.old) self.new }
+    fn climb_level(&mut self, room: u32, below: u32, first: Box<Expr>) -> Result<Box<Expr>, Stop>
+        ensures { Gives view_boxed result (one_level room (nested room) below (view_boxed first) self.old) self.new }
     {
         let first = self.climb(room, below, first)?;
         let rest = self.parse_operations(room, below)?;
-        Ok(joined(self.alloc(), first, rest)?)
+        self.joined(first, rest)
     }
 
     #[cycle(expression)]
     #[tactic(auto, unfolding(crate::specs::Expressions::binary, crate::specs::Parsing::bind))]
-    fn parse_binary_here(&mut self, room: u32) -> Result<Expr, Stop>
-        ensures { Gives view_expression result (binary room (nested room) self.old) self.new }
+    fn parse_binary_here(&mut self, room: u32) -> Result<Box<Expr>, Stop>
+        ensures { Gives view_boxed result (binary room (nested room) self.old) self.new }
     {
         let first = self.parse_unary_here(room)?;
         self.climb(room, LEVELS, first)
@@ -517,23 +549,25 @@ impl<'a> Parser<'a> {
 
     #[cycle(expression)]
     #[tactic(auto, unfolding(crate::specs::Expressions::assignment, crate::specs::Parsing::if_sees, crate::specs::Parsing::bind))]
-    pub(crate) fn parse_assignment(&mut self, room: u32, target: Expr) -> Result<Expr, Stop>
-        ensures { Gives view_expression result (assignment room (nested room) (view_expression target) self.old) self.new }
+    pub(crate) fn parse_assignment(
+        &mut self,
+        room: u32,
+        target: Box<Expr>,
+    ) -> Result<Box<Expr>, Stop>
+        ensures { Gives view_boxed result (assignment room (nested room) (view_boxed target) self.old) self.new }
     {
         if !self.sees(Sign::Assign) {
             return Ok(target);
         }
-        let target = boxed(self.alloc(), target)?;
         self.take_sign(Sign::Assign)?;
         let value = self.parse_expression(room)?;
-        let value = boxed(self.alloc(), value)?;
-        Ok(Expr::Assign { target, value })
+        self.node(Expr::Assign { target, value })
     }
 
     #[cycle(expression)]
     #[tactic(auto, unfolding(crate::specs::Expressions::expression, crate::specs::Parsing::bind))]
-    pub(crate) fn parse_expression_here(&mut self, room: u32) -> Result<Expr, Stop>
-        ensures { Gives view_expression result (expression room (nested room) self.old) self.new }
+    pub(crate) fn parse_expression_here(&mut self, room: u32) -> Result<Box<Expr>, Stop>
+        ensures { Gives view_boxed result (expression room (nested room) self.old) self.new }
     {
         let target = self.parse_binary_here(room)?;
         self.parse_assignment(room, target)
@@ -549,7 +583,7 @@ impl<'a> Parser<'a> {
     {
         let first = self.parse_expression(room)?;
         let mut values = Vec::new(self.alloc());
-        values.push(first)?;
+        values.push(Box::into_inner(first))?;
         let most = self.len();
         for _ in 0..most {
             let Some(value) = self.parse_argument_after_comma(room)? else {
@@ -562,20 +596,25 @@ impl<'a> Parser<'a> {
 
     #[cycle(expression)]
     #[tactic(auto, unfolding(crate::specs::Expressions::fields, crate::specs::Parsing::bind))]
-    fn parse_fields(&mut self, room: u32, name: Ident, regions: Vec<Ident>) -> Result<Initial, Stop>
-        ensures { Gives view_initial result (fields room (nested room) (view_name name) (map view_name regions.items) self.old) self.new }
+    fn parse_fields(
+        &mut self,
+        room: u32,
+        name: Ident,
+        regions: Vec<Ident>,
+    ) -> Result<Box<Initial>, Stop>
+        ensures { Gives view_boxed_initial result (fields room (nested room) (view_name name) (map view_name regions.items) self.old) self.new }
     {
         self.take_sign(Sign::LeftBrace)?;
         let values = self.parse_values(room)?;
         self.take_sign_inside(room, Sign::RightBrace)?;
-        Ok(struct_fields(name, regions, values))
+        self.initial_node(struct_fields(name, regions, values))
     }
 
     /// A struct's name opens its fields, with region arguments or without, or the name begins an expression.
     #[cycle(expression)]
     #[tactic(auto, unfolding(crate::specs::Expressions::initial_from_name, crate::specs::Expressions::with_postfixes, crate::specs::Parsing::if_sees, crate::specs::Parsing::bind, crate::specs::Steps::with_chain))]
-    fn parse_initial_from_name(&mut self, room: u32, name: Ident) -> Result<Initial, Stop>
-        ensures { Gives view_initial result (initial_from_name room (nested room) (view_name name) self.old) self.new }
+    fn parse_initial_from_name(&mut self, room: u32, name: Ident) -> Result<Box<Initial>, Stop>
+        ensures { Gives view_boxed_initial result (initial_from_name room (nested room) (view_name name) self.old) self.new }
     {
         if self.sees(Sign::LeftBrace) {
             return self.parse_fields(room, name, Vec::new(self.alloc()));
@@ -586,14 +625,14 @@ impl<'a> Parser<'a> {
         }
         let base = self.parse_from_name(room, name)?;
         let value = self.parse_rest_of_operand(room, base)?;
-        Ok(Initial::Plain { value })
+        self.plain(value)
     }
 
     /// `{for variable < length : element}`
     #[cycle(expression)]
     #[tactic(auto, unfolding(crate::specs::Expressions::array, crate::specs::Parsing::bind))]
-    fn parse_array(&mut self, room: u32) -> Result<Initial, Stop>
-        ensures { Gives view_initial result (array room (nested room) self.old) self.new }
+    fn parse_array(&mut self, room: u32) -> Result<Box<Initial>, Stop>
+        ensures { Gives view_boxed_initial result (array room (nested room) self.old) self.new }
     {
         self.take_sign(Sign::LeftBrace)?;
         let span = self.take_word_inside(room, Keyword::For)?;
@@ -603,18 +642,18 @@ impl<'a> Parser<'a> {
         self.take_sign_inside(room, Sign::Colon)?;
         let element = self.parse_expression(room)?;
         self.take_sign_inside(room, Sign::RightBrace)?;
-        Ok(Initial::Array {
+        self.initial_node(Initial::Array {
             span,
             variable,
-            length,
-            element,
+            length: Box::into_inner(length),
+            element: Box::into_inner(element),
         })
     }
 
     #[cycle(expression)]
     #[tactic(auto, unfolding(crate::specs::Expressions::initial, crate::specs::Parsing::choose, crate::specs::Parsing::bind))]
-    fn parse_initial_here(&mut self, room: u32) -> Result<Initial, Stop>
-        ensures { Gives view_initial result (initial room (nested room) self.old) self.new }
+    fn parse_initial_here(&mut self, room: u32) -> Result<Box<Initial>, Stop>
+        ensures { Gives view_boxed_initial result (initial room (nested room) self.old) self.new }
     {
         match self.next() {
             Some(Terminal::Identifier(name)) => {
@@ -622,9 +661,10 @@ impl<'a> Parser<'a> {
                 self.parse_initial_from_name(room, Ident { name, span })
             }
             Some(Terminal::Mark(Sign::LeftBrace)) => self.parse_array(room),
-            _ => Ok(Initial::Plain {
-                value: self.parse_unary_here(room)?,
-            }),
+            _ => {
+                let value = self.parse_unary_here(room)?;
+                self.plain(value)
+            }
         }
     }
 }
@@ -675,42 +715,6 @@ fn level(operator: BinaryOperator) -> u64
         BinaryOperator::AndThen => 9,
         BinaryOperator::OrElse => 10,
     }
-}
-
-fn boxed(alloc: Global, value: Expr) -> Result<Box<Expr>, AllocError>
-    ensures { IfOk result (λ b. b.value ≡ value) }
-{
-    Ok(Box::new(alloc, value)?)
-}
-
-fn boxed_initial(alloc: Global, value: Initial) -> Result<Box<Initial>, AllocError>
-    ensures { IfOk result (λ b. b.value ≡ value) }
-{
-    Ok(Box::new(alloc, value)?)
-}
-
-/// An operand with the postfixes behind it.
-#[tactic(auto, using(crate::proofs::Levels::chained_view, crate::proofs::Levels::no_postfixes))]
-fn chained(alloc: Global, base: Expr, postfixes: Vec<Postfix>) -> Result<Expr, AllocError>
-    ensures { IfOk result (λ e. view_expression e ≡ chained (view_expression base) (postfixes_of postfixes.items)) }
-{
-    if postfixes.is_empty() {
-        return Ok(base);
-    }
-    let base = Box::new(alloc, base)?;
-    Ok(Expr::Chained { base, postfixes })
-}
-
-/// A first operand with the operators of one level behind it.
-#[tactic(auto, using(crate::proofs::Levels::binary_view, crate::proofs::Levels::no_operations))]
-fn joined(alloc: Global, first: Expr, rest: Vec<Operation>) -> Result<Expr, AllocError>
-    ensures { IfOk result (λ e. view_expression e ≡ binary_of (view_expression first) (operations_of rest.items)) }
-{
-    if rest.is_empty() {
-        return Ok(first);
-    }
-    let first = Box::new(alloc, first)?;
-    Ok(Expr::Binary { first, rest })
 }
 
 fn call(function: Ident, arguments: Vec<Expr>) -> Expr

@@ -1,21 +1,21 @@
 //! The parser of statements and of the items of blocks. A function with `room` reads at a level of nesting below which
 //! so many are left.
-ghost use Rattle.std.specs.Prelude.{◌≡◌, ℕ, suc, length, option_map, IfOk};
+ghost use Rattle.std.specs.Prelude.{◌≡◌, ℕ, suc, length, option_map};
 ghost use Rattle.cyc_syntax.specs.TreeView.{place_of_span, view_name, view_expression, view_initial, view_statement, view_item, view_block, items_of, clauses_of, default_of};
 ghost use Rattle.cyc_syntax.specs.Trees as trees;
+ghost use Rattle.cyc_parse.specs.Boxes.{view_boxed, view_boxed_statement};
 ghost use Rattle.cyc_parse.specs.Code.{Gives};
-ghost use Rattle.cyc_parse.specs.Parsing.{next, starts, inside, sign};
+ghost use Rattle.cyc_parse.specs.Parsing.{pure, next, starts, inside, sign};
 ghost use Rattle.cyc_parse.specs.Types.{region_of};
 ghost use Rattle.cyc_parse.specs.Statements.{begins_statement, begins_item, is_case, is_default, begins_clause, is_else, is_unary, ends_in_new, ends_in_name, end_of_swap, nested_statements, body, expression_from, swap, behind, statement_from_name, else_part, return_value, thrown, caught, clauses_in, clauses, if_statement, while_statement, throw_statement, try_statement, statement, local_value, local, opened_key, region, alias, new_key, dynamic_region, item, items};
-ghost use Rattle.cyc_parse.specs.StatementSteps.{one_item, one_clause, then_clause, default_clause, end_of_try, return_statement, let_item};
+ghost use Rattle.cyc_parse.specs.StatementSteps.{one_item, one_clause, then_clause, default_clause, end_of_try, after_symbol, return_statement, named_statement, block_statement, expression_statement, let_item};
 
 use crate::cursor::{Parser, refusal};
 use crate::expressions::LEVELS;
 use crate::stop::{Reason, Stop};
 use crate::symbol::Terminal;
-use cyc_syntax::{Block, Clause, Expr, Ident, Initial, Item, Keyword, Sign, Stmt};
+use cyc_syntax::{Block, Clause, Expr, Ident, Initial, Item, Keyword, Name, Sign, Stmt};
 use cyc_words::Span;
-use std::alloc::{AllocError, Global};
 
 /// What stands between the brackets of a `catch`: its clauses, and the items of its default clause, where there is one.
 #[derive(Drop)]
@@ -94,13 +94,14 @@ impl<'a> Parser<'a> {
 
     #[cycle(statement)]
     #[tactic(auto, unfolding(crate::specs::Statements::nested_statements, crate::specs::Parsing::refuse_item), using(crate::proofs::StatementLevels::nested_statement))]
-    fn parse_statement(&mut self, room: u32) -> Result<Stmt, Stop>
-        ensures { Gives view_statement result ((nested_statements room).statement self.old) self.new }
+    fn parse_statement(&mut self, room: u32) -> Result<Box<Stmt>, Stop>
+        ensures { Gives view_boxed_statement result ((nested_statements room).statement self.old) self.new }
     {
         if room == 0 {
             return Err(refusal(self.begins_statement(), Reason::TooDeep));
         }
-        self.parse_statement_here(room - 1)
+        let statement = self.parse_statement_here(room - 1)?;
+        Ok(Box::new(self.alloc(), statement)?)
     }
 
     /// The items of a block.
@@ -143,36 +144,49 @@ impl<'a> Parser<'a> {
     }
 
     #[tactic(auto, unfolding(crate::specs::Statements::swap, crate::specs::Expressions::nested, crate::specs::Parsing::bind))]
-    fn parse_swap(&mut self, room: u32, left: Expr) -> Result<Stmt, Stop>
-        ensures { Gives view_statement result (swap room (nested_statements room) (view_expression left) self.old) self.new }
+    fn parse_swap(&mut self, room: u32, left: Box<Expr>) -> Result<Stmt, Stop>
+        ensures { Gives view_statement result (swap room (nested_statements room) (view_boxed left) self.old) self.new }
     {
         self.take_sign(Sign::Swap)?;
         let right = self.parse_unary_here(room)?;
         self.end_swap(&right)?;
-        Ok(Stmt::Swap { left, right })
+        Ok(Stmt::Swap {
+            left: Box::into_inner(left),
+            right: Box::into_inner(right),
+        })
     }
 
     /// Goes on behind the expression that a statement begins with.
     #[tactic(auto, unfolding(crate::specs::Statements::behind, crate::specs::Parsing::bind))]
-    fn parse_rest_of_statement(&mut self, room: u32, value: Expr) -> Result<Stmt, Stop>
-        ensures { Gives view_statement result (behind room (nested_statements room) (view_expression value) self.old) self.new }
+    fn parse_rest_of_statement(&mut self, room: u32, value: Box<Expr>) -> Result<Stmt, Stop>
+        ensures { Gives view_statement result (behind room (nested_statements room) (view_boxed value) self.old) self.new }
     {
         if self.sees(Sign::Swap) && is_unary(&value) {
             return self.parse_swap(room, value);
         }
         self.take_sign(Sign::Semicolon)?;
-        Ok(Stmt::Expression { value })
+        Ok(Stmt::Expression {
+            value: Box::into_inner(value),
+        })
     }
 
     /// An expression that begins with this name.
     #[tactic(auto, unfolding(crate::specs::Statements::expression_from, crate::specs::Expressions::nested, crate::specs::Expressions::with_postfixes, crate::specs::Parsing::bind, crate::specs::Steps::with_chain))]
-    fn parse_expression_from(&mut self, room: u32, name: Ident) -> Result<Expr, Stop>
-        ensures { Gives view_expression result (expression_from room (nested_statements room) (view_name name) self.old) self.new }
+    fn parse_expression_from(&mut self, room: u32, name: Ident) -> Result<Box<Expr>, Stop>
+        ensures { Gives view_boxed result (expression_from room (nested_statements room) (view_name name) self.old) self.new }
     {
         let base = self.parse_from_name(room, name)?;
         let operand = self.parse_rest_of_operand(room, base)?;
         let target = self.climb(room, LEVELS, operand)?;
         self.parse_assignment(room, target)
+    }
+
+    #[tactic(auto, unfolding(crate::specs::StatementSteps::expression_statement, crate::specs::Statements::expression, crate::specs::Expressions::nested, crate::specs::Parsing::bind))]
+    fn parse_expression_statement(&mut self, room: u32) -> Result<Stmt, Stop>
+        ensures { Gives view_statement result (expression_statement room (nested_statements room) self.old) self.new }
+    {
+        let value = self.parse_expression_here(room)?;
+        self.parse_rest_of_statement(room, value)
     }
 
     /// A label's colon follows the name, or the name begins an expression.
@@ -190,7 +204,24 @@ impl<'a> Parser<'a> {
         self.parse_rest_of_statement(room, value)
     }
 
-    // ---- statements that begin with words
+    #[cycle(statement)]
+    #[tactic(auto, unfolding(crate::specs::StatementSteps::named_statement, crate::specs::Parsing::bind))]
+    fn parse_named_statement(&mut self, room: u32, name: Name) -> Result<Stmt, Stop>
+        ensures { Gives view_statement result (named_statement room (nested_statements room) name.number self.old) self.new }
+    {
+        let span = self.advance()?;
+        self.parse_statement_from_name(room, Ident { name, span })
+    }
+
+    // ---- statements that begin with words and signs
+
+    #[tactic(auto, unfolding(crate::specs::Parsing::bind))]
+    fn parse_empty(&mut self) -> Result<Stmt, Stop>
+        ensures { Gives view_statement result (after_symbol (λ p. pure (trees.Empty p)) self.old) self.new }
+    {
+        let span = self.advance()?;
+        Ok(Stmt::Empty { span })
+    }
 
     /// Items in braces.
     #[cycle(statement)]
@@ -205,66 +236,73 @@ impl<'a> Parser<'a> {
     }
 
     #[cycle(statement)]
+    #[tactic(auto, unfolding(crate::specs::StatementSteps::block_statement, crate::specs::Parsing::bind))]
+    fn parse_block_statement(&mut self, room: u32) -> Result<Stmt, Stop>
+        ensures { Gives view_statement result (block_statement room (nested_statements room) self.old) self.new }
+    {
+        Ok(block(self.parse_block(room)?))
+    }
+
+    #[cycle(statement)]
     #[tactic(auto, unfolding(crate::specs::Statements::else_part, crate::specs::Parsing::if_starts, crate::specs::Parsing::bind))]
     fn parse_else_part(
         &mut self,
         room: u32,
         span: Span,
-        condition: Expr,
+        condition: Box<Expr>,
         then: Box<Stmt>,
     ) -> Result<Stmt, Stop>
-        ensures { Gives view_statement result (else_part room (nested_statements room) (place_of_span span) (view_expression condition) (view_statement then.value) self.old) self.new }
+        ensures { Gives view_statement result (else_part room (nested_statements room) (place_of_span span) (view_boxed condition) (view_statement then.value) self.old) self.new }
     {
         if !self.begins_else() {
             return Ok(Stmt::If {
                 span,
-                condition,
+                condition: Box::into_inner(condition),
                 then,
                 otherwise: None,
             });
         }
         self.take_word(Keyword::Else)?;
         let otherwise = self.parse_statement(room)?;
-        let otherwise = Some(boxed(self.alloc(), otherwise)?);
         Ok(Stmt::If {
             span,
-            condition,
+            condition: Box::into_inner(condition),
             then,
-            otherwise,
+            otherwise: Some(otherwise),
         })
     }
 
-    /// Behind `if`.
+    /// `if`
     #[cycle(statement)]
     #[tactic(auto, unfolding(crate::specs::Statements::if_statement, crate::specs::Expressions::nested, crate::specs::Parsing::bind))]
-    fn parse_if(&mut self, room: u32, span: Span) -> Result<Stmt, Stop>
-        ensures { Gives view_statement result (if_statement room (nested_statements room) (place_of_span span) self.old) self.new }
+    fn parse_if(&mut self, room: u32) -> Result<Stmt, Stop>
+        ensures { Gives view_statement result (after_symbol (if_statement room (nested_statements room)) self.old) self.new }
     {
+        let span = self.advance()?;
         let condition = self.parse_group_here(room)?;
         let then = self.parse_statement(room)?;
-        let then = boxed(self.alloc(), then)?;
         self.parse_else_part(room, span, condition, then)
     }
 
-    /// Behind `while`.
+    /// `while`
     #[cycle(statement)]
     #[tactic(auto, unfolding(crate::specs::Statements::while_statement, crate::specs::Expressions::nested, crate::specs::Parsing::bind))]
-    fn parse_while(&mut self, room: u32, span: Span) -> Result<Stmt, Stop>
-        ensures { Gives view_statement result (while_statement room (nested_statements room) (place_of_span span) self.old) self.new }
+    fn parse_while(&mut self, room: u32) -> Result<Stmt, Stop>
+        ensures { Gives view_statement result (after_symbol (while_statement room (nested_statements room)) self.old) self.new }
     {
+        let span = self.advance()?;
         let condition = self.parse_group_here(room)?;
         let body = self.parse_statement(room)?;
-        let body = boxed(self.alloc(), body)?;
         Ok(Stmt::While {
             span,
-            condition,
+            condition: Box::into_inner(condition),
             body,
         })
     }
 
     #[tactic(auto, unfolding(crate::specs::Statements::return_value, crate::specs::Statements::expression, crate::specs::Expressions::nested, crate::specs::Parsing::if_sees, crate::specs::Parsing::bind))]
-    fn parse_return_value(&mut self, room: u32) -> Result<Option<Expr>, Stop>
-        ensures { Gives (option_map view_expression) result (return_value room (nested_statements room) self.old) self.new }
+    fn parse_return_value(&mut self, room: u32) -> Result<Option<Box<Expr>>, Stop>
+        ensures { Gives (option_map view_boxed) result (return_value room (nested_statements room) self.old) self.new }
     {
         if self.sees(Sign::Semicolon) {
             return Ok(None);
@@ -279,13 +317,16 @@ impl<'a> Parser<'a> {
     {
         let value = self.parse_return_value(room)?;
         self.take_sign(Sign::Semicolon)?;
-        Ok(Stmt::Return { span, value })
+        Ok(Stmt::Return {
+            span,
+            value: unboxed(value),
+        })
     }
 
     /// The value of an exception, in round brackets.
     #[tactic(auto, unfolding(crate::specs::Statements::thrown, crate::specs::Parsing::if_sees, crate::specs::Parsing::bind))]
-    fn parse_thrown(&mut self, room: u32) -> Result<Option<Expr>, Stop>
-        ensures { Gives (option_map view_expression) result (thrown room (nested_statements room) self.old) self.new }
+    fn parse_thrown(&mut self, room: u32) -> Result<Option<Box<Expr>>, Stop>
+        ensures { Gives (option_map view_boxed) result (thrown room (nested_statements room) self.old) self.new }
     {
         if !self.sees(Sign::LeftParen) {
             return Ok(None);
@@ -293,11 +334,12 @@ impl<'a> Parser<'a> {
         Ok(Some(self.parse_group(room)?))
     }
 
-    /// Behind `throw`.
+    /// `throw`
     #[tactic(auto, unfolding(crate::specs::Statements::throw_statement, crate::specs::Parsing::bind))]
-    fn parse_throw(&mut self, room: u32, span: Span) -> Result<Stmt, Stop>
-        ensures { Gives view_statement result (throw_statement room (nested_statements room) (place_of_span span) self.old) self.new }
+    fn parse_throw(&mut self, room: u32) -> Result<Stmt, Stop>
+        ensures { Gives view_statement result (after_symbol (throw_statement room (nested_statements room)) self.old) self.new }
     {
+        let span = self.advance()?;
         self.take_word(Keyword::New)?;
         let exception = self.take_identifier_inside(room)?;
         let value = self.parse_thrown(room)?;
@@ -305,7 +347,7 @@ impl<'a> Parser<'a> {
         Ok(Stmt::Throw {
             span,
             exception,
-            value,
+            value: unboxed(value),
         })
     }
 
@@ -405,14 +447,14 @@ impl<'a> Parser<'a> {
         Ok(guarded(span, body, handlers))
     }
 
-    /// Behind `try`.
+    /// `try`
     #[cycle(statement)]
     #[tactic(auto, unfolding(crate::specs::Statements::try_statement, crate::specs::StatementSteps::end_of_try, crate::specs::Parsing::bind))]
-    fn parse_try(&mut self, room: u32, span: Span) -> Result<Stmt, Stop>
-        ensures { Gives view_statement result (try_statement room (nested_statements room) (place_of_span span) self.old) self.new }
+    fn parse_try(&mut self, room: u32) -> Result<Stmt, Stop>
+        ensures { Gives view_statement result (after_symbol (try_statement room (nested_statements room)) self.old) self.new }
     {
+        let span = self.advance()?;
         let body = self.parse_statement(room)?;
-        let body = boxed(self.alloc(), body)?;
         self.take_word(Keyword::Catch)?;
         self.take_sign(Sign::LeftBrace)?;
         let handlers = self.parse_clauses(room)?;
@@ -420,28 +462,16 @@ impl<'a> Parser<'a> {
     }
 
     #[cycle(statement)]
-    #[tactic(auto, unfolding(crate::specs::Statements::statement, crate::specs::Statements::expression, crate::specs::Expressions::nested, crate::specs::Parsing::choose, crate::specs::Parsing::bind, crate::specs::StatementSteps::return_statement))]
+    #[tactic(auto, unfolding(crate::specs::Statements::statement, crate::specs::Parsing::choose, crate::specs::Parsing::bind, crate::specs::StatementSteps::named_statement, crate::specs::StatementSteps::block_statement, crate::specs::StatementSteps::expression_statement, crate::specs::StatementSteps::return_statement))]
     fn parse_statement_here(&mut self, room: u32) -> Result<Stmt, Stop>
         ensures { Gives view_statement result (statement room (nested_statements room) self.old) self.new }
     {
         match self.next() {
-            Some(Terminal::Identifier(name)) => {
-                let span = self.advance()?;
-                self.parse_statement_from_name(room, Ident { name, span })
-            }
-            Some(Terminal::Mark(Sign::LeftBrace)) => Ok(block(self.parse_block(room)?)),
-            Some(Terminal::Mark(Sign::Semicolon)) => {
-                let span = self.advance()?;
-                Ok(Stmt::Empty { span })
-            }
-            Some(Terminal::Word(Keyword::If)) => {
-                let span = self.advance()?;
-                self.parse_if(room, span)
-            }
-            Some(Terminal::Word(Keyword::While)) => {
-                let span = self.advance()?;
-                self.parse_while(room, span)
-            }
+            Some(Terminal::Identifier(name)) => self.parse_named_statement(room, name),
+            Some(Terminal::Mark(Sign::LeftBrace)) => self.parse_block_statement(room),
+            Some(Terminal::Mark(Sign::Semicolon)) => self.parse_empty(),
+            Some(Terminal::Word(Keyword::If)) => self.parse_if(room),
+            Some(Terminal::Word(Keyword::While)) => self.parse_while(room),
             Some(Terminal::Word(Keyword::Return)) => {
                 let span = self.advance()?;
                 self.parse_return(room, span)
@@ -456,26 +486,17 @@ impl<'a> Parser<'a> {
                 self.take_sign(Sign::Semicolon)?;
                 Ok(Stmt::Continue { span })
             }
-            Some(Terminal::Word(Keyword::Throw)) => {
-                let span = self.advance()?;
-                self.parse_throw(room, span)
-            }
-            Some(Terminal::Word(Keyword::Try)) => {
-                let span = self.advance()?;
-                self.parse_try(room, span)
-            }
-            _ => {
-                let value = self.parse_expression_here(room)?;
-                self.parse_rest_of_statement(room, value)
-            }
+            Some(Terminal::Word(Keyword::Throw)) => self.parse_throw(room),
+            Some(Terminal::Word(Keyword::Try)) => self.parse_try(room),
+            _ => self.parse_expression_statement(room),
         }
     }
 
     // ---- items
 
     #[tactic(auto, unfolding(crate::specs::Statements::local_value, crate::specs::Parsing::if_sees, crate::specs::Parsing::bind))]
-    fn parse_local_value(&mut self, room: u32) -> Result<Option<Expr>, Stop>
-        ensures { Gives (option_map view_expression) result (local_value room (nested_statements room) self.old) self.new }
+    fn parse_local_value(&mut self, room: u32) -> Result<Option<Box<Expr>>, Stop>
+        ensures { Gives (option_map view_boxed) result (local_value room (nested_statements room) self.old) self.new }
     {
         if !self.sees(Sign::Assign) {
             return Ok(None);
@@ -495,7 +516,7 @@ impl<'a> Parser<'a> {
         Ok(Item::Local {
             of_type,
             name,
-            value,
+            value: unboxed(value),
         })
     }
 
@@ -689,10 +710,13 @@ fn ends_in_name(initial: &Initial) -> bool
     }
 }
 
-fn boxed(alloc: Global, statement: Stmt) -> Result<Box<Stmt>, AllocError>
-    ensures { IfOk result (λ b. b.value ≡ statement) }
+fn unboxed(value: Option<Box<Expr>>) -> Option<Expr>
+    ensures { option_map view_expression result ≡ option_map view_boxed value }
 {
-    Ok(Box::new(alloc, statement)?)
+    match value {
+        Some(value) => Some(Box::into_inner(value)),
+        None => None,
+    }
 }
 
 fn block(block: Block) -> Stmt

@@ -1,10 +1,13 @@
 -- Worked examples of the plain machine, each proved by computation.
-use Rattle.std.proofs.Common.{◌≡◌, ℕ, List, [], ◌∷◌, pos, negsuc, true, false, refl}
+use Rattle.std.proofs.Common.{◌≡◌, ℕ, List, [], ◌∷◌, pos, negsuc, refl}
 use Rattle.cyc_words.specs.Word.{slt_of, sar_of, div_of, rem_of}
 use Rattle.cyc_words.specs.Ending.{Returned, Uncaught, Full}
 use Rattle.cyc_plain.specs.declared.instruction.Instruction.{Instruction}
-use Rattle.cyc_plain.specs.declared.instruction.Instruction.TheVariants.{Constant, Move, Unary, Binary, Jump, JumpIfZero, JumpIfNonzero, Call, Return, ReadByte, WriteByte, LoadGlobal, StoreGlobal}
+use Rattle.cyc_plain.specs.declared.instruction.Instruction.TheVariants.{Move, Unary, Binary, Jump, Branch, Call, Return, ReadByte, WriteByte, LoadGlobal, StoreGlobal}
 use Rattle.cyc_plain.specs.declared.instruction.Instruction.TheVariants as instructions
+use Rattle.cyc_plain.specs.declared.instruction.Operand.TheVariants.{Slot, Word}
+use Rattle.cyc_plain.specs.declared.instruction.Comparison.{Comparison}
+use Rattle.cyc_plain.specs.declared.instruction.Comparison.TheVariants as comparisons
 use Rattle.cyc_plain.specs.declared.instruction.UnaryOperator.{UnaryOperator}
 use Rattle.cyc_plain.specs.declared.instruction.UnaryOperator.TheVariants as unary
 use Rattle.cyc_plain.specs.declared.instruction.BinaryOperator.{BinaryOperator}
@@ -37,18 +40,18 @@ after steps calls p input = run p 3 calls zeros steps (start p input)
 -- ---- constants and operators
 
 abbrev of_one : UnaryOperator → ℕ → Status
-of_one operator a = status_of (after 3 1 (program (Constant 0 a ∷ Unary operator 1 0 ∷ Return 1 ∷ [])) [])
+of_one operator a = status_of (after 3 1 (program (Move 0 (Word a) ∷ Unary operator 1 (Slot 0) ∷ Return 1 ∷ [])) [])
 
 abbrev of_two : BinaryOperator → ℕ → ℕ → Status
-of_two operator a b = status_of (after 4 1 (program (Constant 0 a ∷ Constant 1 b ∷ Binary operator 2 0 1 ∷ Return 2 ∷ [])) [])
+of_two operator a b = status_of (after 4 1 (program (Move 0 (Word a) ∷ Move 1 (Word b) ∷ Binary operator 2 (Slot 0) (Slot 1) ∷ Return 2 ∷ [])) [])
 
-constant : status_of (after 2 1 (program (Constant 0 7 ∷ Return 0 ∷ [])) []) ≡ Ended (Returned (pos 7))
+constant : status_of (after 2 1 (program (Move 0 (Word 7) ∷ Return 0 ∷ [])) []) ≡ Ended (Returned (pos 7))
 constant = refl
 
-not_ended_before : status_of (after 1 1 (program (Constant 0 7 ∷ Return 0 ∷ [])) []) ≡ simulation.Running
+not_ended_before : status_of (after 1 1 (program (Move 0 (Word 7) ∷ Return 0 ∷ [])) []) ≡ simulation.Running
 not_ended_before = refl
 
-negative : status_of (after 3 1 (program (Constant 0 0xffffffff ∷ Move 1 0 ∷ Return 1 ∷ [])) []) ≡ Ended (Returned (negsuc 0))
+negative : status_of (after 3 1 (program (Move 0 (Word 0xffffffff) ∷ Move 1 (Slot 0) ∷ Return 1 ∷ [])) []) ≡ Ended (Returned (negsuc 0))
 negative = refl
 
 negate_wraps : of_one unary.Negate 0x80000000 ≡ Ended (Returned (negsuc 2147483647))
@@ -122,9 +125,9 @@ greater_or_equal = refl
 -- the sum of 5, 4, .. 1
 abbrev sum_down : Program
 sum_down = program (
-    Constant 0 0 ∷ Constant 1 5 ∷ Constant 2 1
-    ∷ JumpIfZero 1 7
-    ∷ Binary binary.Add 0 0 1 ∷ Binary binary.Subtract 1 1 2 ∷ Jump 3
+    Move 0 (Word 0) ∷ Move 1 (Word 5) ∷ Move 2 (Word 1)
+    ∷ Branch comparisons.Equal (Slot 1) (Word 0) 7
+    ∷ Binary binary.Add 0 (Slot 0) (Slot 1) ∷ Binary binary.Subtract 1 (Slot 1) (Slot 2) ∷ Jump 3
     ∷ Return 0 ∷ [])
 
 sums_up : status_of (after 25 1 sum_down []) ≡ Ended (Returned (pos 15))
@@ -133,10 +136,10 @@ sums_up = refl
 loops_for_ever : status_of (after 100 1 (program (Jump 0 ∷ [])) []) ≡ simulation.Running
 loops_for_ever = refl
 
-jumps_if_nonzero : status_of (after 3 1 (program (Constant 0 2 ∷ JumpIfNonzero 0 3 ∷ Return 1 ∷ Return 0 ∷ [])) []) ≡ Ended (Returned (pos 2))
+jumps_if_nonzero : status_of (after 3 1 (program (Move 0 (Word 2) ∷ Branch comparisons.NotEqual (Slot 0) (Word 0) 3 ∷ Return 1 ∷ Return 0 ∷ [])) []) ≡ Ended (Returned (pos 2))
 jumps_if_nonzero = refl
 
-runs_off_the_end : status_of (after 2 1 (program (Constant 0 1 ∷ [])) []) ≡ Failed
+runs_off_the_end : status_of (after 2 1 (program (Move 0 (Word 1) ∷ [])) []) ≡ Failed
 runs_off_the_end = refl
 
 -- ---- calls
@@ -145,10 +148,10 @@ runs_off_the_end = refl
 abbrev recursion : Program
 recursion = record {
   functions =
-      function 0 (Constant 0 3 ∷ Call 1 0 1 0 ∷ Return 0 ∷ [])
+      function 0 (Move 0 (Word 3) ∷ Call 1 0 1 0 ∷ Return 0 ∷ [])
       ∷ function 1 (
-      Constant 1 65 ∷ WriteByte 1 ∷ JumpIfZero 0 6
-      ∷ Constant 1 1 ∷ Binary binary.Subtract 1 0 1 ∷ Call 1 1 1 0
+      Move 1 (Word 65) ∷ WriteByte (Slot 1) ∷ Branch comparisons.Equal (Slot 0) (Word 0) 6
+      ∷ Move 1 (Word 1) ∷ Binary binary.Subtract 1 (Slot 0) (Slot 1) ∷ Call 1 1 1 0
       ∷ Return 0 ∷ [])
       ∷ [];
   globals = [];
@@ -171,14 +174,14 @@ full_prints = refl
 recursion_depth : depth (after 9 5 recursion []) ≡ 3
 recursion_depth = refl
 
-call_counts_its_argument : size (function 0 (Constant 0 3 ∷ Call 1 0 1 0 ∷ Return 0 ∷ [])) ≡ 4
+call_counts_its_argument : size (function 0 (Move 0 (Word 3) ∷ Call 1 0 1 0 ∷ Return 0 ∷ [])) ≡ 4
 call_counts_its_argument = refl
 
 -- ---- services, globals and exceptions
 
 abbrev echo : Program
 echo = program (
-    ReadByte 0 ∷ Constant 1 0 ∷ Binary binary.Less 2 0 1 ∷ JumpIfNonzero 2 6 ∷ WriteByte 0 ∷ Jump 0 ∷ Return 1 ∷ [])
+    ReadByte 0 ∷ Move 1 (Word 0) ∷ Binary binary.Less 2 (Slot 0) (Slot 1) ∷ Branch comparisons.NotEqual (Slot 2) (Word 0) 6 ∷ WriteByte (Slot 0) ∷ Jump 0 ∷ Return 1 ∷ [])
 
 echo_prints : output_of (after 20 1 echo (104 ∷ 105 ∷ [])) ≡ 104 ∷ 105 ∷ []
 unfolding slt_of
@@ -194,14 +197,45 @@ end_of_input = refl
 one_byte_is_read : input_of (after 1 1 (program (ReadByte 0 ∷ Return 0 ∷ [])) (7 ∷ 8 ∷ [])) ≡ 8 ∷ []
 one_byte_is_read = refl
 
-low_byte_is_printed : output_of (after 2 1 (program (Constant 0 321 ∷ WriteByte 0 ∷ Return 0 ∷ [])) []) ≡ 65 ∷ []
+low_byte_is_printed : output_of (after 2 1 (program (Move 0 (Word 321) ∷ WriteByte (Slot 0) ∷ Return 0 ∷ [])) []) ≡ 65 ∷ []
 low_byte_is_printed = refl
 
-global_is_counted_up : status_of (after 6 1 (program (LoadGlobal 0 0 ∷ Constant 1 1 ∷ Binary binary.Add 0 0 1 ∷ StoreGlobal 0 0 ∷ LoadGlobal 2 0 ∷ Return 2 ∷ [])) []) ≡ Ended (Returned (pos 4))
+global_is_counted_up : status_of (after 6 1 (program (LoadGlobal 0 0 ∷ Move 1 (Word 1) ∷ Binary binary.Add 0 (Slot 0) (Slot 1) ∷ StoreGlobal 0 (Slot 0) ∷ LoadGlobal 2 0 ∷ Return 2 ∷ [])) []) ≡ Ended (Returned (pos 4))
 global_is_counted_up = refl
 
-uncaught : status_of (after 2 1 (program (Constant 0 0 ∷ instructions.Uncaught 4 0 ∷ [])) []) ≡ Ended (Uncaught 4 (pos 0))
+uncaught : status_of (after 2 1 (program (Move 0 (Word 0) ∷ instructions.Uncaught 4 (Slot 0) ∷ [])) []) ≡ Ended (Uncaught 4 (pos 0))
 uncaught = refl
 
-places : places_of (program (Constant 0 0 ∷ Return 0 ∷ [])) ≡ record { function = 0; index = 0 } ∷ record { function = 0; index = 1 } ∷ []
+places : places_of (program (Move 0 (Word 0) ∷ Return 0 ∷ [])) ≡ record { function = 0; index = 0 } ∷ record { function = 0; index = 1 } ∷ []
 places = refl
+
+-- ---- comparisons of a branch, and operands that are words
+
+-- a branch on these two words returns 1 where it is taken, and 0 elsewhere
+abbrev of_branch : Comparison → ℕ → ℕ → Status
+of_branch comparison a b =
+    status_of (after 4 1 (program (Branch comparison (Word a) (Word b) 3 ∷ Move 0 (Word 0) ∷ Return 0 ∷ Move 0 (Word 1) ∷ Return 0 ∷ [])) [])
+
+minus_one_is_less : of_branch comparisons.Less 0xffffffff 0 ≡ Ended (Returned (pos 1))
+minus_one_is_less = refl
+
+minus_one_is_not_less_unsigned : of_branch comparisons.LessUnsigned 0xffffffff 0 ≡ Ended (Returned (pos 0))
+minus_one_is_not_less_unsigned = refl
+
+not_less_unsigned : of_branch comparisons.GreaterOrEqualUnsigned 0xffffffff 0 ≡ Ended (Returned (pos 1))
+not_less_unsigned = refl
+
+equal_is_at_most : of_branch comparisons.LessOrEqual 5 5 ≡ Ended (Returned (pos 1))
+equal_is_at_most = refl
+
+equal_is_at_least : of_branch comparisons.GreaterOrEqual 5 5 ≡ Ended (Returned (pos 1))
+equal_is_at_least = refl
+
+equal_is_not_greater : of_branch comparisons.Greater 5 5 ≡ Ended (Returned (pos 0))
+equal_is_not_greater = refl
+
+equal_is_not_less_unsigned : of_branch comparisons.LessUnsigned 5 5 ≡ Ended (Returned (pos 0))
+equal_is_not_less_unsigned = refl
+
+words_are_operands : status_of (after 2 1 (program (Binary binary.Subtract 0 (Word 7) (Word 9) ∷ Return 0 ∷ [])) []) ≡ Ended (Returned (negsuc 1))
+words_are_operands = refl

@@ -1,19 +1,20 @@
 -- In a run of a well-formed program every place is in its function's code.
-use Rattle.std.proofs.Common.{◌≡◌, ℕ, zero, suc, ◌+◌, ◌-◌, ◌<◌, Bool, true, false, not, List, [], ◌∷◌, length, Option, None, Some, slice_get, refl, sym, ap, subst, ◌∙◌, arith, inl, inr}
+use Rattle.std.proofs.Common.{◌≡◌, ℕ, zero, suc, ◌+◌, ◌-◌, ◌<◌, Bool, true, false, List, [], ◌∷◌, length, Option, None, Some, slice_get, refl, sym, ap, subst, ◌∙◌, arith, inl, inr}
 use Rattle.std.proofs.lemmas.Bool.{cases_lt}
 use Rattle.std.proofs.lemmas.Option.{get_or_from_slice_get}
-use Rattle.std.specs.Prelude.{All, IsSomeAnd, ◌==◌, if◌then◌else◌}
+use Rattle.std.specs.Prelude.{All, IsSomeAnd, if◌then◌else◌}
 use Rattle.std.specs.List.{AllByRecursion}
 use Rattle.cyc_words.specs.Ending.{Full}
 use Rattle.cyc_plain.specs.declared.instruction.Instruction.{Instruction}
 use Rattle.cyc_plain.specs.declared.instruction.Instruction.TheVariants as instructions
 use Rattle.cyc_plain.specs.declared.instruction.BinaryOperator.{BinaryOperator}
-use Rattle.cyc_plain.specs.Operators.{has_no_result, binary_result}
+use Rattle.cyc_plain.specs.declared.instruction.Operand.{Operand}
+use Rattle.cyc_plain.specs.Operators.{has_no_result, binary_result, compares}
 use Rattle.cyc_words.specs.Simulation as simulation
 use Rattle.cyc_words.specs.Simulation.{Run}
 use Rattle.cyc_plain.specs.Program.{Routine, Program, no_routine, routine_at}
 use Rattle.cyc_plain.specs.State.{Frame, Configuration, State, Running, Ended, Stuck, status_of, place_of}
-use Rattle.cyc_plain.specs.Step.{Choice, gives, returns, performed, executed, instruction_at, step, Step, start, machine}
+use Rattle.cyc_plain.specs.Step.{Choice, gives, operand_word, returns, performed, executed, instruction_at, step, Step, start, machine}
 use Rattle.cyc_plain.specs.WellFormed.{IsInRange, IsRoutine, IsWellFormed, leaves, DividesByZero}
 use Rattle.cyc_plain.proofs.RunLaws.{limited_either, if_either}
 
@@ -96,16 +97,13 @@ module _ (program : Program) (well : IsWellFormed program) (choice : Choice) (c 
   chosen false target first second = second
 
   performs : (i : Instruction) → slice_get here.code c.active.next ≡ Some i → IsInRange program here i → IsPlaced program (performed program choice c i)
-  performs (instructions.Constant destination word) at range = (behind _ at refl, waiting)
   performs (instructions.Move destination source) at range = (behind _ at refl, waiting)
   performs (instructions.Unary operator destination operand) at range = (behind _ at refl, waiting)
   performs (instructions.Binary operator destination left right) at range =
-      if_either (IsPlaced program) (has_no_result operator (c.active.slots right)) (Stuck c.output c.input) (gives c destination (binary_result operator (c.active.slots left) (c.active.slots right))) tt (behind (instructions.Binary operator destination left right) at refl, waiting)
+      if_either (IsPlaced program) (has_no_result operator (operand_word c.active.slots right)) (Stuck c.output c.input) (gives c destination (binary_result operator (operand_word c.active.slots left) (operand_word c.active.slots right))) tt (behind (instructions.Binary operator destination left right) at refl, waiting)
   performs (instructions.Jump target) at range = ((inside, range), waiting)
-  performs (instructions.JumpIfZero condition target) at range =
-      (chosen (c.active.slots condition == 0) target (inside, range.1) (behind (instructions.JumpIfZero condition target) at refl), waiting)
-  performs (instructions.JumpIfNonzero condition target) at range =
-      (chosen (not (c.active.slots condition == 0)) target (inside, range.1) (behind (instructions.JumpIfNonzero condition target) at refl), waiting)
+  performs (instructions.Branch comparison left right target) at (first, second, reached) =
+      (chosen (compares comparison (operand_word c.active.slots left) (operand_word c.active.slots right)) target (inside, reached) (behind (instructions.Branch comparison left right target) at refl), waiting)
   performs (instructions.Call function arguments count result) at range =
       ((range.function_in_range, has_code program (routine_at program function) (routine_in program function well range.function_in_range)), (behind _ at refl, waiting))
   performs (instructions.Return value) at range = returned program c value here.results c.frames waiting
@@ -141,9 +139,9 @@ placed_start program input well = ((well.main, has_code program (routine_at prog
 not_failed : (c : Configuration) → simulation.Running ≡ simulation.Failed → ⊥
 not_failed c e = cc
 
-divides : (program : Program) (c : Configuration) (operator : BinaryOperator) (destination left right : ℕ) (b : Bool) → has_no_result operator (c.active.slots right) ≡ b
+divides : (program : Program) (c : Configuration) (operator : BinaryOperator) (destination : ℕ) (left right : Operand) (b : Bool) → has_no_result operator (operand_word c.active.slots right) ≡ b
     → instruction_at program (place_of (Running c)) ≡ Some (instructions.Binary operator destination left right)
-    → status_of (if b then Stuck c.output c.input else gives c destination (binary_result operator (c.active.slots left) (c.active.slots right))) ≡ simulation.Failed → DividesByZero program (Running c)
+    → status_of (if b then Stuck c.output c.input else gives c destination (binary_result operator (operand_word c.active.slots left) (operand_word c.active.slots right))) ≡ simulation.Failed → DividesByZero program (Running c)
 divides program c operator destination left right true is at failed = (operator, destination, left, right, at, is)
 divides program c operator destination left right false is at failed = absurd (not_failed c failed)
 
@@ -152,15 +150,13 @@ returns_not c value results [] failed = let e : status_of (returns c value resul
 returns_not c value results (f ∷ frames) failed = not_failed c failed
 
 fails : (program : Program) (choice : Choice) (c : Configuration) (i : Instruction) → instruction_at program (place_of (Running c)) ≡ Some i → status_of (performed program choice c i) ≡ simulation.Failed → DividesByZero program (Running c)
-fails program choice c (instructions.Binary operator destination left right) at failed = divides program c operator destination left right (has_no_result operator (c.active.slots right)) refl at failed
+fails program choice c (instructions.Binary operator destination left right) at failed = divides program c operator destination left right (has_no_result operator (operand_word c.active.slots right)) refl at failed
 fails program choice c (instructions.Return value) at failed = absurd (returns_not c value (routine_at program c.active.function).results c.frames failed)
 fails program choice c (instructions.Uncaught tag value) at failed = absurd (let e : status_of (performed program choice c (instructions.Uncaught tag value)) ≡ simulation.Failed = failed in cc)
-fails program choice c (instructions.Constant destination word) at failed = absurd (not_failed c failed)
 fails program choice c (instructions.Move destination source) at failed = absurd (not_failed c failed)
 fails program choice c (instructions.Unary operator destination operand) at failed = absurd (not_failed c failed)
 fails program choice c (instructions.Jump target) at failed = absurd (not_failed c failed)
-fails program choice c (instructions.JumpIfZero condition target) at failed = absurd (not_failed c failed)
-fails program choice c (instructions.JumpIfNonzero condition target) at failed = absurd (not_failed c failed)
+fails program choice c (instructions.Branch comparison left right target) at failed = absurd (not_failed c failed)
 fails program choice c (instructions.Call function arguments count result) at failed = absurd (not_failed c failed)
 fails program choice c (instructions.ReadByte destination) at failed = absurd (not_failed c failed)
 fails program choice c (instructions.WriteByte source) at failed = absurd (not_failed c failed)

@@ -12,7 +12,7 @@ use Rattle.cyc_words.specs.Simulation as simulation
 use Rattle.cyc_words.specs.Simulation.{Status, IsLawful, Run}
 use Rattle.cyc_plain.specs.Program.{Program, routine_at}
 use Rattle.cyc_plain.specs.State.{Frame, Configuration, State, Running, Ended, Stuck, output_of, input_of, status_of, place_of}
-use Rattle.cyc_plain.specs.Step.{Choice, IsAllowed, gives, returns, performed, executed, instruction_at, step, is_within, limited, limited_step, Step, start, machine}
+use Rattle.cyc_plain.specs.Step.{Choice, IsAllowed, gives, operand_word, returns, performed, executed, instruction_at, step, is_within, limited, limited_step, Step, start, machine}
 use Rattle.cyc_words.proofs.Simulation.{Run-grows, Run-stays}
 
 -- ---- limits
@@ -64,13 +64,11 @@ returned c value results [] = same c
 returned c value results (f ∷ frames) = same c
 
 performs : (program : Program) (choice : Choice) (c : Configuration) (i : Instruction) → GoesOn c (performed program choice c i)
-performs program choice c (instructions.Constant destination word) = same c
 performs program choice c (instructions.Move destination source) = same c
 performs program choice c (instructions.Unary operator destination operand) = same c
-performs program choice c (instructions.Binary operator destination left right) = if_either (GoesOn c) (has_no_result operator (c.active.slots right)) (Stuck c.output c.input) (gives c destination (binary_result operator (c.active.slots left) (c.active.slots right))) (same c) (same c)
+performs program choice c (instructions.Binary operator destination left right) = if_either (GoesOn c) (has_no_result operator (operand_word c.active.slots right)) (Stuck c.output c.input) (gives c destination (binary_result operator (operand_word c.active.slots left) (operand_word c.active.slots right))) (same c) (same c)
 performs program choice c (instructions.Jump target) = same c
-performs program choice c (instructions.JumpIfZero condition target) = same c
-performs program choice c (instructions.JumpIfNonzero condition target) = same c
+performs program choice c (instructions.Branch comparison left right target) = same c
 performs program choice c (instructions.Call function arguments count result) = same c
 performs program choice c (instructions.Return value) = returned c value (routine_at program c.active.function).results c.frames
 performs program choice c (instructions.ReadByte destination) = (IsPrefix-refl c.output, one_read c.input)

@@ -10,14 +10,16 @@ use Rattle.cyc_plain.specs.declared.instruction.UnaryOperator.{UnaryOperator}
 use Rattle.cyc_plain.specs.declared.instruction.UnaryOperator.TheVariants as unary
 use Rattle.cyc_plain.specs.declared.instruction.BinaryOperator.{BinaryOperator}
 use Rattle.cyc_plain.specs.declared.instruction.BinaryOperator.TheVariants as binary
+use Rattle.cyc_plain.specs.declared.instruction.Operand.{Operand}
+use Rattle.cyc_plain.specs.declared.instruction.Operand.TheVariants as operands
 use Rattle.cyc_plain.specs.declared.instruction.Instruction.{Instruction}
 use Rattle.cyc_plain.specs.declared.instruction.Instruction.TheVariants as instructions
 use Rattle.cyc_plain.specs.Operators.{truth, unary_result, binary_result, has_no_result}
 use Rattle.cyc_words.specs.Simulation.{Run}
 use Rattle.cyc_plain.specs.Program.{Program, CodePlace, no_routine, routine_at}
 use Rattle.cyc_plain.specs.State.{Words, AreWords, put, copied, Frame, Configuration, State, Running, Ended, Stuck, place_of, HoldsWords}
-use Rattle.cyc_plain.specs.Step.{Choice, IsAllowed, gives, returns, performed, executed, instruction_at, step, start, machine}
-use Rattle.cyc_plain.specs.WellFormed.{HasWord, HasWords}
+use Rattle.cyc_plain.specs.Step.{Choice, IsAllowed, gives, operand_word, returns, performed, executed, instruction_at, step, start, machine}
+use Rattle.cyc_plain.specs.WellFormed.{IsOfWord, HasWord, HasWords}
 use Rattle.cyc_plain.proofs.RunLaws.{limited_either, if_either}
 use Rattle.cyc_plain.proofs.Placed.{holds_at}
 use Rattle.cyc_plain.proofs.Steps.{function_known}
@@ -85,21 +87,23 @@ module _ (program : Program) (choice : Choice) (allowed : IsAllowed choice) (c :
   given : (destination word : ℕ) → IsWord word → HoldsWords (gives c destination word)
   given destination word w = (put_words c.active.slots destination word slots w, frames, globals, input)
 
+  known : (o : Operand) → IsOfWord o → IsWord (operand_word c.active.slots o)
+  known (operands.Slot number) w = slots number
+  known (operands.Word word) w = w
+
   returned : (value results : ℕ) (waiting : List Frame) → AreFrames waiting → HoldsWords (returns c value results waiting)
   returned value results [] all = tt
   returned value results (f ∷ waiting) (first, rest) = (copied_words c.active.slots f.caller.slots value results f.result slots first, rest, globals, input)
 
   performs : (i : Instruction) → HasWord i → HoldsWords (performed program choice c i)
-  performs (instructions.Constant destination word) w = given destination word w
-  performs (instructions.Move destination source) w = given destination (c.active.slots source) (slots source)
+  performs (instructions.Move destination source) w = given destination (operand_word c.active.slots source) (known source w)
   performs (instructions.Unary operator destination operand) w =
-      given destination (unary_result operator (c.active.slots operand)) (IsWord-unary_result operator (c.active.slots operand) (slots operand))
-  performs (instructions.Binary operator destination left right) w =
-      if_either HoldsWords (has_no_result operator (c.active.slots right)) (Stuck c.output c.input) (gives c destination (binary_result operator (c.active.slots left) (c.active.slots right)))
-      tt (given destination (binary_result operator (c.active.slots left) (c.active.slots right)) (IsWord-binary_result operator (c.active.slots left) (c.active.slots right) (slots left) (slots right)))
+      given destination (unary_result operator (operand_word c.active.slots operand)) (IsWord-unary_result operator (operand_word c.active.slots operand) (known operand w))
+  performs (instructions.Binary operator destination left right) (first, second) =
+      if_either HoldsWords (has_no_result operator (operand_word c.active.slots right)) (Stuck c.output c.input) (gives c destination (binary_result operator (operand_word c.active.slots left) (operand_word c.active.slots right)))
+      tt (given destination (binary_result operator (operand_word c.active.slots left) (operand_word c.active.slots right)) (IsWord-binary_result operator (operand_word c.active.slots left) (operand_word c.active.slots right) (known left first) (known right second)))
   performs (instructions.Jump target) w = (slots, frames, globals, input)
-  performs (instructions.JumpIfZero condition target) w = (slots, frames, globals, input)
-  performs (instructions.JumpIfNonzero condition target) w = (slots, frames, globals, input)
+  performs (instructions.Branch comparison left right target) w = (slots, frames, globals, input)
   performs (instructions.Call function arguments count result) w =
       (copied_words c.active.slots choice.contents arguments count 0 slots allowed, (slots, frames), globals, input)
   performs (instructions.Return value) w = returned value (routine_at program c.active.function).results c.frames frames
@@ -108,7 +112,7 @@ module _ (program : Program) (choice : Choice) (allowed : IsAllowed choice) (c :
   performs (instructions.WriteByte source) w = (slots, frames, globals, input)
   performs (instructions.LoadGlobal destination global) w = given destination (c.globals global) (globals global)
   performs (instructions.StoreGlobal global source) w =
-      (slots, frames, put_words c.globals global (c.active.slots source) globals (slots source), input)
+      (slots, frames, put_words c.globals global (operand_word c.active.slots source) globals (known source w), input)
   performs (instructions.Uncaught tag value) w = tt
 
   executes : (o : Option Instruction) → ((i : Instruction) → o ≡ Some i → HasWord i) → HoldsWords (executed program choice c o)

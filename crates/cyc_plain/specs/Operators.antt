@@ -1,12 +1,14 @@
 -- What the operators of a plain program compute of words: the language's operators, which are those of C on a machine
 -- of 32 bits; that sums wrap and that shifts count modulo 32 is this project's own choice.
-use Rattle.std.specs.Prelude.{ℕ, ◌==◌, Bool, false, not, if◌then◌else◌, int_le, bit_and, bit_or, bit_xor}
+use Rattle.std.specs.Prelude.{ℕ, ◌==◌, Bool, false, not, if◌then◌else◌, nat_le, nat_lt, int_le, int_lt, bit_and, bit_or, bit_xor}
 use Rattle.std.specs.Int.{w32, bit_not}
 use Rattle.cyc_words.specs.Word.{signed, add_of, sub_of, mul_of, shl_of, sar_of, slt_of, div_of, rem_of}
 use Rattle.cyc_plain.specs.declared.instruction.UnaryOperator.{UnaryOperator}
 use Rattle.cyc_plain.specs.declared.instruction.UnaryOperator.TheVariants as unary
 use Rattle.cyc_plain.specs.declared.instruction.BinaryOperator.{BinaryOperator}
 use Rattle.cyc_plain.specs.declared.instruction.BinaryOperator.TheVariants as binary
+use Rattle.cyc_plain.specs.declared.instruction.Comparison.{Comparison}
+use Rattle.cyc_plain.specs.declared.instruction.Comparison.TheVariants as comparisons
 
 -- the word of a truth value
 abbrev pub truth : Bool → ℕ
@@ -40,3 +42,14 @@ abbrev pub has_no_result : BinaryOperator → ℕ → Bool
 has_no_result binary.Divide b = b == 0
 has_no_result binary.Remainder b = b == 0
 has_no_result operator b = false
+
+-- whether a comparison of two words holds
+abbrev pub compares : Comparison → ℕ → ℕ → Bool
+compares comparisons.Equal a b = a == b
+compares comparisons.NotEqual a b = not (a == b)
+compares comparisons.Less a b = int_lt (signed a) (signed b)
+compares comparisons.LessOrEqual a b = int_le (signed a) (signed b)
+compares comparisons.Greater a b = int_lt (signed b) (signed a)
+compares comparisons.GreaterOrEqual a b = int_le (signed b) (signed a)
+compares comparisons.LessUnsigned a b = nat_lt a b
+compares comparisons.GreaterOrEqualUnsigned a b = nat_le b a

@@ -1,11 +1,13 @@
 -- What a plain program does: a step is a function of the state and of what is chosen. So the steps of a program are a
 -- relation, since nothing is said of the choice but that it is allowed.
-use Rattle.std.specs.Prelude.{◌≡◌, ℕ, zero, suc, ◌+◌, ◌-◌, ◌%◌, ◌^◌, ◌==◌, Bool, not, ◌&&◌, nat_le, List, [], ◌∷◌, ◌++◌, drop, Option, Some, None, unwrap_or, slice_get, slice_index, if◌then◌else◌}
+use Rattle.std.specs.Prelude.{◌≡◌, ℕ, zero, suc, ◌+◌, ◌-◌, ◌%◌, ◌^◌, Bool, ◌&&◌, nat_le, List, [], ◌∷◌, ◌++◌, drop, Option, Some, None, unwrap_or, slice_get, slice_index, if◌then◌else◌}
 use Rattle.cyc_words.specs.Word.{signed}
 use Rattle.cyc_words.specs.Ending.{Returned, Uncaught, Full}
 use Rattle.cyc_plain.specs.declared.instruction.Instruction.{Instruction}
 use Rattle.cyc_plain.specs.declared.instruction.Instruction.TheVariants as instructions
-use Rattle.cyc_plain.specs.Operators.{unary_result, binary_result, has_no_result}
+use Rattle.cyc_plain.specs.declared.instruction.Operand.{Operand}
+use Rattle.cyc_plain.specs.declared.instruction.Operand.TheVariants as operands
+use Rattle.cyc_plain.specs.Operators.{unary_result, binary_result, has_no_result, compares}
 use Rattle.cyc_plain.specs.Program.{Program, CodePlace, routine_at}
 use Rattle.cyc_words.specs.Simulation.{Machine}
 use Rattle.cyc_plain.specs.State.{Words, AreWords, put, copied, Frame, Configuration, State, Running, Ended, Stuck, start_store, output_of, input_of, status_of, place_of, demand, depth}
@@ -58,21 +60,24 @@ returns c value results (f ∷ frames) =
       frames = frames;
     })
 
+-- the word that an operand stands for
+abbrev pub operand_word : Words → Operand → ℕ
+operand_word slots (operands.Slot number) = slots number
+operand_word slots (operands.Word word) = word
+
 -- what an instruction does
 abbrev pub performed : Program → Choice → Configuration → Instruction → State
-performed program choice c (instructions.Constant destination word) = gives c destination word
-performed program choice c (instructions.Move destination source) = gives c destination (c.active.slots source)
+performed program choice c (instructions.Move destination source) =
+    gives c destination (operand_word c.active.slots source)
 performed program choice c (instructions.Unary operator destination operand) =
-    gives c destination (unary_result operator (c.active.slots operand))
+    gives c destination (unary_result operator (operand_word c.active.slots operand))
 performed program choice c (instructions.Binary operator destination left right) =
-    if has_no_result operator (c.active.slots right)
+    if has_no_result operator (operand_word c.active.slots right)
     then Stuck c.output c.input
-    else gives c destination (binary_result operator (c.active.slots left) (c.active.slots right))
+    else gives c destination (binary_result operator (operand_word c.active.slots left) (operand_word c.active.slots right))
 performed program choice c (instructions.Jump target) = Running (at c target)
-performed program choice c (instructions.JumpIfZero condition target) =
-    branches c (c.active.slots condition == 0) target
-performed program choice c (instructions.JumpIfNonzero condition target) =
-    branches c (not (c.active.slots condition == 0)) target
+performed program choice c (instructions.Branch comparison left right target) =
+    branches c (compares comparison (operand_word c.active.slots left) (operand_word c.active.slots right)) target
 performed program choice c (instructions.Call function arguments count result) =
     calls choice c function arguments count result
 performed program choice c (instructions.Return value) =
@@ -80,12 +85,12 @@ performed program choice c (instructions.Return value) =
 performed program choice c (instructions.ReadByte destination) =
     gives (record c { input = drop 1 c.input }) destination (unwrap_or (slice_get c.input 0) (2 ^ 32 - 1))
 performed program choice c (instructions.WriteByte source) =
-    Running (advanced (record c { output = c.output ++ c.active.slots source % 256 ∷ [] }))
+    Running (advanced (record c { output = c.output ++ operand_word c.active.slots source % 256 ∷ [] }))
 performed program choice c (instructions.LoadGlobal destination global) = gives c destination (c.globals global)
 performed program choice c (instructions.StoreGlobal global source) =
-    Running (advanced (record c { globals = put c.globals global (c.active.slots source) }))
+    Running (advanced (record c { globals = put c.globals global (operand_word c.active.slots source) }))
 performed program choice c (instructions.Uncaught tag value) =
-    Ended (Uncaught tag (signed (c.active.slots value))) c.output c.input
+    Ended (Uncaught tag (signed (operand_word c.active.slots value))) c.output c.input
 
 -- the instruction to be executed
 abbrev pub instruction_at : Program → CodePlace → Option Instruction

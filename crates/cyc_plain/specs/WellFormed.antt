@@ -3,10 +3,12 @@ use Rattle.std.specs.Prelude.{◌≡◌, ℕ, ◌+◌, ◌-◌, ◌<◌, ◌≤�
 use Rattle.cyc_words.specs.Word.{IsWord}
 use Rattle.cyc_plain.specs.declared.instruction.Instruction.{Instruction}
 use Rattle.cyc_plain.specs.declared.instruction.Instruction.TheVariants as instructions
+use Rattle.cyc_plain.specs.declared.instruction.Operand.{Operand}
+use Rattle.cyc_plain.specs.declared.instruction.Operand.TheVariants as operands
 use Rattle.cyc_plain.specs.Operators.{has_no_result}
 use Rattle.cyc_plain.specs.declared.instruction.BinaryOperator.{BinaryOperator}
 use Rattle.cyc_plain.specs.State.{State, Running, Ended, Stuck, place_of}
-use Rattle.cyc_plain.specs.Step.{instruction_at}
+use Rattle.cyc_plain.specs.Step.{operand_word, instruction_at}
 use Rattle.cyc_plain.specs.Program.{Routine, Program, routine_at, size}
 use Rattle.cyc_plain.specs.declared.limits.TheConstants.{LAYOUT_WORDS, GREATEST_VALUE, MOST_GLOBALS, MOST_SIZE}
 
@@ -22,27 +24,31 @@ pub record IsCallInRange (program : Program) (r : Routine) (function arguments c
   pub arguments_in_range : HasSlots r arguments count
   pub result_in_range : HasSlots r result (routine_at program function).results
 
+-- an operand is a slot of the function, or a word
+abbrev pub IsOperand : Routine → Operand → Type 0
+IsOperand r (operands.Slot number) = number < r.slots
+IsOperand r (operands.Word word) = Unit {0}
+
 -- the slots, targets, globals and functions that an instruction of a function names are there
 abbrev pub IsInRange : Program → Routine → Instruction → Type 0
-IsInRange program r (instructions.Constant destination word) = destination < r.slots
-IsInRange program r (instructions.Move destination source) = (destination < r.slots) × (source < r.slots)
+IsInRange program r (instructions.Move destination source) = (destination < r.slots) × IsOperand r source
 IsInRange program r (instructions.Unary operator destination operand) =
-    (destination < r.slots) × (operand < r.slots)
+    (destination < r.slots) × IsOperand r operand
 IsInRange program r (instructions.Binary operator destination left right) =
-    (destination < r.slots) × (left < r.slots) × (right < r.slots)
+    (destination < r.slots) × IsOperand r left × IsOperand r right
 IsInRange program r (instructions.Jump target) = target < length r.code
-IsInRange program r (instructions.JumpIfZero condition target) = (condition < r.slots) × (target < length r.code)
-IsInRange program r (instructions.JumpIfNonzero condition target) = (condition < r.slots) × (target < length r.code)
+IsInRange program r (instructions.Branch comparison left right target) =
+    IsOperand r left × IsOperand r right × (target < length r.code)
 IsInRange program r (instructions.Call function arguments count result) =
     IsCallInRange program r function arguments count result
 IsInRange program r (instructions.Return value) = HasSlots r value r.results
 IsInRange program r (instructions.ReadByte destination) = destination < r.slots
-IsInRange program r (instructions.WriteByte source) = source < r.slots
+IsInRange program r (instructions.WriteByte source) = IsOperand r source
 IsInRange program r (instructions.LoadGlobal destination global) =
     (destination < r.slots) × (global < length program.globals)
 IsInRange program r (instructions.StoreGlobal global source) =
-    (global < length program.globals) × (source < r.slots)
-IsInRange program r (instructions.Uncaught tag value) = value < r.slots
+    (global < length program.globals) × IsOperand r source
+IsInRange program r (instructions.Uncaught tag value) = IsOperand r value
 
 -- after these the instruction behind them is never executed next
 abbrev pub leaves : Instruction → Bool
@@ -69,10 +75,19 @@ pub record IsWellFormed (program : Program) : Type 0 where
   pub main_results : (routine_at program program.main).results ≡ 1
   pub globals : length program.globals ≤ MOST_GLOBALS
 
--- Numbers are words wherever a program has some: its constants, its tags, and what its globals hold at the start.
+-- Numbers are words wherever a program has some: its operands, its tags, and what its globals hold at the start.
+abbrev pub IsOfWord : Operand → Type 0
+IsOfWord (operands.Slot number) = Unit {0}
+IsOfWord (operands.Word word) = IsWord word
+
 abbrev pub HasWord : Instruction → Type 0
-HasWord (instructions.Constant destination word) = IsWord word
-HasWord (instructions.Uncaught tag value) = IsWord tag
+HasWord (instructions.Move destination source) = IsOfWord source
+HasWord (instructions.Unary operator destination operand) = IsOfWord operand
+HasWord (instructions.Binary operator destination left right) = IsOfWord left × IsOfWord right
+HasWord (instructions.Branch comparison left right target) = IsOfWord left × IsOfWord right
+HasWord (instructions.WriteByte source) = IsOfWord source
+HasWord (instructions.StoreGlobal global source) = IsOfWord source
+HasWord (instructions.Uncaught tag value) = IsWord tag × IsOfWord value
 HasWord instruction = Unit {0}
 
 pub record HasWords (program : Program) : Type 0 where
@@ -88,8 +103,8 @@ pub record IsPlain (program : Program) : Type 0 where
 -- the instruction to be executed next divides by 0
 abbrev pub DividesByZero : Program → State → Type 0
 DividesByZero program (Running c) =
-    (operator : BinaryOperator) × (destination left right : ℕ)
+    (operator : BinaryOperator) × (destination : ℕ) × (left : Operand) × (right : Operand)
     × (instruction_at program (place_of (Running c)) ≡ Some (instructions.Binary operator destination left right))
-    × (has_no_result operator (c.active.slots right) ≡ true)
+    × (has_no_result operator (operand_word c.active.slots right) ≡ true)
 DividesByZero program (Ended ending output input) = ⊥
 DividesByZero program (Stuck output input) = ⊥

@@ -37,37 +37,54 @@ pub enum BinaryOperator {
     GreaterOrEqual,
 }
 
+/// A comparison of two words, as signed numbers where it says nothing else.
+#[derive(Clone, Copy)]
+pub enum Comparison {
+    Equal,
+    NotEqual,
+    Less,
+    LessOrEqual,
+    Greater,
+    GreaterOrEqual,
+    LessUnsigned,
+    GreaterOrEqualUnsigned,
+}
+
+/// What an instruction works on.
+#[derive(Clone, Copy)]
+pub enum Operand {
+    /// The word in this slot.
+    Slot { number: usize },
+    /// This word.
+    Word { word: u32 },
+}
+
 /// An instruction. After it the next one in the code is executed, where it says nothing else.
 #[derive(Clone, Copy)]
 pub enum Instruction {
-    Constant {
-        destination: usize,
-        word: u32,
-    },
     Move {
         destination: usize,
-        source: usize,
+        source: Operand,
     },
     Unary {
         operator: UnaryOperator,
         destination: usize,
-        operand: usize,
+        operand: Operand,
     },
     Binary {
         operator: BinaryOperator,
         destination: usize,
-        left: usize,
-        right: usize,
+        left: Operand,
+        right: Operand,
     },
     Jump {
         target: usize,
     },
-    JumpIfZero {
-        condition: usize,
-        target: usize,
-    },
-    JumpIfNonzero {
-        condition: usize,
+    /// A jump where the comparison holds.
+    Branch {
+        comparison: Comparison,
+        left: Operand,
+        right: Operand,
         target: usize,
     },
     /// The `count` words from the slot `arguments` on become the first slots of the function, and what it returns comes
@@ -88,7 +105,7 @@ pub enum Instruction {
     },
     /// The low 8 bits are printed.
     WriteByte {
-        source: usize,
+        source: Operand,
     },
     LoadGlobal {
         destination: usize,
@@ -96,11 +113,11 @@ pub enum Instruction {
     },
     StoreGlobal {
         global: usize,
-        source: usize,
+        source: Operand,
     },
-    /// The run ends, with an exception of this tag and the word of this slot that nothing caught.
+    /// The run ends, with an exception of this tag and this word that nothing caught.
     Uncaught {
         tag: u32,
-        value: usize,
+        value: Operand,
     },
 }

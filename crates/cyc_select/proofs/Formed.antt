@@ -10,22 +10,37 @@ use Rattle.cyc_isa.specs.declared.instr.Instr.{Instr}
 use Rattle.cyc_machine.specs.State.{data_base}
 use Rattle.cyc_plain.specs.declared.instruction.Instruction.{Instruction}
 use Rattle.cyc_plain.specs.declared.instruction.Instruction.TheVariants as plain
-use Rattle.cyc_plain.specs.declared.instruction.UnaryOperator.{UnaryOperator}
-use Rattle.cyc_plain.specs.declared.instruction.UnaryOperator.TheVariants as unary
 use Rattle.cyc_plain.specs.declared.instruction.BinaryOperator.{BinaryOperator}
 use Rattle.cyc_plain.specs.declared.instruction.BinaryOperator.TheVariants as binary
+use Rattle.cyc_plain.specs.declared.instruction.Operand.{Operand}
+use Rattle.cyc_plain.specs.declared.instruction.Operand.TheVariants as operands
+use Rattle.cyc_isa.specs.Decoding.{register_of}
+use Rattle.cyc_isa.specs.declared.instr.BranchOp.TheVariants as branch
+use Rattle.cyc_isa.specs.declared.instr.MemoryOp.TheVariants.{StoreWord}
+use Rattle.cyc_isa.specs.declared.instr.MoveFromOp.{MoveFromOp}
+use Rattle.cyc_isa.specs.declared.instr.MoveFromOp.TheVariants.{High, Low}
+use Rattle.cyc_machine.specs.declared.constants.TheConstants.{ARGUMENT, END_UNCAUGHT, PUT_BYTE, SECOND_ARGUMENT, SERVICE}
 use Rattle.cyc_plain.specs.Program.{Routine, Program, no_routine, routine_at}
 use Rattle.cyc_plain.specs.Step.{instruction_at}
-use Rattle.cyc_plain.specs.WellFormed.{IsInRange, IsWellFormed, HasWords, HasWord}
+use Rattle.cyc_plain.specs.WellFormed.{IsOperand, IsInRange, IsWellFormed, HasWords, IsOfWord, HasWord}
 use Rattle.cyc_plain.proofs.Placed.{holds_at, routine_in, below_of_get, has_code}
 use Rattle.cyc_frame.specs.Layout.{AreFrames, frame_at, slot_word}
 use Rattle.cyc_frame.specs.declared.frame.Frame.{Frame}
-use Rattle.cyc_select.specs.declared.constants.TheConstants.{START_LINES}
+use Rattle.cyc_select.specs.declared.constants.TheConstants.{FIRST, SECOND, THIRD, ZERO, START_LINES}
 use Rattle.cyc_select.specs.declared.code.Line.{Line}
 use Rattle.cyc_select.specs.declared.code.Line.TheVariants as lines
+use Rattle.cyc_select.specs.declared.plan.Operation.{Operation}
+use Rattle.cyc_select.specs.declared.plan.Operation.TheVariants as operations
+use Rattle.cyc_select.specs.declared.plan.Outcome.{Outcome}
+use Rattle.cyc_select.specs.declared.plan.Outcome.TheVariants as outcomes
+use Rattle.cyc_select.specs.declared.plan.Plan.{Plan}
+use Rattle.cyc_select.specs.declared.plan.Test.{Test}
+use Rattle.cyc_select.specs.declared.plan.Test.TheVariants as tests
+use Rattle.cyc_select.specs.Plans.{unary_plan, binary_plan, test_of}
 use Rattle.cyc_select.specs.Labelled.{Labelled, IsFormed, IsFormedLine}
-use Rattle.cyc_select.specs.Selection.{slot_offset, ordinary, copies, load_all, store_all, pop_frame, result_registers, ending_code, ending_count, operator_code, operator_count, body, behind, body_count, count_of, function_count, functions_count, function_line, instruction_line, code_lines, function_lines, start_lines, select_of}
+use Rattle.cyc_select.specs.Selection.{slot_offset, ordinary, copies, load_all, store_all, store_slot, pop_frame, small, syscall, add_immediate, minus, upper_of_global, at_global, word_code, load_code, load_count, is_zero_word, operand_code, operand_register, operands_code, operation_code, outcome_code, operation_of, computed_code, plan_code, test_code, branch_line, quotient_code, loads_code, divided_code, divide_code, result_registers, ending_code, ending_count, operator_code, operator_count, body, behind, body_count, count_of, function_count, functions_count, function_line, instruction_line, code_lines, function_lines, start_lines, select_of}
 use Rattle.cyc_select.proofs.Lines.{line_first}
+use Rattle.cyc_select.proofs.Plans.{OfTest, of_unary, of_binary, of_test}
 use Rattle.cyc_select.proofs.Returns.{loaded, length_registers}
 use Rattle.cyc_select.proofs.Structure.{length_body, stand}
 use Rattle.cyc_select.proofs.Walks.{Stands}
@@ -85,28 +100,13 @@ few_results program well function = elim (cases_lt function (length program.func
 ]
 
 pub count_some : (program : Program) (function : ℕ) (i : Instruction) → 0 < body_count program function i
-count_some program function (plain.Constant destination word) = omega arith
 count_some program function (plain.Move destination source) = omega arith
 count_some program function (plain.Unary operator destination operand) = omega arith
-count_some program function (plain.Binary binary.Add destination left right) = omega arith
-count_some program function (plain.Binary binary.Subtract destination left right) = omega arith
-count_some program function (plain.Binary binary.Multiply destination left right) = omega arith
 count_some program function (plain.Binary binary.Divide destination left right) = omega arith
 count_some program function (plain.Binary binary.Remainder destination left right) = omega arith
-count_some program function (plain.Binary binary.And destination left right) = omega arith
-count_some program function (plain.Binary binary.Or destination left right) = omega arith
-count_some program function (plain.Binary binary.Xor destination left right) = omega arith
-count_some program function (plain.Binary binary.ShiftLeft destination left right) = omega arith
-count_some program function (plain.Binary binary.ShiftRight destination left right) = omega arith
-count_some program function (plain.Binary binary.Equal destination left right) = omega arith
-count_some program function (plain.Binary binary.NotEqual destination left right) = omega arith
-count_some program function (plain.Binary binary.Less destination left right) = omega arith
-count_some program function (plain.Binary binary.LessOrEqual destination left right) = omega arith
-count_some program function (plain.Binary binary.Greater destination left right) = omega arith
-count_some program function (plain.Binary binary.GreaterOrEqual destination left right) = omega arith
+count_some program function (plain.Binary operator destination left right) = omega arith
 count_some program function (plain.Jump target) = omega arith
-count_some program function (plain.JumpIfZero condition target) = omega arith
-count_some program function (plain.JumpIfNonzero condition target) = omega arith
+count_some program function (plain.Branch comparison left right target) = omega arith
 count_some program function (plain.Call callee arguments count result) = omega arith
 count_some program function (plain.Return value) = omega arith
 count_some program function (plain.ReadByte destination) = omega arith
@@ -186,28 +186,80 @@ module _ (program : Program) (well : IsWellFormed program) (words : HasWords pro
     formed_append [] ys first second = second
     formed_append (x ∷ xs) ys (one, rest) second = (one, formed_append xs ys rest second)
 
-    unary_formed : (operator : UnaryOperator) (destination operand : ℕ) → destination < slots → operand < slots → (n : ℕ) → Formed (body program frames function n (plain.Unary operator destination operand))
-    unary_formed unary.Negate d a below a_below n = ((refl, slot_fits a a_below), ((refl, tt), ((refl, slot_fits d below), tt)))
-    unary_formed unary.Complement d a below a_below n = ((refl, slot_fits a a_below), ((refl, tt), ((refl, slot_fits d below), tt)))
-    unary_formed unary.Not d a below a_below n = ((refl, slot_fits a a_below), ((refl, (omega arith)), ((refl, slot_fits d below), tt)))
+    high_fits : (word : ℕ) → IsWord word → word / 2 ^ 16 < 2 ^ 16
+    high_fits word is_word = omega (arith, is_word)
 
-    operator_formed : (operator : BinaryOperator) (d l r n : ℕ) → d < slots → l < slots → r < slots → n + operator_count operator ≤ length (select_of program frames).lines → Formed (operator_code frame n operator d l r)
-    operator_formed binary.Add d l r n a b e long = ((refl, slot_fits l b), ((refl, slot_fits r e), ((refl, tt), ((refl, slot_fits d a), tt))))
-    operator_formed binary.Subtract d l r n a b e long = ((refl, slot_fits l b), ((refl, slot_fits r e), ((refl, tt), ((refl, slot_fits d a), tt))))
-    operator_formed binary.Multiply d l r n a b e long = ((refl, slot_fits l b), ((refl, slot_fits r e), ((refl, tt), ((refl, tt), ((refl, slot_fits d a), tt)))))
-    operator_formed binary.And d l r n a b e long = ((refl, slot_fits l b), ((refl, slot_fits r e), ((refl, tt), ((refl, slot_fits d a), tt))))
-    operator_formed binary.Or d l r n a b e long = ((refl, slot_fits l b), ((refl, slot_fits r e), ((refl, tt), ((refl, slot_fits d a), tt))))
-    operator_formed binary.Xor d l r n a b e long = ((refl, slot_fits l b), ((refl, slot_fits r e), ((refl, tt), ((refl, slot_fits d a), tt))))
-    operator_formed binary.ShiftLeft d l r n a b e long = ((refl, slot_fits l b), ((refl, slot_fits r e), ((refl, tt), ((refl, slot_fits d a), tt))))
-    operator_formed binary.ShiftRight d l r n a b e long = ((refl, slot_fits l b), ((refl, slot_fits r e), ((refl, tt), ((refl, slot_fits d a), tt))))
-    operator_formed binary.Equal d l r n a b e long = ((refl, slot_fits l b), ((refl, slot_fits r e), ((refl, tt), ((refl, (omega arith)), ((refl, slot_fits d a), tt)))))
-    operator_formed binary.NotEqual d l r n a b e long = ((refl, slot_fits l b), ((refl, slot_fits r e), ((refl, tt), ((refl, tt), ((refl, slot_fits d a), tt)))))
-    operator_formed binary.Less d l r n a b e long = ((refl, slot_fits l b), ((refl, slot_fits r e), ((refl, tt), ((refl, slot_fits d a), tt))))
-    operator_formed binary.LessOrEqual d l r n a b e long = ((refl, slot_fits l b), ((refl, slot_fits r e), ((refl, tt), ((refl, (omega arith)), ((refl, slot_fits d a), tt)))))
-    operator_formed binary.Greater d l r n a b e long = ((refl, slot_fits l b), ((refl, slot_fits r e), ((refl, tt), ((refl, slot_fits d a), tt))))
-    operator_formed binary.GreaterOrEqual d l r n a b e long = ((refl, slot_fits l b), ((refl, slot_fits r e), ((refl, tt), ((refl, (omega arith)), ((refl, slot_fits d a), tt)))))
-    operator_formed binary.Divide d l r n a b e long = ((refl, slot_fits l b), ((refl, slot_fits r e), ((refl, (omega arith)), ((omega (arith, long)), ((refl, tt), ((refl, (omega arith)), ((refl, tt), ((refl, tt), ((refl, slot_fits d a), tt)))))))))
-    operator_formed binary.Remainder d l r n a b e long = ((refl, slot_fits l b), ((refl, slot_fits r e), ((refl, (omega arith)), ((omega (arith, long)), ((refl, tt), ((refl, (omega arith)), ((refl, tt), ((refl, tt), ((refl, slot_fits d a), tt)))))))))
+    low_fits : (word : ℕ) → word % 2 ^ 16 < 2 ^ 16
+    low_fits word = omega arith
+
+    -- ---- operands, plans and tests
+
+    -- an operand that there is
+    abbrev IsThere : Operand → Type 0
+    IsThere o = IsOperand (routine_at program function) o × IsOfWord o
+
+    word_formed : (target word : ℕ) → IsWord word → Formed (ordinary (word_code target word))
+    word_formed target word fits = ((refl, high_fits word fits), ((refl, low_fits word), tt))
+
+    load_formed : (target : ℕ) (o : Operand) → IsThere o → Formed (ordinary (load_code frame target o))
+    load_formed target (operands.Slot number) (below, fits) = ((refl, slot_fits number below), tt)
+    load_formed target (operands.Word word) (below, fits) = word_formed target word fits
+
+    either_formed : (b : Bool) (is : List Instr) → Formed (ordinary is) → Formed (ordinary (if b then [] else is))
+    either_formed true is all = tt
+    either_formed false is all = all
+
+    operand_formed : (register : ℕ) (o : Operand) → IsThere o → Formed (ordinary (operand_code frame register o))
+    operand_formed register o there = either_formed (is_zero_word o) (load_code frame register o) (load_formed register o there)
+
+    operands_formed : (left right : Operand) → IsThere left → IsThere right → Formed (ordinary (operands_code frame left right))
+    operands_formed left right l r =
+        formed_append (operand_code frame FIRST left) (operand_code frame SECOND right) (operand_formed FIRST left l) (operand_formed SECOND right r)
+
+    operation_formed : (o : Operation) (left right : ℕ) → Formed (ordinary (operation_code o left right))
+    operation_formed (operations.Arithmetic op) left right = ((refl, tt), tt)
+    operation_formed (operations.Shift op) left right = ((refl, tt), tt)
+    operation_formed (operations.MultiplyDivide op from) left right = ((refl, tt), ((refl, tt), tt))
+
+    outcome_formed : (o : Outcome) → Formed (ordinary (outcome_code o))
+    outcome_formed outcomes.AsItIs = tt
+    outcome_formed outcomes.WhetherZero = ((refl, (omega arith)), tt)
+    outcome_formed outcomes.WhetherNotZero = ((refl, tt), tt)
+
+    operation_of_formed : (plan : Plan) → IsThere plan.left → IsThere plan.right → Formed (ordinary (operation_of frame plan))
+    operation_of_formed plan l r =
+        let last : List Instr = operation_code plan.operation (operand_register FIRST plan.left) (operand_register SECOND plan.right) in
+        formed_append (operands_code frame plan.left plan.right) last (operands_formed plan.left plan.right l r) (operation_formed plan.operation _ _)
+
+    plan_formed : (plan : Plan) (destination : ℕ) → IsThere plan.left × IsThere plan.right → destination < slots → Formed (ordinary (plan_code frame plan destination))
+    plan_formed plan destination (l, r) below =
+        formed_append (computed_code frame plan) (store_slot frame FIRST destination ∷ [])
+        (formed_append (operation_of frame plan) (outcome_code plan.outcome) (operation_of_formed plan l r) (outcome_formed plan.outcome))
+        ((refl, slot_fits destination below), tt)
+
+    test_formed : (test : Test) → OfTest IsThere (tt, omega arith) test → Formed (ordinary (test_code frame test))
+    test_formed (tests.Operands op left right) (l, r) = operands_formed left right l r
+    test_formed (tests.Computed plan) (l, r) = operation_of_formed plan l r
+
+    branch_formed : (test : Test) (label : ℕ) → label < length (select_of program frames).lines → IsFormedLine (length (select_of program frames).lines) (branch_line test label)
+    branch_formed (tests.Operands op left right) label below = below
+    branch_formed (tests.Computed plan) label below = below
+
+    divide_formed : (which : MoveFromOp) (destination : ℕ) (left right : Operand) (n : ℕ) → destination < slots → IsThere left → IsThere right → n + (load_count left + load_count right + 7) ≤ length (select_of program frames).lines
+        → Formed (divide_code frame n which destination left right)
+    divide_formed which destination left right n below l r long =
+        let loads = formed_append (load_code frame FIRST left) (load_code frame SECOND right) (load_formed FIRST left l) (load_formed SECOND right r) in
+        all_front (IsFormedLine (length (select_of program frames).lines)) (ordinary (divided_code frame left right))
+        (lines.Branch branch.NotEqual (register_of SECOND) (register_of THIRD) (n + (load_count left + load_count right) + 4) ∷ quotient_code frame which destination)
+        (formed_append (loads_code frame left right) (add_immediate THIRD ZERO (minus 1) ∷ []) loads ((refl, (omega arith)), tt))
+        ((omega (arith, long)), ((refl, tt), ((refl, (omega arith)), ((refl, tt), ((refl, tt), ((refl, slot_fits destination below), tt))))))
+
+    operator_formed : (operator : BinaryOperator) (destination : ℕ) (left right : Operand) (n : ℕ) → destination < slots → IsThere left → IsThere right → n + operator_count operator left right ≤ length (select_of program frames).lines
+        → Formed (operator_code frame n operator destination left right)
+    operator_formed binary.Divide destination left right n below l r long = divide_formed Low destination left right n below l r long
+    operator_formed binary.Remainder destination left right n below l r long = divide_formed High destination left right n below l r long
+    operator_formed operator destination left right n below l r long =
+        plan_formed (binary_plan operator left right) destination (of_binary IsThere (tt, omega arith) left right l r operator) below
 
     ending_formed : (b : Bool) (n value : ℕ) → (function == program.main) ≡ b → value + (routine_at program function).results ≤ slots → n + (ending_count program function + (routine_at program function).results + 2) ≤ length (select_of program frames).lines → Formed (ending_code b frame n value)
     ending_formed false n value is fits long = tt
@@ -216,23 +268,21 @@ module _ (program : Program) (well : IsWellFormed program) (words : HasWords pro
         let four : ending_count program function ≡ 4 = ap (λ (b : Bool). if b then 4 else 0) is in
         ((omega (arith, long, four)), ((refl, slot_fits value (omega (arith, fits, one))), ((refl, (omega arith)), ((refl, tt), tt))))
 
-    high_fits : (word : ℕ) → IsWord word → word / 2 ^ 16 < 2 ^ 16
-    high_fits word is_word = omega (arith, is_word)
-
-    low_fits : (word : ℕ) → word % 2 ^ 16 < 2 ^ 16
-    low_fits word = omega arith
-
-    global_word : (global : ℕ) → global < length program.globals → IsWord (data_base + 4 * global)
-    global_word global below = omega (arith, below, well.globals)
+    upper_fits : (global : ℕ) → global < length program.globals → (data_base + 4 * global + 2 ^ 15) / 2 ^ 16 < 2 ^ 16
+    upper_fits global below = omega (arith, below, well.globals)
 
     body_formed : (i : Instruction) (n : ℕ) → IsInRange program (routine_at program function) i → HasWord i → n + body_count program function i ≤ length (select_of program frames).lines → Formed (body program frames function n i)
-    body_formed (plain.Constant destination word) n below fits long = ((refl, high_fits word fits), ((refl, low_fits word), ((refl, slot_fits destination below), tt)))
-    body_formed (plain.Move destination source) n (a, b) fits long = ((refl, slot_fits source b), ((refl, slot_fits destination a), tt))
-    body_formed (plain.Unary operator destination operand) n (a, b) fits long = unary_formed operator destination operand a b n
-    body_formed (plain.Binary operator destination left right) n (a, b, e) fits long = operator_formed operator destination left right n a b e long
+    body_formed (plain.Move destination source) n (a, b) fits long =
+        formed_append (operand_code frame FIRST source) (store_slot frame (operand_register FIRST source) destination ∷ []) (operand_formed FIRST source (b, fits)) ((refl, slot_fits destination a), tt)
+    body_formed (plain.Unary operator destination operand) n (a, b) fits long =
+        plan_formed (unary_plan operator operand) destination (of_unary IsThere (tt, omega arith) operand (b, fits) operator) a
+    body_formed (plain.Binary operator destination left right) n (a, b, e) (fits, also) long = operator_formed operator destination left right n a (b, fits) (e, also) long
     body_formed (plain.Jump target) n below fits long = (target_known function target below, tt)
-    body_formed (plain.JumpIfZero condition target) n (a, b) fits long = ((refl, slot_fits condition a), (target_known function target b, tt))
-    body_formed (plain.JumpIfNonzero condition target) n (a, b) fits long = ((refl, slot_fits condition a), (target_known function target b, tt))
+    body_formed (plain.Branch comparison left right target) n (a, b, below) (fits, also) long =
+        let test : Test = test_of comparison left right in
+        all_front (IsFormedLine (length (select_of program frames).lines)) (ordinary (test_code frame (test_of comparison left right))) (branch_line (test_of comparison left right) (instruction_line program function target) ∷ [])
+        (test_formed test (of_test IsThere (tt, omega arith) left right (a, fits) (b, also) comparison))
+        (branch_formed test (instruction_line program function target) (target_known function target below), tt)
     body_formed (plain.Call callee arguments count result) n in_range fits long =
         let its = fit.each callee in_range.function_in_range in (
           (omega (arith, long)),
@@ -265,25 +315,26 @@ module _ (program : Program) (well : IsWellFormed program) (words : HasWords pro
         (formed_append (load_all frame value (result_registers (routine_at program function).results)) (pop_frame frame ∷ []) (loads_formed value (result_registers (routine_at program function).results) (omega (arith, registers, in_range))) ((refl, frame_fits), tt)))
         (tt, tt)
     body_formed (plain.ReadByte destination) n below fits long = ((refl, (omega arith)), ((refl, tt), ((refl, slot_fits destination below), tt)))
-    body_formed (plain.WriteByte source) n below fits long = ((refl, slot_fits source below), ((refl, (omega arith)), ((refl, tt), tt)))
+    body_formed (plain.WriteByte source) n below fits long =
+        formed_append (load_code frame ARGUMENT source) (small SERVICE PUT_BYTE ∷ syscall ∷ []) (load_formed ARGUMENT source (below, fits)) ((refl, (omega arith)), ((refl, tt), tt))
     body_formed (plain.LoadGlobal destination global) n (a, b) fits long =
-        ((refl, high_fits (data_base + 4 * global) (global_word global b)), ((refl, low_fits (data_base + 4 * global)), ((refl, (omega arith)), ((refl, slot_fits destination a), tt))))
+        ((refl, upper_fits global b), ((refl, low_fits (data_base + 4 * global)), ((refl, slot_fits destination a), tt)))
     body_formed (plain.StoreGlobal global source) n (a, b) fits long =
-        ((refl, slot_fits source b), ((refl, high_fits (data_base + 4 * global) (global_word global a)), ((refl, low_fits (data_base + 4 * global)), ((refl, (omega arith)), tt))))
-    body_formed (plain.Uncaught tag value) n below fits long =
-        ((refl, high_fits tag fits), ((refl, low_fits tag), ((refl, slot_fits value below), ((refl, (omega arith)), ((refl, tt), tt)))))
+        formed_append (operand_code frame FIRST source) (upper_of_global global ∷ at_global StoreWord (operand_register FIRST source) global ∷ []) (operand_formed FIRST source (b, fits))
+        ((refl, upper_fits global a), ((refl, low_fits (data_base + 4 * global)), tt))
+    body_formed (plain.Uncaught tag value) n below (tag_fits, value_fits) long =
+        formed_append (word_code ARGUMENT tag) (load_code frame SECOND_ARGUMENT value ++ small SERVICE END_UNCAUGHT ∷ syscall ∷ []) (word_formed ARGUMENT tag tag_fits)
+        (formed_append (load_code frame SECOND_ARGUMENT value) (small SERVICE END_UNCAUGHT ∷ syscall ∷ []) (load_formed SECOND_ARGUMENT value (below, value_fits)) ((refl, (omega arith)), ((refl, tt), tt)))
 
     behind_formed : (i : Instruction) → IsInRange program (routine_at program function) i → Formed (behind program frames function i)
     behind_formed (plain.Call callee arguments count result) in_range =
         let registers = length_registers (routine_at program callee).results (few_results program well callee) in
         ((refl, return_fits), ((refl, (omega arith)), stores_formed result (result_registers (routine_at program callee).results) (omega (arith, registers, in_range.result_in_range))))
-    behind_formed (plain.Constant destination word) in_range = tt
     behind_formed (plain.Move destination source) in_range = tt
     behind_formed (plain.Unary operator destination operand) in_range = tt
     behind_formed (plain.Binary operator destination left right) in_range = tt
     behind_formed (plain.Jump target) in_range = tt
-    behind_formed (plain.JumpIfZero condition target) in_range = tt
-    behind_formed (plain.JumpIfNonzero condition target) in_range = tt
+    behind_formed (plain.Branch comparison left right target) in_range = tt
     behind_formed (plain.Return value) in_range = tt
     behind_formed (plain.ReadByte destination) in_range = tt
     behind_formed (plain.WriteByte source) in_range = tt

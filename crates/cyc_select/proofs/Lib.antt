@@ -22,6 +22,11 @@ pub mod Cells
 pub mod Copies
 pub mod Effects
 pub mod Operations
+pub mod Blocks
+pub mod Plans
+pub mod Computing
+-- how many lines there are
+pub mod Counts
 -- what the functions inside the crate promise each other
 pub mod Emitting
 pub mod Numbering

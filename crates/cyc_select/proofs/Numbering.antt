@@ -5,8 +5,6 @@ use Rattle.std.proofs.lemmas.List.{drop_more}
 use Rattle.std.proofs.lemmas.List.Sums.{sum_by-cons, sum_by-drop_more, sum_by-take-drop, sum_by-take-le}
 use Rattle.cyc_plain.specs.declared.instruction.Instruction.{Instruction}
 use Rattle.cyc_plain.specs.declared.instruction.Instruction.TheVariants as plain
-use Rattle.cyc_plain.specs.declared.instruction.BinaryOperator.{BinaryOperator}
-use Rattle.cyc_plain.specs.declared.instruction.BinaryOperator.TheVariants as binary
 use Rattle.cyc_plain.specs.Program.{Program, Routine, no_routine, routine_at, instruction_size, size}
 use Rattle.cyc_plain.specs.WellFormed.{IsRoutine, IsWellFormed}
 use Rattle.cyc_plain.specs.declared.limits.TheConstants.{GREATEST_VALUE, MOST_SIZE}
@@ -14,28 +12,12 @@ use Rattle.cyc_frame.specs.declared.frame.TheConstants.{MOST_FRAME_WORDS}
 use Rattle.cyc_frame.specs.Layout.{IsFrame}
 use Rattle.cyc_frame.specs.declared.frame.Frame.{Frame}
 use Rattle.cyc_select.specs.declared.constants.TheConstants.{LINES_FOR_EACH, START_LINES}
-use Rattle.cyc_select.specs.Selection.{operator_count, ending_count, count_of, function_count, functions_count, function_line, instruction_line, code_lines, function_lines}
+use Rattle.cyc_select.specs.Selection.{ending_count, count_of, function_count, functions_count, function_line, instruction_line, code_lines, function_lines}
+use Rattle.cyc_select.specs.Plans.{unary_plan, test_of}
 use Rattle.cyc_select.specs.Emission.{AreReached, AreFew, most_lines, instruction_lines, function_starts, AreReady, AreTables}
+use Rattle.cyc_select.proofs.Counts.{load_small, operand_small, plan_small, test_small, operator_small}
 
 -- ---- an instruction has few lines for each unit of its size
-
-operator_small : (o : BinaryOperator) → operator_count o ≤ 9
-operator_small binary.Multiply = omega arith
-operator_small binary.Divide = omega arith
-operator_small binary.Remainder = omega arith
-operator_small binary.Equal = omega arith
-operator_small binary.NotEqual = omega arith
-operator_small binary.LessOrEqual = omega arith
-operator_small binary.GreaterOrEqual = omega arith
-operator_small binary.Add = omega arith
-operator_small binary.Subtract = omega arith
-operator_small binary.And = omega arith
-operator_small binary.Or = omega arith
-operator_small binary.Xor = omega arith
-operator_small binary.ShiftLeft = omega arith
-operator_small binary.ShiftRight = omega arith
-operator_small binary.Less = omega arith
-operator_small binary.Greater = omega arith
 
 if_small : (b : Bool) → (if b then 4 else 0) ≤ 4
 if_small true = omega arith
@@ -45,20 +27,18 @@ ending_small : (program : Program) (function : ℕ) → ending_count program fun
 ending_small program function = if_small _
 
 pub count_small : (program : Program) (function : ℕ) → AreFew program → (i : Instruction) → count_of program function i ≤ LINES_FOR_EACH * instruction_size i
-count_small program function few (plain.Constant d w) = omega arith
-count_small program function few (plain.Move d s) = omega arith
-count_small program function few (plain.Unary o d s) = omega arith
-count_small program function few (plain.Binary o d a b) = omega (arith, operator_small o)
-count_small program function few (plain.Jump t) = omega arith
-count_small program function few (plain.JumpIfZero s t) = omega arith
-count_small program function few (plain.JumpIfNonzero s t) = omega arith
+count_small program function few (plain.Move destination source) = omega (arith, operand_small source)
+count_small program function few (plain.Unary operator destination operand) = omega (arith, plan_small (unary_plan operator operand))
+count_small program function few (plain.Binary operator destination left right) = omega (arith, operator_small operator left right)
+count_small program function few (plain.Jump target) = omega arith
+count_small program function few (plain.Branch comparison left right target) = omega (arith, test_small (test_of comparison left right))
 count_small program function few (plain.Call f a n r) = omega (arith, few f)
 count_small program function few (plain.Return v) = omega (arith, few function, ending_small program function)
-count_small program function few (plain.ReadByte d) = omega arith
-count_small program function few (plain.WriteByte s) = omega arith
-count_small program function few (plain.LoadGlobal d g) = omega arith
-count_small program function few (plain.StoreGlobal g s) = omega arith
-count_small program function few (plain.Uncaught t v) = omega arith
+count_small program function few (plain.ReadByte destination) = omega arith
+count_small program function few (plain.WriteByte source) = omega (arith, load_small source)
+count_small program function few (plain.LoadGlobal destination global) = omega arith
+count_small program function few (plain.StoreGlobal global source) = omega (arith, operand_small source)
+count_small program function few (plain.Uncaught tag value) = omega (arith, load_small value)
 
 code_small : (program : Program) (function : ℕ) → AreFew program → (code : List Instruction) → sum_by (count_of program function) code ≤ LINES_FOR_EACH * sum_by instruction_size code
 code_small program function few [] = omega arith

@@ -1,13 +1,13 @@
 -- What the machine's operations make of words, against what the plain program's operators are.
-use Rattle.std.proofs.Common.{◌≡◌, ◌≢◌, ℕ, zero, suc, ◌+◌, ◌-◌, ◌*◌, ◌/◌, ◌%◌, ◌^◌, ◌<◌, ◌≤◌, ℤ, pos, negsuc, neg_ℤ, ◌-ℤ◌, ◌*ℤ◌, ◌≤ℤ◌, ◌<ℤ◌, Bool, true, false, not, sym, ap, subst, ◌∙◌, arith, inl, inr}
+use Rattle.std.proofs.Common.{◌≡◌, ◌≢◌, ℕ, zero, suc, ◌+◌, ◌-◌, ◌*◌, ◌/◌, ◌%◌, ◌^◌, ◌<◌, ◌≤◌, ℤ, pos, negsuc, neg_ℤ, ◌-ℤ◌, ◌*ℤ◌, Bool, not, sym, ap, subst, ◌∙◌, arith, inl, inr}
 use Rattle.std.proofs.lemmas.Int.{ints}
 use Rattle.std.proofs.lemmas.Nat.{mul-le}
 use Rattle.std.proofs.Math.IntN.{pos-*ℤ-pos, pos-*ℤ-negsuc, negsuc-*ℤ-pos, negsuc-*ℤ-negsuc}
-use Rattle.std.specs.Prelude.{◌==◌, int_le, int_div, int_rem, bit_or, FitsSigned}
+use Rattle.std.specs.Prelude.{◌==◌, int_div, int_rem, bit_or, FitsSigned}
 use Rattle.std.specs.Int.{w32, w64, cast_unsigned}
-use Rattle.std.proofs.lemmas.Bool.{cases_eq, eq-eqb, ne_eqb}
-use Rattle.cyc_words.specs.Word.{IsWord, signed, unsigned, sign_extended, add_of, sub_of, mul_of, shl_of, slt_of, sltu_of, div_of, rem_of}
-use Rattle.cyc_words.proofs.WordLemmas.{unsigned-signed, FitsSigned-signed, sign_extended_low, sign_extended_high, bit_or-halves, mul_of-signed, sub_of-signed, slt_of_cases, sltu_of-one, sltu_of-zero, IsWord-sub_of}
+use Rattle.std.proofs.lemmas.Bool.{cases_eq, cases_lt, eq-eqb, ne_eqb}
+use Rattle.cyc_words.specs.Word.{IsWord, signed, unsigned, sign_extended, add_of, sub_of, mul_of, shl_of, sltu_of, div_of, rem_of}
+use Rattle.cyc_words.proofs.WordLemmas.{unsigned-signed, FitsSigned-signed, sign_extended_low, sign_extended_high, bit_or-halves, mul_of-signed, sub_of-signed, sltu_of-one, sltu_of-zero, IsWord-sub_of}
 use Rattle.cyc_isa.specs.Effect.{load_upper_result, memory_address, low_result}
 use Rattle.cyc_isa.specs.declared.instr.MultiplyDivideOp.TheVariants.{Multiply}
 use Rattle.cyc_plain.specs.Operators.{truth}
@@ -30,6 +30,17 @@ take_small a number is_word some small fits =
     ap (add_of a) (sign_extended_high (2 ^ 16 - number) (omega arith) (omega arith))
     ∙ (let e : add_of a (2 ^ 16 - number + (2 ^ 32 - 2 ^ 16)) ≡ a - number = omega arith in e)
 
+-- where a global lies
+pub global_lies : (address : ℕ) → IsWord address → memory_address (load_upper_result ((address + 2 ^ 15) / 2 ^ 16)) (address % 2 ^ 16) ≡ address
+global_lies address is_word = elim (cases_lt (address % 2 ^ 16) (2 ^ 15)) [
+  | inl low ↦
+      ap (add_of (load_upper_result ((address + 2 ^ 15) / 2 ^ 16))) (sign_extended_low (address % 2 ^ 16) low)
+      ∙ (let e : add_of (load_upper_result ((address + 2 ^ 15) / 2 ^ 16)) (address % 2 ^ 16) ≡ address = omega (arith, low) in e)
+  | inr high ↦
+      ap (add_of (load_upper_result ((address + 2 ^ 15) / 2 ^ 16))) (sign_extended_high (address % 2 ^ 16) high (omega arith))
+      ∙ (let e : add_of (load_upper_result ((address + 2 ^ 15) / 2 ^ 16)) (address % 2 ^ 16 + (2 ^ 32 - 2 ^ 16)) ≡ address = omega (arith, high) in e)
+]
+
 -- ---- tests
 
 pub one_extended : sign_extended 1 ≡ 1
@@ -50,32 +61,20 @@ sub_zero a b is_a is_b same = omega arith
 sub_other : (a b : ℕ) → IsWord a → IsWord b → a ≢ b → sub_of a b ≢ 0
 sub_other a b is_a is_b other is_zero = other (omega arith)
 
-pub equal_test : (a b : ℕ) → IsWord a → IsWord b → sltu_of (sub_of a b) (sign_extended 1) ≡ truth (a == b)
-equal_test a b is_a is_b = zero_test (sub_of a b) ∙ elim (cases_eq a b) [
-  | inl same ↦ ap truth (eq-eqb (sub_of a b) 0 (sub_zero a b is_a is_b same) ∙ sym (eq-eqb a b same))
-  | inr other ↦ ap truth (ne_eqb (sub_of a b) 0 (sub_other a b is_a is_b other) ∙ sym (ne_eqb a b other))
+pub difference_zero : (a b : ℕ) → IsWord a → IsWord b → (sub_of a b == 0) ≡ (a == b)
+difference_zero a b is_a is_b = elim (cases_eq a b) [
+  | inl same ↦ eq-eqb (sub_of a b) 0 (sub_zero a b is_a is_b same) ∙ sym (eq-eqb a b same)
+  | inr other ↦ ne_eqb (sub_of a b) 0 (sub_other a b is_a is_b other) ∙ sym (ne_eqb a b other)
 ]
 
-pub unequal_test : (a b : ℕ) → IsWord a → IsWord b → sltu_of 0 (sub_of a b) ≡ truth (not (a == b))
-unequal_test a b is_a is_b = elim (cases_eq a b) [
-  | inl same ↦ sltu_of-zero 0 (sub_of a b) (omega (arith, sub_zero a b is_a is_b same)) ∙ sym (ap (λ (t : Bool). truth (not t)) (eq-eqb a b same))
-  | inr other ↦ sltu_of-one 0 (sub_of a b) (positive (sub_of a b) (sub_other a b is_a is_b other)) ∙ sym (ap (λ (t : Bool). truth (not t)) (ne_eqb a b other))
+pub not_zero_test : (a : ℕ) → sltu_of 0 a ≡ truth (not (a == 0))
+not_zero_test a = elim (cases_eq a 0) [
+  | inl is_zero ↦ sltu_of-zero 0 a (omega (arith, is_zero)) ∙ sym (ap (λ (t : Bool). truth (not t)) (eq-eqb a 0 is_zero))
+  | inr other ↦ sltu_of-one 0 a (positive other) ∙ sym (ap (λ (t : Bool). truth (not t)) (ne_eqb a 0 other))
 ]
   where
-    positive : (n : ℕ) → n ≢ 0 → 0 < n
-    positive n other = omega (arith, other)
-
-at_most_from : (x y : ℤ) → x ≤ℤ y → int_le x y ≡ true
-at_most_from x y below = grind (arith, ints)
-
-at_most_not : (x y : ℤ) → y <ℤ x → int_le x y ≡ false
-at_most_not x y above = grind (arith, ints)
-
-pub at_most_test : (a b : ℕ) → sltu_of (slt_of b a) (sign_extended 1) ≡ truth (int_le (signed a) (signed b))
-at_most_test a b = zero_test (slt_of b a) ∙ elim (slt_of_cases b a) [
-  | inl (one, less) ↦ ap (λ (n : ℕ). truth (n == 0)) one ∙ sym (ap truth (at_most_not (signed a) (signed b) less))
-  | inr (none, fine) ↦ ap (λ (n : ℕ). truth (n == 0)) none ∙ sym (ap truth (at_most_from (signed a) (signed b) fine))
-]
+    positive : a ≢ 0 → 0 < a
+    positive other = omega (arith, other)
 
 -- ---- products
 

@@ -30,13 +30,11 @@ range_append a (suc n) m =
 
 leaves_none : (program : Program) (i : Instruction) → leaves i ≡ true → behind_count program i ≡ 0
 leaves_none program (plain.Call callee arguments count result) last = absurd (let e : false ≡ true = last in cc)
-leaves_none program (plain.Constant destination word) last = refl
 leaves_none program (plain.Move destination source) last = refl
 leaves_none program (plain.Unary operator destination operand) last = refl
 leaves_none program (plain.Binary operator destination left right) last = refl
 leaves_none program (plain.Jump target) last = refl
-leaves_none program (plain.JumpIfZero condition target) last = refl
-leaves_none program (plain.JumpIfNonzero condition target) last = refl
+leaves_none program (plain.Branch comparison left right target) last = refl
 leaves_none program (plain.Return value) last = refl
 leaves_none program (plain.ReadByte destination) last = refl
 leaves_none program (plain.WriteByte source) last = refl

@@ -1,17 +1,20 @@
 -- Each step of the plain machine is matched by steps of the labelled machine through the place's own lines.
-use Rattle.std.proofs.Common.{◌≡◌, ◌≢◌, ℕ, zero, suc, ◌+◌, ◌-◌, ◌*◌, ◌<◌, ◌≤◌, Bool, true, List, ◌++◌, length, Option, Some, None, slice_get, refl, sym, ap, subst, ◌∙◌, arith, inl, inr}
+use Rattle.std.proofs.Common.{◌≡◌, ◌≢◌, ℕ, zero, suc, ◌+◌, ◌-◌, ◌*◌, ◌^◌, ◌<◌, ◌≤◌, Bool, true, false, List, ◌++◌, length, Option, Some, None, slice_get, refl, sym, ap, subst, ◌∙◌, arith, inl, inr}
 use Rattle.std.specs.Prelude.{if◌then◌else◌}
 use Rattle.std.specs.List.{range_with_len}
 use Rattle.std.proofs.lemmas.Bool.{cases_lt, eq-eqb, ne_eqb}
 use Rattle.cyc_words.specs.Ending.{Ending}
 use Rattle.std.proofs.lemmas.List.{get_or_past}
-use Rattle.cyc_words.specs.Word.{div_of, rem_of}
+use Rattle.cyc_words.specs.Word.{IsWord, sub_of}
+use Rattle.cyc_isa.specs.declared.instr.MoveFromOp.{MoveFromOp}
 use Rattle.cyc_isa.specs.declared.instr.MoveFromOp.TheVariants.{High, Low}
+use Rattle.cyc_isa.specs.declared.instr.MultiplyDivideOp.TheVariants.{Divide}
 use Rattle.cyc_machine.specs.State.{globals_length, words_per_call}
 use Rattle.cyc_plain.specs.declared.instruction.Instruction.{Instruction}
 use Rattle.cyc_plain.specs.declared.instruction.Instruction.TheVariants as plain
 use Rattle.cyc_plain.specs.declared.instruction.BinaryOperator.{BinaryOperator}
 use Rattle.cyc_plain.specs.declared.instruction.BinaryOperator.TheVariants as binary
+use Rattle.cyc_plain.specs.declared.instruction.Operand.{Operand}
 use Rattle.cyc_plain.specs.Operators.{binary_result, has_no_result}
 use Rattle.cyc_plain.specs.Program.{Routine, Program, CodePlace, no_routine, routine_at}
 use Rattle.cyc_words.specs.Simulation as simulation
@@ -19,24 +22,25 @@ use Rattle.cyc_words.specs.Simulation.{IsOnTheWay, Matching, IsMatchedStep, IsSt
 use Rattle.cyc_plain.specs.State as states
 use Rattle.cyc_plain.specs.State.{Words, Configuration}
 use Rattle.cyc_plain.specs.Step as steps
-use Rattle.cyc_plain.specs.Step.{instruction_at, performed, executed, gives, step, is_within, Step}
-use Rattle.cyc_plain.specs.WellFormed.{IsWellFormed, IsInRange, HasWords, HasWord}
+use Rattle.cyc_plain.specs.Step.{instruction_at, operand_word, performed, executed, gives, step, is_within, Step}
+use Rattle.cyc_plain.specs.WellFormed.{IsOperand, IsWellFormed, IsInRange, HasWords, IsOfWord, HasWord}
 use Rattle.cyc_words.proofs.Matching.{way_before}
 use Rattle.cyc_plain.proofs.Placed.{holds_at, routine_in, below_of_get}
 use Rattle.cyc_plain.proofs.RunLaws.{limited-within, zeros, zeros_allowed, stuck_within}
 use Rattle.cyc_plain.proofs.Steps.{function_known}
-use Rattle.cyc_frame.specs.Layout.{AreFrames}
+use Rattle.cyc_frame.specs.Layout.{AreFrames, frame_at}
 use Rattle.cyc_frame.specs.declared.frame.Frame.{Frame}
 use Rattle.cyc_select.specs.Labelled.{Labelled, IsFormed, AreAddresses}
 use Rattle.cyc_select.specs.Machine as labelled
 use Rattle.cyc_select.specs.Machine.{State, Running, Ended, machine}
-use Rattle.cyc_select.specs.Selection.{body, behind, body_count, behind_count, operator_count, instruction_line}
+use Rattle.cyc_select.specs.Selection.{body, behind, body_count, behind_count, load_count, divide_code, operator_count, instruction_line}
 use Rattle.cyc_select.proofs.Lines.{line_next}
 use Rattle.cyc_select.proofs.Operations.{negated_quotient, negated_remainder}
+use Rattle.cyc_select.proofs.Plans.{multiply_divide_result}
 use Rattle.cyc_select.proofs.Walks.{Stands, stands_front, stands_back, Rises, rising_distinct, rising_inside, comes_map, Quiet, Walk}
 use Rattle.cyc_select.proofs.Standing.{Standing, behind_line}
 use Rattle.cyc_select.proofs.Matches.{At, Ready, Matches, Reached}
-use Rattle.cyc_select.proofs.Simple.{constant_goes, move_goes, unary_goes, add_goes, subtract_goes, multiply_goes, and_goes, or_goes, xor_goes, shift_left_goes, shift_right_goes, equal_goes, not_equal_goes, less_goes, less_or_equal_goes, greater_goes, greater_or_equal_goes, divide_goes, jump_goes, jump_if_zero_goes, jump_if_nonzero_goes, read_goes, write_goes, load_global_goes, store_global_goes, uncaught_goes}
+use Rattle.cyc_select.proofs.Simple.{move_goes, unary_goes, binary_goes, divide_goes, jump_goes, branch_goes, read_goes, write_goes, load_global_goes, store_global_goes, uncaught_goes}
 use Rattle.cyc_select.proofs.Calls.{call_goes}
 use Rattle.cyc_select.proofs.Returns.{return_goes, behind_goes}
 
@@ -119,12 +123,12 @@ module _ (program : Program) (well : IsWellFormed program) (words : HasWords pro
       (zeros, zeros_allowed, sym (limited-within pages calls (states.Running c) (step program zeros (states.Running c)) (ap (is_within pages calls) is ∙ stuck_within pages calls c.output c.input) ∙ is))
       refl
 
-  divides : (c : Configuration) → Never c → (operator : BinaryOperator) (destination left right : ℕ) → instruction_at program (states.place_of (states.Running c)) ≡ Some (plain.Binary operator destination left right)
-      → ((b : ℕ) → b ≡ 0 → has_no_result operator b ≡ true) → c.active.slots right ≢ 0
+  divides : (c : Configuration) → Never c → (operator : BinaryOperator) (destination : ℕ) (left right : Operand) → instruction_at program (states.place_of (states.Running c)) ≡ Some (plain.Binary operator destination left right)
+      → ((b : ℕ) → b ≡ 0 → has_no_result operator b ≡ true) → operand_word c.active.slots right ≢ 0
   divides c never operator destination left right at none is_zero =
       stuck_not c never
       (ap (executed program zeros c) at
-      ∙ ap (λ (b : Bool). if b then states.Stuck c.output c.input else gives c destination (binary_result operator (c.active.slots left) (c.active.slots right))) (none (c.active.slots right) is_zero))
+      ∙ ap (λ (b : Bool). if b then states.Stuck c.output c.input else gives c destination (binary_result operator (operand_word c.active.slots left) (operand_word c.active.slots right))) (none (operand_word c.active.slots right) is_zero))
 
   module _ (c : Configuration) (never : Never c) (run : labelled.Configuration) (r w : Words) (base : ℕ)
       (now : At program well frames fit code formed addresses pages calls few (instruction_line program c.active.function c.active.next) c.output c.input r w run)
@@ -141,51 +145,49 @@ module _ (program : Program) (well : IsWellFormed program) (words : HasWords pro
     abbrev slots : ℕ
     slots = (routine_at program c.active.function).slots
 
+    abbrev IsThere : Operand → Type 0
+    IsThere o = IsOperand (routine_at program c.active.function) o × IsOfWord o
+
     abbrev StandsHere : Instruction → Type 0
     StandsHere i = Stands code here (body program frames c.active.function here i)
 
-    operator_goes : (operator : BinaryOperator) (destination left right : ℕ) → IsAt (plain.Binary operator destination left right) → destination < slots → left < slots → right < slots
-        → StandsHere (plain.Binary operator destination left right) → Goes (operator_count operator)
-    operator_goes binary.Add d l t at a b e stands = add_goes program well frames fit code formed addresses pages calls few c run r w base now s d l t a b e at stands
-    operator_goes binary.Subtract d l t at a b e stands = subtract_goes program well frames fit code formed addresses pages calls few c run r w base now s d l t a b e at stands
-    operator_goes binary.Multiply d l t at a b e stands = multiply_goes program well frames fit code formed addresses pages calls few c run r w base now s d l t a b e at stands
-    operator_goes binary.And d l t at a b e stands = and_goes program well frames fit code formed addresses pages calls few c run r w base now s d l t a b e at stands
-    operator_goes binary.Or d l t at a b e stands = or_goes program well frames fit code formed addresses pages calls few c run r w base now s d l t a b e at stands
-    operator_goes binary.Xor d l t at a b e stands = xor_goes program well frames fit code formed addresses pages calls few c run r w base now s d l t a b e at stands
-    operator_goes binary.ShiftLeft d l t at a b e stands = shift_left_goes program well frames fit code formed addresses pages calls few c run r w base now s d l t a b e at stands
-    operator_goes binary.ShiftRight d l t at a b e stands = shift_right_goes program well frames fit code formed addresses pages calls few c run r w base now s d l t a b e at stands
-    operator_goes binary.Equal d l t at a b e stands = equal_goes program well frames fit code formed addresses pages calls few c run r w base now s d l t a b e at stands
-    operator_goes binary.NotEqual d l t at a b e stands = not_equal_goes program well frames fit code formed addresses pages calls few c run r w base now s d l t a b e at stands
-    operator_goes binary.Less d l t at a b e stands = less_goes program well frames fit code formed addresses pages calls few c run r w base now s d l t a b e at stands
-    operator_goes binary.LessOrEqual d l t at a b e stands = less_or_equal_goes program well frames fit code formed addresses pages calls few c run r w base now s d l t a b e at stands
-    operator_goes binary.Greater d l t at a b e stands = greater_goes program well frames fit code formed addresses pages calls few c run r w base now s d l t a b e at stands
-    operator_goes binary.GreaterOrEqual d l t at a b e stands = greater_or_equal_goes program well frames fit code formed addresses pages calls few c run r w base now s d l t a b e at stands
+    -- a division, where the run goes on
+    quotient_goes : (operator : BinaryOperator) (which : MoveFromOp) (destination : ℕ) (left right : Operand) → IsAt (plain.Binary operator destination left right) → destination < slots → IsThere left → IsThere right
+        → ((b : ℕ) → b ≡ 0 → has_no_result operator b ≡ true) → ((b : ℕ) → b ≢ 0 → has_no_result operator b ≡ false)
+        → ((a b : ℕ) → binary_result operator a b ≡ multiply_divide_result Divide which a b) → ((a : ℕ) → IsWord a → multiply_divide_result Divide which (sub_of 0 a) 1 ≡ multiply_divide_result Divide which a (2 ^ 32 - 1))
+        → operator_count operator left right ≡ load_count left + load_count right + 7
+        → Stands code here (divide_code (frame_at frames c.active.function) here which destination left right) → Goes (load_count left + load_count right + 7)
+    quotient_goes operator which destination left right at below l t none some result negated counted stands =
+        let nonzero = divides c never operator destination left right at none in
+        divide_goes program well frames fit code formed addresses pages calls few c run r w base now s operator which destination left right at below l t
+        (ap (λ (x : Bool). if x then states.Stuck c.output c.input else gives c destination (binary_result operator (operand_word c.active.slots left) (operand_word c.active.slots right))) (some (operand_word c.active.slots right) nonzero)
+        ∙ ap (λ (x : ℕ). gives c destination x) (result (operand_word c.active.slots left) (operand_word c.active.slots right)))
+        nonzero counted negated stands
+
+    operator_goes : (operator : BinaryOperator) (destination : ℕ) (left right : Operand) → IsAt (plain.Binary operator destination left right) → destination < slots → IsThere left → IsThere right
+        → StandsHere (plain.Binary operator destination left right) → Goes (operator_count operator left right)
     operator_goes binary.Divide d l t at a b e stands =
-        let nonzero = divides c never binary.Divide d l t at (λ n is_zero. eq-eqb n 0 is_zero) in
-        divide_goes program well frames fit code formed addresses pages calls few c run r w base now s binary.Divide Low d l t at a b e
-        (ap (λ (x : Bool). if x then states.Stuck c.output c.input else gives c d (div_of (c.active.slots l) (c.active.slots t))) (ne_eqb (c.active.slots t) 0 nonzero)) nonzero refl negated_quotient stands
+        quotient_goes binary.Divide Low d l t at a b e (λ n is_zero. eq-eqb n 0 is_zero) (λ n other. ne_eqb n 0 other) (λ x y. refl) negated_quotient refl stands
     operator_goes binary.Remainder d l t at a b e stands =
-        let nonzero = divides c never binary.Remainder d l t at (λ n is_zero. eq-eqb n 0 is_zero) in
-        divide_goes program well frames fit code formed addresses pages calls few c run r w base now s binary.Remainder High d l t at a b e
-        (ap (λ (x : Bool). if x then states.Stuck c.output c.input else gives c d (rem_of (c.active.slots l) (c.active.slots t))) (ne_eqb (c.active.slots t) 0 nonzero)) nonzero refl negated_remainder stands
+        quotient_goes binary.Remainder High d l t at a b e (λ n is_zero. eq-eqb n 0 is_zero) (λ n other. ne_eqb n 0 other) (λ x y. refl) negated_remainder refl stands
+    operator_goes operator d l t at a b e stands =
+        binary_goes program well frames fit code formed addresses pages calls few c run r w base now s operator d l t at a b e tt refl (omega arith) stands
 
     instruction_goes : (i : Instruction) → IsAt i → IsInRange program (routine_at program c.active.function) i → HasWord i → StandsHere i → Goes (body_count program c.active.function i)
-    instruction_goes (plain.Constant destination word) at below fits stands = constant_goes program well frames fit code formed addresses pages calls few c run r w base now s destination word at below fits stands
-    instruction_goes (plain.Move destination source) at (a, b) fits stands = move_goes program well frames fit code formed addresses pages calls few c run r w base now s destination source at a b stands
-    instruction_goes (plain.Unary operator destination operand) at (a, b) fits stands = unary_goes program well frames fit code formed addresses pages calls few c run r w base now s operator destination operand at a b stands
-    instruction_goes (plain.Binary operator destination left right) at (a, b, e) fits stands = operator_goes operator destination left right at a b e stands
+    instruction_goes (plain.Move destination source) at (a, b) fits stands = move_goes program well frames fit code formed addresses pages calls few c run r w base now s destination source at a (b, fits) stands
+    instruction_goes (plain.Unary operator destination operand) at (a, b) fits stands = unary_goes program well frames fit code formed addresses pages calls few c run r w base now s operator destination operand at a (b, fits) stands
+    instruction_goes (plain.Binary operator destination left right) at (a, b, e) (fits, also) stands = operator_goes operator destination left right at a (b, fits) (e, also) stands
     instruction_goes (plain.Jump target) at below fits stands = jump_goes program well frames fit code formed addresses pages calls few c run r w base now s target at stands
-    instruction_goes (plain.JumpIfZero condition target) at (a, b) fits stands = jump_if_zero_goes program well frames fit code formed addresses pages calls few c run r w base now s condition target at a stands
-    instruction_goes (plain.JumpIfNonzero condition target) at (a, b) fits stands = jump_if_nonzero_goes program well frames fit code formed addresses pages calls few c run r w base now s condition target at a stands
+    instruction_goes (plain.Branch comparison left right target) at (a, b, below) (fits, also) stands = branch_goes program well frames fit code formed addresses pages calls few c run r w base now s comparison left right target at (a, fits) (b, also) stands
     instruction_goes (plain.Call callee arguments count result) at in_range fits stands =
         call_goes program well frames fit code formed addresses pages calls few lie c run r w base now s callee arguments count result at in_range (behind_inside c.active.function c.active.next callee arguments count result at) stands
     instruction_goes (plain.Return value) at in_range fits stands =
         return_goes program well frames fit code formed addresses pages calls few lie c run r w base now s value at in_range behind_inside stands
     instruction_goes (plain.ReadByte destination) at below fits stands = read_goes program well frames fit code formed addresses pages calls few c run r w base now s destination at below stands
-    instruction_goes (plain.WriteByte source) at below fits stands = write_goes program well frames fit code formed addresses pages calls few c run r w base now s source at below stands
+    instruction_goes (plain.WriteByte source) at below fits stands = write_goes program well frames fit code formed addresses pages calls few c run r w base now s source at (below, fits) stands
     instruction_goes (plain.LoadGlobal destination global) at (a, b) fits stands = load_global_goes program well frames fit code formed addresses pages calls few c run r w base now s destination global at a b stands
-    instruction_goes (plain.StoreGlobal global source) at (a, b) fits stands = store_global_goes program well frames fit code formed addresses pages calls few c run r w base now s global source at a b stands
-    instruction_goes (plain.Uncaught tag value) at below fits stands = uncaught_goes program well frames fit code formed addresses pages calls few c run r w base now s tag value at below fits stands
+    instruction_goes (plain.StoreGlobal global source) at (a, b) fits stands = store_global_goes program well frames fit code formed addresses pages calls few c run r w base now s global source at a (b, fits) stands
+    instruction_goes (plain.Uncaught tag value) at below (tag_fits, value_fits) stands = uncaught_goes program well frames fit code formed addresses pages calls few c run r w base now s tag value at (below, value_fits) tag_fits stands
 
   -- ---- a step from a state that matches
 

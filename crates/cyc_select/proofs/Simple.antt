@@ -1,11 +1,10 @@
 -- The instructions that neither call nor return.
-use Rattle.std.proofs.Common.{◌≡◌, ◌≢◌, ℕ, suc, ◌+◌, ◌-◌, ◌*◌, ◌/◌, ◌%◌, ◌^◌, ◌<◌, ◌≤◌, Bool, true, false, not, List, [], ◌∷◌, ◌++◌, length, drop, Some, refl, sym, ap, subst, ◌∙◌, arith, inl, inr}
-use Rattle.std.specs.Prelude.{◌==◌, if◌then◌else◌, bit_or}
-use Rattle.std.specs.Int.{w32, bit_not}
+use Rattle.std.proofs.Common.{◌≡◌, ◌≢◌, ℕ, suc, slice_get, length-append, ◌+◌, ◌-◌, ◌*◌, ◌/◌, ◌%◌, ◌^◌, ◌<◌, ◌≤◌, Bool, true, false, not, List, [], ◌∷◌, ◌++◌, length, drop, Some, refl, sym, ap, subst, ◌∙◌, arith, inl, inr}
+use Rattle.std.specs.Prelude.{◌==◌, if◌then◌else◌}
 use Rattle.std.specs.List.{AllByRecursion}
 use Rattle.std.proofs.lemmas.Bool.{cases_eq, eq-eqb, ne_eqb}
 use Rattle.cyc_words.specs.Ending.{Ending, Uncaught}
-use Rattle.cyc_words.specs.Word.{IsWord, signed, add_of, sub_of, sltu_of, div_of, rem_of, sign_extended}
+use Rattle.cyc_words.specs.Word.{IsWord, signed, add_of, sub_of, sign_extended}
 use Rattle.cyc_isa.specs.Effect.{branch_taken, load_upper_result, memory_address}
 use Rattle.cyc_isa.specs.declared.instr.Instr.{Instr}
 use Rattle.cyc_isa.specs.declared.instr.BranchOp.{BranchOp}
@@ -21,31 +20,43 @@ use Rattle.cyc_machine.specs.State.{data_base, globals_length, words_per_call}
 use Rattle.cyc_plain.specs.declared.instruction.Instruction.{Instruction}
 use Rattle.cyc_plain.specs.declared.instruction.Instruction.TheVariants as plain
 use Rattle.cyc_plain.specs.declared.instruction.UnaryOperator.{UnaryOperator}
-use Rattle.cyc_plain.specs.declared.instruction.UnaryOperator.TheVariants as unary
 use Rattle.cyc_plain.specs.declared.instruction.BinaryOperator.{BinaryOperator}
-use Rattle.cyc_plain.specs.declared.instruction.BinaryOperator.TheVariants as binary
-use Rattle.cyc_plain.specs.Operators.{truth, unary_result, binary_result}
+use Rattle.cyc_plain.specs.declared.instruction.Comparison.{Comparison}
+use Rattle.cyc_plain.specs.declared.instruction.Comparison.TheVariants as comparisons
+use Rattle.cyc_plain.specs.declared.instruction.Operand.{Operand}
+use Rattle.cyc_plain.specs.declared.instruction.Operand.TheVariants as operands
+use Rattle.cyc_plain.specs.Operators.{unary_result, binary_result, compares}
 use Rattle.cyc_plain.specs.Program.{Program, routine_at}
 use Rattle.cyc_plain.specs.State as states
 use Rattle.cyc_plain.specs.State.{Words, AreWords, put, Configuration}
-use Rattle.cyc_plain.specs.Step.{instruction_at, performed, gives, at}
-use Rattle.cyc_plain.specs.WellFormed.{IsWellFormed}
-use Rattle.cyc_words.proofs.WordLemmas.{sign_extended_high}
+use Rattle.cyc_plain.specs.Step.{instruction_at, operand_word, performed, gives, at}
+use Rattle.cyc_plain.specs.WellFormed.{IsOperand, IsOfWord, IsWellFormed}
 use Rattle.cyc_plain.proofs.SlotLaws.{put-other}
 use Rattle.cyc_plain.proofs.RunLaws.{zeros, over_within, zeros_allowed}
 use Rattle.cyc_frame.specs.Layout.{AreFrames, frame_at}
 use Rattle.cyc_frame.specs.declared.frame.Frame.{Frame}
+use Rattle.cyc_machine.specs.declared.constants.TheConstants.{ARGUMENT, END_UNCAUGHT, PUT_BYTE, SECOND_ARGUMENT, SERVICE}
+use Rattle.cyc_select.specs.declared.code.Line.{Line}
 use Rattle.cyc_select.specs.declared.code.Line.TheVariants as lines
+use Rattle.cyc_select.specs.declared.constants.TheConstants.{FIRST, SECOND, THIRD, ZERO}
+use Rattle.cyc_select.specs.declared.plan.Plan.{Plan}
+use Rattle.cyc_select.specs.declared.plan.Test.{Test}
+use Rattle.cyc_select.specs.declared.plan.Test.TheVariants as tests
+use Rattle.cyc_select.specs.Plans.{comparison_plan, unary_plan, binary_plan, test_of}
 use Rattle.cyc_select.specs.Labelled.{Labelled, IsFormed}
 use Rattle.cyc_select.specs.Machine as labelled
 use Rattle.cyc_select.specs.Machine.{State, Running, Ended}
-use Rattle.cyc_select.specs.Selection.{load_slot, store_slot, slot_offset, constant, small, minus, add_immediate, unary_code, binary_code, ordinary, syscall, divide_code, operator_code, body, operator_count, count_of, instruction_line}
+use Rattle.cyc_select.specs.Selection.{store_slot, slot_offset, small, arithmetic_of, ordinary, syscall, upper_of_global, at_global, word_code, load_code, is_zero_word, operand_code, operand_register, operands_code, operation_of, computed_code, plan_code, branch_on, branch_code, divided_code, divide_code, word_count, load_count, operand_count, plan_count, test_count, operator_count, body, body_count, count_of, instruction_line}
+use Rattle.cyc_select.proofs.Blocks.{Keeps, puts_keeps, after_both, safe_append}
+use Rattle.cyc_select.proofs.Calls.{length_ordinary}
 use Rattle.cyc_select.proofs.Cells.{IsCell}
+use Rattle.cyc_select.proofs.Computing.{IsHeld, IsComputable, word_puts, load_puts, operand_puts, operands_put, operation_leaves, plan_leaves, divided_put, first_scratch, argument_scratch, comparison_computable, unary_computable}
+use Rattle.cyc_select.proofs.Counts.{length_word, length_load, length_operand, length_computed, length_test, length_divided}
 use Rattle.cyc_select.proofs.Effects.{byte_of}
 use Rattle.cyc_select.proofs.Lines.{line_next}
-use Rattle.cyc_select.proofs.Operations.{two_halves, address_at, add_small, zero_test, equal_test, unequal_test, at_most_test, low_product}
-use Rattle.cyc_select.proofs.Views.{IsWritable}
-use Rattle.cyc_select.proofs.Walks.{Stands, stands_front, stands_back, after_r, after_w, AreSafe, Walk, now_at, walk_end, walk_few, walk_from, walk_block, walk_branch, walk_jump, walk_get, walk_put, walk_uncaught}
+use Rattle.cyc_select.proofs.Operations.{add_small, global_lies}
+use Rattle.cyc_select.proofs.Plans.{multiply_divide_result, OfTest, operation_word, plan_word, unary_word, binary_word, test_taken, test_goes, of_unary, of_binary, of_test}
+use Rattle.cyc_select.proofs.Walks.{Stands, stands_front, stands_back, stands_first, stands_behind, after_r, after_w, after_w-append, AreSafe, Walk, now_at, now_is, walk_end, walk_few, walk_from, walk_block, walk_branch, walk_jump, walk_get, walk_put, walk_uncaught}
 use Rattle.cyc_select.proofs.Standing.{Standing, slot_cell, slot_word_is, global_cell, standing_global, standing_registers, standing_at}
 use Rattle.cyc_select.proofs.Matches.{At, Reached, reached, reached_gives, reached_at, within}
 
@@ -75,149 +86,108 @@ module _ (program : Program) (well : IsWellFormed program) (frames : List Frame)
   abbrev word_at : ℕ → ℕ
   word_at slot = w (memory_address (r 29) (slot_offset frame slot))
 
-  word_is : (slot : ℕ) → slot < slots → word_at slot ≡ c.active.slots slot
+  word_is : (slot : ℕ) → slot < slots → w (memory_address (r 29) (slot_offset frame slot)) ≡ c.active.slots slot
   word_is slot below = slot_word_is program well frames fit addresses pages calls few c r w base (r 31) (suc (length c.frames)) c.active.slots s slot below
 
-  is_word : (slot : ℕ) → IsWord (word_at slot)
-  is_word slot = now.w_words (memory_address (r 29) (slot_offset frame slot))
+  -- ---- operands
+
+  abbrev word_of : Operand → ℕ
+  word_of o = operand_word c.active.slots o
+
+  abbrev IsThere : Operand → Type 0
+  IsThere o = IsOperand (routine_at program c.active.function) o × IsOfWord o
+
+  abbrev Held : Operand → Type 0
+  Held o = IsHeld globals_length (words_per_call * calls) frame (r 29) w c.active.slots o
+
+  held : (o : Operand) → IsThere o → Held o
+  held (operands.Slot number) (below, fits) = (cell number below, word_is number below)
+  held (operands.Word word) (below, fits) = fits
+
+  is_word : (o : Operand) → IsThere o → IsWord (word_of o)
+  is_word (operands.Slot number) (below, fits) = subst IsWord (word_is number below) (now.w_words (memory_address (r 29) (slot_offset frame number)))
+  is_word (operands.Word word) (below, fits) = fits
+
+  abbrev KeepsHere : List Instr → Type 0
+  KeepsHere is = Keeps globals_length (words_per_call * calls) is r w
 
   abbrev IsAt : Instruction → Type 0
   IsAt i = instruction_at program (states.place_of (states.Running c)) ≡ Some i
 
-  -- a block that gives a word to a slot
-  gives_by : (i : Instruction) → IsAt i → (is : List Instr) (destination word : ℕ) → 0 < length is → Stands code here (ordinary is) → Safe is r w
-      → destination < slots → performed program zeros c i ≡ gives c destination word → count_of program c.active.function i ≡ length is
-      → after_r is r w 0 ≡ r 0 → after_r is r w 29 ≡ r 29 → after_r is r w 30 ≡ r 30 → after_r is r w 31 ≡ r 31
-      → after_w is r w ≡ put w (memory_address (r 29) (slot_offset frame destination)) word
-      → Goes 1 here (here + length is) (Running run)
-  gives_by i at_i is destination word some stands safe below does count zero_same base_same left_same back_same written =
-      walk_few code formed addresses globals_length (words_per_call * calls) 1 (length is + 0) here (here + length is) c.output _ (Running run) (omega arith)
-      (walk_block code formed addresses globals_length (words_per_call * calls) is 0 here here (here + length is) c.output c.input _ r w run now stands safe (omega arith)
+  -- a block that leaves a word in a register, and the store of it into a slot
+  gives_by : (i : Instruction) → IsAt i → (is : List Instr) (register destination word count : ℕ) → KeepsHere is → after_r is r w (register % 32) ≡ word
+      → destination < slots → performed program zeros c i ≡ gives c destination word → length is + 1 ≡ count → count_of program c.active.function i ≡ count
+      → Stands code here (ordinary (is ++ store_slot frame register destination ∷ [])) → Goes 1 here (here + count) (Running run)
+  gives_by i at_i is register destination word count keeps result below does long counted stands =
+      let store : List Instr = store_slot frame register destination ∷ [] in
+      let all : List Instr = is ++ store in
+      let enough : length (is ++ store) ≡ count = omega (arith, length-append is store, long) in
+      let written : after_w (is ++ store) r w ≡ put w (memory_address (r 29) (slot_offset frame destination)) word =
+      after_w-append is store r w
+      ∙ (ap (λ (x : Words). put x (memory_address (after_r is r w 29) (slot_offset frame destination)) (after_r is r w (register % 32))) keeps.memory
+      ∙ (ap (λ (x : ℕ). put w (memory_address x (slot_offset frame destination)) (after_r is r w (register % 32))) keeps.base
+      ∙ ap (put w (memory_address (r 29) (slot_offset frame destination))) result)) in
+      let safe = safe_append globals_length (words_per_call * calls) is store r w keeps.safe
+      (subst (λ (x : ℕ). IsCell globals_length (words_per_call * calls) (memory_address x (slot_offset frame destination))) (sym keeps.base) (cell destination below), tt) in
+      let same : (n : ℕ) → after_r (is ++ store) r w n ≡ after_r is r w n = after_both globals_length (words_per_call * calls) is store r w in
+      walk_few code formed addresses globals_length (words_per_call * calls) 1 (length all + 0) here (here + count) c.output _ (Running run) (omega (arith, length-append is store))
+      (walk_block code formed addresses globals_length (words_per_call * calls) all 0 here here (here + count) c.output c.input _ r w run now stands safe (omega arith)
       (λ d later.
-      walk_end code formed addresses globals_length (words_per_call * calls) (here + length is) (here + length is) c.output _ (Running d) (omega arith)
-      (reached_gives program well frames fit code formed addresses pages calls few c i at_i r w base s destination word c.input (here + length is) d (after_r is r w) (after_w is r w)
-      below does s.input (omega (arith, count)) zero_same base_same left_same back_same written later)))
+      walk_end code formed addresses globals_length (words_per_call * calls) (here + length all) (here + count) c.output _ (Running d) (omega (arith, enough))
+      (reached_gives program well frames fit code formed addresses pages calls few c i at_i r w base s destination word c.input (here + length all) d (after_r all r w) (after_w all r w)
+      below does s.input (omega (arith, enough, counted)) (same 0 ∙ keeps.zero) (same 29 ∙ keeps.base) (same 30 ∙ keeps.left) (same 31 ∙ keeps.back) written later)))
 
   -- ---- values
 
   small_is : (n : ℕ) → n < 2 ^ 15 → add_of (r 0) (sign_extended n) ≡ n
   small_is n is_small = ap (λ (x : ℕ). add_of x (sign_extended n)) s.zero_is ∙ (add_small 0 n is_small (omega arith) ∙ (let e : 0 + n ≡ n = omega arith in e))
 
-  both : (f : ℕ → ℕ → ℕ) (left right : ℕ) → left < slots → right < slots → f (word_at left) (word_at right) ≡ f (c.active.slots left) (c.active.slots right)
-  both f left right left_below right_below =
-      ap (λ (x : ℕ). f x (word_at right)) (word_is left left_below) ∙ ap (f (c.active.slots left)) (word_is right right_below)
+  -- ---- copies and operators
+
+  pub move_goes : (destination : ℕ) (source : Operand) → IsAt (plain.Move destination source) → destination < slots → IsThere source
+      → Stands code here (body program frames c.active.function here (plain.Move destination source)) → Goes 1 here (here + body_count program c.active.function (plain.Move destination source)) (Running run)
+  move_goes destination source at_i below there stands =
+      let is : List Instr = operand_code frame FIRST source in
+      let puts = operand_puts globals_length (words_per_call * calls) frame (r 29) w c.active.slots r w s.zero_is refl refl FIRST refl source (held source there) in
+      gives_by (plain.Move destination source) at_i is (operand_register FIRST source) destination (word_of source) (operand_count source + 1)
+      (puts_keeps globals_length (words_per_call * calls) is r w FIRST _ _ (first_scratch globals_length (words_per_call * calls)) puts) puts.result
+      below refl (omega (arith, length_operand frame FIRST source)) (omega arith) stands
+
+  -- a word that is computed goes to a slot
+  plan_goes : (i : Instruction) → IsAt i → (plan : Plan) (destination word : ℕ) → Held plan.left × Held plan.right → IsComputable globals_length (words_per_call * calls) plan.operation (word_of plan.left) (word_of plan.right)
+      → plan_word c.active.slots plan ≡ word → destination < slots → performed program zeros c i ≡ gives c destination word → count_of program c.active.function i ≡ plan_count plan
+      → Stands code here (ordinary (plan_code frame plan destination)) → Goes 1 here (here + plan_count plan) (Running run)
+  plan_goes i at_i plan destination word (l, t) fine is below does counted stands =
+      let leaves = plan_leaves globals_length (words_per_call * calls) frame (r 29) w c.active.slots r w s.zero_is refl refl plan l t fine in
+      gives_by i at_i (computed_code frame plan) FIRST destination word (plan_count plan) leaves.keeps (leaves.result ∙ is)
+      below does (omega (arith, length_computed frame plan)) counted stands
+
+  pub unary_goes : (operator : UnaryOperator) (destination : ℕ) (operand : Operand) → IsAt (plain.Unary operator destination operand) → destination < slots → IsThere operand
+      → Stands code here (body program frames c.active.function here (plain.Unary operator destination operand)) → Goes 1 here (here + body_count program c.active.function (plain.Unary operator destination operand)) (Running run)
+  unary_goes operator destination operand at_i below there stands =
+      plan_goes (plain.Unary operator destination operand) at_i (unary_plan operator operand) destination (unary_result operator (word_of operand))
+      (of_unary Held (omega arith) operand (held operand there) operator) (unary_computable globals_length (words_per_call * calls) operator operand _ _)
+      (unary_word c.active.slots operand (is_word operand there) operator) below refl (omega arith) stands
+
+  -- an operator whose plan is right for these operands
+  pub binary_goes : (operator : BinaryOperator) (destination : ℕ) (left right : Operand) → IsAt (plain.Binary operator destination left right) → destination < slots → IsThere left → IsThere right
+      → IsComputable globals_length (words_per_call * calls) (binary_plan operator left right).operation (word_of (binary_plan operator left right).left) (word_of (binary_plan operator left right).right)
+      → performed program zeros c (plain.Binary operator destination left right) ≡ gives c destination (binary_result operator (word_of left) (word_of right))
+      → count_of program c.active.function (plain.Binary operator destination left right) ≡ plan_count (binary_plan operator left right)
+      → Stands code here (ordinary (plan_code frame (binary_plan operator left right) destination)) → Goes 1 here (here + plan_count (binary_plan operator left right)) (Running run)
+  binary_goes operator destination left right at_i below l t fine does counted stands =
+      plan_goes (plain.Binary operator destination left right) at_i (binary_plan operator left right) destination (binary_result operator (word_of left) (word_of right))
+      (of_binary Held (omega arith) left right (held left l) (held right t) operator) fine
+      (binary_word c.active.slots left right (is_word left l) (is_word right t) operator) below does counted stands
+
+  -- ---- division
 
   abbrev into : ℕ → ℕ → Words
   into destination word = put w (memory_address (r 29) (slot_offset frame destination)) word
 
-  -- ---- constants, copies and operators
-
-  pub constant_goes : (destination word : ℕ) → IsAt (plain.Constant destination word) → destination < slots → IsWord word
-      → Stands code here (body program frames c.active.function here (plain.Constant destination word)) → Goes 1 here (here + 3) (Running run)
-  constant_goes destination word at_i below fits stands =
-      gives_by (plain.Constant destination word) at_i (constant 8 word ++ store_slot frame 8 destination ∷ []) destination word (omega arith) stands
-      (refl, (refl, (cell destination below, tt))) below refl refl refl refl refl refl
-      (ap (into destination) (two_halves word fits))
-
-  pub move_goes : (destination source : ℕ) → IsAt (plain.Move destination source) → destination < slots → source < slots
-      → Stands code here (body program frames c.active.function here (plain.Move destination source)) → Goes 1 here (here + 2) (Running run)
-  move_goes destination source at_i below source_below stands =
-      gives_by (plain.Move destination source) at_i (load_slot frame 8 source ∷ store_slot frame 8 destination ∷ []) destination (c.active.slots source) (omega arith) stands
-      ((refl, cell source source_below), (cell destination below, tt)) below refl refl refl refl refl refl
-      (ap (into destination) (word_is source source_below))
-
-  pub unary_goes : (operator : UnaryOperator) (destination operand : ℕ) → IsAt (plain.Unary operator destination operand) → destination < slots → operand < slots
-      → Stands code here (body program frames c.active.function here (plain.Unary operator destination operand)) → Goes 1 here (here + 3) (Running run)
-  unary_goes unary.Negate destination operand at_i below operand_below stands =
-      gives_by (plain.Unary unary.Negate destination operand) at_i (load_slot frame 8 operand ∷ unary_code unary.Negate ∷ store_slot frame 8 destination ∷ []) destination (unary_result unary.Negate (c.active.slots operand)) (omega arith) stands
-      ((refl, cell operand operand_below), (refl, (cell destination below, tt))) below refl refl refl refl refl refl
-      (ap (into destination) (ap (λ (x : ℕ). sub_of x (word_at operand)) s.zero_is ∙ ap (sub_of 0) (word_is operand operand_below)))
-  unary_goes unary.Complement destination operand at_i below operand_below stands =
-      gives_by (plain.Unary unary.Complement destination operand) at_i (load_slot frame 8 operand ∷ unary_code unary.Complement ∷ store_slot frame 8 destination ∷ []) destination (unary_result unary.Complement (c.active.slots operand)) (omega arith) stands
-      ((refl, cell operand operand_below), (refl, (cell destination below, tt))) below refl refl refl refl refl refl
-      (ap (into destination) (ap (λ (x : ℕ). bit_not w32 (bit_or x (word_at operand))) s.zero_is ∙ ap (bit_not w32) (word_is operand operand_below)))
-  unary_goes unary.Not destination operand at_i below operand_below stands =
-      gives_by (plain.Unary unary.Not destination operand) at_i (load_slot frame 8 operand ∷ unary_code unary.Not ∷ store_slot frame 8 destination ∷ []) destination (unary_result unary.Not (c.active.slots operand)) (omega arith) stands
-      ((refl, cell operand operand_below), (refl, (cell destination below, tt))) below refl refl refl refl refl refl
-      (ap (into destination) (zero_test (word_at operand) ∙ ap (λ (x : ℕ). truth (x == 0)) (word_is operand operand_below)))
-
-  -- an operator that is not a division: with its code between the loads and the store
-  operator_by : (operator : BinaryOperator) (is : List Instr) (destination left right : ℕ) → IsAt (plain.Binary operator destination left right) → destination < slots → left < slots → right < slots
-      → Stands code here (ordinary is) → 0 < length is → Safe is r w
-      → performed program zeros c (plain.Binary operator destination left right) ≡ gives c destination (binary_result operator (c.active.slots left) (c.active.slots right))
-      → operator_count operator + 0 ≡ length is
-      → after_r is r w 0 ≡ r 0 → after_r is r w 29 ≡ r 29 → after_r is r w 30 ≡ r 30 → after_r is r w 31 ≡ r 31
-      → after_w is r w ≡ into destination (binary_result operator (word_at left) (word_at right))
-      → Goes 1 here (here + length is) (Running run)
-  operator_by operator is destination left right at_i below left_below right_below stands some safe does count zero_same base_same left_same back_same written =
-      gives_by (plain.Binary operator destination left right) at_i is destination (binary_result operator (c.active.slots left) (c.active.slots right)) some stands safe below does count zero_same base_same left_same back_same
-      (written ∙ ap (into destination) (both (binary_result operator) left right left_below right_below))
-
-  abbrev operands : BinaryOperator → (destination left right : ℕ) → List Instr
-  operands operator destination left right =
-      load_slot frame 8 left ∷ load_slot frame 9 right ∷ (binary_code operator ++ store_slot frame 8 destination ∷ [])
-
-  -- two loads, one or two instructions, and the store
-  module _ (destination left right : ℕ) (below : destination < slots) (left_below : left < slots) (right_below : right < slots) where
-    abbrev OperatorGoes : BinaryOperator → Type 0
-    OperatorGoes operator = IsAt (plain.Binary operator destination left right) → Stands code here (operator_code frame here operator destination left right) → Goes 1 here (here + operator_count operator) (Running run)
-
-    abbrev loads : (IsWritable 8 × IsCell globals_length (words_per_call * calls) (memory_address (r 29) (slot_offset frame left))) × (IsWritable 9 × IsCell globals_length (words_per_call * calls) (memory_address (r 29) (slot_offset frame right)))
-    loads = ((refl, cell left left_below), (refl, cell right right_below))
-
-    pub add_goes : OperatorGoes binary.Add
-    add_goes at_i stands = operator_by binary.Add (operands binary.Add destination left right) destination left right at_i below left_below right_below stands (omega arith) (loads.0, (loads.1, (refl, (cell destination below, tt)))) refl refl refl refl refl refl refl
-
-    pub subtract_goes : OperatorGoes binary.Subtract
-    subtract_goes at_i stands = operator_by binary.Subtract (operands binary.Subtract destination left right) destination left right at_i below left_below right_below stands (omega arith) (loads.0, (loads.1, (refl, (cell destination below, tt)))) refl refl refl refl refl refl refl
-
-    pub multiply_goes : OperatorGoes binary.Multiply
-    multiply_goes at_i stands = operator_by binary.Multiply (operands binary.Multiply destination left right) destination left right at_i below left_below right_below stands (omega arith) (loads.0, (loads.1, (tt, (refl, (cell destination below, tt))))) refl refl refl refl refl refl
-        (ap (into destination) (low_product (word_at left) (word_at right) (is_word left) (is_word right)))
-
-    pub and_goes : OperatorGoes binary.And
-    and_goes at_i stands = operator_by binary.And (operands binary.And destination left right) destination left right at_i below left_below right_below stands (omega arith) (loads.0, (loads.1, (refl, (cell destination below, tt)))) refl refl refl refl refl refl refl
-
-    pub or_goes : OperatorGoes binary.Or
-    or_goes at_i stands = operator_by binary.Or (operands binary.Or destination left right) destination left right at_i below left_below right_below stands (omega arith) (loads.0, (loads.1, (refl, (cell destination below, tt)))) refl refl refl refl refl refl refl
-
-    pub xor_goes : OperatorGoes binary.Xor
-    xor_goes at_i stands = operator_by binary.Xor (operands binary.Xor destination left right) destination left right at_i below left_below right_below stands (omega arith) (loads.0, (loads.1, (refl, (cell destination below, tt)))) refl refl refl refl refl refl refl
-
-    pub shift_left_goes : OperatorGoes binary.ShiftLeft
-    shift_left_goes at_i stands = operator_by binary.ShiftLeft (operands binary.ShiftLeft destination left right) destination left right at_i below left_below right_below stands (omega arith) (loads.0, (loads.1, (refl, (cell destination below, tt)))) refl refl refl refl refl refl refl
-
-    pub shift_right_goes : OperatorGoes binary.ShiftRight
-    shift_right_goes at_i stands = operator_by binary.ShiftRight (operands binary.ShiftRight destination left right) destination left right at_i below left_below right_below stands (omega arith) (loads.0, (loads.1, (refl, (cell destination below, tt)))) refl refl refl refl refl refl refl
-
-    pub equal_goes : OperatorGoes binary.Equal
-    equal_goes at_i stands = operator_by binary.Equal (operands binary.Equal destination left right) destination left right at_i below left_below right_below stands (omega arith) (loads.0, (loads.1, (refl, (refl, (cell destination below, tt))))) refl refl refl refl refl refl
-        (ap (into destination) (equal_test (word_at left) (word_at right) (is_word left) (is_word right)))
-
-    pub not_equal_goes : OperatorGoes binary.NotEqual
-    not_equal_goes at_i stands = operator_by binary.NotEqual (operands binary.NotEqual destination left right) destination left right at_i below left_below right_below stands (omega arith) (loads.0, (loads.1, (refl, (refl, (cell destination below, tt))))) refl refl refl refl refl refl
-        (ap (into destination) (ap (λ (x : ℕ). sltu_of x (sub_of (word_at left) (word_at right))) s.zero_is ∙ unequal_test (word_at left) (word_at right) (is_word left) (is_word right)))
-
-    pub less_goes : OperatorGoes binary.Less
-    less_goes at_i stands = operator_by binary.Less (operands binary.Less destination left right) destination left right at_i below left_below right_below stands (omega arith) (loads.0, (loads.1, (refl, (cell destination below, tt)))) refl refl refl refl refl refl refl
-
-    pub less_or_equal_goes : OperatorGoes binary.LessOrEqual
-    less_or_equal_goes at_i stands = operator_by binary.LessOrEqual (operands binary.LessOrEqual destination left right) destination left right at_i below left_below right_below stands (omega arith) (loads.0, (loads.1, (refl, (refl, (cell destination below, tt))))) refl refl refl refl refl refl
-        (ap (into destination) (at_most_test (word_at left) (word_at right)))
-
-    pub greater_goes : OperatorGoes binary.Greater
-    greater_goes at_i stands = operator_by binary.Greater (operands binary.Greater destination left right) destination left right at_i below left_below right_below stands (omega arith) (loads.0, (loads.1, (refl, (cell destination below, tt)))) refl refl refl refl refl refl refl
-
-    pub greater_or_equal_goes : OperatorGoes binary.GreaterOrEqual
-    greater_or_equal_goes at_i stands = operator_by binary.GreaterOrEqual (operands binary.GreaterOrEqual destination left right) destination left right at_i below left_below right_below stands (omega arith) (loads.0, (loads.1, (refl, (refl, (cell destination below, tt))))) refl refl refl refl refl refl
-        (ap (into destination) (at_most_test (word_at right) (word_at left)))
-
-  -- ---- division
-
   -- what is read after a division
   abbrev result_of : MoveFromOp → ℕ → ℕ → ℕ
-  result_of Low a b = div_of a b
-  result_of High a b = rem_of a b
+  result_of which a b = multiply_divide_result Divide which a b
 
   abbrev divides : MoveFromOp → (destination : ℕ) → List Instr
   divides which destination =
@@ -237,23 +207,27 @@ module _ (program : Program) (well : IsWellFormed program) (frames : List Frame)
   divides_safe Low destination q nonzero least fine = ((nonzero, least), (refl, (fine, tt)))
   divides_safe High destination q nonzero least fine = ((nonzero, least), (refl, (fine, tt)))
 
-  module _ (operator : BinaryOperator) (which : MoveFromOp) (destination left right : ℕ) (at_i : IsAt (plain.Binary operator destination left right)) (below : destination < slots) (left_below : left < slots) (right_below : right < slots)
-      (does : performed program zeros c (plain.Binary operator destination left right) ≡ gives c destination (result_of which (c.active.slots left) (c.active.slots right)))
-      (nonzero : c.active.slots right ≢ 0) (nine : operator_count operator ≡ 9)
+  module _ (operator : BinaryOperator) (which : MoveFromOp) (destination : ℕ) (left right : Operand) (at_i : IsAt (plain.Binary operator destination left right)) (below : destination < slots) (left_there : IsThere left) (right_there : IsThere right)
+      (does : performed program zeros c (plain.Binary operator destination left right) ≡ gives c destination (result_of which (word_of left) (word_of right)))
+      (nonzero : word_of right ≢ 0) (counted : operator_count operator left right ≡ load_count left + load_count right + 7)
       (negated : (a : ℕ) → IsWord a → result_of which (sub_of 0 a) 1 ≡ result_of which a (2 ^ 32 - 1)) where
-    divided : (q : Words) (d : labelled.Configuration) → At program well frames fit code formed addresses pages calls few (here + 6) c.output c.input q w d → Stands code (here + 6) (ordinary (divides which destination))
+    -- the lines of the operands
+    abbrev loads : ℕ
+    loads = load_count left + load_count right
+
+    divided : (q : Words) (d : labelled.Configuration) → At program well frames fit code formed addresses pages calls few (here + loads + 4) c.output c.input q w d → Stands code (here + loads + 4) (ordinary (divides which destination))
         → q 0 ≡ r 0 → q 29 ≡ r 29 → q 30 ≡ r 30 → q 31 ≡ r 31 → q 9 ≢ 0 → (q 8 ≡ 2 ^ 31 → q 9 ≡ 2 ^ 32 - 1 → ⊥)
-        → result_of which (q 8) (q 9) ≡ result_of which (c.active.slots left) (c.active.slots right)
-        → Goes 0 (here + 6) (here + 9) (Running d)
+        → result_of which (q 8) (q 9) ≡ result_of which (word_of left) (word_of right)
+        → Goes 0 (here + loads + 4) (here + (loads + 7)) (Running d)
     divided q d now_d stands zero_same base_same left_same back_same divisor least result =
-        walk_few code formed addresses globals_length (words_per_call * calls) 0 (3 + 0) (here + 6) (here + 9) c.output _ (Running d) (omega arith)
-        (walk_block code formed addresses globals_length (words_per_call * calls) (divides which destination) 0 (here + 6) (here + 6) (here + 9) c.output c.input _ q w d now_d stands
+        walk_few code formed addresses globals_length (words_per_call * calls) 0 (3 + 0) (here + loads + 4) (here + (loads + 7)) c.output _ (Running d) (omega arith)
+        (walk_block code formed addresses globals_length (words_per_call * calls) (divides which destination) 0 (here + loads + 4) (here + loads + 4) (here + (loads + 7)) c.output c.input _ q w d now_d stands
         (divides_safe which destination q divisor least (subst (λ (x : ℕ). IsCell globals_length (words_per_call * calls) (memory_address x (slot_offset frame destination))) (sym base_same) (cell destination below)))
         (omega arith)
         (λ e later.
-        walk_end code formed addresses globals_length (words_per_call * calls) (here + 6 + 3) (here + 9) c.output _ (Running e) (omega arith)
-        (reached_gives program well frames fit code formed addresses pages calls few c (plain.Binary operator destination left right) at_i r w base s destination (result_of which (c.active.slots left) (c.active.slots right)) c.input (here + 6 + 3) e (after_r (divides which destination) q w) (after_w (divides which destination) q w)
-        below does s.input (omega (arith, nine))
+        walk_end code formed addresses globals_length (words_per_call * calls) (here + loads + 4 + 3) (here + (loads + 7)) c.output _ (Running e) (omega arith)
+        (reached_gives program well frames fit code formed addresses pages calls few c (plain.Binary operator destination left right) at_i r w base s destination (result_of which (word_of left) (word_of right)) c.input (here + loads + 4 + 3) e (after_r (divides which destination) q w) (after_w (divides which destination) q w)
+        below does s.input (omega (arith, counted))
         (divides_kept which destination q 0 (omega arith) (λ x. absurd (omega (arith, x))) ∙ zero_same)
         (divides_kept which destination q 29 (omega arith) (λ x. absurd (omega (arith, x))) ∙ base_same)
         (divides_kept which destination q 30 (omega arith) (λ x. absurd (omega (arith, x))) ∙ left_same)
@@ -262,53 +236,83 @@ module _ (program : Program) (well : IsWellFormed program) (frames : List Frame)
         later)))
 
     abbrev tested : List Instr
-    tested = load_slot frame 8 left ∷ load_slot frame 9 right ∷ add_immediate 10 0 (minus 1) ∷ []
+    tested = divided_code frame left right
 
     abbrev changed : List Instr
-    changed = machine.Arithmetic arithmetic.SubtractUnsigned (register_of 8) (register_of 0) (register_of 8) ∷ small 9 1 ∷ []
+    changed = arithmetic_of arithmetic.SubtractUnsigned ZERO FIRST ∷ small SECOND 1 ∷ []
 
-    minus_one : after_r tested r w 10 ≡ 2 ^ 32 - 1
-    minus_one = ap (λ (x : ℕ). add_of x (sign_extended 65535)) s.zero_is ∙ (ap (add_of 0) (sign_extended_high 65535 (omega arith) (omega arith)) ∙ refl)
+    abbrev last : List Line
+    last = ordinary (changed ++ divides which destination)
 
-    pub divide_goes : Stands code here (divide_code frame here which destination left right) → Goes 1 here (here + 9) (Running run)
+    -- behind the operands, with the registers that they left
+    module _ (q : Words) (d : labelled.Configuration) (later : At program well frames fit code formed addresses pages calls few (here + loads + 1) c.output c.input q w d)
+        (stands : Stands code (here + loads + 1) (lines.Branch branch.NotEqual (register_of SECOND) (register_of THIRD) (here + loads + 4) ∷ last))
+        (zero_same : q 0 ≡ r 0) (base_same : q 29 ≡ r 29) (left_same : q 30 ≡ r 30) (back_same : q 31 ≡ r 31)
+        (dividend : q FIRST ≡ word_of left) (divisor : q SECOND ≡ word_of right) (third : q THIRD ≡ 2 ^ 32 - 1) where
+      four : here + loads + 1 + 1 + 2 ≡ here + loads + 4
+      four = omega arith
+
+      last_stands : Stands code (here + loads + 4) (ordinary (divides which destination))
+      last_stands = subst (λ (n : ℕ). Stands code n (ordinary (divides which destination))) four (stands_back code (here + loads + 1 + 1) (ordinary changed) (ordinary (divides which destination)) stands.1)
+
+      one_is : add_of (q 0) (sign_extended 1) ≡ 1
+      one_is = ap (λ (x : ℕ). add_of x (sign_extended 1)) zero_same ∙ small_is 1 (omega arith)
+
+      by_minus_one : word_of right ≡ 2 ^ 32 - 1 → Goes 1 (here + loads + 1) (here + (loads + 7)) (Running d)
+      by_minus_one same =
+          let stays : (if not (q SECOND == q THIRD) then here + loads + 4 else here + loads + 1 + 1) ≡ here + loads + 1 + 1 =
+          ap (λ (b : Bool). if not b then here + loads + 4 else here + loads + 1 + 1) (eq-eqb (q SECOND) (q THIRD) (divisor ∙ (same ∙ sym third))) in
+          walk_branch code formed addresses globals_length (words_per_call * calls) 0 (here + loads + 1) (here + loads + 1) (here + (loads + 7)) c.output c.input _ q w d branch.NotEqual (register_of SECOND) (register_of THIRD) (here + loads + 4) (here + loads + 1 + 1) later stands.0 (omega arith) stays
+          (λ e after.
+          walk_few code formed addresses globals_length (words_per_call * calls) 0 (2 + 0) (suc (here + loads + 1)) (here + (loads + 7)) c.output _ (Running e) (omega arith)
+          (walk_block code formed addresses globals_length (words_per_call * calls) changed 0 (here + loads + 1 + 1) (suc (here + loads + 1)) (here + (loads + 7)) c.output c.input _ q w e after
+          (stands_front code (here + loads + 1 + 1) (ordinary changed) (ordinary (divides which destination)) stands.1) (refl, (refl, tt)) (omega arith)
+          (λ f there.
+          walk_from code formed addresses globals_length (words_per_call * calls) 0 (here + loads + 1 + 1 + 2) (here + loads + 4) (here + (loads + 7)) c.output _ (Running f) (omega arith)
+          (divided (after_r changed q w) f (now_at code formed addresses globals_length (words_per_call * calls) (here + loads + 1 + 1 + 2) (here + loads + 4) c.output c.input _ _ f four there) last_stands zero_same base_same left_same back_same
+          (λ e. absurd (omega (arith, e, one_is)))
+          (λ e1 e2. absurd (omega (arith, e2, one_is)))
+          (ap (λ (x : ℕ). result_of which (sub_of x (q FIRST)) (add_of (q 0) (sign_extended 1))) (zero_same ∙ s.zero_is)
+          ∙ (ap (result_of which (sub_of 0 (q FIRST))) one_is
+          ∙ (ap (λ (x : ℕ). result_of which (sub_of 0 x) 1) dividend
+          ∙ (negated (word_of left) (is_word left left_there) ∙ ap (result_of which (word_of left)) (sym same)))))
+          ))))
+
+      by_other : word_of right ≢ 2 ^ 32 - 1 → Goes 1 (here + loads + 1) (here + (loads + 7)) (Running d)
+      by_other other =
+          let leaps : (if not (q SECOND == q THIRD) then here + loads + 4 else here + loads + 1 + 1) ≡ here + loads + 4 =
+          ap (λ (b : Bool). if not b then here + loads + 4 else here + loads + 1 + 1) (ne_eqb (q SECOND) (q THIRD) (λ e. other (sym divisor ∙ (e ∙ third)))) in
+          walk_branch code formed addresses globals_length (words_per_call * calls) 0 (here + loads + 1) (here + loads + 1) (here + (loads + 7)) c.output c.input _ q w d branch.NotEqual (register_of SECOND) (register_of THIRD) (here + loads + 4) (here + loads + 4) later stands.0 (omega arith) leaps
+          (λ e after.
+          walk_from code formed addresses globals_length (words_per_call * calls) 0 (suc (here + loads + 1)) (here + loads + 4) (here + (loads + 7)) c.output _ (Running e) (omega arith)
+          (divided q e after last_stands zero_same base_same left_same back_same
+          (λ e. nonzero (sym divisor ∙ e)) (λ e1 e2. other (sym divisor ∙ e2))
+          (ap (λ (x : ℕ). result_of which x (q SECOND)) dividend ∙ ap (result_of which (word_of left)) divisor)))
+
+      either_goes : Goes 1 (here + loads + 1) (here + (loads + 7)) (Running d)
+      either_goes = elim (cases_eq (word_of right) (2 ^ 32 - 1)) [
+        | inl same ↦ by_minus_one same
+        | inr other ↦ by_other other
+      ]
+
+    pub divide_goes : Stands code here (divide_code frame here which destination left right) → Goes 1 here (here + (load_count left + load_count right + 7)) (Running run)
     divide_goes stands =
-        let behind = stands_back code here (ordinary tested) (lines.Branch branch.NotEqual (register_of 9) (register_of 10) (here + 6) ∷ ordinary (changed ++ divides which destination)) stands in
-        let to_divide = stands_back code (here + 3 + 1) (ordinary changed) (ordinary (divides which destination)) behind.1 in
-        let six : here + 3 + 1 + 2 ≡ here + 6 = omega arith in
-        let last : Stands code (here + 6) (ordinary (divides which destination)) = subst (λ (n : ℕ). Stands code n (ordinary (divides which destination))) six to_divide in
-        walk_few code formed addresses globals_length (words_per_call * calls) 1 (3 + 1) here (here + 9) c.output _ (Running run) (omega arith)
-        (walk_block code formed addresses globals_length (words_per_call * calls) tested 1 here here (here + 9) c.output c.input _ r w run now
-        (stands_front code here (ordinary tested) (lines.Branch branch.NotEqual (register_of 9) (register_of 10) (here + 6) ∷ ordinary (changed ++ divides which destination)) stands)
-        ((refl, cell left left_below), ((refl, cell right right_below), (refl, tt))) (omega arith)
-        (λ d later. elim (cases_eq (word_at right) (2 ^ 32 - 1)) [
-          | inl same ↦
-              let stays : (if not (word_at right == after_r tested r w 10) then here + 6 else here + 3 + 1) ≡ here + 3 + 1 =
-              ap (λ (b : Bool). if not b then here + 6 else here + 3 + 1) (eq-eqb (word_at right) (after_r tested r w 10) (same ∙ sym minus_one)) in
-              walk_branch code formed addresses globals_length (words_per_call * calls) 0 (here + 3) (here + 3) (here + 9) c.output c.input _ (after_r tested r w) w d branch.NotEqual (register_of 9) (register_of 10) (here + 6) (here + 3 + 1) later behind.0 (omega arith) stays
-              (λ e after.
-              walk_few code formed addresses globals_length (words_per_call * calls) 0 (2 + 0) (suc (here + 3)) (here + 9) c.output _ (Running e) (omega arith)
-              (walk_block code formed addresses globals_length (words_per_call * calls) changed 0 (here + 3 + 1) (suc (here + 3)) (here + 9) c.output c.input _ (after_r tested r w) w e after
-              (stands_front code (here + 3 + 1) (ordinary changed) (ordinary (divides which destination)) behind.1) (refl, (refl, tt)) (omega arith)
-              (λ f there.
-              walk_from code formed addresses globals_length (words_per_call * calls) 0 (here + 3 + 1 + 2) (here + 6) (here + 9) c.output _ (Running f) (omega arith)
-              (divided (after_r changed (after_r tested r w) w) f (now_at code formed addresses globals_length (words_per_call * calls) (here + 3 + 1 + 2) (here + 6) c.output c.input _ _ f six there) last refl refl refl refl
-              (λ e. absurd (omega (arith, e, small_is 1 (omega arith))))
-              (λ e1 e2. absurd (omega (arith, e2, small_is 1 (omega arith))))
-              (ap (λ (x : ℕ). result_of which (sub_of x (word_at left)) (add_of (r 0) (sign_extended 1))) s.zero_is
-              ∙ (ap (result_of which (sub_of 0 (word_at left))) (small_is 1 (omega arith))
-              ∙ (negated (word_at left) (is_word left)
-              ∙ (ap (result_of which (word_at left)) (sym same) ∙ both (result_of which) left right left_below right_below)))))
-              )))
-          | inr other ↦
-              let leaps : (if not (word_at right == after_r tested r w 10) then here + 6 else here + 3 + 1) ≡ here + 6 =
-              ap (λ (b : Bool). if not b then here + 6 else here + 3 + 1) (ne_eqb (word_at right) (after_r tested r w 10) (λ e. other (e ∙ minus_one))) in
-              walk_branch code formed addresses globals_length (words_per_call * calls) 0 (here + 3) (here + 3) (here + 9) c.output c.input _ (after_r tested r w) w d branch.NotEqual (register_of 9) (register_of 10) (here + 6) (here + 6) later behind.0 (omega arith) leaps
-              (λ e after.
-              walk_from code formed addresses globals_length (words_per_call * calls) 0 (suc (here + 3)) (here + 6) (here + 9) c.output _ (Running e) (omega arith)
-              (divided (after_r tested r w) e after last refl refl refl refl
-              (λ e. nonzero (sym (word_is right right_below) ∙ e)) (λ e1 e2. other e2)
-              (both (result_of which) left right left_below right_below)))
-        ]))
+        let put_all = divided_put globals_length (words_per_call * calls) frame (r 29) w c.active.slots r w s.zero_is refl refl left right (held left left_there) (held right right_there) in
+        let long : length tested ≡ loads + 1 = length_divided frame left right in
+        let there : here + length tested ≡ here + loads + 1 = omega (arith, long) in
+        let behind = stands_back code here (ordinary tested) (lines.Branch branch.NotEqual (register_of SECOND) (register_of THIRD) (here + loads + 4) ∷ last) stands in
+        let behind_here : Stands code (here + loads + 1) (lines.Branch branch.NotEqual (register_of SECOND) (register_of THIRD) (here + loads + 4) ∷ last) =
+        subst (λ (n : ℕ). Stands code n (lines.Branch branch.NotEqual (register_of SECOND) (register_of THIRD) (here + loads + 4) ∷ last)) (ap (λ (n : ℕ). here + n) (length_ordinary tested) ∙ there) behind in
+        walk_few code formed addresses globals_length (words_per_call * calls) 1 (length tested + 1) here (here + (loads + 7)) c.output _ (Running run) (omega arith)
+        (walk_block code formed addresses globals_length (words_per_call * calls) tested 1 here here (here + (loads + 7)) c.output c.input _ r w run now
+        (stands_front code here (ordinary tested) (lines.Branch branch.NotEqual (register_of SECOND) (register_of THIRD) (here + loads + 4) ∷ last) stands)
+        put_all.keeps.safe (omega arith)
+        (λ d later.
+        walk_from code formed addresses globals_length (words_per_call * calls) 1 (here + length tested) (here + loads + 1) (here + (loads + 7)) c.output _ (Running d) (omega (arith, there))
+        (either_goes (after_r tested r w) d
+        (now_at code formed addresses globals_length (words_per_call * calls) (here + length tested) (here + loads + 1) c.output c.input _ _ d there
+        (now_is code formed addresses globals_length (words_per_call * calls) (here + length tested) c.output c.input _ _ _ _ d refl put_all.keeps.memory later))
+        behind_here put_all.keeps.zero put_all.keeps.base put_all.keeps.left put_all.keeps.back put_all.dividend put_all.divisor put_all.minus_one)))
 
   -- ---- jumps
 
@@ -324,33 +328,60 @@ module _ (program : Program) (well : IsWellFormed program) (frames : List Frame)
   line_taken true target other line n same = refl
   line_taken false target other line n same = same
 
-  -- a test of a slot, and a branch
-  module _ (i : Instruction) (at_i : IsAt i) (condition target : ℕ) (below : condition < slots) (op : BranchOp) (taken : Bool)
-      (takes : branch_taken op (word_at condition) (r 0) ≡ taken) (does : performed program zeros c i ≡ states.Running (at c (if taken then target else c.active.next + 1))) (count : count_of program c.active.function i ≡ 2) where
-    branch_goes : Stands code here (ordinary (load_slot frame 8 condition ∷ []) ++ lines.Branch op (register_of 8) (register_of 0) (instruction_line program c.active.function target) ∷ []) → Goes 1 here (here + 2) (Running run)
-    branch_goes stands =
-        let line : ℕ → ℕ = instruction_line program c.active.function in
-        let behind = stands_back code here (ordinary (load_slot frame 8 condition ∷ [])) (lines.Branch op (register_of 8) (register_of 0) (line target) ∷ []) stands in
-        let next : here + 1 + 1 ≡ line (c.active.next + 1) = omega (arith, line_next program c.active.function c.active.next i at_i, count) in
-        let there : (if branch_taken op (word_at condition) (r 0) then line target else here + 1 + 1) ≡ line (if taken then target else c.active.next + 1) =
-        ap (λ (b : Bool). if b then line target else here + 1 + 1) takes ∙ line_taken taken target (c.active.next + 1) line (here + 1 + 1) next in
-        walk_few code formed addresses globals_length (words_per_call * calls) 1 (1 + 1) here (here + 2) c.output _ (Running run) (omega arith)
-        (walk_block code formed addresses globals_length (words_per_call * calls) (load_slot frame 8 condition ∷ []) 1 here here (here + 2) c.output c.input _ r w run now (stands.0, tt) ((refl, cell condition below), tt) (omega arith)
-        (λ d later.
-        walk_branch code formed addresses globals_length (words_per_call * calls) 0 (here + 1) (here + 1) (here + 2) c.output c.input _ (after_r (load_slot frame 8 condition ∷ []) r w) w d op (register_of 8) (register_of 0) (line target) (line (if taken then target else c.active.next + 1)) later behind.0 (omega arith) there
-        (λ e after.
-        walk_end code formed addresses globals_length (words_per_call * calls) (suc (here + 1)) (here + 2) c.output _ (Running e) (omega arith)
-        (reached_at program well frames fit code formed addresses pages calls few c i at_i r w base s (at c (if taken then target else c.active.next + 1)) (line (if taken then target else c.active.next + 1)) e (after_r (load_slot frame 8 condition ∷ []) r w) w refl refl refl refl refl refl does refl refl refl refl refl refl after))))
+  -- a block that leaves what is tested in two registers, and the branch
+  branch_by : (i : Instruction) → IsAt i → (is : List Instr) (op : BranchOp) (left right target count : ℕ) (taken : Bool) → KeepsHere is
+      → branch_taken op (after_r is r w (left % 32)) (after_r is r w (right % 32)) ≡ taken → performed program zeros c i ≡ states.Running (at c (if taken then target else c.active.next + 1))
+      → length is + 1 ≡ count → count_of program c.active.function i ≡ count
+      → Stands code here (ordinary is ++ lines.Branch op (register_of left) (register_of right) (instruction_line program c.active.function target) ∷ []) → Goes 1 here (here + count) (Running run)
+  branch_by i at_i is op left right target count taken keeps takes does long counted stands =
+      let line : ℕ → ℕ = instruction_line program c.active.function in
+      let last : Line = lines.Branch op (register_of left) (register_of right) (line target) in
+      let behind = stands_back code here (ordinary is) (last ∷ []) stands in
+      let here_is : here + length (ordinary is) ≡ here + length is = ap (λ (n : ℕ). here + n) (length_ordinary is) in
+      let last_stands : slice_get code.lines (here + length is) ≡ Some last = subst (λ (n : ℕ). slice_get code.lines n ≡ Some last) here_is behind.0 in
+      let next : here + length is + 1 ≡ line (c.active.next + 1) = omega (arith, line_next program c.active.function c.active.next i at_i, counted, long) in
+      let there : (if branch_taken op (after_r is r w (left % 32)) (after_r is r w (right % 32)) then line target else here + length is + 1) ≡ line (if taken then target else c.active.next + 1) =
+      ap (λ (b : Bool). if b then line target else here + length is + 1) takes ∙ line_taken taken target (c.active.next + 1) line (here + length is + 1) next in
+      walk_few code formed addresses globals_length (words_per_call * calls) 1 (length is + 1) here (here + count) c.output _ (Running run) (omega arith)
+      (walk_block code formed addresses globals_length (words_per_call * calls) is 1 here here (here + count) c.output c.input _ r w run now (stands_front code here (ordinary is) (last ∷ []) stands) keeps.safe (omega arith)
+      (λ d later.
+      walk_branch code formed addresses globals_length (words_per_call * calls) 0 (here + length is) (here + length is) (here + count) c.output c.input _ (after_r is r w) (after_w is r w) d op (register_of left) (register_of right) (line target) (line (if taken then target else c.active.next + 1)) later last_stands (omega arith) there
+      (λ e after.
+      walk_end code formed addresses globals_length (words_per_call * calls) (suc (here + length is)) (here + count) c.output _ (Running e) (omega (arith, long))
+      (reached_at program well frames fit code formed addresses pages calls few c i at_i r w base s (at c (if taken then target else c.active.next + 1)) (line (if taken then target else c.active.next + 1)) e (after_r is r w) (after_w is r w)
+      refl refl refl refl refl refl does refl keeps.zero keeps.base keeps.left keeps.back keeps.memory after))))
 
-  pub jump_if_zero_goes : (condition target : ℕ) → IsAt (plain.JumpIfZero condition target) → condition < slots → Stands code here (body program frames c.active.function here (plain.JumpIfZero condition target)) → Goes 1 here (here + 2) (Running run)
-  jump_if_zero_goes condition target at_i below stands =
-      branch_goes (plain.JumpIfZero condition target) at_i condition target below branch.Equal (c.active.slots condition == 0)
-      (ap (λ (x : ℕ). word_at condition == x) s.zero_is ∙ ap (λ (x : ℕ). x == 0) (word_is condition below)) refl (omega arith) stands
+  -- what a test computes can be computed
+  abbrev IsTestComputable : Test → Type 0
+  IsTestComputable (tests.Operands op left right) = Unit {0}
+  IsTestComputable (tests.Computed plan) = IsComputable globals_length (words_per_call * calls) plan.operation (word_of plan.left) (word_of plan.right)
 
-  pub jump_if_nonzero_goes : (condition target : ℕ) → IsAt (plain.JumpIfNonzero condition target) → condition < slots → Stands code here (body program frames c.active.function here (plain.JumpIfNonzero condition target)) → Goes 1 here (here + 2) (Running run)
-  jump_if_nonzero_goes condition target at_i below stands =
-      branch_goes (plain.JumpIfNonzero condition target) at_i condition target below branch.NotEqual (not (c.active.slots condition == 0))
-      (ap (λ (x : ℕ). not (word_at condition == x)) s.zero_is ∙ ap (λ (x : ℕ). not (x == 0)) (word_is condition below)) refl (omega arith) stands
+  test_goes_by : (i : Instruction) → IsAt i → (test : Test) (target : ℕ) (taken : Bool) → OfTest Held (omega arith) test → IsTestComputable test → test_taken c.active.slots test ≡ taken
+      → performed program zeros c i ≡ states.Running (at c (if taken then target else c.active.next + 1)) → count_of program c.active.function i ≡ test_count test + 1
+      → Stands code here (branch_code frame test (instruction_line program c.active.function target)) → Goes 1 here (here + (test_count test + 1)) (Running run)
+  test_goes_by i at_i (tests.Operands op left right) target taken (l, t) fine is does counted stands =
+      let loaded = operands_put globals_length (words_per_call * calls) frame (r 29) w c.active.slots r w s.zero_is refl refl left right l t in
+      branch_by i at_i (operands_code frame left right) op (operand_register FIRST left) (operand_register SECOND right) target (test_count (tests.Operands op left right) + 1) taken loaded.keeps
+      (ap (λ (x : ℕ). branch_taken op x (after_r (operands_code frame left right) r w (operand_register SECOND right % 32))) loaded.left_is ∙ (ap (branch_taken op (word_of left)) loaded.right_is ∙ is))
+      does (omega (arith, length_test frame (tests.Operands op left right))) counted stands
+  test_goes_by i at_i (tests.Computed plan) target taken (l, t) fine is does counted stands =
+      let leaves = operation_leaves globals_length (words_per_call * calls) frame (r 29) w c.active.slots r w s.zero_is refl refl plan l t fine in
+      branch_by i at_i (operation_of frame plan) (branch_on plan.outcome) FIRST ZERO target (test_count (tests.Computed plan) + 1) taken leaves.keeps
+      (ap (λ (x : ℕ). branch_taken (branch_on plan.outcome) x (after_r (operation_of frame plan) r w ZERO)) leaves.result
+      ∙ (ap (branch_taken (branch_on plan.outcome) (operation_word c.active.slots plan)) (leaves.keeps.zero ∙ s.zero_is) ∙ is))
+      does (omega (arith, length_test frame (tests.Computed plan))) counted stands
+
+  test_computable : (comparison : Comparison) (left right : Operand) → IsTestComputable (test_of comparison left right)
+  test_computable comparisons.Equal left right = tt
+  test_computable comparisons.NotEqual left right = tt
+  test_computable comparison left right = comparison_computable globals_length (words_per_call * calls) comparison left right (word_of (comparison_plan comparison left right).left) (word_of (comparison_plan comparison left right).right)
+
+  pub branch_goes : (comparison : Comparison) (left right : Operand) (target : ℕ) → IsAt (plain.Branch comparison left right target) → IsThere left → IsThere right
+      → Stands code here (body program frames c.active.function here (plain.Branch comparison left right target)) → Goes 1 here (here + body_count program c.active.function (plain.Branch comparison left right target)) (Running run)
+  branch_goes comparison left right target at_i l t stands =
+      test_goes_by (plain.Branch comparison left right target) at_i (test_of comparison left right) target (compares comparison (word_of left) (word_of right))
+      (of_test Held (omega arith) left right (held left l) (held right t) comparison) (test_computable comparison left right)
+      (test_goes c.active.slots left right (is_word left l) (is_word right t) comparison) refl (omega arith) stands
 
   -- ---- bytes
 
@@ -376,86 +407,123 @@ module _ (program : Program) (well : IsWellFormed program) (frames : List Frame)
       walk_end code formed addresses globals_length (words_per_call * calls) (here + 1 + 1 + 1) (here + 3) c.output _ (Running f) (omega arith)
       (reached_gives program well frames fit code formed addresses pages calls few c (plain.ReadByte destination) at_i r w base s destination (byte_of c.input) (drop 1 c.input) (here + 1 + 1 + 1) f _ _ below refl (read_rest c.input s.input) (omega arith) refl refl refl refl refl there))))))
 
-  pub write_goes : (source : ℕ) → IsAt (plain.WriteByte source) → source < slots → Stands code here (body program frames c.active.function here (plain.WriteByte source)) → Goes 1 here (here + 3) (Running run)
-  write_goes source at_i below stands =
-      let behind = stands_back code here (ordinary (load_slot frame 4 source ∷ small 2 2 ∷ [])) (ordinary (syscall ∷ [])) stands in
-      walk_few code formed addresses globals_length (words_per_call * calls) 1 (2 + 1) here (here + 3) c.output _ (Running run) (omega arith)
-      (walk_block code formed addresses globals_length (words_per_call * calls) (load_slot frame 4 source ∷ small 2 2 ∷ []) 1 here here (here + 3) c.output c.input _ r w run now
-      (stands_front code here (ordinary (load_slot frame 4 source ∷ small 2 2 ∷ [])) (ordinary (syscall ∷ [])) stands) ((refl, cell source below), (refl, tt)) (omega arith)
+  pub write_goes : (source : Operand) → IsAt (plain.WriteByte source) → IsThere source → Stands code here (body program frames c.active.function here (plain.WriteByte source)) → Goes 1 here (here + (load_count source + 2)) (Running run)
+  write_goes source at_i there stands =
+      let is : List Instr = load_code frame ARGUMENT source in
+      let last : List Instr = small SERVICE PUT_BYTE ∷ syscall ∷ [] in
+      let puts = load_puts globals_length (words_per_call * calls) frame (r 29) w c.active.slots r w s.zero_is refl refl ARGUMENT refl source (held source there) in
+      let keeps = puts_keeps globals_length (words_per_call * calls) is r w ARGUMENT _ _ (argument_scratch globals_length (words_per_call * calls)) puts in
+      let behind = stands_behind code here is last stands in
+      let long : length is ≡ load_count source = length_load frame ARGUMENT source in
+      let q : Words = after_r is r w in
+      let service : add_of (after_r is r w 0) (sign_extended 2) ≡ 2 = ap (λ (x : ℕ). add_of x (sign_extended 2)) keeps.zero ∙ small_is 2 (omega arith) in
+      walk_few code formed addresses globals_length (words_per_call * calls) 1 (length is + (1 + 1)) here (here + (load_count source + 2)) c.output _ (Running run) (omega arith)
+      (walk_block code formed addresses globals_length (words_per_call * calls) is (1 + 1) here here (here + (load_count source + 2)) c.output c.input _ r w run now
+      (stands_first code here is last stands) keeps.safe (omega arith)
       (λ d later.
-      walk_put code formed addresses globals_length (words_per_call * calls) (here + 2) (here + 2) (here + 3) c.output c.input _ (after_r (load_slot frame 4 source ∷ small 2 2 ∷ []) r w) w d later behind.0 (omega arith) (omega arith) (small_is 2 (omega arith))
+      walk_block code formed addresses globals_length (words_per_call * calls) (small SERVICE PUT_BYTE ∷ []) 1 (here + length is) (here + length is) (here + (load_count source + 2)) c.output c.input _ (after_r is r w) (after_w is r w) d later
+      (behind.0, tt) (refl, tt) (omega arith)
       (λ e after.
+      walk_put code formed addresses globals_length (words_per_call * calls) (here + length is + 1) (here + length is + 1) (here + (load_count source + 2)) c.output c.input _ (put (after_r is r w) 2 (add_of (after_r is r w 0) (sign_extended 2))) (after_w is r w) e after behind.1.0 (omega arith) (omega (arith, long)) service
+      (λ f printed.
       reached_at program well frames fit code formed addresses pages calls few c (plain.WriteByte source) at_i r w base s
-      (record c { active = record c.active { next = c.active.next + 1 }; output = c.output ++ c.active.slots source % 256 ∷ [] }) (here + 2 + 1) e (after_r (load_slot frame 4 source ∷ small 2 2 ∷ []) r w) w refl refl refl refl refl refl refl
-      (omega (arith, line_next program c.active.function c.active.next (plain.WriteByte source) at_i)) refl refl refl refl refl
-      (subst (λ (x : ℕ). At program well frames fit code formed addresses pages calls few (here + 2 + 1) (c.output ++ x % 256 ∷ []) c.input (after_r (load_slot frame 4 source ∷ small 2 2 ∷ []) r w) w e) (word_is source below) after))))
+      (record c { active = record c.active { next = c.active.next + 1 }; output = c.output ++ word_of source % 256 ∷ [] }) (here + length is + 1 + 1) f (put (after_r is r w) 2 (add_of (after_r is r w 0) (sign_extended 2))) (after_w is r w) refl refl refl refl refl refl refl
+      (omega (arith, line_next program c.active.function c.active.next (plain.WriteByte source) at_i, long)) keeps.zero keeps.base keeps.left keeps.back keeps.memory
+      (subst (λ (x : ℕ). At program well frames fit code formed addresses pages calls few (here + length is + 1 + 1) (c.output ++ x % 256 ∷ []) c.input (put (after_r is r w) 2 (add_of (after_r is r w 0) (sign_extended 2))) (after_w is r w) f) puts.result printed)))))
 
   -- ---- globals
 
-  global_address : (global : ℕ) → global < length program.globals → bit_or (load_upper_result ((data_base + 4 * global) / 2 ^ 16)) ((data_base + 4 * global) % 2 ^ 16) ≡ data_base + 4 * global
-  global_address global below = two_halves (data_base + 4 * global) (omega (arith, well.globals))
+  global_memory : (global : ℕ) → global < length program.globals → memory_address (load_upper_result ((data_base + 4 * global + 2 ^ 15) / 2 ^ 16)) ((data_base + 4 * global) % 2 ^ 16) ≡ data_base + 4 * global
+  global_memory global below = global_lies (data_base + 4 * global) (omega (arith, well.globals))
 
-  global_memory : (global : ℕ) → global < length program.globals → memory_address (bit_or (load_upper_result ((data_base + 4 * global) / 2 ^ 16)) ((data_base + 4 * global) % 2 ^ 16)) 0 ≡ data_base + 4 * global
-  global_memory global below =
-      ap (λ (x : ℕ). memory_address x 0) (global_address global below)
-      ∙ (address_at (data_base + 4 * global) 0 (omega arith) (omega (arith, well.globals)) ∙ (let e : data_base + 4 * global + 0 ≡ data_base + 4 * global = omega arith in e))
-
-  global_stands : (global : ℕ) → global < length program.globals → IsCell globals_length (words_per_call * calls) (memory_address (bit_or (load_upper_result ((data_base + 4 * global) / 2 ^ 16)) ((data_base + 4 * global) % 2 ^ 16)) 0)
+  global_stands : (global : ℕ) → global < length program.globals → IsCell globals_length (words_per_call * calls) (memory_address (load_upper_result ((data_base + 4 * global + 2 ^ 15) / 2 ^ 16)) ((data_base + 4 * global) % 2 ^ 16))
   global_stands global below =
       subst (IsCell globals_length (words_per_call * calls)) (sym (global_memory global below))
       (global_cell program well frames fit addresses pages calls few c r w base (r 31) (suc (length c.frames)) c.active.slots s global below)
 
   pub load_global_goes : (destination global : ℕ) → IsAt (plain.LoadGlobal destination global) → destination < slots → global < length program.globals
-      → Stands code here (body program frames c.active.function here (plain.LoadGlobal destination global)) → Goes 1 here (here + 4) (Running run)
+      → Stands code here (body program frames c.active.function here (plain.LoadGlobal destination global)) → Goes 1 here (here + 3) (Running run)
   load_global_goes destination global at_i below global_below stands =
-      gives_by (plain.LoadGlobal destination global) at_i
-      (constant 9 (data_base + 4 * global) ++ machine.Memory LoadWord (register_of 8) (register_of 9) 0 ∷ store_slot frame 8 destination ∷ []) destination (c.globals global) (omega arith) stands
-      (refl, (refl, ((refl, global_stands global global_below), (cell destination below, tt)))) below refl refl refl refl refl refl
-      (ap (λ (a : ℕ). into destination (w a)) (global_memory global global_below) ∙ ap (into destination) (s.globals global global_below))
+      gives_by (plain.LoadGlobal destination global) at_i (upper_of_global global ∷ at_global LoadWord FIRST global ∷ []) FIRST destination (c.globals global) 3
+      (record { safe = (refl, ((refl, global_stands global global_below), tt)); memory = refl; zero = refl; base = refl; left = refl; back = refl })
+      (ap w (global_memory global global_below) ∙ s.globals global global_below) below refl (omega arith) (omega arith) stands
 
-  pub store_global_goes : (global source : ℕ) → IsAt (plain.StoreGlobal global source) → global < length program.globals → source < slots
-      → Stands code here (body program frames c.active.function here (plain.StoreGlobal global source)) → Goes 1 here (here + 4) (Running run)
-  store_global_goes global source at_i global_below below stands =
-      let is : List Instr = load_slot frame 8 source ∷ (constant 9 (data_base + 4 * global) ++ machine.Memory StoreWord (register_of 8) (register_of 9) 0 ∷ []) in
-      let d : Configuration = record c { active = record c.active { next = c.active.next + 1 }; globals = put c.globals global (c.active.slots source) } in
-      let written : after_w is r w ≡ put w (data_base + 4 * global) (c.active.slots source) =
-      ap (λ (a : ℕ). put w a (word_at source)) (global_memory global global_below) ∙ ap (put w (data_base + 4 * global)) (word_is source below) in
-      let one = standing_global program well frames fit addresses pages calls few c r w base (r 31) (suc (length c.frames)) c.active.slots s global (c.active.slots source) global_below in
-      let c' : Configuration = record c { globals = put c.globals global (c.active.slots source) } in
-      let two = standing_registers program well frames fit addresses pages calls few c' r (put w (data_base + 4 * global) (c.active.slots source)) base (r 31) (suc (length c.frames)) c.active.slots one (after_r is r w) refl refl refl in
-      let three = standing_at program well frames fit addresses pages calls few c' (after_r is r w) (put w (data_base + 4 * global) (c.active.slots source)) base (r 31) (suc (length c.frames)) c.active.slots two d refl refl refl refl s.input in
-      let four = subst (λ (x : Words). Standing program frames addresses pages calls d (after_r is r w) x base (r 31) (suc (length c.frames)) c.active.slots) (sym written) three in
-      let line : here + 4 ≡ instruction_line program c.active.function (c.active.next + 1) = omega (arith, line_next program c.active.function c.active.next (plain.StoreGlobal global source) at_i) in
-      walk_few code formed addresses globals_length (words_per_call * calls) 1 (4 + 0) here (here + 4) c.output _ (Running run) (omega arith)
-      (walk_block code formed addresses globals_length (words_per_call * calls) is 0 here here (here + 4) c.output c.input _ r w run now stands
-      ((refl, cell source below), (refl, (refl, (global_stands global global_below, tt)))) (omega arith)
+  not_second : (b : Bool) → (if b then ZERO else FIRST) % 32 ≢ SECOND
+  not_second true same = absurd (omega (arith, same))
+  not_second false same = absurd (omega (arith, same))
+
+  pub store_global_goes : (global : ℕ) (source : Operand) → IsAt (plain.StoreGlobal global source) → global < length program.globals → IsThere source
+      → Stands code here (body program frames c.active.function here (plain.StoreGlobal global source)) → Goes 1 here (here + (operand_count source + 2)) (Running run)
+  store_global_goes global source at_i global_below there stands =
+      let is : List Instr = operand_code frame FIRST source in
+      let last : List Instr = upper_of_global global ∷ at_global StoreWord (operand_register FIRST source) global ∷ [] in
+      let upper : ℕ = load_upper_result ((data_base + 4 * global + 2 ^ 15) / 2 ^ 16) in
+      let puts = operand_puts globals_length (words_per_call * calls) frame (r 29) w c.active.slots r w s.zero_is refl refl FIRST refl source (held source there) in
+      let keeps = puts_keeps globals_length (words_per_call * calls) is r w FIRST _ _ (first_scratch globals_length (words_per_call * calls)) puts in
+      let long : length is ≡ operand_count source = length_operand frame FIRST source in
+      let q : Words = put (after_r is r w) SECOND (load_upper_result ((data_base + 4 * global + 2 ^ 15) / 2 ^ 16)) in
+      let v : Words = put (after_w is r w) (memory_address upper ((data_base + 4 * global) % 2 ^ 16)) (q (operand_register FIRST source % 32)) in
+      let d : Configuration = record c { active = record c.active { next = c.active.next + 1 }; globals = put c.globals global (word_of source) } in
+      let stored : q (operand_register FIRST source % 32) ≡ word_of source =
+      put-other (after_r is r w) SECOND (operand_register FIRST source % 32) upper (not_second (is_zero_word source)) ∙ puts.result in
+      let written : v ≡ put w (data_base + 4 * global) (word_of source) =
+      ap (λ (x : Words). put x (memory_address upper ((data_base + 4 * global) % 2 ^ 16)) (q (operand_register FIRST source % 32))) keeps.memory
+      ∙ (ap (λ (a : ℕ). put w a (q (operand_register FIRST source % 32))) (global_memory global global_below) ∙ ap (put w (data_base + 4 * global)) stored) in
+      let one = standing_global program well frames fit addresses pages calls few c r w base (r 31) (suc (length c.frames)) c.active.slots s global (word_of source) global_below in
+      let c' : Configuration = record c { globals = put c.globals global (word_of source) } in
+      let two = standing_registers program well frames fit addresses pages calls few c' r (put w (data_base + 4 * global) (word_of source)) base (r 31) (suc (length c.frames)) c.active.slots one q keeps.zero keeps.base keeps.left in
+      let three = standing_at program well frames fit addresses pages calls few c' q (put w (data_base + 4 * global) (word_of source)) base (r 31) (suc (length c.frames)) c.active.slots two d refl refl refl refl s.input in
+      let with_back = subst (λ (b : ℕ). Standing program frames addresses pages calls d q (put w (data_base + 4 * global) (word_of source)) base b (suc (length c.frames)) c.active.slots) (sym keeps.back) three in
+      let four = subst (λ (x : Words). Standing program frames addresses pages calls d q x base (q 31) (suc (length c.frames)) c.active.slots) (sym written) with_back in
+      let line : here + length is + 2 ≡ instruction_line program c.active.function (c.active.next + 1) = omega (arith, line_next program c.active.function c.active.next (plain.StoreGlobal global source) at_i, long) in
+      walk_few code formed addresses globals_length (words_per_call * calls) 1 (length is + (2 + 0)) here (here + (operand_count source + 2)) c.output _ (Running run) (omega arith)
+      (walk_block code formed addresses globals_length (words_per_call * calls) is (2 + 0) here here (here + (operand_count source + 2)) c.output c.input _ r w run now (stands_first code here is last stands) keeps.safe (omega arith)
+      (λ f before.
+      walk_block code formed addresses globals_length (words_per_call * calls) last 0 (here + length is) (here + length is) (here + (operand_count source + 2)) c.output c.input _ (after_r is r w) (after_w is r w) f before (stands_behind code here is last stands)
+      (refl, (global_stands global global_below, tt)) (omega arith)
       (λ e later.
-      walk_end code formed addresses globals_length (words_per_call * calls) (here + 4) (here + 4) c.output _ (Running e) (omega arith)
+      walk_end code formed addresses globals_length (words_per_call * calls) (here + length is + 2) (here + (operand_count source + 2)) c.output _ (Running e) (omega (arith, long))
       (reached program well frames fit code formed addresses pages calls few c zeros (plain.StoreGlobal global source) (states.Running d) (Running e) zeros_allowed at_i refl
       (within program well frames fit code formed addresses pages calls few d s.paged s.deep)
       (inl (record {
         run = e;
-        r = after_r is r w;
-        w = after_w is r w;
+        r = q;
+        w = v;
         base = base;
         is = refl;
-        now = now_at code formed addresses globals_length (words_per_call * calls) (here + 4) (instruction_line program c.active.function (c.active.next + 1)) c.output c.input _ _ e line later;
+        now = now_at code formed addresses globals_length (words_per_call * calls) (here + length is + 2) (instruction_line program c.active.function (c.active.next + 1)) c.output c.input _ _ e line later;
         standing = four;
-      })))))
+      }))))))
 
   -- ---- the end by an exception
 
-  pub uncaught_goes : (tag value : ℕ) → IsAt (plain.Uncaught tag value) → value < slots → IsWord tag → Stands code here (body program frames c.active.function here (plain.Uncaught tag value)) → Goes 1 here (here + 5) (Running run)
-  uncaught_goes tag value at_i below fits stands =
-      let is : List Instr = constant 4 tag ++ load_slot frame 5 value ∷ small 2 4 ∷ [] in
-      let behind = stands_back code here (ordinary is) (ordinary (syscall ∷ [])) stands in
-      let same : Uncaught (after_r is r w 4) (signed (after_r is r w 5)) ≡ Uncaught tag (signed (c.active.slots value)) =
-      ap (λ (x : ℕ). Uncaught x (signed (word_at value))) (two_halves tag fits) ∙ ap (λ (x : ℕ). Uncaught tag (signed x)) (word_is value below) in
-      walk_few code formed addresses globals_length (words_per_call * calls) 1 (4 + 1) here (here + 5) c.output _ (Running run) (omega arith)
-      (walk_block code formed addresses globals_length (words_per_call * calls) is 1 here here (here + 5) c.output c.input _ r w run now
-      (stands_front code here (ordinary is) (ordinary (syscall ∷ [])) stands) (refl, (refl, ((refl, cell value below), (refl, tt)))) (omega arith)
+  pub uncaught_goes : (tag : ℕ) (value : Operand) → IsAt (plain.Uncaught tag value) → IsThere value → IsWord tag → Stands code here (body program frames c.active.function here (plain.Uncaught tag value)) → Goes 1 here (here + (word_count tag + load_count value + 2)) (Running run)
+  uncaught_goes tag value at_i there fits stands =
+      let is : List Instr = word_code ARGUMENT tag in
+      let js : List Instr = load_code frame SECOND_ARGUMENT value in
+      let last : List Instr = small SERVICE END_UNCAUGHT ∷ syscall ∷ [] in
+      let first = word_puts globals_length (words_per_call * calls) r w ARGUMENT tag refl fits in
+      let keeps = puts_keeps globals_length (words_per_call * calls) is r w ARGUMENT _ _ (argument_scratch globals_length (words_per_call * calls)) first in
+      let second = load_puts globals_length (words_per_call * calls) frame (r 29) w c.active.slots (after_r is r w) (after_w is r w) (keeps.zero ∙ s.zero_is) keeps.base keeps.memory SECOND_ARGUMENT refl value (held value there) in
+      let q : Words = after_r js (after_r is r w) (after_w is r w) in
+      let zero : q 0 ≡ 0 = second.others ZERO (omega arith) (λ e. absurd (omega (arith, e))) ∙ (keeps.zero ∙ s.zero_is) in
+      let service : add_of (q 0) (sign_extended 4) ≡ 4 = ap (λ (x : ℕ). add_of x (sign_extended 4)) (zero ∙ sym s.zero_is) ∙ small_is 4 (omega arith) in
+      let tagged : q ARGUMENT ≡ tag = second.others ARGUMENT (omega arith) (λ e. absurd (omega (arith, e))) ∙ first.result in
+      let same : Uncaught (q ARGUMENT) (signed (q SECOND_ARGUMENT)) ≡ Uncaught tag (signed (word_of value)) =
+      ap (λ (x : ℕ). Uncaught x (signed (q SECOND_ARGUMENT))) tagged ∙ ap (λ (x : ℕ). Uncaught tag (signed x)) second.result in
+      let behind = stands_behind code here is (js ++ last) stands in
+      let at_last = stands_behind code (here + length is) js last behind in
+      let hi : ℕ = here + (word_count tag + load_count value + 2) in
+      let long : length is ≡ word_count tag = length_word ARGUMENT tag in
+      let more : length js ≡ load_count value = length_load frame SECOND_ARGUMENT value in
+      walk_few code formed addresses globals_length (words_per_call * calls) 1 (length is + (length js + (1 + 1))) here hi c.output _ (Running run) (omega arith)
+      (walk_block code formed addresses globals_length (words_per_call * calls) is (length js + (1 + 1)) here here hi c.output c.input _ r w run now (stands_first code here is (js ++ last) stands) first.safe (omega arith)
       (λ d later.
-      walk_uncaught code formed addresses globals_length (words_per_call * calls) (here + 4) (here + 4) (here + 5) c.output c.input _ (after_r is r w) w d later behind.0 (omega arith) (omega arith) (small_is 4 (omega arith))
-      (reached program well frames fit code formed addresses pages calls few c zeros (plain.Uncaught tag value) (states.Ended (Uncaught tag (signed (c.active.slots value))) c.output c.input) _ zeros_allowed at_i refl
-      (over_within pages calls (Uncaught tag (signed (c.active.slots value))) c.output c.input)
-      (ap (λ (e : Ending). Ended e c.output c.input) same))))
+      walk_block code formed addresses globals_length (words_per_call * calls) js (1 + 1) (here + length is) (here + length is) hi c.output c.input _ (after_r is r w) (after_w is r w) d later (stands_first code (here + length is) js last behind) second.safe (omega arith)
+      (λ e after.
+      walk_block code formed addresses globals_length (words_per_call * calls) (small SERVICE END_UNCAUGHT ∷ []) 1 (here + length is + length js) (here + length is + length js) hi c.output c.input _ q (after_w js (after_r is r w) (after_w is r w)) e after (at_last.0, tt) (refl, tt) (omega arith)
+      (λ f prepared.
+      walk_uncaught code formed addresses globals_length (words_per_call * calls) (here + length is + length js + 1) (here + length is + length js + 1) hi c.output c.input _ (put q 2 (add_of (q 0) (sign_extended 4))) (after_w js (after_r is r w) (after_w is r w)) f prepared at_last.1.0 (omega arith) (omega (arith, long, more)) service
+      (reached program well frames fit code formed addresses pages calls few c zeros (plain.Uncaught tag value) (states.Ended (Uncaught tag (signed (word_of value))) c.output c.input) _ zeros_allowed at_i refl
+      (over_within pages calls (Uncaught tag (signed (word_of value))) c.output c.input)
+      (ap (λ (x : Ending). Ended x c.output c.input) same))))))

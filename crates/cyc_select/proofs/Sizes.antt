@@ -1,5 +1,5 @@
 -- The code has few words for each unit of the program's size.
-use Rattle.std.proofs.Common.{◌≡◌, ℕ, suc, ◌+◌, ◌*◌, ◌≤◌, Bool, true, false, List, [], ◌∷◌, ◌++◌, length, refl, ap, arith}
+use Rattle.std.proofs.Common.{◌≡◌, ℕ, suc, ◌+◌, ◌*◌, ◌≤◌, Bool, true, false, List, [], ◌∷◌, ◌++◌, length, refl, ap, arith, length-append}
 use Rattle.std.specs.Prelude.{sum_by, ◌==◌}
 use Rattle.std.specs.List.{range_with_len}
 use Rattle.std.proofs.lemmas.List.Sums.{sum_by-cons, sum_by-append}
@@ -9,17 +9,28 @@ use Rattle.cyc_plain.specs.declared.instruction.Instruction.{Instruction}
 use Rattle.cyc_plain.specs.declared.instruction.Instruction.TheVariants as plain
 use Rattle.cyc_plain.specs.declared.instruction.BinaryOperator.{BinaryOperator}
 use Rattle.cyc_plain.specs.declared.instruction.BinaryOperator.TheVariants as binary
+use Rattle.cyc_plain.specs.declared.instruction.Operand.{Operand}
+use Rattle.cyc_isa.specs.declared.instr.MemoryOp.TheVariants.{StoreWord}
+use Rattle.cyc_isa.specs.declared.instr.MoveFromOp.{MoveFromOp}
+use Rattle.cyc_isa.specs.declared.instr.MoveFromOp.TheVariants.{High, Low}
+use Rattle.cyc_machine.specs.declared.constants.TheConstants.{ARGUMENT, END_UNCAUGHT, PUT_BYTE, SECOND_ARGUMENT, SERVICE}
 use Rattle.cyc_plain.specs.Program.{Routine, Program, routine_at, instruction_size, size}
 use Rattle.cyc_frame.specs.Layout.{frame_at}
 use Rattle.cyc_frame.specs.declared.frame.Frame.{Frame}
 use Rattle.cyc_select.specs.declared.code.Line.{Line}
 use Rattle.cyc_select.specs.declared.code.Line.TheVariants as lines
+use Rattle.cyc_select.specs.declared.constants.TheConstants.{FIRST, SECOND, THIRD}
+use Rattle.cyc_select.specs.declared.plan.Plan.{Plan}
+use Rattle.cyc_select.specs.declared.plan.Test.{Test}
+use Rattle.cyc_select.specs.declared.plan.Test.TheVariants as tests
+use Rattle.cyc_select.specs.Plans.{unary_plan, binary_plan, test_of}
 use Rattle.cyc_select.specs.Labelled.{Labelled, words_of, all_words}
 use Rattle.cyc_select.specs.Selected.{words_at}
-use Rattle.cyc_select.specs.Selection.{ordinary, copies, store_all, result_registers, ending_code, operator_code, body, behind, count_of, function_count, function_line, code_lines, function_lines, small, syscall, store, add_immediate, minus, push_frame, load}
+use Rattle.cyc_select.specs.Selection.{ordinary, copies, store_all, store_slot, upper_of_global, at_global, word_code, load_code, load_count, operand_code, operand_register, plan_code, test_code, branch_line, branch_code, quotient_code, divided_code, divide_code, result_registers, ending_code, operator_code, body, behind, count_of, function_count, function_line, instruction_line, code_lines, function_lines, small, syscall, store, add_immediate, minus, push_frame, load}
 use Rattle.cyc_isa.specs.Decoding.{register_of}
 use Rattle.cyc_isa.specs.declared.instr.BranchOp.TheVariants as branch
 use Rattle.cyc_select.proofs.Calls.{length-copies}
+use Rattle.cyc_select.proofs.Counts.{load_small, operand_small, plan_small, test_small, length_word, length_load, length_operand, length_plan, length_test, length_divided}
 use Rattle.cyc_select.proofs.Returns.{loaded, length_loaded, length_stores, length_registers}
 use Rattle.cyc_select.proofs.Walks.{Stands}
 
@@ -35,36 +46,38 @@ words_range code a (l ∷ ls) (first, rest) =
     omega (arith, sum_by-cons (words_at code) a (range_with_len (a + 1) (length ls)), sum_by-cons words_of l ls, here, words_range code (a + 1) ls rest)
 
 module _ (program : Program) (frames : List Frame) (few_results : (function : ℕ) → (routine_at program function).results ≤ 3) where
-  operator_words : (frame : Frame) (here : ℕ) (operator : BinaryOperator) (d l r : ℕ) → all_words (operator_code frame here operator d l r) ≤ 20
-  operator_words frame here binary.Add d l r = omega arith
-  operator_words frame here binary.Subtract d l r = omega arith
-  operator_words frame here binary.Multiply d l r = omega arith
-  operator_words frame here binary.Divide d l r = omega arith
-  operator_words frame here binary.Remainder d l r = omega arith
-  operator_words frame here binary.And d l r = omega arith
-  operator_words frame here binary.Or d l r = omega arith
-  operator_words frame here binary.Xor d l r = omega arith
-  operator_words frame here binary.ShiftLeft d l r = omega arith
-  operator_words frame here binary.ShiftRight d l r = omega arith
-  operator_words frame here binary.Equal d l r = omega arith
-  operator_words frame here binary.NotEqual d l r = omega arith
-  operator_words frame here binary.Less d l r = omega arith
-  operator_words frame here binary.LessOrEqual d l r = omega arith
-  operator_words frame here binary.Greater d l r = omega arith
-  operator_words frame here binary.GreaterOrEqual d l r = omega arith
+  divide_words : (frame : Frame) (here : ℕ) (which : MoveFromOp) (destination : ℕ) (left right : Operand) → all_words (divide_code frame here which destination left right) ≤ 14
+  divide_words frame here which destination left right =
+      let behind : List Line = lines.Branch branch.NotEqual (register_of SECOND) (register_of THIRD) (here + (load_count left + load_count right) + 4) ∷ quotient_code frame which destination in
+      omega (arith, sum_by-append words_of (ordinary (divided_code frame left right)) behind, words_ordinary (divided_code frame left right), length_divided frame left right, load_small left, load_small right)
+
+  plan_words : (frame : Frame) (plan : Plan) (destination : ℕ) → all_words (ordinary (plan_code frame plan destination)) ≤ 8
+  plan_words frame plan destination = omega (arith, words_ordinary (plan_code frame plan destination), length_plan frame plan destination, plan_small plan)
+
+  operator_words : (frame : Frame) (here : ℕ) (operator : BinaryOperator) (destination : ℕ) (left right : Operand) → all_words (operator_code frame here operator destination left right) ≤ 14
+  operator_words frame here binary.Divide d l r = divide_words frame here Low d l r
+  operator_words frame here binary.Remainder d l r = divide_words frame here High d l r
+  operator_words frame here operator d l r = omega (arith, plan_words frame (binary_plan operator l r) d)
+
+  branch_words : (test : Test) (label : ℕ) → words_of (branch_line test label) ≤ 4
+  branch_words (tests.Operands op left right) label = omega arith
+  branch_words (tests.Computed plan) label = omega arith
+
+  test_words : (frame : Frame) (test : Test) (label : ℕ) → all_words (branch_code frame test label) ≤ 10
+  test_words frame test label =
+      omega (arith, sum_by-append words_of (ordinary (test_code frame test)) (branch_line test label ∷ []), words_ordinary (test_code frame test), length_test frame test, test_small test, branch_words test label)
 
   ending_words : (b : Bool) (frame : Frame) (here value : ℕ) → all_words (ending_code b frame here value) ≤ 7
   ending_words true frame here value = omega arith
   ending_words false frame here value = omega arith
 
-  body_words : (function here : ℕ) (i : Instruction) → all_words (body program frames function here i) + all_words (behind program frames function i) ≤ 20 * instruction_size i
-  body_words function here (plain.Constant destination word) = omega arith
-  body_words function here (plain.Move destination source) = omega arith
-  body_words function here (plain.Unary operator destination operand) = omega arith
+  body_words : (function here : ℕ) (i : Instruction) → all_words (body program frames function here i) + all_words (behind program frames function i) ≤ 16 * instruction_size i
+  body_words function here (plain.Move destination source) =
+      omega (arith, words_ordinary (operand_code (frame_at frames function) FIRST source ++ store_slot (frame_at frames function) (operand_register FIRST source) destination ∷ []), length-append (operand_code (frame_at frames function) FIRST source) (store_slot (frame_at frames function) (operand_register FIRST source) destination ∷ []), length_operand (frame_at frames function) FIRST source, operand_small source)
+  body_words function here (plain.Unary operator destination operand) = omega (arith, plan_words (frame_at frames function) (unary_plan operator operand) destination)
   body_words function here (plain.Binary operator destination left right) = omega (arith, operator_words (frame_at frames function) here operator destination left right)
   body_words function here (plain.Jump target) = omega arith
-  body_words function here (plain.JumpIfZero condition target) = omega arith
-  body_words function here (plain.JumpIfNonzero condition target) = omega arith
+  body_words function here (plain.Branch comparison left right target) = omega (arith, test_words (frame_at frames function) (test_of comparison left right) (instruction_line program function target))
   body_words function here (plain.Call callee arguments count result) =
       let first : List Line = lines.Branch branch.NotEqual (register_of 30) (register_of 0) (here + 3) ∷ ordinary (small 2 11 ∷ syscall ∷ store 31 (4 * (frame_at frames function).return_address) ∷ add_immediate 30 30 (minus 1) ∷ push_frame (frame_at frames callee) ∷ []) in
       let passed = words_ordinary (copies (frame_at frames function) (frame_at frames callee) arguments 0 count) in
@@ -83,12 +96,17 @@ module _ (program : Program) (frames : List Frame) (few_results : (function : �
       let d = length_loaded (frame_at frames function) value (routine_at program function).results (few_results function) in
       omega (arith, a, b, c, d, ending_words (function == program.main) (frame_at frames function) here value, few_results function)
   body_words function here (plain.ReadByte destination) = omega arith
-  body_words function here (plain.WriteByte source) = omega arith
+  body_words function here (plain.WriteByte source) =
+      omega (arith, words_ordinary (load_code (frame_at frames function) ARGUMENT source ++ small SERVICE PUT_BYTE ∷ syscall ∷ []), length-append (load_code (frame_at frames function) ARGUMENT source) (small SERVICE PUT_BYTE ∷ syscall ∷ []), length_load (frame_at frames function) ARGUMENT source, load_small source)
   body_words function here (plain.LoadGlobal destination global) = omega arith
-  body_words function here (plain.StoreGlobal global source) = omega arith
-  body_words function here (plain.Uncaught tag value) = omega arith
+  body_words function here (plain.StoreGlobal global source) =
+      omega (arith, words_ordinary (operand_code (frame_at frames function) FIRST source ++ upper_of_global global ∷ at_global StoreWord (operand_register FIRST source) global ∷ []), length-append (operand_code (frame_at frames function) FIRST source) (upper_of_global global ∷ at_global StoreWord (operand_register FIRST source) global ∷ []), length_operand (frame_at frames function) FIRST source, operand_small source)
+  body_words function here (plain.Uncaught tag value) =
+      let last : List Instr = small SERVICE END_UNCAUGHT ∷ syscall ∷ [] in
+      let loads : List Instr = load_code (frame_at frames function) SECOND_ARGUMENT value ++ last in
+      omega (arith, words_ordinary (word_code ARGUMENT tag ++ loads), length-append (word_code ARGUMENT tag) loads, length_word ARGUMENT tag, length-append (load_code (frame_at frames function) SECOND_ARGUMENT value) last, length_load (frame_at frames function) SECOND_ARGUMENT value, load_small value)
 
-  pub code_words : (function here : ℕ) (code : List Instruction) → all_words (code_lines program frames function here code) ≤ 20 * sum_by instruction_size code
+  pub code_words : (function here : ℕ) (code : List Instruction) → all_words (code_lines program frames function here code) ≤ 16 * sum_by instruction_size code
   code_words function here [] = omega arith
   code_words function here (i ∷ code) =
       omega (
@@ -100,7 +118,7 @@ module _ (program : Program) (frames : List Frame) (few_results : (function : �
         sum_by-cons instruction_size i code,
       )
 
-  pub functions_words : (function here : ℕ) (routines : List Routine) → all_words (function_lines program frames function here routines) ≤ 20 * sum_by size routines
+  pub functions_words : (function here : ℕ) (routines : List Routine) → all_words (function_lines program frames function here routines) ≤ 16 * sum_by size routines
   functions_words function here [] = omega arith
   functions_words function here (r ∷ routines) =
       omega (

@@ -1,22 +1,33 @@
 -- The code of a program, put together: how long its parts are, and where each stands.
-use Rattle.std.proofs.Common.{◌≡◌, ℕ, zero, suc, ◌+◌, ◌*◌, ◌<◌, ◌≤◌, Bool, true, false, List, [], ◌∷◌, ◌++◌, length, take, Some, None, slice_get, refl, subst, arith, length-append, append_assoc}
+use Rattle.std.proofs.Common.{◌≡◌, ℕ, zero, suc, ◌+◌, ◌*◌, ◌<◌, ◌≤◌, Bool, true, false, List, [], ◌∷◌, ◌++◌, length, take, Some, None, slice_get, refl, subst, ◌∙◌, arith, length-append, append_assoc}
 use Rattle.std.specs.Prelude.{sum_by, ◌==◌, if◌then◌else◌, slice_index_or}
 use Rattle.std.proofs.lemmas.List.Sums.{sum_by-cons}
 use Rattle.cyc_plain.specs.declared.instruction.Instruction.{Instruction}
 use Rattle.cyc_plain.specs.declared.instruction.Instruction.TheVariants as plain
 use Rattle.cyc_plain.specs.declared.instruction.BinaryOperator.{BinaryOperator}
 use Rattle.cyc_plain.specs.declared.instruction.BinaryOperator.TheVariants as binary
+use Rattle.cyc_plain.specs.declared.instruction.Operand.{Operand}
+use Rattle.cyc_isa.specs.Decoding.{register_of}
+use Rattle.cyc_isa.specs.declared.instr.Instr.{Instr}
+use Rattle.cyc_isa.specs.declared.instr.BranchOp.TheVariants as branch
+use Rattle.cyc_isa.specs.declared.instr.MemoryOp.TheVariants.{StoreWord}
+use Rattle.cyc_isa.specs.declared.instr.MoveFromOp.{MoveFromOp}
+use Rattle.cyc_isa.specs.declared.instr.MoveFromOp.TheVariants.{High, Low}
+use Rattle.cyc_machine.specs.declared.constants.TheConstants.{ARGUMENT, END_UNCAUGHT, PUT_BYTE, SECOND_ARGUMENT, SERVICE}
 use Rattle.cyc_plain.specs.Program.{Routine, Program, no_routine, routine_at}
 use Rattle.cyc_plain.specs.Step.{instruction_at}
 use Rattle.cyc_plain.proofs.Steps.{function_known}
 use Rattle.cyc_frame.specs.Layout.{frame_at}
 use Rattle.cyc_frame.specs.declared.frame.Frame.{Frame}
-use Rattle.cyc_select.specs.declared.constants.TheConstants.{START_LINES}
+use Rattle.cyc_select.specs.declared.constants.TheConstants.{FIRST, SECOND, THIRD, START_LINES}
 use Rattle.cyc_select.specs.declared.code.Line.{Line}
 use Rattle.cyc_select.specs.declared.code.Line.TheVariants as lines
+use Rattle.cyc_select.specs.declared.plan.Plan.{Plan}
 use Rattle.cyc_select.specs.Labelled.{Labelled}
-use Rattle.cyc_select.specs.Selection.{ordinary, copies, store_all, result_registers, ending_code, ending_count, operator_code, operator_count, body, behind, body_count, behind_count, count_of, function_count, functions_count, function_line, instruction_line, code_lines, function_lines, start_lines, select_of}
+use Rattle.cyc_select.specs.Plans.{unary_plan, binary_plan, test_of}
+use Rattle.cyc_select.specs.Selection.{ordinary, copies, store_all, store_slot, small, syscall, upper_of_global, at_global, word_code, load_code, load_count, operand_code, operand_register, plan_code, plan_count, test_code, branch_line, quotient_code, divided_code, divide_code, result_registers, ending_code, ending_count, operator_code, operator_count, body, behind, body_count, behind_count, count_of, function_count, functions_count, function_line, instruction_line, code_lines, function_lines, start_lines, select_of}
 use Rattle.cyc_select.proofs.Calls.{length_ordinary, length-copies}
+use Rattle.cyc_select.proofs.Counts.{length_word, length_load, length_operand, length_plan, length_test, length_divided}
 use Rattle.cyc_select.proofs.Returns.{loaded, length_loaded, length_stores, length_registers}
 use Rattle.cyc_select.proofs.Walks.{Stands, stands_front, stands_back}
 
@@ -29,32 +40,29 @@ module _ (program : Program) (frames : List Frame) (few_results : (function : �
   length_ending true frame here value = refl
   length_ending false frame here value = refl
 
-  length_operator : (frame : Frame) (here : ℕ) (operator : BinaryOperator) (destination left right : ℕ) → length (operator_code frame here operator destination left right) ≡ operator_count operator
-  length_operator frame here binary.Add d l r = refl
-  length_operator frame here binary.Subtract d l r = refl
-  length_operator frame here binary.Multiply d l r = refl
-  length_operator frame here binary.Divide d l r = refl
-  length_operator frame here binary.Remainder d l r = refl
-  length_operator frame here binary.And d l r = refl
-  length_operator frame here binary.Or d l r = refl
-  length_operator frame here binary.Xor d l r = refl
-  length_operator frame here binary.ShiftLeft d l r = refl
-  length_operator frame here binary.ShiftRight d l r = refl
-  length_operator frame here binary.Equal d l r = refl
-  length_operator frame here binary.NotEqual d l r = refl
-  length_operator frame here binary.Less d l r = refl
-  length_operator frame here binary.LessOrEqual d l r = refl
-  length_operator frame here binary.Greater d l r = refl
-  length_operator frame here binary.GreaterOrEqual d l r = refl
+  length_divide : (frame : Frame) (here : ℕ) (which : MoveFromOp) (destination : ℕ) (left right : Operand) → length (divide_code frame here which destination left right) ≡ load_count left + load_count right + 7
+  length_divide frame here which destination left right =
+      let behind : List Line = lines.Branch branch.NotEqual (register_of SECOND) (register_of THIRD) (here + (load_count left + load_count right) + 4) ∷ quotient_code frame which destination in
+      omega (arith, length-append (ordinary (divided_code frame left right)) behind, length_ordinary (divided_code frame left right), length_divided frame left right)
+
+  length_planned : (frame : Frame) (plan : Plan) (destination : ℕ) → length (ordinary (plan_code frame plan destination)) ≡ plan_count plan
+  length_planned frame plan destination = length_ordinary (plan_code frame plan destination) ∙ length_plan frame plan destination
+
+  length_operator : (frame : Frame) (here : ℕ) (operator : BinaryOperator) (destination : ℕ) (left right : Operand) → length (operator_code frame here operator destination left right) ≡ operator_count operator left right
+  length_operator frame here binary.Divide d l r = length_divide frame here Low d l r
+  length_operator frame here binary.Remainder d l r = length_divide frame here High d l r
+  length_operator frame here operator d l r = length_planned frame (binary_plan operator l r) d
 
   pub length_body : (function here : ℕ) (i : Instruction) → length (body program frames function here i) ≡ body_count program function i
-  length_body function here (plain.Constant destination word) = refl
-  length_body function here (plain.Move destination source) = refl
-  length_body function here (plain.Unary operator destination operand) = refl
+  length_body function here (plain.Move destination source) =
+      let last : List Instr = store_slot (frame_at frames function) (operand_register FIRST source) destination ∷ [] in
+      omega (arith, length_ordinary (operand_code (frame_at frames function) FIRST source ++ last), length-append (operand_code (frame_at frames function) FIRST source) last, length_operand (frame_at frames function) FIRST source)
+  length_body function here (plain.Unary operator destination operand) = length_planned (frame_at frames function) (unary_plan operator operand) destination
   length_body function here (plain.Binary operator destination left right) = length_operator (frame_at frames function) here operator destination left right
   length_body function here (plain.Jump target) = refl
-  length_body function here (plain.JumpIfZero condition target) = refl
-  length_body function here (plain.JumpIfNonzero condition target) = refl
+  length_body function here (plain.Branch comparison left right target) =
+      let last : List Line = branch_line (test_of comparison left right) (instruction_line program function target) ∷ [] in
+      omega (arith, length-append (ordinary (test_code (frame_at frames function) (test_of comparison left right))) last, length_ordinary (test_code (frame_at frames function) (test_of comparison left right)), length_test (frame_at frames function) (test_of comparison left right))
   length_body function here (plain.Call callee arguments count result) =
       let whole = length-append (ordinary (copies (frame_at frames function) (frame_at frames callee) arguments 0 count)) (lines.Call (function_line program callee) ∷ []) in
       let parts = length_ordinary (copies (frame_at frames function) (frame_at frames callee) arguments 0 count) in
@@ -70,10 +78,17 @@ module _ (program : Program) (frames : List Frame) (few_results : (function : �
       let e : length (ending_code (function == program.main) (frame_at frames function) here value ++ ordinary (loaded (frame_at frames function) value (routine_at program function).results) ++ lines.Return ∷ []) ≡ ending_count program function + (routine_at program function).results + 2 = omega (arith, front, all, ended, ordered, loads) in
       e
   length_body function here (plain.ReadByte destination) = refl
-  length_body function here (plain.WriteByte source) = refl
+  length_body function here (plain.WriteByte source) =
+      let last : List Instr = small SERVICE PUT_BYTE ∷ syscall ∷ [] in
+      omega (arith, length_ordinary (load_code (frame_at frames function) ARGUMENT source ++ last), length-append (load_code (frame_at frames function) ARGUMENT source) last, length_load (frame_at frames function) ARGUMENT source)
   length_body function here (plain.LoadGlobal destination global) = refl
-  length_body function here (plain.StoreGlobal global source) = refl
-  length_body function here (plain.Uncaught tag value) = refl
+  length_body function here (plain.StoreGlobal global source) =
+      let last : List Instr = upper_of_global global ∷ at_global StoreWord (operand_register FIRST source) global ∷ [] in
+      omega (arith, length_ordinary (operand_code (frame_at frames function) FIRST source ++ last), length-append (operand_code (frame_at frames function) FIRST source) last, length_operand (frame_at frames function) FIRST source)
+  length_body function here (plain.Uncaught tag value) =
+      let last : List Instr = small SERVICE END_UNCAUGHT ∷ syscall ∷ [] in
+      let loads : List Instr = load_code (frame_at frames function) SECOND_ARGUMENT value ++ last in
+      omega (arith, length_ordinary (word_code ARGUMENT tag ++ loads), length-append (word_code ARGUMENT tag) loads, length_word ARGUMENT tag, length-append (load_code (frame_at frames function) SECOND_ARGUMENT value) last, length_load (frame_at frames function) SECOND_ARGUMENT value)
 
   pub length_behind : (function : ℕ) (i : Instruction) → length (behind program frames function i) ≡ behind_count program i
   length_behind function (plain.Call callee arguments count result) =
@@ -82,13 +97,11 @@ module _ (program : Program) (frames : List Frame) (few_results : (function : �
       let d = length_registers (routine_at program callee).results (few_results callee) in
       let e : suc (suc (length (ordinary (store_all (frame_at frames function) result (result_registers (routine_at program callee).results))))) ≡ 2 + (routine_at program callee).results = omega (arith, a, b, d) in
       e
-  length_behind function (plain.Constant destination word) = refl
   length_behind function (plain.Move destination source) = refl
   length_behind function (plain.Unary operator destination operand) = refl
   length_behind function (plain.Binary operator destination left right) = refl
   length_behind function (plain.Jump target) = refl
-  length_behind function (plain.JumpIfZero condition target) = refl
-  length_behind function (plain.JumpIfNonzero condition target) = refl
+  length_behind function (plain.Branch comparison left right target) = refl
   length_behind function (plain.Return value) = refl
   length_behind function (plain.ReadByte destination) = refl
   length_behind function (plain.WriteByte source) = refl

@@ -79,6 +79,15 @@ pub stands_back : (code : Labelled) (k : ℕ) (xs ys : List Line) → Stands cod
 stands_back code k [] ys stands = stands_to code k (k + 0) ys (omega arith) stands
 stands_back code k (x ∷ xs) ys (first, rest) = stands_to code (k + 1 + length xs) (k + suc (length xs)) ys (omega arith) (stands_back code (k + 1) xs ys rest)
 
+-- the same of ordinary lines
+pub stands_first : (code : Labelled) (k : ℕ) (xs ys : List Instr) → Stands code k (ordinary (xs ++ ys)) → Stands code k (ordinary xs)
+stands_first code k [] ys stands = tt
+stands_first code k (x ∷ xs) ys (first, rest) = (first, stands_first code (k + 1) xs ys rest)
+
+pub stands_behind : (code : Labelled) (k : ℕ) (xs ys : List Instr) → Stands code k (ordinary (xs ++ ys)) → Stands code (k + length xs) (ordinary ys)
+stands_behind code k [] ys stands = stands_to code k (k + 0) (ordinary ys) (omega arith) stands
+stands_behind code k (x ∷ xs) ys (first, rest) = stands_to code (k + 1 + length xs) (k + suc (length xs)) (ordinary ys) (omega arith) (stands_behind code (k + 1) xs ys rest)
+
 -- ---- one after another
 
 abbrev pub after_r : List Instr → (r w : Words) → Words

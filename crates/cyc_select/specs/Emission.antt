@@ -1,37 +1,30 @@
 -- What the code that emits says of itself: what it adds to the lines made so far, and the tables of line numbers that it
 -- looks targets up in. This project's own choice.
-use Rattle.std.specs.Prelude.{◌≡◌, ℕ, suc, ◌+◌, ◌*◌, ◌<◌, ◌≤◌, ◌⊎◌, Bool, if◌then◌else◌, List, [], ◌∷◌, ◌++◌, length, sum_by, Result, OnOk}
+use Rattle.std.specs.Prelude.{◌≡◌, ℕ, suc, ◌+◌, ◌*◌, ◌<◌, ◌≤◌, ◌⊎◌, List, [], ◌∷◌, ◌++◌, length, sum_by, Result, OnOk}
 use Rattle.std.specs.declared.alloc.AllocError.{AllocError}
-use Rattle.cyc_isa.specs.declared.instr.ArithmeticOp.TheVariants.{SetLess}
 use Rattle.cyc_machine.specs.declared.constants.TheConstants.{END_FULL, RETURN_ADDRESS, SERVICE}
 use Rattle.cyc_plain.specs.declared.instruction.Instruction.{Instruction}
+use Rattle.cyc_plain.specs.declared.instruction.Operand.{Operand}
+use Rattle.cyc_plain.specs.declared.instruction.Operand.TheVariants as operands
 use Rattle.cyc_plain.specs.Program.{Routine, Program, routine_at, size}
 use Rattle.cyc_plain.specs.WellFormed.{IsWellFormed}
 use Rattle.cyc_plain.specs.declared.limits.TheConstants.{GREATEST_VALUE, MOST_SIZE}
 use Rattle.cyc_frame.specs.declared.frame.TheConstants.{MOST_FRAME_WORDS}
 use Rattle.cyc_frame.specs.Layout.{AreFrames, slot_word}
 use Rattle.cyc_frame.specs.declared.frame.Frame.{Frame}
-use Rattle.cyc_select.specs.declared.constants.TheConstants.{FIRST, SECOND, CALLS, LINES_FOR_EACH, START_LINES}
+use Rattle.cyc_select.specs.declared.constants.TheConstants.{CALLS, LINES_FOR_EACH, START_LINES}
 use Rattle.cyc_select.specs.declared.code.Line.{Line}
-use Rattle.cyc_select.specs.Selection.{store, add_immediate, minus, push_frame, load_slot, small, is_zero, syscall, arithmetic_of, ordinary, count_of, function_count, function_line}
+use Rattle.cyc_select.specs.Selection.{store, add_immediate, minus, push_frame, small, syscall, ordinary, count_of, function_count, function_line}
 use Rattle.cyc_select.specs.declared.emitter.Emitter.{Emitter}
+use Rattle.cyc_select.specs.declared.plan.Plan.{Plan}
+use Rattle.cyc_select.specs.declared.plan.Test.{Test}
+use Rattle.cyc_select.specs.declared.plan.Test.TheVariants as tests
 use Rattle.cyc_select.specs.declared.tables.Ready.{Ready}
 use Rattle.cyc_select.specs.declared.tables.Tables.{Tables}
 
 -- these lines are added behind what there was
 abbrev pub AddsLines : {T : Type 0} → Result T AllocError → (old new : Emitter) → List Line → Type 0
 AddsLines result old new lines = OnOk result (new.lines.items ≡ old.lines.items ++ lines)
-
--- whether one register is less than another, or is not
-abbrev pub order_code : (left right : ℕ) → (holds : Bool) → List Line
-order_code left right holds =
-    if holds
-    then ordinary (arithmetic_of SetLess left right ∷ [])
-    else ordinary (arithmetic_of SetLess left right ∷ is_zero FIRST ∷ [])
-
--- both operands into their registers
-abbrev pub operands_code : Frame → (left right : ℕ) → List Line
-operands_code frame left right = ordinary (load_slot frame FIRST left ∷ load_slot frame SECOND right ∷ [])
 
 -- a call up to its arguments
 abbrev pub enter_code : (caller callee : Frame) → List Line
@@ -51,6 +44,18 @@ IsReached frame slot = slot_word frame slot < MOST_FRAME_WORDS
 -- and so do so many slots from this one on, where there are any
 abbrev pub AreReached : Frame → (first count : ℕ) → Type 0
 AreReached frame first count = (count ≡ 0) ⊎ (slot_word frame first + count ≤ MOST_FRAME_WORDS)
+
+-- an operand's slot, if it has one
+abbrev pub IsFound : Frame → Operand → Type 0
+IsFound frame (operands.Slot number) = IsReached frame number
+IsFound frame (operands.Word word) = Unit {0}
+
+abbrev pub IsPlanFound : Frame → Plan → Type 0
+IsPlanFound frame plan = IsFound frame plan.left × IsFound frame plan.right
+
+abbrev pub IsTestFound : Frame → Test → Type 0
+IsTestFound frame (tests.Operands op left right) = IsFound frame left × IsFound frame right
+IsTestFound frame (tests.Computed plan) = IsPlanFound frame plan
 
 -- so many lines a program has at most
 abbrev pub most_lines : ℕ

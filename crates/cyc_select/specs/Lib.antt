@@ -3,5 +3,6 @@ pub mod Labelled
 pub mod Machine
 pub mod Selected
 -- what the functions inside the crate promise each other
+pub mod Plans
 pub mod Selection
 pub mod Emission

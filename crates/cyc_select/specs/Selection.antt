@@ -3,7 +3,7 @@
 --
 -- Frames grow downward from the end of the stack. The return address of the call that starts the program is 0. Which
 -- registers have what is in the module `constants`.
-use Rattle.std.specs.Prelude.{ℕ, zero, suc, ◌+◌, ◌-◌, ◌*◌, ◌/◌, ◌%◌, ◌^◌, ◌==◌, Bool, if◌then◌else◌, List, [], ◌∷◌, ◌++◌, map, sum_by, take}
+use Rattle.std.specs.Prelude.{ℕ, zero, suc, ◌+◌, ◌-◌, ◌*◌, ◌/◌, ◌%◌, ◌^◌, ◌==◌, Bool, false, if◌then◌else◌, List, [], ◌∷◌, ◌++◌, map, sum_by, take}
 use Rattle.cyc_isa.specs.Decoding.{register_of, trap_code_of}
 use Rattle.cyc_isa.specs.declared.instr.Instr.{Instr}
 use Rattle.cyc_isa.specs.declared.instr.Instr.TheVariants as machine
@@ -13,22 +13,21 @@ use Rattle.cyc_isa.specs.declared.instr.MemoryOp.TheVariants.{LoadWord, StoreWor
 use Rattle.cyc_isa.specs.declared.instr.BranchOp.{BranchOp}
 use Rattle.cyc_isa.specs.declared.instr.BranchOp.TheVariants as branch
 use Rattle.cyc_isa.specs.declared.instr.ShiftOp.{ShiftOp}
-use Rattle.cyc_isa.specs.declared.instr.ShiftOp.TheVariants as shift
 use Rattle.cyc_isa.specs.declared.instr.ExceptionOp.TheVariants.{Syscall}
 use Rattle.cyc_isa.specs.declared.instr.MoveFromOp.{MoveFromOp}
 use Rattle.cyc_isa.specs.declared.instr.MoveFromOp.TheVariants.{High, Low}
 use Rattle.cyc_isa.specs.declared.instr.MultiplyDivideOp.{MultiplyDivideOp}
-use Rattle.cyc_isa.specs.declared.instr.MultiplyDivideOp.TheVariants.{Multiply, Divide}
+use Rattle.cyc_isa.specs.declared.instr.MultiplyDivideOp.TheVariants.{Divide}
 use Rattle.cyc_isa.specs.declared.instr.ArithmeticOp.{ArithmeticOp}
 use Rattle.cyc_isa.specs.declared.instr.ArithmeticOp.TheVariants as arithmetic
 use Rattle.cyc_machine.specs.declared.constants.TheConstants.{ARGUMENT, END_FULL, END_RETURNED, END_UNCAUGHT, GET_BYTE, PUT_BYTE, RETURN_ADDRESS, SECOND_ARGUMENT, SERVICE}
 use Rattle.cyc_machine.specs.State.{data_base}
 use Rattle.cyc_plain.specs.declared.instruction.Instruction.{Instruction}
 use Rattle.cyc_plain.specs.declared.instruction.Instruction.TheVariants as plain
-use Rattle.cyc_plain.specs.declared.instruction.UnaryOperator.{UnaryOperator}
-use Rattle.cyc_plain.specs.declared.instruction.UnaryOperator.TheVariants as unary
 use Rattle.cyc_plain.specs.declared.instruction.BinaryOperator.{BinaryOperator}
 use Rattle.cyc_plain.specs.declared.instruction.BinaryOperator.TheVariants as binary
+use Rattle.cyc_plain.specs.declared.instruction.Operand.{Operand}
+use Rattle.cyc_plain.specs.declared.instruction.Operand.TheVariants as operands
 use Rattle.cyc_plain.specs.Program.{Routine, Program, routine_at}
 use Rattle.cyc_frame.specs.Layout.{slot_word, frame_at}
 use Rattle.cyc_frame.specs.declared.frame.Frame.{Frame}
@@ -36,6 +35,14 @@ use Rattle.cyc_select.specs.declared.constants.TheConstants.{ZERO, FIRST_RESULT,
 use Rattle.cyc_select.specs.declared.code.Line.{Line}
 use Rattle.cyc_select.specs.declared.code.Line.TheVariants as lines
 use Rattle.cyc_select.specs.Labelled.{Labelled}
+use Rattle.cyc_select.specs.declared.plan.Operation.{Operation}
+use Rattle.cyc_select.specs.declared.plan.Operation.TheVariants as operations
+use Rattle.cyc_select.specs.declared.plan.Outcome.{Outcome}
+use Rattle.cyc_select.specs.declared.plan.Outcome.TheVariants as outcomes
+use Rattle.cyc_select.specs.declared.plan.Plan.{Plan}
+use Rattle.cyc_select.specs.declared.plan.Test.{Test}
+use Rattle.cyc_select.specs.declared.plan.Test.TheVariants as tests
+use Rattle.cyc_select.specs.Plans.{unary_plan, binary_plan, test_of}
 
 -- ---- single instructions
 
@@ -86,22 +93,29 @@ or_lower target word =
 abbrev pub constant : (target word : ℕ) → List Instr
 constant target word = load_upper target word ∷ or_lower target word ∷ []
 
--- operations on the registers of an instruction's operands, into the first
+-- operations on two registers, into that of an instruction's first operand
 abbrev pub arithmetic_of : ArithmeticOp → (left right : ℕ) → Instr
 arithmetic_of op left right = machine.Arithmetic op (register_of FIRST) (register_of left) (register_of right)
 
-abbrev pub shift_of : ShiftOp → Instr
-shift_of op = machine.ShiftVariable op (register_of FIRST) (register_of FIRST) (register_of SECOND)
+abbrev pub shift_of : ShiftOp → (source by : ℕ) → Instr
+shift_of op source by = machine.ShiftVariable op (register_of FIRST) (register_of source) (register_of by)
 
-abbrev pub multiply_divide_of : MultiplyDivideOp → Instr
-multiply_divide_of op = machine.MultiplyDivide op (register_of FIRST) (register_of SECOND)
+abbrev pub multiply_divide_of : MultiplyDivideOp → (left right : ℕ) → Instr
+multiply_divide_of op left right = machine.MultiplyDivide op (register_of left) (register_of right)
 
 abbrev pub move_from_of : MoveFromOp → Instr
 move_from_of op = machine.MoveFrom op (register_of FIRST)
 
--- a word of memory whose address is in the second operand's register
-abbrev pub at_address : MemoryOp → Instr
-at_address op = machine.Memory op (register_of FIRST) (register_of SECOND) 0
+-- A global's word lies at an offset, which is extended by its sign, from this half's multiple of 2 ^ 16.
+abbrev pub global_address : ℕ → ℕ
+global_address global = data_base + 4 * global
+
+abbrev pub upper_of_global : ℕ → Instr
+upper_of_global global = machine.LoadUpper (register_of SECOND) ((global_address global + 2 ^ 15) / 2 ^ 16)
+
+abbrev pub at_global : MemoryOp → (register global : ℕ) → Instr
+at_global op register global =
+    machine.Memory op (register_of register) (register_of SECOND) (global_address global % 2 ^ 16)
 
 -- the frame's address moved
 abbrev pub push_frame : Frame → Instr
@@ -110,33 +124,112 @@ push_frame frame = add_immediate FRAME FRAME (minus (4 * frame.words))
 abbrev pub pop_frame : Frame → Instr
 pop_frame frame = add_immediate FRAME FRAME (4 * frame.words)
 
--- ---- operators
+-- ---- operands
 
--- of the first operand, into its register
-abbrev pub unary_code : UnaryOperator → Instr
-unary_code unary.Negate = arithmetic_of arithmetic.SubtractUnsigned ZERO FIRST
-unary_code unary.Complement = arithmetic_of arithmetic.Nor ZERO FIRST
-unary_code unary.Not = is_zero FIRST
+abbrev pub word_code : (target word : ℕ) → List Instr
+word_code target word = constant target word
 
--- of both operands, into the first one's register
-abbrev pub binary_code : BinaryOperator → List Instr
-binary_code binary.Add = arithmetic_of arithmetic.AddUnsigned FIRST SECOND ∷ []
-binary_code binary.Subtract = arithmetic_of arithmetic.SubtractUnsigned FIRST SECOND ∷ []
-binary_code binary.Multiply = multiply_divide_of Multiply ∷ move_from_of Low ∷ []
-binary_code binary.Divide = []
-binary_code binary.Remainder = []
-binary_code binary.And = arithmetic_of arithmetic.And FIRST SECOND ∷ []
-binary_code binary.Or = arithmetic_of arithmetic.Or FIRST SECOND ∷ []
-binary_code binary.Xor = arithmetic_of arithmetic.Xor FIRST SECOND ∷ []
-binary_code binary.ShiftLeft = shift_of shift.Left ∷ []
-binary_code binary.ShiftRight = shift_of shift.RightArithmetic ∷ []
-binary_code binary.Equal = arithmetic_of arithmetic.SubtractUnsigned FIRST SECOND ∷ is_zero FIRST ∷ []
-binary_code binary.NotEqual =
-    arithmetic_of arithmetic.SubtractUnsigned FIRST SECOND ∷ arithmetic_of arithmetic.SetLessUnsigned ZERO FIRST ∷ []
-binary_code binary.Less = arithmetic_of arithmetic.SetLess FIRST SECOND ∷ []
-binary_code binary.LessOrEqual = arithmetic_of arithmetic.SetLess SECOND FIRST ∷ is_zero FIRST ∷ []
-binary_code binary.Greater = arithmetic_of arithmetic.SetLess SECOND FIRST ∷ []
-binary_code binary.GreaterOrEqual = arithmetic_of arithmetic.SetLess FIRST SECOND ∷ is_zero FIRST ∷ []
+-- an operand into a register
+abbrev pub load_code : Frame → (target : ℕ) → Operand → List Instr
+load_code frame target (operands.Slot number) = load_slot frame target number ∷ []
+load_code frame target (operands.Word word) = word_code target word
+
+-- An operand in a register: the word 0 is in one, and any other comes into this one.
+abbrev pub is_zero_word : Operand → Bool
+is_zero_word (operands.Slot number) = false
+is_zero_word (operands.Word word) = word == 0
+
+abbrev pub operand_code : Frame → (register : ℕ) → Operand → List Instr
+operand_code frame register operand = if is_zero_word operand then [] else load_code frame register operand
+
+abbrev pub operand_register : (register : ℕ) → Operand → ℕ
+operand_register register operand = if is_zero_word operand then ZERO else register
+
+-- ---- what is computed
+
+-- of the words in two registers, into the first operand's
+abbrev pub operation_code : Operation → (left right : ℕ) → List Instr
+operation_code (operations.Arithmetic op) left right = arithmetic_of op left right ∷ []
+operation_code (operations.Shift op) left right = shift_of op left right ∷ []
+operation_code (operations.MultiplyDivide op from) left right = multiply_divide_of op left right ∷ move_from_of from ∷ []
+
+-- of the word in that register
+abbrev pub outcome_code : Outcome → List Instr
+outcome_code outcomes.AsItIs = []
+outcome_code outcomes.WhetherZero = is_zero FIRST ∷ []
+outcome_code outcomes.WhetherNotZero = arithmetic_of arithmetic.SetLessUnsigned ZERO FIRST ∷ []
+
+-- two operands, each in a register
+abbrev pub operands_code : Frame → (left right : Operand) → List Instr
+operands_code frame left right = operand_code frame FIRST left ++ operand_code frame SECOND right
+
+-- a plan up to its outcome
+abbrev pub operation_of : Frame → Plan → List Instr
+operation_of frame plan =
+    operands_code frame plan.left plan.right
+    ++ operation_code plan.operation (operand_register FIRST plan.left) (operand_register SECOND plan.right)
+
+-- and with it
+abbrev pub computed_code : Frame → Plan → List Instr
+computed_code frame plan = operation_of frame plan ++ outcome_code plan.outcome
+
+abbrev pub plan_code : Frame → Plan → (destination : ℕ) → List Instr
+plan_code frame plan destination = computed_code frame plan ++ store_slot frame FIRST destination ∷ []
+
+-- before a branch, what it tests
+abbrev pub test_code : Frame → Test → List Instr
+test_code frame (tests.Operands op left right) = operands_code frame left right
+test_code frame (tests.Computed plan) = operation_of frame plan
+
+-- where the outcome would be 1
+abbrev pub branch_on : Outcome → BranchOp
+branch_on outcomes.AsItIs = branch.NotEqual
+branch_on outcomes.WhetherZero = branch.Equal
+branch_on outcomes.WhetherNotZero = branch.NotEqual
+
+abbrev pub branch_line : Test → (label : ℕ) → Line
+branch_line (tests.Operands op left right) label =
+    lines.Branch op (register_of (operand_register FIRST left)) (register_of (operand_register SECOND right)) label
+branch_line (tests.Computed plan) label =
+    lines.Branch (branch_on plan.outcome) (register_of FIRST) (register_of ZERO) label
+
+-- ---- how many lines
+
+abbrev pub word_count : ℕ → ℕ
+word_count word = 2
+
+abbrev pub load_count : Operand → ℕ
+load_count (operands.Slot number) = 1
+load_count (operands.Word word) = word_count word
+
+abbrev pub operand_count : Operand → ℕ
+operand_count operand = if is_zero_word operand then 0 else load_count operand
+
+abbrev pub operation_count : Operation → ℕ
+operation_count (operations.Arithmetic op) = 1
+operation_count (operations.Shift op) = 1
+operation_count (operations.MultiplyDivide op from) = 2
+
+abbrev pub outcome_count : Outcome → ℕ
+outcome_count outcomes.AsItIs = 0
+outcome_count outcomes.WhetherZero = 1
+outcome_count outcomes.WhetherNotZero = 1
+
+-- a plan up to its outcome, and whole
+abbrev pub count_of_operation : Plan → ℕ
+count_of_operation plan = operand_count plan.left + operand_count plan.right + operation_count plan.operation
+
+abbrev pub plan_count : Plan → ℕ
+plan_count plan = count_of_operation plan + outcome_count plan.outcome + 1
+
+abbrev pub test_count : Test → ℕ
+test_count (tests.Operands op left right) = operand_count left + operand_count right
+test_count (tests.Computed plan) = count_of_operation plan
+
+abbrev pub operator_count : BinaryOperator → (left right : Operand) → ℕ
+operator_count binary.Divide left right = load_count left + load_count right + 7
+operator_count binary.Remainder left right = load_count left + load_count right + 7
+operator_count operator left right = plan_count (binary_plan operator left right)
 
 -- ---- blocks
 
@@ -149,27 +242,31 @@ quotient_code frame which destination =
     ordinary (
     arithmetic_of arithmetic.SubtractUnsigned ZERO FIRST
     ∷ small SECOND 1
-    ∷ multiply_divide_of Divide
+    ∷ multiply_divide_of Divide FIRST SECOND
     ∷ move_from_of which
     ∷ store_slot frame FIRST destination
     ∷ [])
 
--- Dividend and divisor in the operands' registers. By -1 the machine does not divide the least number, so there the
--- negated dividend is divided by 1: it has the same quotient and remainder.
-abbrev pub divide_code : Frame → (here : ℕ) → MoveFromOp → (destination left right : ℕ) → List Line
-divide_code frame here which destination left right =
-    ordinary (load_slot frame FIRST left ∷ load_slot frame SECOND right ∷ add_immediate THIRD ZERO (minus 1) ∷ [])
-    ++ lines.Branch branch.NotEqual (register_of SECOND) (register_of THIRD) (here + 6) ∷ []
-    ++ quotient_code frame which destination
+-- dividend and divisor in their registers, and -1 in a third
+abbrev pub loads_code : Frame → (left right : Operand) → List Instr
+loads_code frame left right = load_code frame FIRST left ++ load_code frame SECOND right
 
-abbrev pub operator_code : Frame → (here : ℕ) → BinaryOperator → (destination left right : ℕ) → List Line
+abbrev pub divided_code : Frame → (left right : Operand) → List Instr
+divided_code frame left right = loads_code frame left right ++ add_immediate THIRD ZERO (minus 1) ∷ []
+
+-- By -1 the machine does not divide the least number, so there the
+-- negated dividend is divided by 1: it has the same quotient and remainder.
+abbrev pub divide_code : Frame → (here : ℕ) → MoveFromOp → (destination : ℕ) → (left right : Operand) → List Line
+divide_code frame here which destination left right =
+    ordinary (divided_code frame left right)
+    ++ lines.Branch branch.NotEqual (register_of SECOND) (register_of THIRD) (here + (load_count left + load_count right) + 4)
+    ∷ quotient_code frame which destination
+
+abbrev pub operator_code : Frame → (here : ℕ) → BinaryOperator → (destination : ℕ) → (left right : Operand) → List Line
 operator_code frame here binary.Divide destination left right = divide_code frame here Low destination left right
 operator_code frame here binary.Remainder destination left right = divide_code frame here High destination left right
 operator_code frame here operator destination left right =
-    ordinary (
-    load_slot frame FIRST left
-    ∷ load_slot frame SECOND right
-    ∷ (binary_code operator ++ store_slot frame FIRST destination ∷ []))
+    ordinary (plan_code frame (binary_plan operator left right) destination)
 
 -- arguments from the caller's slots to the first slots of the callee, whose frame is the current one already
 abbrev pub copies : (caller callee : Frame) → (source slot count : ℕ) → List Instr
@@ -191,39 +288,25 @@ abbrev pub store_all : Frame → (slot : ℕ) → List ℕ → List Instr
 store_all frame slot [] = []
 store_all frame slot (source ∷ sources) = store_slot frame source slot ∷ store_all frame (suc slot) sources
 
--- ---- how many lines
-
-abbrev pub operator_count : BinaryOperator → ℕ
-operator_count binary.Multiply = 5
-operator_count binary.Divide = 9
-operator_count binary.Remainder = 9
-operator_count binary.Equal = 5
-operator_count binary.NotEqual = 5
-operator_count binary.LessOrEqual = 5
-operator_count binary.GreaterOrEqual = 5
-operator_count operator = 4
-
 -- the lines of `main` that end the run, where it was called first
 abbrev pub ending_count : Program → (function : ℕ) → ℕ
 ending_count program function = if function == program.main then 4 else 0
 
 -- the lines of an instruction up to what it does
 abbrev pub body_count : Program → (function : ℕ) → Instruction → ℕ
-body_count program function (plain.Constant destination word) = 3
-body_count program function (plain.Move destination source) = 2
-body_count program function (plain.Unary operator destination operand) = 3
-body_count program function (plain.Binary operator destination left right) = operator_count operator
+body_count program function (plain.Move destination source) = operand_count source + 1
+body_count program function (plain.Unary operator destination operand) = plan_count (unary_plan operator operand)
+body_count program function (plain.Binary operator destination left right) = operator_count operator left right
 body_count program function (plain.Jump target) = 1
-body_count program function (plain.JumpIfZero condition target) = 2
-body_count program function (plain.JumpIfNonzero condition target) = 2
+body_count program function (plain.Branch comparison left right target) = test_count (test_of comparison left right) + 1
 body_count program function (plain.Call callee arguments count result) = 7 + 2 * count
 body_count program function (plain.Return value) =
     ending_count program function + (routine_at program function).results + 2
 body_count program function (plain.ReadByte destination) = 3
-body_count program function (plain.WriteByte source) = 3
-body_count program function (plain.LoadGlobal destination global) = 4
-body_count program function (plain.StoreGlobal global source) = 4
-body_count program function (plain.Uncaught tag value) = 5
+body_count program function (plain.WriteByte source) = load_count source + 2
+body_count program function (plain.LoadGlobal destination global) = 3
+body_count program function (plain.StoreGlobal global source) = operand_count source + 2
+body_count program function (plain.Uncaught tag value) = word_count tag + load_count value + 2
 
 -- behind a call, the lines that are executed after it returned
 abbrev pub behind_count : Program → Instruction → ℕ
@@ -251,26 +334,35 @@ instruction_line program function index =
 
 -- ---- the lines
 
--- a jump where a slot is 0, or where it is not
-abbrev pub test_code : Frame → BranchOp → (condition label : ℕ) → List Line
-test_code frame op condition label =
-    ordinary (load_slot frame FIRST condition ∷ []) ++ lines.Branch op (register_of FIRST) (register_of ZERO) label ∷ []
+-- an operand into a slot
+abbrev pub move_code : Frame → (destination : ℕ) → Operand → List Line
+move_code frame destination source =
+    ordinary (operand_code frame FIRST source ++ store_slot frame (operand_register FIRST source) destination ∷ [])
 
--- a global into a slot, and a slot into a global
+-- a jump where a test holds
+abbrev pub branch_code : Frame → Test → (label : ℕ) → List Line
+branch_code frame test label = ordinary (test_code frame test) ++ branch_line test label ∷ []
+
+-- an operand's low byte is printed
+abbrev pub write_code : Frame → Operand → List Line
+write_code frame source = ordinary (load_code frame ARGUMENT source ++ small SERVICE PUT_BYTE ∷ syscall ∷ [])
+
+-- a global into a slot, and an operand into a global
 abbrev pub load_global : Frame → (destination global : ℕ) → List Line
 load_global frame destination global =
-    ordinary (
-    constant SECOND (data_base + 4 * global)
-    ++ at_address LoadWord ∷ store_slot frame FIRST destination ∷ [])
+    ordinary (upper_of_global global ∷ at_global LoadWord FIRST global ∷ store_slot frame FIRST destination ∷ [])
 
-abbrev pub store_global : Frame → (global source : ℕ) → List Line
+abbrev pub store_global : Frame → (global : ℕ) → Operand → List Line
 store_global frame global source =
-    ordinary (load_slot frame FIRST source ∷ (constant SECOND (data_base + 4 * global) ++ at_address StoreWord ∷ []))
+    ordinary (
+    operand_code frame FIRST source
+    ++ upper_of_global global ∷ at_global StoreWord (operand_register FIRST source) global ∷ [])
 
 -- the end of a run with an exception that nothing caught
-abbrev pub uncaught_code : Frame → (tag value : ℕ) → List Line
+abbrev pub uncaught_code : Frame → (tag : ℕ) → Operand → List Line
 uncaught_code frame tag value =
-    ordinary (constant ARGUMENT tag ++ load_slot frame SECOND_ARGUMENT value ∷ small SERVICE END_UNCAUGHT ∷ syscall ∷ [])
+    ordinary (
+    word_code ARGUMENT tag ++ load_code frame SECOND_ARGUMENT value ++ small SERVICE END_UNCAUGHT ∷ syscall ∷ [])
 
 -- A call of the function whose first line has this label. Where no more may be under way the run ends; otherwise the
 -- return address is kept, and the callee's frame is the current one.
@@ -312,33 +404,23 @@ returning_code is_main frame here value results =
 
 -- what an instruction does, from this line on
 abbrev pub body : Program → List Frame → (function here : ℕ) → Instruction → List Line
-body program frames function here (plain.Constant destination word) =
-    ordinary (constant FIRST word ++ store_slot (frame_at frames function) FIRST destination ∷ [])
 body program frames function here (plain.Move destination source) =
-    ordinary (
-    load_slot (frame_at frames function) FIRST source ∷ store_slot (frame_at frames function) FIRST destination ∷ [])
+    move_code (frame_at frames function) destination source
 body program frames function here (plain.Unary operator destination operand) =
-    ordinary (
-    load_slot (frame_at frames function) FIRST operand
-    ∷ unary_code operator
-    ∷ store_slot (frame_at frames function) FIRST destination
-    ∷ [])
+    ordinary (plan_code (frame_at frames function) (unary_plan operator operand) destination)
 body program frames function here (plain.Binary operator destination left right) =
     operator_code (frame_at frames function) here operator destination left right
 body program frames function here (plain.Jump target) =
     lines.Jump (instruction_line program function target) ∷ []
-body program frames function here (plain.JumpIfZero condition target) =
-    test_code (frame_at frames function) branch.Equal condition (instruction_line program function target)
-body program frames function here (plain.JumpIfNonzero condition target) =
-    test_code (frame_at frames function) branch.NotEqual condition (instruction_line program function target)
+body program frames function here (plain.Branch comparison left right target) =
+    branch_code (frame_at frames function) (test_of comparison left right) (instruction_line program function target)
 body program frames function here (plain.Call callee arguments count result) =
     calling_code (frame_at frames function) (frame_at frames callee) here (function_line program callee) arguments count
 body program frames function here (plain.Return value) =
     returning_code (function == program.main) (frame_at frames function) here value (routine_at program function).results
 body program frames function here (plain.ReadByte destination) =
     ordinary (small SERVICE GET_BYTE ∷ syscall ∷ store_slot (frame_at frames function) SERVICE destination ∷ [])
-body program frames function here (plain.WriteByte source) =
-    ordinary (load_slot (frame_at frames function) ARGUMENT source ∷ small SERVICE PUT_BYTE ∷ syscall ∷ [])
+body program frames function here (plain.WriteByte source) = write_code (frame_at frames function) source
 body program frames function here (plain.LoadGlobal destination global) =
     load_global (frame_at frames function) destination global
 body program frames function here (plain.StoreGlobal global source) =

@@ -2,36 +2,18 @@
 ghost use Rattle.std.specs.Prelude.{◌≡◌, ◌+◌, ◌<◌, ◌≤◌, ◌++◌, OnOk, length};
 ghost use Rattle.cyc_plain.specs.Program.{routine_at};
 ghost use Rattle.cyc_plain.specs.WellFormed.{IsInRange};
-ghost use Rattle.cyc_select.specs.Selection.{test_code, body, behind};
-ghost use Rattle.cyc_select.specs.Emission.{AddsLines, IsReached, IsKnown, most_lines};
+ghost use Rattle.cyc_select.specs.Selection.{body, behind};
+ghost use Rattle.cyc_select.specs.Emission.{AddsLines, IsKnown, most_lines};
 
 use crate::code::Line;
-use crate::constants::{FIRST, ZERO};
 use crate::emitter::Emitter;
-use crate::instructions::load_slot;
-use crate::operators::Slots;
+use crate::operators::Parts;
+use crate::plan::{test_of, unary_plan};
 use crate::tables::Tables;
-use cyc_frame::Frame;
-use cyc_isa::BranchOp;
 use cyc_plain::Instruction;
 use std::alloc::AllocError;
 
 impl Emitter {
-    /// A jump where a slot is 0, or where it is not.
-    fn test(
-        &mut self,
-        frame: Frame,
-        op: BranchOp,
-        condition: usize,
-        label: usize,
-    ) -> Result<(), AllocError>
-        requires { IsReached frame condition }
-        ensures { AddsLines result self.old self.new (test_code frame op condition label) }
-    {
-        self.ordinary(&[load_slot(frame, FIRST, condition)])?;
-        self.branch(op, FIRST, ZERO, label)
-    }
-
     /// What an instruction does, from this line on.
     fn body(
         &mut self,
@@ -46,7 +28,6 @@ impl Emitter {
     {
         let frame = tables.frame(tables.function);
         match instruction {
-            Instruction::Constant { destination, word } => self.constant(frame, destination, word),
             Instruction::Move {
                 destination,
                 source,
@@ -55,7 +36,7 @@ impl Emitter {
                 operator,
                 destination,
                 operand,
-            } => self.unary(frame, operator, destination, operand),
+            } => self.plan(frame, unary_plan(operator, operand), destination),
             Instruction::Binary {
                 operator,
                 destination,
@@ -65,7 +46,7 @@ impl Emitter {
                 frame,
                 here,
                 operator,
-                Slots {
+                Parts {
                     destination,
                     left,
                     right,
@@ -74,18 +55,12 @@ impl Emitter {
             Instruction::Jump { target } => self.line(Line::Jump {
                 label: tables.line(target),
             }),
-            Instruction::JumpIfZero { condition, target } => self.test(
-                frame,
-                BranchOp::Equal,
-                condition,
-                tables.line(target),
-            ),
-            Instruction::JumpIfNonzero { condition, target } => self.test(
-                frame,
-                BranchOp::NotEqual,
-                condition,
-                tables.line(target),
-            ),
+            Instruction::Branch {
+                comparison,
+                left,
+                right,
+                target,
+            } => self.branch_where(frame, test_of(comparison, left, right), tables.line(target)),
             Instruction::Call {
                 function,
                 arguments,

@@ -37,7 +37,7 @@ pub const START_LINES: usize = 3;
 pub const LINES_FOR_EACH: usize = 12;
 
 /// How many words a function's code has at most for each unit of its size.
-pub const WORDS_FOR_EACH: usize = 20;
+pub const WORDS_FOR_EACH: usize = 16;
 
 /// How many words the start has at most.
 pub const MAX_START_WORDS: usize = 4096;

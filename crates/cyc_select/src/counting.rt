@@ -6,7 +6,10 @@ ghost use Rattle.cyc_select.specs.Selection.{operator_count, ending_count, body_
 ghost use Rattle.cyc_select.specs.Emission.{AreFew, most_lines, instruction_lines, function_starts};
 
 use crate::constants::{LINES_FOR_EACH, START_LINES};
-use cyc_plain::{BinaryOperator, GREATEST_VALUE, Instruction, MOST_SIZE, Plain};
+use crate::operands::{load_count, operand_count, word_count};
+use crate::operators::{plan_count, test_count};
+use crate::plan::{binary_plan, test_of, unary_plan};
+use cyc_plain::{BinaryOperator, GREATEST_VALUE, Instruction, MOST_SIZE, Operand, Plain};
 use std::alloc::{AllocError, Global};
 
 /// How many words a function returns.
@@ -17,17 +20,14 @@ pub(crate) fn results_of(plain: &Plain, function: usize) -> usize
     plain.function(function).results
 }
 
-fn operator_count(operator: BinaryOperator) -> usize
-    ensures { result ≡ operator_count operator }
+fn operator_count(operator: BinaryOperator, left: Operand, right: Operand) -> usize
+    ensures { result ≡ operator_count operator left right }
 {
     match operator {
-        BinaryOperator::Divide | BinaryOperator::Remainder => 9,
-        BinaryOperator::Multiply
-        | BinaryOperator::Equal
-        | BinaryOperator::NotEqual
-        | BinaryOperator::LessOrEqual
-        | BinaryOperator::GreaterOrEqual => 5,
-        _ => 4,
+        BinaryOperator::Divide | BinaryOperator::Remainder => {
+            load_count(left) + load_count(right) + 7
+        }
+        _ => plan_count(binary_plan(operator, left, right)),
     }
 }
 
@@ -49,16 +49,31 @@ fn body_count(plain: &Plain, function: usize, instruction: Instruction) -> usize
     ensures { result ≡ body_count plain.now function instruction }
 {
     match instruction {
-        Instruction::Constant { .. } | Instruction::Unary { .. } => 3,
-        Instruction::Move { .. } => 2,
-        Instruction::Binary { operator, .. } => operator_count(operator),
+        Instruction::Move { source, .. } => operand_count(source) + 1,
+        Instruction::Unary {
+            operator,
+            operand,
+            ..
+        } => plan_count(unary_plan(operator, operand)),
+        Instruction::Binary {
+            operator,
+            left,
+            right,
+            ..
+        } => operator_count(operator, left, right),
         Instruction::Jump { .. } => 1,
-        Instruction::JumpIfZero { .. } | Instruction::JumpIfNonzero { .. } => 2,
+        Instruction::Branch {
+            comparison,
+            left,
+            right,
+            ..
+        } => test_count(test_of(comparison, left, right)) + 1,
         Instruction::Call { count, .. } => 7 + 2 * count,
         Instruction::Return { .. } => return_count(plain, function),
-        Instruction::ReadByte { .. } | Instruction::WriteByte { .. } => 3,
-        Instruction::LoadGlobal { .. } | Instruction::StoreGlobal { .. } => 4,
-        Instruction::Uncaught { .. } => 5,
+        Instruction::ReadByte { .. } | Instruction::LoadGlobal { .. } => 3,
+        Instruction::WriteByte { source } => load_count(source) + 2,
+        Instruction::StoreGlobal { source, .. } => operand_count(source) + 2,
+        Instruction::Uncaught { tag, value } => word_count(tag) + load_count(value) + 2,
     }
 }
 
@@ -75,12 +90,14 @@ fn behind_count(plain: &Plain, function: usize, instruction: Instruction) -> usi
 }
 
 /// The lines of an instruction.
+#[tactic(auto, using(crate::proofs::Numbering::count_small))]
 fn count_of(plain: &Plain, function: usize, instruction: Instruction) -> usize
     requires function { function < length plain.now.functions }
     requires few { AreFew plain.now }
     requires in_range { IsInRange plain.now (routine_at plain.now function) instruction }
     requires small { instruction_size instruction ≤ MOST_SIZE }
-    ensures { result ≡ count_of plain.now function instruction }
+    ensures value { result ≡ count_of plain.now function instruction }
+    ensures few { result ≤ LINES_FOR_EACH * instruction_size instruction }
 {
     body_count(plain, function, instruction) + behind_count(plain, function, instruction)
 }

@@ -8,7 +8,9 @@ pub mod constants;
 mod counting;
 mod emitter;
 mod instructions;
+mod operands;
 mod operators;
+mod plan;
 mod selection;
 mod tables;
 

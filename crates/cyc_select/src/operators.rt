@@ -1,28 +1,29 @@
-//! The lines of an operator, and of what else a function does with its own slots.
+//! The lines of an operator, of a test, and of what else a function does with its own slots.
 ghost use Rattle.std.specs.Prelude.{◌≡◌, ◌+◌, ◌*◌, ◌<◌, ◌≤◌, ◌^◌, [], ◌∷◌, ◌++◌, OnOk};
-ghost use Rattle.cyc_select.specs.Selection.{load_slot, store_slot, constant, small, syscall, arithmetic_of, shift_of, multiply_divide_of, move_from_of, at_address, unary_code, binary_code, ordinary, quotient_code, divide_code, operator_code, load_global, store_global, uncaught_code};
-ghost use Rattle.cyc_select.specs.Emission.{AddsLines, IsReached, most_lines, order_code, operands_code};
+ghost use Rattle.cyc_plain.specs.declared.instruction.BinaryOperator.TheVariants as binary;
+ghost use Rattle.cyc_select.specs.Selection.{load_slot, store_slot, small, syscall, arithmetic_of, shift_of, multiply_divide_of, move_from_of, upper_of_global, at_global, operation_code, outcome_code, operands_code, operation_of, computed_code, plan_code, test_code, branch_on, branch_line, operation_count, outcome_count, count_of_operation, plan_count, test_count, ordinary, quotient_code, loads_code, divided_code, divide_code, operator_code, move_code, branch_code, write_code, load_global, store_global, uncaught_code};
+ghost use Rattle.cyc_select.specs.Emission.{AddsLines, IsReached, IsFound, IsPlanFound, IsTestFound, most_lines};
 
+use crate::code::Line;
 use crate::constants::{FIRST, SECOND, THIRD, ZERO};
 use crate::emitter::Emitter;
-use crate::instructions::{
-    add_immediate, is_zero, load_slot, load_upper, minus, or_lower, register, small, store_slot,
-    syscall,
-};
+use crate::instructions::{add_immediate, is_zero, minus, register, small, store_slot, syscall};
+use crate::operands::{load_count, operand_count, operand_register};
+use crate::plan::{Operation, Outcome, Plan, Test, binary_plan};
 use cyc_frame::Frame;
 use cyc_isa::{ArithmeticOp, BranchOp, Instr, MemoryOp, MoveFromOp, MultiplyDivideOp, ShiftOp};
 use cyc_machine::constants::{
     ARGUMENT, DATA_BASE, END_UNCAUGHT, GET_BYTE, PUT_BYTE, SECOND_ARGUMENT, SERVICE,
 };
-use cyc_plain::{BinaryOperator, MOST_GLOBALS, UnaryOperator};
+use cyc_plain::{BinaryOperator, MOST_GLOBALS, Operand};
 use std::alloc::AllocError;
 
 /// What a binary operator works on, and where its result goes.
 #[derive(Clone, Copy)]
-pub(crate) struct Slots {
+pub(crate) struct Parts {
     pub(crate) destination: usize,
-    pub(crate) left: usize,
-    pub(crate) right: usize,
+    pub(crate) left: Operand,
+    pub(crate) right: Operand,
 }
 
 /// An operation on two registers, into the first operand's.
@@ -37,24 +38,24 @@ fn arithmetic(op: ArithmeticOp, left: u8, right: u8) -> Instr
     }
 }
 
-fn shift(op: ShiftOp) -> Instr
-    ensures { result ≡ shift_of op }
+fn shift(op: ShiftOp, source: u8, by: u8) -> Instr
+    ensures { result ≡ shift_of op source by }
 {
     Instr::ShiftVariable {
         op,
         destination: register(FIRST),
-        source: register(FIRST),
-        by: register(SECOND),
+        source: register(source),
+        by: register(by),
     }
 }
 
-fn multiply_divide(op: MultiplyDivideOp) -> Instr
-    ensures { result ≡ multiply_divide_of op }
+fn multiply_divide(op: MultiplyDivideOp, left: u8, right: u8) -> Instr
+    ensures { result ≡ multiply_divide_of op left right }
 {
     Instr::MultiplyDivide {
         op,
-        left: register(FIRST),
-        right: register(SECOND),
+        left: register(left),
+        right: register(right),
     }
 }
 
@@ -67,136 +68,220 @@ fn move_from(op: MoveFromOp) -> Instr
     }
 }
 
-/// A word of memory whose address is in a register.
-fn at_address(op: MemoryOp) -> Instr
-    ensures { result ≡ at_address op }
+/// The upper half of a global's address, for an offset that is extended by its sign.
+fn upper_of_global(global: usize) -> Instr
+    requires { global < MOST_GLOBALS }
+    ensures { result ≡ upper_of_global global }
 {
-    Instr::Memory {
-        op,
-        target: register(FIRST),
-        base: register(SECOND),
-        offset: 0,
+    let address = DATA_BASE + 4 * global as u32;
+    Instr::LoadUpper {
+        target: register(SECOND),
+        immediate: ((address + 0x8000) / 0x1_0000) as u16,
     }
 }
 
-fn unary_code(operator: UnaryOperator) -> Instr
-    ensures { result ≡ unary_code operator }
+/// A global's word, where the upper half of its address is in a register.
+fn at_global(op: MemoryOp, target: u8, global: usize) -> Instr
+    requires { global < MOST_GLOBALS }
+    ensures { result ≡ at_global op target global }
 {
-    match operator {
-        UnaryOperator::Negate => arithmetic(ArithmeticOp::SubtractUnsigned, ZERO, FIRST),
-        UnaryOperator::Complement => arithmetic(ArithmeticOp::Nor, ZERO, FIRST),
-        UnaryOperator::Not => is_zero(FIRST),
+    let address = DATA_BASE + 4 * global as u32;
+    Instr::Memory {
+        op,
+        target: register(target),
+        base: register(SECOND),
+        offset: (address % 0x1_0000) as u16,
+    }
+}
+
+fn operation_count(operation: Operation) -> usize
+    ensures value { result ≡ operation_count operation }
+    ensures few { result ≤ 2 }
+{
+    match operation {
+        Operation::Arithmetic { .. } | Operation::Shift { .. } => 1,
+        Operation::MultiplyDivide { .. } => 2,
+    }
+}
+
+fn outcome_count(outcome: Outcome) -> usize
+    ensures value { result ≡ outcome_count outcome }
+    ensures few { result ≤ 1 }
+{
+    match outcome {
+        Outcome::AsItIs => 0,
+        Outcome::WhetherZero | Outcome::WhetherNotZero => 1,
+    }
+}
+
+/// The lines of a plan up to its outcome.
+fn count_of_operation(plan: Plan) -> usize
+    ensures value { result ≡ count_of_operation plan }
+    ensures few { result ≤ 6 }
+{
+    operand_count(plan.left) + operand_count(plan.right) + operation_count(plan.operation)
+}
+
+/// The lines of a plan whose word goes to a slot.
+pub(crate) fn plan_count(plan: Plan) -> usize
+    ensures { result ≡ plan_count plan }
+{
+    count_of_operation(plan) + outcome_count(plan.outcome) + 1
+}
+
+/// The lines before a branch.
+pub(crate) fn test_count(test: Test) -> usize
+    ensures value { result ≡ test_count test }
+    ensures few { result ≤ 6 }
+{
+    match test {
+        Test::Operands { left, right, .. } => operand_count(left) + operand_count(right),
+        Test::Computed { plan } => count_of_operation(plan),
+    }
+}
+
+/// Where an outcome would be 1.
+fn branch_on(outcome: Outcome) -> BranchOp
+    ensures { result ≡ branch_on outcome }
+{
+    match outcome {
+        Outcome::AsItIs | Outcome::WhetherNotZero => BranchOp::NotEqual,
+        Outcome::WhetherZero => BranchOp::Equal,
+    }
+}
+
+/// The branch of a test, behind what it tests.
+fn branch_line(test: Test, label: usize) -> Line
+    ensures { result ≡ branch_line test label }
+{
+    match test {
+        Test::Operands { op, left, right } => Line::Branch {
+            op,
+            left: register(operand_register(FIRST, left)),
+            right: register(operand_register(SECOND, right)),
+            label,
+        },
+        Test::Computed { plan } => Line::Branch {
+            op: branch_on(plan.outcome),
+            left: register(FIRST),
+            right: register(ZERO),
+            label,
+        },
     }
 }
 
 impl Emitter {
-    /// A word comes into a slot.
-    pub(crate) fn constant(
-        &mut self,
-        frame: Frame,
-        destination: usize,
-        word: u32,
-    ) -> Result<(), AllocError>
-        requires { IsReached frame destination }
-        ensures { AddsLines result self.old self.new (ordinary (constant FIRST word ++ store_slot frame FIRST destination ∷ [])) }
-    {
-        self.ordinary(&[
-            load_upper(FIRST, word),
-            or_lower(FIRST, word),
-            store_slot(frame, FIRST, destination),
-        ])
-    }
-
-    /// A slot is copied.
+    /// An operand is copied into a slot.
     pub(crate) fn copy(
         &mut self,
         frame: Frame,
         destination: usize,
-        source: usize,
+        source: Operand,
     ) -> Result<(), AllocError>
         requires target { IsReached frame destination }
-        requires source { IsReached frame source }
-        ensures { AddsLines result self.old self.new (ordinary (load_slot frame FIRST source ∷ store_slot frame FIRST destination ∷ [])) }
+        requires source { IsFound frame source }
+        ensures { AddsLines result self.old self.new (move_code frame destination source) }
     {
-        self.ordinary(&[
-            load_slot(frame, FIRST, source),
-            store_slot(frame, FIRST, destination),
-        ])
+        self.operand(frame, FIRST, source)?;
+        self.ordinary(&[store_slot(frame, operand_register(FIRST, source), destination)])
     }
 
-    pub(crate) fn unary(
+    /// What makes a word of the words in two registers.
+    fn operation(&mut self, operation: Operation, left: u8, right: u8) -> Result<(), AllocError>
+        ensures { AddsLines result self.old self.new (ordinary (operation_code operation left right)) }
+    {
+        match operation {
+            Operation::Arithmetic { op } => self.ordinary(&[arithmetic(op, left, right)]),
+            Operation::Shift { op } => self.ordinary(&[shift(op, left, right)]),
+            Operation::MultiplyDivide { op, from } => {
+                self.ordinary(&[multiply_divide(op, left, right), move_from(from)])
+            }
+        }
+    }
+
+    /// What is made of such a word.
+    fn outcome(&mut self, outcome: Outcome) -> Result<(), AllocError>
+        ensures { AddsLines result self.old self.new (ordinary (outcome_code outcome)) }
+    {
+        match outcome {
+            Outcome::AsItIs => Ok(()),
+            Outcome::WhetherZero => self.ordinary(&[is_zero(FIRST)]),
+            Outcome::WhetherNotZero => {
+                self.ordinary(&[arithmetic(ArithmeticOp::SetLessUnsigned, ZERO, FIRST)])
+            }
+        }
+    }
+
+    /// Two operands, each in a register.
+    fn operands(&mut self, frame: Frame, left: Operand, right: Operand) -> Result<(), AllocError>
+        requires left { IsFound frame left }
+        requires right { IsFound frame right }
+        ensures { AddsLines result self.old self.new (ordinary (operands_code frame left right)) }
+    {
+        self.operand(frame, FIRST, left)?;
+        self.operand(frame, SECOND, right)
+    }
+
+    /// A plan up to its outcome.
+    fn operation_of(&mut self, frame: Frame, plan: Plan) -> Result<(), AllocError>
+        requires { IsPlanFound frame plan }
+        ensures { AddsLines result self.old self.new (ordinary (operation_of frame plan)) }
+    {
+        self.operands(frame, plan.left, plan.right)?;
+        self.operation(
+            plan.operation,
+            operand_register(FIRST, plan.left),
+            operand_register(SECOND, plan.right),
+        )
+    }
+
+    /// A word that is computed.
+    fn computed(&mut self, frame: Frame, plan: Plan) -> Result<(), AllocError>
+        requires { IsPlanFound frame plan }
+        ensures { AddsLines result self.old self.new (ordinary (computed_code frame plan)) }
+    {
+        self.operation_of(frame, plan)?;
+        self.outcome(plan.outcome)
+    }
+
+    /// It goes to a slot.
+    pub(crate) fn plan(
         &mut self,
         frame: Frame,
-        operator: UnaryOperator,
+        plan: Plan,
         destination: usize,
-        operand: usize,
     ) -> Result<(), AllocError>
         requires target { IsReached frame destination }
-        requires source { IsReached frame operand }
-        ensures { AddsLines result self.old self.new (ordinary (load_slot frame FIRST operand ∷ unary_code operator ∷ store_slot frame FIRST destination ∷ [])) }
+        requires found { IsPlanFound frame plan }
+        ensures { AddsLines result self.old self.new (ordinary (plan_code frame plan destination)) }
     {
-        self.ordinary(&[
-            load_slot(frame, FIRST, operand),
-            unary_code(operator),
-            store_slot(frame, FIRST, destination),
-        ])
+        self.computed(frame, plan)?;
+        self.ordinary(&[store_slot(frame, FIRST, destination)])
     }
 
-    /// A test of two registers for order: whether the left one is less than the right one, or is not.
-    fn order(&mut self, left: u8, right: u8, holds: bool) -> Result<(), AllocError>
-        ensures { AddsLines result self.old self.new (order_code left right holds) }
+    /// What a branch tests.
+    fn test(&mut self, frame: Frame, test: Test) -> Result<(), AllocError>
+        requires { IsTestFound frame test }
+        ensures { AddsLines result self.old self.new (ordinary (test_code frame test)) }
     {
-        self.ordinary(&[arithmetic(ArithmeticOp::SetLess, left, right)])?;
-        if holds {
-            return Ok(());
-        }
-        self.ordinary(&[is_zero(FIRST)])
-    }
-
-    /// An operator on the registers of the operands, into the first. Division has lines of its own.
-    fn computed(&mut self, operator: BinaryOperator) -> Result<(), AllocError>
-        ensures { AddsLines result self.old self.new (ordinary (binary_code operator)) }
-    {
-        let difference = arithmetic(ArithmeticOp::SubtractUnsigned, FIRST, SECOND);
-        match operator {
-            BinaryOperator::Add => self.ordinary(&[arithmetic(
-                ArithmeticOp::AddUnsigned,
-                FIRST,
-                SECOND,
-            )]),
-            BinaryOperator::Subtract => self.ordinary(&[difference]),
-            BinaryOperator::Multiply => self.ordinary(&[
-                multiply_divide(MultiplyDivideOp::Multiply),
-                move_from(MoveFromOp::Low),
-            ]),
-            BinaryOperator::Divide | BinaryOperator::Remainder => Ok(()),
-            BinaryOperator::And => self.ordinary(&[arithmetic(ArithmeticOp::And, FIRST, SECOND)]),
-            BinaryOperator::Or => self.ordinary(&[arithmetic(ArithmeticOp::Or, FIRST, SECOND)]),
-            BinaryOperator::Xor => self.ordinary(&[arithmetic(ArithmeticOp::Xor, FIRST, SECOND)]),
-            BinaryOperator::ShiftLeft => self.ordinary(&[shift(ShiftOp::Left)]),
-            BinaryOperator::ShiftRight => self.ordinary(&[shift(ShiftOp::RightArithmetic)]),
-            BinaryOperator::Equal => self.ordinary(&[difference, is_zero(FIRST)]),
-            BinaryOperator::NotEqual => self.ordinary(&[
-                difference,
-                arithmetic(ArithmeticOp::SetLessUnsigned, ZERO, FIRST),
-            ]),
-            BinaryOperator::Less => self.order(FIRST, SECOND, true),
-            BinaryOperator::LessOrEqual => self.order(SECOND, FIRST, false),
-            BinaryOperator::Greater => self.order(SECOND, FIRST, true),
-            BinaryOperator::GreaterOrEqual => self.order(FIRST, SECOND, false),
+        match test {
+            Test::Operands { left, right, .. } => self.operands(frame, left, right),
+            Test::Computed { plan } => self.operation_of(frame, plan),
         }
     }
 
-    /// Both operands come into their registers.
-    fn operands(&mut self, frame: Frame, left: usize, right: usize) -> Result<(), AllocError>
-        requires left { IsReached frame left }
-        requires right { IsReached frame right }
-        ensures { AddsLines result self.old self.new (operands_code frame left right) }
+    /// A jump where a test holds.
+    pub(crate) fn branch_where(
+        &mut self,
+        frame: Frame,
+        test: Test,
+        label: usize,
+    ) -> Result<(), AllocError>
+        requires { IsTestFound frame test }
+        ensures { AddsLines result self.old self.new (branch_code frame test label) }
     {
-        self.ordinary(&[
-            load_slot(frame, FIRST, left),
-            load_slot(frame, SECOND, right),
-        ])
+        self.test(frame, test)?;
+        self.line(branch_line(test, label))
     }
 
     /// The negated dividend by 1, and behind that the division of the registers as they are.
@@ -212,10 +297,35 @@ impl Emitter {
         self.ordinary(&[
             arithmetic(ArithmeticOp::SubtractUnsigned, ZERO, FIRST),
             small(SECOND, 1),
-            multiply_divide(MultiplyDivideOp::Divide),
+            multiply_divide(MultiplyDivideOp::Divide, FIRST, SECOND),
             move_from(which),
             store_slot(frame, FIRST, destination),
         ])
+    }
+
+    /// Dividend and divisor come into their registers.
+    fn loads(&mut self, frame: Frame, left: Operand, right: Operand) -> Result<(), AllocError>
+        requires left { IsFound frame left }
+        requires right { IsFound frame right }
+        ensures { AddsLines result self.old self.new (ordinary (loads_code frame left right)) }
+    {
+        self.load(frame, FIRST, left)?;
+        self.load(frame, SECOND, right)
+    }
+
+    /// The same, and -1 comes into a third.
+    fn dividend_and_divisor(
+        &mut self,
+        frame: Frame,
+        left: Operand,
+        right: Operand,
+    ) -> Result<(), AllocError>
+        requires left { IsFound frame left }
+        requires right { IsFound frame right }
+        ensures { AddsLines result self.old self.new (ordinary (divided_code frame left right)) }
+    {
+        self.loads(frame, left, right)?;
+        self.ordinary(&[add_immediate(THIRD, ZERO, minus(1))])
     }
 
     /// A quotient or a remainder. By -1 the machine does not divide the least number, so there the negated dividend is
@@ -225,42 +335,41 @@ impl Emitter {
         frame: Frame,
         here: usize,
         which: MoveFromOp,
-        slots: Slots,
+        parts: Parts,
     ) -> Result<(), AllocError>
         requires fits { here ≤ most_lines }
-        requires target { IsReached frame slots.destination }
-        requires left { IsReached frame slots.left }
-        requires right { IsReached frame slots.right }
-        ensures { AddsLines result self.old self.new (divide_code frame here which slots.destination slots.left slots.right) }
+        requires target { IsReached frame parts.destination }
+        requires left { IsFound frame parts.left }
+        requires right { IsFound frame parts.right }
+        ensures { AddsLines result self.old self.new (divide_code frame here which parts.destination parts.left parts.right) }
     {
-        self.operands(frame, slots.left, slots.right)?;
-        self.ordinary(&[add_immediate(THIRD, ZERO, minus(1))])?;
-        self.branch(BranchOp::NotEqual, SECOND, THIRD, here + 6)?;
-        self.quotient(frame, which, slots.destination)
+        let before = load_count(parts.left) + load_count(parts.right);
+        self.dividend_and_divisor(frame, parts.left, parts.right)?;
+        self.branch(BranchOp::NotEqual, SECOND, THIRD, here + before + 4)?;
+        self.quotient(frame, which, parts.destination)
     }
 
-    /// An operator on two slots.
+    /// An operator on two operands.
     pub(crate) fn binary(
         &mut self,
         frame: Frame,
         here: usize,
         operator: BinaryOperator,
-        slots: Slots,
+        parts: Parts,
     ) -> Result<(), AllocError>
         requires fits { here ≤ most_lines }
-        requires target { IsReached frame slots.destination }
-        requires left { IsReached frame slots.left }
-        requires right { IsReached frame slots.right }
-        ensures { AddsLines result self.old self.new (operator_code frame here operator slots.destination slots.left slots.right) }
+        requires target { IsReached frame parts.destination }
+        requires left { IsFound frame parts.left }
+        requires right { IsFound frame parts.right }
+        ensures { AddsLines result self.old self.new (operator_code frame here operator parts.destination parts.left parts.right) }
     {
         match operator {
-            BinaryOperator::Divide => return self.divide(frame, here, MoveFromOp::Low, slots),
-            BinaryOperator::Remainder => return self.divide(frame, here, MoveFromOp::High, slots),
+            BinaryOperator::Divide => return self.divide(frame, here, MoveFromOp::Low, parts),
+            BinaryOperator::Remainder => return self.divide(frame, here, MoveFromOp::High, parts),
             _ => {}
         }
-        self.operands(frame, slots.left, slots.right)?;
-        self.computed(operator)?;
-        self.ordinary(&[store_slot(frame, FIRST, slots.destination)])
+        let plan = binary_plan(operator, parts.left, parts.right);
+        self.plan(frame, plan, parts.destination)
     }
 
     /// A byte of the input comes into a slot.
@@ -275,16 +384,13 @@ impl Emitter {
         ])
     }
 
-    /// A slot's low byte is printed.
-    pub(crate) fn write_byte(&mut self, frame: Frame, source: usize) -> Result<(), AllocError>
-        requires { IsReached frame source }
-        ensures { AddsLines result self.old self.new (ordinary (load_slot frame ARGUMENT source ∷ small SERVICE PUT_BYTE ∷ syscall ∷ [])) }
+    /// An operand's low byte is printed.
+    pub(crate) fn write_byte(&mut self, frame: Frame, source: Operand) -> Result<(), AllocError>
+        requires { IsFound frame source }
+        ensures { AddsLines result self.old self.new (write_code frame source) }
     {
-        self.ordinary(&[
-            load_slot(frame, ARGUMENT, source),
-            small(SERVICE, PUT_BYTE as u16),
-            syscall(),
-        ])
+        self.load(frame, ARGUMENT, source)?;
+        self.ordinary(&[small(SERVICE, PUT_BYTE as u16), syscall()])
     }
 
     /// A global comes into a slot.
@@ -298,32 +404,28 @@ impl Emitter {
         requires target { IsReached frame destination }
         ensures { AddsLines result self.old self.new (load_global frame destination global) }
     {
-        let address = DATA_BASE + 4 * global as u32;
         self.ordinary(&[
-            load_upper(SECOND, address),
-            or_lower(SECOND, address),
-            at_address(MemoryOp::LoadWord),
+            upper_of_global(global),
+            at_global(MemoryOp::LoadWord, FIRST, global),
             store_slot(frame, FIRST, destination),
         ])
     }
 
-    /// A slot goes into a global.
+    /// An operand goes into a global.
     pub(crate) fn store_global(
         &mut self,
         frame: Frame,
         global: usize,
-        source: usize,
+        source: Operand,
     ) -> Result<(), AllocError>
         requires global { global < MOST_GLOBALS }
-        requires source { IsReached frame source }
+        requires source { IsFound frame source }
         ensures { AddsLines result self.old self.new (store_global frame global source) }
     {
-        let address = DATA_BASE + 4 * global as u32;
+        self.operand(frame, FIRST, source)?;
         self.ordinary(&[
-            load_slot(frame, FIRST, source),
-            load_upper(SECOND, address),
-            or_lower(SECOND, address),
-            at_address(MemoryOp::StoreWord),
+            upper_of_global(global),
+            at_global(MemoryOp::StoreWord, operand_register(FIRST, source), global),
         ])
     }
 
@@ -332,17 +434,13 @@ impl Emitter {
         &mut self,
         frame: Frame,
         tag: u32,
-        value: usize,
+        value: Operand,
     ) -> Result<(), AllocError>
-        requires { IsReached frame value }
+        requires { IsFound frame value }
         ensures { AddsLines result self.old self.new (uncaught_code frame tag value) }
     {
-        self.ordinary(&[
-            load_upper(ARGUMENT, tag),
-            or_lower(ARGUMENT, tag),
-            load_slot(frame, SECOND_ARGUMENT, value),
-            small(SERVICE, END_UNCAUGHT as u16),
-            syscall(),
-        ])
+        self.word(ARGUMENT, tag)?;
+        self.load(frame, SECOND_ARGUMENT, value)?;
+        self.ordinary(&[small(SERVICE, END_UNCAUGHT as u16), syscall()])
     }
 }

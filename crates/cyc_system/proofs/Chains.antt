@@ -37,7 +37,7 @@ use Rattle.cyc_asm.specs.Machine as assembled
 use Rattle.cyc_asm.specs.Machine.{Runs}
 use Rattle.cyc_machine.specs.WorldMachine.{world_machine}
 use Rattle.cyc_system.specs.FullPreservation.{text_words, DoesTheSame, IsImageOf}
-use Rattle.cyc_system.specs.ProgramImage.{program_image}
+use Rattle.cyc_system.specs.ProgramImage.{program_image, HasForm}
 use Rattle.cyc_system.proofs.Composition.{chain_preserves}
 use Rattle.cyc_system.proofs.Preservation.{never_fails}
 use Rattle.cyc_system.proofs.ProgramImages.{text_words-image, image_form, image_loads, image_starts}
@@ -108,7 +108,7 @@ text_has_words program code addresses words well is text = first_line code.lines
 -- ---- it does what the program means
 
 module _ (p : Program) (lowered : PlainProgram) (code : Labelled) (addresses : ℕ → ℕ) (words : List ℕ)
-    (is : IsLowered p lowered) (selected : IsCodeOf lowered code) (text : IsTextOf code addresses words) (runs : Runs code addresses words)
+    (is : IsLowered p lowered) (selected : IsCodeOf lowered code) (globals : code.globals ≡ lowered.globals) (text : IsTextOf code addresses words) (runs : Runs code addresses words)
     (few : length code.globals ≤ globals_length) (fit : AllByRecursion IsWord words) (fit_globals : AllByRecursion IsWord code.globals) where
   some : 0 < length words
   some = text_has_words lowered code addresses words is.well_formed selected text
@@ -129,17 +129,17 @@ module _ (p : Program) (lowered : PlainProgram) (code : Labelled) (addresses : �
     image = program_image words code.globals;
     read = read;
     written = written;
-    form = image_form words code.globals;
+    form = subst (λ (n : ℕ). HasForm n (program_image words code.globals)) (ap length globals ∙ is.globals) (image_form words code.globals);
     loads = image_loads words code.globals some text.inside few fit fit_globals;
     does = does;
   }
 
 -- the same, for words and globals that the image was made of
 pub image_made : (p : Program) (lowered : PlainProgram) (code : Labelled) (addresses : ℕ → ℕ) (words there globals : List ℕ) (file : List ℕ)
-    → there ≡ words → globals ≡ code.globals → IsLowered p lowered → IsCodeOf lowered code → IsTextOf code addresses words → Runs code addresses words
+    → there ≡ words → globals ≡ code.globals → IsLowered p lowered → IsCodeOf lowered code → code.globals ≡ lowered.globals → IsTextOf code addresses words → Runs code addresses words
     → length code.globals ≤ globals_length → AllByRecursion IsWord there → AllByRecursion IsWord globals → reading file ≡ Ok (program_image there globals)
     → file ≡ layout (program_image there globals) → IsImageOf p file
-image_made p lowered code addresses words there globals file same same_globals is selected text runs few fit fit_globals read written =
-    image_of_chain p lowered code addresses words is selected text runs few (subst (AllByRecursion IsWord) same fit) (subst (AllByRecursion IsWord) same_globals fit_globals) file
+image_made p lowered code addresses words there globals file same same_globals is selected are text runs few fit fit_globals read written =
+    image_of_chain p lowered code addresses words is selected are text runs few (subst (AllByRecursion IsWord) same fit) (subst (AllByRecursion IsWord) same_globals fit_globals) file
     (subst (λ (ws : List ℕ). reading file ≡ Ok (program_image ws code.globals)) same (subst (λ (gs : List ℕ). reading file ≡ Ok (program_image there gs)) same_globals read))
     (subst (λ (ws : List ℕ). file ≡ layout (program_image ws code.globals)) same (subst (λ (gs : List ℕ). file ≡ layout (program_image there gs)) same_globals written))

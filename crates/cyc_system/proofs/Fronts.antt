@@ -1,4 +1,4 @@
--- The front half from its phases: what each says of what it is given makes what all say of the text.
+-- The front end from its phases: what each says of what it is given makes what all say of the text.
 use Rattle.std.proofs.Common.{◌≡◌, ◌⊎◌, inl, inr, ⊎_elim, ℕ, List, map, Result, Ok, Err, refl, sym, ap, subst, ◌∙◌}
 use Rattle.std.specs.Prelude.{IfOk, IfErr, MatchResult}
 use Rattle.cyc_words.specs.declared.fault.Fault.{Fault}
@@ -89,7 +89,7 @@ pub record Stops {A : Type 0} (Accepted : A → Type 0) (Has : Fault → Type 0)
   pub none : (a : A) → Accepted a → f ≡ memory_fault
   pub no_other : (g : Fault) → Has g → (f ≡ memory_fault) ⊎ (f ≡ g)
 
--- what the front half answers of a text
+-- what the front end answers of a text
 abbrev pub IsAnswered : List ℕ → Result Flowed Fault → Type 0
 IsAnswered text result = Decides (IsAcceptedText text) (λ p v. view_program v.tree ≡ p) (IsRefusedText text) (HasFault text) result
 
@@ -201,7 +201,7 @@ flow_accepted text tokens tree t (Ok v) l r c (one, allowed, same) = (
 )
 flow_accepted text tokens tree t (Err f) l r c h = tt
 
--- What the flow check says of a typed tree is what the front half says of the text.
+-- What the flow check says of a typed tree is what the front end says of the text.
 pub flow_answers : (text : List ℕ) (tokens : List Token) (tree : List Declaration) (t : TypedTree) (result : Result Flowed Fault)
     → Lexed text tokens → Parsed parser.IsFaulty text tokens tree → Checked tokens tree (view_program t)
     → Decides (λ (one : Unit {0}). IsAllowedProgram (view_program t)) (λ one v. v.tree ≡ t) (IsStoppedProgram (view_program t)) (IsStoppedProgram (view_program t)) result

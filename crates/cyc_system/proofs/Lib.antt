@@ -1,4 +1,4 @@
--- the front half and what it refuses
+-- the front end and what it refuses
 pub mod Fronts
 pub mod Refusals
 -- the passes in a row, and the image that they make

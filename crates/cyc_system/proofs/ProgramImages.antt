@@ -164,13 +164,13 @@ zeros_behind globals count k within = elim (cases_lt k (length globals)) [
 
 -- ---- the image
 
-pub image_form : (words globals : List ℕ) → HasForm (program_image words globals)
+pub image_form : (words globals : List ℕ) → HasForm (length globals) (program_image words globals)
 image_form words [] = record { entry = refl; segments = record { address = refl; flags = refl; stored = refl } }
 image_form words (g ∷ globals) = record {
   entry = refl;
   segments = (
     record { address = refl; flags = refl; stored = refl },
-    record { address = refl; flags = refl; stored = refl; some = omega (arith, length-bytes_of_words (g ∷ globals)) },
+    record { address = refl; flags = refl; stored = refl; size = length-bytes_of_words (g ∷ globals) },
   );
 }
 

@@ -1,4 +1,4 @@
--- What is refused behind the front half, said of the text's program.
+-- What is refused behind the front end, said of the text's program.
 use Rattle.std.proofs.Common.{◌≡◌, ◌⊎◌, inl, inr, ⊎_elim, ℕ, ◌≤◌, List, Result, Ok, Err, refl, sym, subst, length}
 use Rattle.std.specs.Prelude.{IfOk, IfErr, MatchResult}
 use Rattle.cyc_words.specs.declared.fault.Fault.{Fault}
@@ -15,7 +15,7 @@ use Rattle.cyc_system.specs.Front.{IsAcceptedText, IsRefusedText, HasFault}
 use Rattle.cyc_system.specs.Compiled.{IsTooLarge, IsSmallEnough, IsSmall, IsCompiledText, IsRefusedAtLast, HasFaultAtLast}
 use Rattle.cyc_system.proofs.Sizes.{large_above, large_below, small_above, small_below}
 
--- ---- what stands behind the front half, for a typed program
+-- ---- what stands behind the front end, for a typed program
 
 module _ {X : Type 0} (Image : Program → X → Type 0) (p : Program) where
   -- what the lowering refuses
@@ -73,7 +73,7 @@ module _ {X : Type 0} (Image : Program → X → Type 0) (p : Program) where
 -- ---- the same of a text
 
 module _ {X : Type 0} (Image : Program → X → Type 0) (text : List ℕ) where
-  -- what the front half accepts
+  -- what the front end accepts
   module _ (p : Program) (accepted : IsAcceptedText text p) (only : (q : Program) → IsAcceptedText text q → p ≡ q) (no_fault : (f : Fault) → HasFault text f → ⊥) where
     built_accepted : (result : Result X Fault) → IfOk result (λ x. (q : Program) × IsSmall p q × Image q x) → IfOk result (λ x. (q : Program) × IsCompiledText text q × Image q x)
     built_accepted (Ok x) (q, (same, small), image) = (q, (subst (IsAcceptedText text) (sym same) accepted, small), image)

@@ -1,4 +1,4 @@
--- Which texts are compiled, and why another is refused: the front half of the compiler refuses it, or its program is too
+-- Which texts are compiled, and why another is refused: the front end of the compiler refuses it, or its program is too
 -- large for what stands behind. The two limits are this project's own choice.
 use Rattle.std.specs.Prelude.{◌≡◌, ◌⊎◌, ℕ, ◌≤◌, ◌<◌, List, Some, length, slice_get}
 use Rattle.cyc_words.specs.declared.fault.Fault.{Fault}

@@ -1,4 +1,4 @@
--- WHICH TEXTS ARE ACCEPTED, and what is said of the others. The front half of the compiler has four phases: the text has tokens, the
+-- WHICH TEXTS ARE ACCEPTED, and what is said of the others. The front end of the compiler has four phases: the text has tokens, the
 -- tokens have a tree, the tree has a typed program, and the typed program keeps the flow rules. Each phase says in words of its own what
 -- it accepts and what it refuses; here they stand together. (That the first phase to refuse a text names its fault is this project's
 -- own choice.)

@@ -3,7 +3,7 @@
 -- The program has one limited run for each input. The machine has many runs from an image, since its services may
 -- choose; each of them does what the program does. This project's own choice: the form of the promise, and its bound of
 -- so many instructions for each step of the program.
-use Rattle.std.specs.Prelude.{◌≡◌, ◌≢◌, ℕ, ◌+◌, ◌*◌, ◌/◌, ◌<◌, Bool, false, List, Option, None, Some, Result, Ok, sum_by, if◌then◌else◌}
+use Rattle.std.specs.Prelude.{◌≡◌, ◌≢◌, ℕ, ◌+◌, ◌*◌, ◌/◌, ◌<◌, Bool, false, List, length, Option, None, Some, Result, Ok, sum_by, if◌then◌else◌}
 use Rattle.std.specs.List.{AllByRecursion}
 use Rattle.cyc_words.specs.Ending.{Ending}
 use Rattle.cyc_words.specs.Prefix.{IsPrefix}
@@ -54,12 +54,12 @@ DoesTheSame p image =
     (start p input) (start_world image limits input)
 
 -- A file is an image that the machine can load, and that does what the program means. The file is the one that is written of the
--- image, and the image has the form of a program's, so there is nothing else in either.
+-- image, and the image has the form of the image of a program with so many globals, so there is nothing else in either.
 pub record IsImageOf (p : Program) (file : List ℕ) : Type 0 where
   pub image : ImageContents
   pub read : reading file ≡ Ok image
   pub written : file ≡ layout image
-  pub form : HasForm image
+  pub form : HasForm (length p.globals) image
   pub loads : IsLoadable image
   pub does : DoesTheSame p image
 

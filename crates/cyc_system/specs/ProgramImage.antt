@@ -1,6 +1,6 @@
 -- The image of a compiled program. That text is to be read (4) and executed (1), and data to be read (4) and written (2),
 -- is as in the System V ABI, chapter 5, "Program Header"; the segments and their addresses are this project's own choice.
-use Rattle.std.specs.Prelude.{◌≡◌, ℕ, ◌<◌, List, [], ◌∷◌, length}
+use Rattle.std.specs.Prelude.{◌≡◌, ℕ, zero, suc, ◌*◌, List, [], ◌∷◌, length}
 use Rattle.std.specs.List.{flat_map}
 use Rattle.cyc_words.specs.Bytes.{bytes_of_word}
 use Rattle.cyc_elf.specs.Image.{SegmentContents, ImageContents}
@@ -43,21 +43,20 @@ pub record IsText (s : SegmentContents) : Type 0 where
   pub flags : s.flags ≡ READ_AND_EXECUTE
   pub stored : length s.bytes ≡ s.size
 
--- A segment of data begins where the data range does, is to be read and written, and is not empty.
-pub record IsData (s : SegmentContents) : Type 0 where
+-- A segment of data begins where the data range does, is to be read and written, and has a word for each of so many globals.
+pub record IsData (globals : ℕ) (s : SegmentContents) : Type 0 where
   pub address : s.vaddr ≡ DATA_BASE
   pub flags : s.flags ≡ READ_AND_WRITE
   pub stored : length s.bytes ≡ s.size
-  pub some : 0 < s.size
+  pub size : s.size ≡ 4 * globals
 
--- there is one segment of text, and one of data where there are globals, and nothing else
-abbrev pub AreOfProgram : List SegmentContents → Type 0
-AreOfProgram [] = ⊥
-AreOfProgram (text ∷ []) = IsText text
-AreOfProgram (text ∷ globals ∷ []) = IsText text × IsData globals
-AreOfProgram (text ∷ globals ∷ other ∷ rest) = ⊥
+-- of a program with so many globals there is one segment of text, and one of data where there are globals, and nothing else
+abbrev pub AreOfProgram : (globals : ℕ) → List SegmentContents → Type 0
+AreOfProgram zero (text ∷ []) = IsText text
+AreOfProgram (suc globals) (text ∷ variables ∷ []) = IsText text × IsData (suc globals) variables
+AreOfProgram globals segments = ⊥
 
--- the form of a program's image, which is entered where its text begins
-pub record HasForm (image : ImageContents) : Type 0 where
+-- the form of the image of a program with so many globals, which is entered where its text begins
+pub record HasForm (globals : ℕ) (image : ImageContents) : Type 0 where
   pub entry : image.entry ≡ TEXT_BASE
-  pub segments : AreOfProgram image.segments
+  pub segments : AreOfProgram globals image.segments

@@ -52,12 +52,12 @@ fn build(alloc: Global, program: &Flowed) -> Result<Vec<u8>, Fault>
 
 /// Compiles a text to an image, as the bytes of a file.
 ///
-/// The front half of the compiler comes first: what it refuses is refused with its fault. A program that it accepts is refused
+/// The front end of the compiler comes first: what it refuses is refused with its fault. A program that it accepts is refused
 /// with `TooManyFunctions` at the name of the 4,097th function, or else with `FrameTooLarge` at the name of the first function whose
 /// frame may need more than 256 words. Any growth may be refused for want of memory.
 pub fn compile(alloc: Global, text: &[u8]) -> Result<Vec<u8>, Fault>
     // What is answered is an image that the machine can load, and that does what the program of the text means: it
-    // prints and ends as the program does within its limits, and does nothing else. What is refused is so by the front half, or
+    // prints and ends as the program does within its limits, and does nothing else. What is refused is so by the front end, or
     // its program is too large.
     ensures decides { Decides (IsCompiledText text.now) (λ p file. IsImageOf p file.items) (IsRefusedAtLast text.now) (HasFaultAtLast text.now) result }
 {

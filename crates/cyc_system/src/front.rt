@@ -1,4 +1,4 @@
-//! The front half of the compiler: from the bytes of a text to its typed tree, or to its fault.
+//! The front end of the compiler: from the bytes of a text to its typed tree, or to its fault.
 ghost use Rattle.std.specs.Prelude.{◌≡◌};
 ghost use Rattle.cyc_words.specs.Decision.{Decides};
 ghost use Rattle.cyc_types.specs.TypedTreeView.{view_program};

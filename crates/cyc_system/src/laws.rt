@@ -16,7 +16,7 @@ ghost use Rattle.cyc_system.specs.CompiledRuns.{RunsAs};
 ghost use Rattle.cyc_system.specs.declared.report.Report.{Report};
 ghost use Rattle.cyc_system.specs.declared.report.RunFault.{RunFault};
 
-/// The front half leaves no choice: a text is accepted with one typed program at most, and no refusal of an accepted text is true.
+/// The front end leaves no choice: a text is accepted with one typed program at most, and no refusal of an accepted text is true.
 pub fn accepted_or_refused()
     ensures one_program { (text : List ℕ) (p q : Program) → IsAcceptedText text p → IsAcceptedText text q → p ≡ q }
     ensures not_both { (text : List ℕ) (p : Program) (f : Fault) → IsAcceptedText text p → IsRefusedText text f → ⊥ }

@@ -1,9 +1,9 @@
 //! Images as files, with the answers worked out by hand.
 
-use crate::hexadecimal::bytes_of_words;
+use crate::rows::{bytes_of_words, decimal, expect, expect_number, expect_text};
 use cyc_elf::{ElfFault, read_image};
 use std::alloc::Global;
-use std::test::Fail;
+use std::process::Abort;
 
 /// One segment of six instructions, which end with 3.
 const SMALL: &str = "\
@@ -75,14 +75,13 @@ pair|92=400004 100=1 104=0|4
 doubled|44=20000 56=74 88=74|4
 ";
 
-/// The file of this name.
-fn file_named(alloc: Global, name: &str) -> Result<Vec<u8>, Fail> {
-    let words = match name {
+/// The words of the file of this name.
+fn words_of(name: &str) -> &'static str {
+    match name {
         "small" => SMALL,
         "pair" => PAIR,
         _ => DOUBLED,
-    };
-    bytes_of_words(alloc, words)
+    }
 }
 
 /// Sets bytes at a place, as far as there are any.
@@ -92,65 +91,101 @@ fn set(file: &mut [u8], place: usize, new: &[u8]) {
     }
 }
 
-#[test]
-fn images_are_read(rt: HostRuntime) -> Result<(), Fail> {
-    let alloc = rt.alloc();
-    let small = read_image(alloc, &bytes_of_words(alloc, SMALL)?)?;
-    let told = format!(in alloc; "{:x} {}", small.entry, small.segments.len())?;
-    assert_eq!(rt; told.as_str(), "400000 1");
-    let pair = read_image(alloc, &bytes_of_words(alloc, PAIR)?)?;
-    assert_eq!(rt; pair.entry, 0x0040_0004);
-    let mut told = String::new(alloc);
-    for segment in &pair.segments {
-        let bytes = segment.bytes.as_slice();
-        write!(
-            told,
-            "{:x} {} {} {bytes:?}; ",
-            segment.vaddr, segment.flags, segment.size
-        )?;
+/// Makes a change, as `24=400014`, to a file.
+fn change(alloc: Global, file: &mut [u8], change: &str) -> Option<()> {
+    let (place, word) = change.split_once('=')?;
+    let new = bytes_of_words(alloc, word)?;
+    set(file, decimal(place)? as usize, &new);
+    Some(())
+}
+
+/// The number of the fault of a file, or 0.
+fn fault_of(alloc: Global, file: &[u8]) -> u32 {
+    match read_image(alloc, file) {
+        Ok(_) => 0,
+        Err(fault) => fault.number(),
     }
-    assert_eq!(rt;
-        told.as_str(),
-        "400000 5 8 [36, 2, 0, 3, 0, 0, 0, 12]; 10000000 6 9 [1, 2, 3, 4, 5]; "
-    );
-    Ok(())
+}
+
+/// The entry of an image, and of each segment its address, its flags, its size and its bytes.
+fn told(alloc: Global, words: &str) -> Option<String> {
+    let file = bytes_of_words(alloc, words)?;
+    let image = read_image(alloc, &file).ok()?;
+    let mut told = String::new(alloc);
+    write!(told, "{:x}", image.entry).ok()?;
+    for it in &image.segments {
+        let bytes = it.bytes.as_slice();
+        write!(told, "; {:x} {} {} {bytes:?}", it.vaddr, it.flags, it.size).ok()?;
+    }
+    Some(told)
 }
 
 #[test]
-fn changed_images_have_their_faults(rt: HostRuntime) -> Result<(), Fail> {
-    for line in CHANGES.lines() {
-        let (name, rest) = line.split_once('|').ok_or("no changes")?;
-        let (changes, want) = rest.split_once('|').ok_or("no fault")?;
-        let mut file = file_named(rt.alloc(), name)?;
-        for change in changes.split_whitespace() {
-            let (place, word) = change.split_once('=').ok_or("no word")?;
-            let new = bytes_of_words(rt.alloc(), word)?;
-            set(&mut file, place.parse()?, &new);
+fn images_are_read(rt: HostRuntime) {
+    for &(name, want) in &[
+        (
+            "small",
+            "400000; 400000 5 24 [36, 4, 0, 1, 16, 0, 0, 2, 36, 132, 0, 2, 36, 132, 0, 4, 36, 2, 0, 3, 0, 0, 0, 12]",
+        ),
+        (
+            "pair",
+            "400004; 400000 5 8 [36, 2, 0, 3, 0, 0, 0, 12]; 10000000 6 9 [1, 2, 3, 4, 5]",
+        ),
+    ] {
+        match told(rt.alloc(), words_of(name)) {
+            Some(told) => expect_text(&rt, &told, want, name),
+            None => expect(&rt, false, name),
         }
-        let fault = match read_image(rt.alloc(), &file) {
-            Ok(_) => 0,
-            Err(fault) => fault.number(),
-        };
-        assert_eq!(rt; fault, want.parse::<u32>()?, "{line}");
     }
-    Ok(())
+}
+
+/// A file has its fault with the changes of a row.
+fn expect_fault<A: Abort>(rt: &A, alloc: Global, row: &str) -> Option<()> {
+    let (name, rest) = row.split_once('|')?;
+    let (changes, want) = rest.split_once('|')?;
+    let mut file = bytes_of_words(alloc, words_of(name))?;
+    for it in changes.split_whitespace() {
+        change(alloc, &mut file, it)?;
+    }
+    expect_number(rt, fault_of(alloc, &file), decimal(want)?, row);
+    Some(())
+}
+
+#[test]
+fn changed_images_have_their_faults(rt: HostRuntime) {
+    for row in CHANGES.lines() {
+        let read = expect_fault(&rt, rt.alloc(), row);
+        expect(&rt, read.is_some(), row);
+    }
 }
 
 /// Every file that is a part of one is cut short, up to the end of its last segment.
-#[test]
-fn cut_images_are_cut_short(rt: HostRuntime) -> Result<(), Fail> {
-    let file = bytes_of_words(rt.alloc(), SMALL)?;
+fn expect_cut<A: Abort>(rt: &A, alloc: Global) -> Option<()> {
+    let file = bytes_of_words(alloc, SMALL)?;
     for length in 0..file.len() {
-        let cut = file.get(..length).ok_or("a front")?;
-        let fault = read_image(rt.alloc(), cut).err();
-        assert_eq!(rt; fault, Some(ElfFault::Truncated), "{length}");
+        let fault = fault_of(alloc, file.get(..length)?);
+        expect_number(rt, fault, ElfFault::Truncated.number(), "a part of a file");
     }
-    Ok(())
+    Some(())
 }
 
 #[test]
-fn faults_have_texts(rt: HostRuntime) -> Result<(), Fail> {
-    let texts = [
+fn cut_images_are_cut_short(rt: HostRuntime) {
+    let read = expect_cut(&rt, rt.alloc());
+    expect(&rt, read.is_some(), "the file");
+}
+
+/// A fault is shown so.
+fn expect_shown<A: Abort>(rt: &A, alloc: Global, fault: ElfFault, want: &str) {
+    match format!(in alloc; "{fault}") {
+        Ok(shown) => expect_text(rt, &shown, want, want),
+        Err(_) => expect(rt, false, want),
+    }
+}
+
+#[test]
+fn faults_have_texts(rt: HostRuntime) {
+    for &(fault, text) in &[
         (ElfFault::Truncated, "the file is cut short"),
         (ElfFault::NotElf32Big, "not a 32-bit big-endian ELF file"),
         (ElfFault::NotMipsExec, "not an executable for MIPS"),
@@ -164,10 +199,7 @@ fn faults_have_texts(rt: HostRuntime) -> Result<(), Fail> {
             "the entry is not an instruction's address",
         ),
         (ElfFault::Memory, "out of memory"),
-    ];
-    for (fault, text) in texts {
-        let shown = format!(in rt.alloc(); "{fault}")?;
-        assert_eq!(rt; shown.as_str(), text);
+    ] {
+        expect_shown(&rt, rt.alloc(), fault, text);
     }
-    Ok(())
 }

@@ -1,9 +1,11 @@
 //! Vectors from outside, words that are no instructions, and devices that fail.
 
 use crate::devices::FailsOnce;
-use cyc_isa::{decode, encode, write_text};
-use cyc_words::{Failed, Writer};
-use std::test::Fail;
+use crate::rows::{expect, expect_number, hexadecimal};
+use cyc_isa::{Instr, decode, encode, write_text};
+use cyc_words::Writer;
+use std::alloc::Global;
+use std::process::Abort;
 
 /// A line for each: an address, the word that stands there, and its text. At least three of each row of the table, with
 /// edge numbers in the fields, and last the six words of the smallest whole program.
@@ -202,44 +204,59 @@ c0000000 ll
 ffffffff no instruction
 ";
 
-#[test]
-fn vectors_have_their_words_and_texts(rt: HostRuntime) -> Result<(), Fail> {
-    for line in VECTORS.lines() {
-        let (address, rest) = line.split_once(' ').ok_or("no address")?;
-        let (word, text) = rest.split_once(' ').ok_or("no word")?;
-        let address = u32::from_str_radix(address, 16)?;
-        let word = u32::from_str_radix(word, 16)?;
-        let instr = decode(word).ok_or("no instruction")?;
-        assert_eq!(rt; encode(instr), word, "at {text}");
-        let mut bytes = Vec::new(rt.alloc());
-        let mut out = Writer::new(&mut bytes);
-        assert_eq!(rt; write_text(instr, address, &mut out), Ok(()), "at {text}");
-        assert_eq!(rt; bytes.as_slice(), text.as_bytes(), "at {text}");
-    }
-    Ok(())
+/// The word of a row is that of its instruction, which has the row's text.
+fn expect_vector<A: Abort>(rt: &A, alloc: Global, row: &str) -> Option<()> {
+    let (address, rest) = row.split_once(' ')?;
+    let (word, text) = rest.split_once(' ')?;
+    let word = hexadecimal(word)?;
+    let instr = decode(word)?;
+    expect_number(rt, encode(instr), word, row);
+    let mut bytes = Vec::new(alloc);
+    let written = write_text(instr, hexadecimal(address)?, &mut Writer::new(&mut bytes));
+    expect(rt, written.is_ok(), row);
+    expect(rt, bytes.as_slice() == text.as_bytes(), row);
+    Some(())
 }
 
 #[test]
-fn other_words_are_refused(rt: HostRuntime) -> Result<(), Fail> {
-    for line in REFUSED.lines() {
-        let (word, _) = line.split_once(' ').ok_or("no word")?;
-        assert_eq!(rt; decode(u32::from_str_radix(word, 16)?), None, "{line}");
+fn vectors_have_their_words_and_texts(rt: HostRuntime) {
+    for row in VECTORS.lines() {
+        let read = expect_vector(&rt, rt.alloc(), row);
+        expect(&rt, read.is_some(), row);
     }
-    Ok(())
 }
 
-/// The text fails at each of its bytes in turn, with the bytes before that one taken.
+/// Whether the word of a row is that of no instruction.
+fn is_refused(row: &str) -> Option<bool> {
+    let (word, _) = row.split_once(' ')?;
+    Some(decode(hexadecimal(word)?).is_none())
+}
+
 #[test]
-fn a_failure_stops_the_text_where_it_comes(rt: HostRuntime) -> Result<(), Fail> {
-    let instr = decode(0x8fa8_0004).ok_or("no instruction")?;
-    for before in 0.."lw $8, 4($29)".len() {
-        let mut device = FailsOnce::new(before);
-        let mut out = Writer::new(&mut device);
-        for _ in 0..2 {
-            let answer = write_text(instr, 0x0040_0000, &mut out);
-            assert_eq!(rt; answer, Err(Failed), "after {before}");
+fn other_words_are_refused(rt: HostRuntime) {
+    for row in REFUSED.lines() {
+        expect(&rt, is_refused(row).unwrap_or(false), row);
+    }
+}
+
+/// A text whose device fails after so many bytes fails, and then again, with the bytes before that one taken.
+fn stops_after(instr: Instr, before: usize) -> bool {
+    let mut device = FailsOnce::new(before);
+    let mut out = Writer::new(&mut device);
+    let first = write_text(instr, 0x0040_0000, &mut out);
+    let again = write_text(instr, 0x0040_0000, &mut out);
+    first.is_err() && again.is_err() && device.taken == before
+}
+
+/// The text fails at each of its bytes in turn.
+#[test]
+fn a_failure_stops_the_text_where_it_comes(rt: HostRuntime) {
+    match decode(0x8fa8_0004) {
+        Some(instr) => {
+            for before in 0.."lw $8, 4($29)".len() {
+                expect(&rt, stops_after(instr, before), "lw $8, 4($29)");
+            }
         }
-        assert_eq!(rt; device.taken, before);
+        None => expect(&rt, false, "lw $8, 4($29)"),
     }
-    Ok(())
 }

@@ -1,8 +1,11 @@
 //! Texts, and beside each the tokens or the fault that the language's text gives it, worked out by hand.
 
+use crate::rows::{decimal, expect, expect_text};
 use cyc_lex::lex;
+use cyc_syntax::Token;
+use cyc_words::Fault;
 use std::alloc::Global;
-use std::test::Fail;
+use std::process::Abort;
 
 /// A line for each text: the text, in which ¶ is a line feed, and its tokens with their places, or its fault.
 const TEXTS: &str = "\
@@ -79,40 +82,48 @@ int main(){ return 2147483648; } ⇒ fault 3 at 1:20
 int main(){ putchar(72); return 7; } ⇒ 1:1 Keyword(Int); 1:5 Identifier; 1:9 Sign(LeftParen); 1:10 Sign(RightParen); 1:11 Sign(LeftBrace); 1:13 Identifier; 1:20 Sign(LeftParen); 1:21 Number(72); 1:23 Sign(RightParen); 1:24 Sign(Semicolon); 1:26 Keyword(Return); 1:33 Number(7); 1:34 Sign(Semicolon); 1:36 Sign(RightBrace)
 ";
 
-/// The tokens with their places, or the fault, as one line.
-fn shown(alloc: Global, text: &[u8]) -> Result<String, Fail> {
-    let tokens = match lex(alloc, text) {
-        Ok(tokens) => tokens,
-        Err(fault) => {
-            let number = fault.code.number();
-            let line = fault.line;
-            let column = fault.column;
-            return Ok(format!(in alloc; "fault {number} at {line}:{column}")?);
-        }
-    };
-    if tokens.is_empty() {
-        return Ok(String::from_str(alloc, "nothing")?);
-    }
+/// A fault as a text.
+fn shown_fault(alloc: Global, fault: Fault) -> Option<String> {
+    let Fault { code, line, column } = fault;
+    format!(in alloc; "fault {} at {line}:{column}", code.number()).ok()
+}
+
+/// Tokens with their places as a text.
+fn shown_tokens(alloc: Global, tokens: &[Token]) -> Option<String> {
     let mut out = String::new(alloc);
-    for token in &tokens {
-        let kind = token.kind;
-        let line = token.span.line;
-        let column = token.span.column;
-        let separator = if out.is_empty() { "" } else { "; " };
-        write!(out, "{separator}{line}:{column} {kind:?}")?;
+    let mut separator = "";
+    for token in tokens {
+        let (line, column) = (token.span.line, token.span.column);
+        write!(out, "{separator}{line}:{column} {:?}", token.kind).ok()?;
+        separator = "; ";
     }
-    Ok(out)
+    Some(out)
+}
+
+/// The tokens of a text with their places, or its fault.
+fn shown(alloc: Global, text: &[u8]) -> Option<String> {
+    match lex(alloc, text) {
+        Ok(tokens) if tokens.is_empty() => String::from_str(alloc, "nothing").ok(),
+        Ok(tokens) => shown_tokens(alloc, &tokens),
+        Err(fault) => shown_fault(alloc, fault),
+    }
+}
+
+/// The text of a row has its tokens, or its fault.
+fn expect_tokens<A: Abort>(rt: &A, alloc: Global, row: &str) -> Option<()> {
+    let (text, want) = row.split_once(" ⇒ ")?;
+    let text = text.replace(alloc, '¶', "\n").ok()?;
+    let got = shown(alloc, text.as_bytes())?;
+    expect_text(rt, &got, want, row);
+    Some(())
 }
 
 #[test]
-fn texts_have_their_tokens(rt: HostRuntime) -> Result<(), Fail> {
-    for line in TEXTS.lines() {
-        let (text, want) = line.split_once(" ⇒ ").ok_or("no tokens")?;
-        let text = text.replace(rt.alloc(), '¶', "\n")?;
-        let got = shown(rt.alloc(), text.as_bytes())?;
-        assert_eq!(rt; got.as_str(), want, "{line}");
+fn texts_have_their_tokens(rt: HostRuntime) {
+    for row in TEXTS.lines() {
+        let read = expect_tokens(&rt, rt.alloc(), row);
+        expect(&rt, read.is_some(), row);
     }
-    Ok(())
 }
 
 /// How many semicolons a text begins with, what stands behind them, in which ¶ is a line feed, and what it comes to.
@@ -128,21 +139,50 @@ const LONG_TEXTS: &str = "\
 60000|¶ x|fault 6 at 2:2
 ";
 
-#[test]
-fn limits_are_kept(rt: HostRuntime) -> Result<(), Fail> {
-    let alloc = rt.alloc();
-    for line in LONG_TEXTS.lines() {
-        let (count, rest) = line.split_once('|').ok_or("nothing behind")?;
-        let (behind, want) = rest.split_once('|').ok_or("nothing wanted")?;
-        let mut text = vec![in alloc; b';'; count.parse::<usize>()?]?;
-        text.extend_from_slice(behind.replace(alloc, '¶', "\n")?.as_bytes())?;
-        let got = shown(alloc, &text)?;
-        let is_right = got.as_str() == want || want == "tokens" && !got.starts_with("fault");
-        assert!(rt; is_right, "{line}");
+/// What a text comes to, or `tokens`.
+fn outcome(alloc: Global, text: &[u8]) -> Option<String> {
+    match lex(alloc, text) {
+        Ok(_) => String::from_str(alloc, "tokens").ok(),
+        Err(fault) => shown_fault(alloc, fault),
     }
-    let mut text = vec![in alloc; b' '; 1_048_576]?;
-    assert_eq!(rt; shown(alloc, &text)?.as_str(), "nothing");
-    text.push(b'#')?;
-    assert_eq!(rt; shown(alloc, &text)?.as_str(), "fault 4 at 1:1");
-    Ok(())
+}
+
+/// The text of a row comes to what is wanted.
+fn expect_outcome<A: Abort>(rt: &A, alloc: Global, row: &str) -> Option<()> {
+    let (count, rest) = row.split_once('|')?;
+    let (behind, want) = rest.split_once('|')?;
+    let behind = behind.replace(alloc, '¶', "\n").ok()?;
+    let mut text = vec![in alloc; b';'; decimal(count)? as usize].ok()?;
+    text.extend_from_slice(behind.as_bytes()).ok()?;
+    let got = outcome(alloc, &text)?;
+    expect_text(rt, &got, want, row);
+    Some(())
+}
+
+#[test]
+fn limits_are_kept(rt: HostRuntime) {
+    for row in LONG_TEXTS.lines() {
+        let read = expect_outcome(&rt, rt.alloc(), row);
+        expect(&rt, read.is_some(), row);
+    }
+}
+
+/// A text of 2^20 spaces has no token, and one of a byte more is too long.
+fn expect_most<A: Abort>(rt: &A, alloc: Global) -> Option<()> {
+    let mut text = vec![in alloc; b' '; 1_048_576].ok()?;
+    expect_text(rt, &shown(alloc, &text)?, "nothing", "2^20 spaces");
+    text.push(b'#').ok()?;
+    expect_text(
+        rt,
+        &shown(alloc, &text)?,
+        "fault 4 at 1:1",
+        "2^20 spaces and a byte",
+    );
+    Some(())
+}
+
+#[test]
+fn the_longest_text_is_read(rt: HostRuntime) {
+    let read = expect_most(&rt, rt.alloc());
+    expect(&rt, read.is_some(), "2^20 spaces");
 }

@@ -7,13 +7,13 @@ mod devices;
 #[cfg(test)]
 mod elf;
 #[cfg(test)]
-mod hexadecimal;
-#[cfg(test)]
 mod isa;
 #[cfg(test)]
 mod lex;
 #[cfg(test)]
 mod machine;
+#[cfg(test)]
+mod rows;
 #[cfg(test)]
 mod syntax;
 #[cfg(test)]

@@ -1,12 +1,13 @@
 //! Runs of small programs, with ends, counts and registers from outside: those of the longer programs were seen under
 //! `qemu-mips`, the others follow from the architecture manual.
 
-use crate::hexadecimal::put_words;
+use crate::rows::{
+    decimal, expect, expect_number, expect_text, hexadecimal, put_numbers, put_words,
+};
 use cyc_elf::read_image;
-use cyc_machine::{Event, Limits, Machine};
+use cyc_machine::{Event, Limits, LoadFault, Machine};
 use std::alloc::Global;
 use std::process::Abort;
-use std::test::Fail;
 
 /// Programs that run to their ends, but for the one that has none, and below them what is refused, with its cause. A line has,
 /// between bars: a name, the words of the text, the input, the last event and after how many instructions it came (a thousand
@@ -65,51 +66,62 @@ const ENDS_OF_RANGES: &str = "\
 4096 7ffff000 nothing
 ";
 
+/// Appends the header of a segment to a file that has so many, and its stored bytes to the contents behind all headers.
+fn put_segment(
+    file: &mut Vec<u8>,
+    contents: &mut Vec<u8>,
+    count: u32,
+    segment: &str,
+) -> Option<()> {
+    let (address, rest) = segment.split_once(' ')?;
+    let (size, words) = rest.split_once(' ')?;
+    let before = u32::try_from(contents.len()).ok()?;
+    put_words(contents, words)?;
+    let stored = u32::try_from(contents.len()).ok()?.wrapping_sub(before);
+    let offset = count.wrapping_mul(32).wrapping_add(before).wrapping_add(52);
+    let (address, size) = (hexadecimal(address)?, hexadecimal(size)?);
+    put_numbers(file, &[1, offset, address, address, stored, size, 5, 4])
+}
+
 /// The file of an image with its entry at 00400000. A line for each segment has the address, how many bytes it has in
 /// memory, and the words that are stored, all in hexadecimal.
-fn file_of(alloc: Global, segments: &str) -> Result<Vec<u8>, Fail> {
-    let count = segments.lines().count();
+fn file_of(alloc: Global, segments: &str) -> Option<Vec<u8>> {
+    let count = u32::try_from(segments.lines().count()).ok()?;
     let mut file = Vec::new(alloc);
+    let mut contents = Vec::new(alloc);
     put_words(
         &mut file,
         "7f454c46 01020100 0 0 00020008 1 400000 34 0 0 00340020",
     )?;
-    put_words(&mut file, &format!(in alloc; "{count:x}0000 0")?)?;
-    let mut contents = Vec::new(alloc);
+    put_numbers(&mut file, &[count.wrapping_mul(65_536), 0])?;
     for segment in segments.lines() {
-        let (address, rest) = segment.split_once(' ').ok_or("no size")?;
-        let (size, words) = rest.split_once(' ').ok_or("no words")?;
-        let offset = contents
-            .len()
-            .wrapping_add(count.wrapping_mul(32))
-            .wrapping_add(52);
-        let before = contents.len();
-        put_words(&mut contents, words)?;
-        let stored = contents.len().wrapping_sub(before);
-        let header = format!(in alloc; "1 {offset:x} {address} {address} {stored:x} {size} 5 4")?;
-        put_words(&mut file, &header)?;
+        put_segment(&mut file, &mut contents, count, segment)?;
     }
-    file.extend_from_slice(&contents)?;
-    Ok(file)
+    file.extend_from_slice(&contents).ok()?;
+    Some(file)
+}
+
+/// What loading the image of a file comes to, if it is one.
+fn load(alloc: Global, file: &[u8], limits: Limits) -> Option<Result<Machine, LoadFault>> {
+    let image = read_image(alloc, file).ok()?;
+    Some(Machine::load(alloc, &image, limits))
 }
 
 /// A machine with an image of these segments loaded.
-fn machine_of(alloc: Global, segments: &str, calls: u32) -> Result<Machine, Fail> {
+fn machine_of(alloc: Global, segments: &str, calls: u32) -> Option<Machine> {
     let file = file_of(alloc, segments)?;
-    let image = read_image(alloc, &file)?;
-    let limits = Limits::new(3, calls).ok_or("limits out of range")?;
-    Ok(Machine::load(alloc, &image, limits)?)
+    load(alloc, &file, Limits::new(3, calls)?)?.ok()
 }
 
 /// A machine with these words of text.
-fn program_of(alloc: Global, words: &str, calls: u32) -> Result<Machine, Fail> {
+fn program_of(alloc: Global, words: &str, calls: u32) -> Option<Machine> {
     let size = words.split(' ').count().wrapping_mul(4);
-    let segment = format!(in alloc; "00400000 {size:x} {words}")?;
+    let segment = format!(in alloc; "00400000 {size:x} {words}").ok()?;
     machine_of(alloc, &segment, calls)
 }
 
 /// Runs a machine on an input for at most a thousand instructions: its last event, and how many it took.
-fn run(machine: &mut Machine, input: &[u8], output: &mut Vec<u8>) -> Result<(Event, u64), Fail> {
+fn run(machine: &mut Machine, input: &[u8], output: &mut Vec<u8>) -> Option<(Event, u64)> {
     let mut rest = input;
     for count in 1..=1000 {
         match machine.step() {
@@ -120,94 +132,128 @@ fn run(machine: &mut Machine, input: &[u8], output: &mut Vec<u8>) -> Result<(Eve
                     rest = others;
                 }
             }
-            Event::Puts(byte) => output.push(byte)?,
-            Event::Ended(end) => return Ok((Event::Ended(end), count)),
+            Event::Puts(byte) => output.push(byte).ok()?,
+            Event::Ended(end) => return Some((Event::Ended(end), count)),
         }
     }
-    Ok((Event::Ran, 1000))
+    Some((Event::Ran, 1000))
+}
+
+/// Runs a machine as `run` does: its last event, and after how many instructions it came, as a text.
+fn told(
+    alloc: Global,
+    machine: &mut Machine,
+    input: &[u8],
+    output: &mut Vec<u8>,
+) -> Option<String> {
+    let (event, count) = run(machine, input, output)?;
+    format!(in alloc; "{event:?} after {count}").ok()
+}
+
+/// The value of a register, if there is one of this number.
+fn register(machine: &Machine, number: &str) -> Option<u32> {
+    let number = number.parse::<u8>().ok()?;
+    if number < 32 {
+        return Some(machine.reg(number));
+    }
+    None
+}
+
+/// A register has its value, as `8=ffff`.
+fn expect_register<A: Abort>(rt: &A, machine: &Machine, value: &str) -> Option<()> {
+    let (number, want) = value.split_once('=')?;
+    expect_number(rt, register(machine, number)?, hexadecimal(want)?, value);
+    Some(())
 }
 
 /// Registers have these values, as `8=ffff 9=0`.
-fn expect_registers<A: Abort>(
-    rt: &A,
-    machine: &Machine,
-    values: &str,
-    name: &str,
-) -> Result<(), Fail> {
-    for register in values.split_whitespace() {
-        let (number, value) = register.split_once('=').ok_or("no value")?;
-        let number = number.parse::<u8>()?;
-        assert!(rt; number < 32);
-        let value = u32::from_str_radix(value, 16)?;
-        assert_eq!(rt; machine.reg(number), value, "register {number} of {name}");
+fn expect_registers<A: Abort>(rt: &A, machine: &Machine, values: &str) -> Option<()> {
+    for value in values.split_whitespace() {
+        expect_register(rt, machine, value)?;
     }
-    Ok(())
+    Some(())
 }
 
-/// A program runs as its line says.
-fn expect_line<A: Abort>(rt: &A, alloc: Global, line: &str) -> Result<(), Fail> {
-    let fields: Vec<&str> = line.split('|').collect(alloc)?;
-    let [name, words, input, story, printed, registers] = fields.as_slice() else {
-        return Err(Fail::new("a line of another form"));
-    };
+/// A program runs as its row says.
+fn expect_run<A: Abort>(rt: &A, alloc: Global, row: &str) -> Option<()> {
+    let (_, rest) = row.split_once('|')?;
+    let (words, rest) = rest.split_once('|')?;
+    let (input, rest) = rest.split_once('|')?;
+    let (story, rest) = rest.split_once('|')?;
+    let (printed, registers) = rest.split_once('|')?;
     let mut machine = program_of(alloc, words, 1)?;
     let mut output = Vec::new(alloc);
-    let (event, count) = run(&mut machine, input.as_bytes(), &mut output)?;
-    let told = format!(in alloc; "{event:?} after {count}")?;
-    assert_eq!(rt; told.as_str(), *story, "{name}");
-    assert_eq!(rt; output.as_slice(), printed.as_bytes(), "output of {name}");
-    expect_registers(rt, &machine, registers, name)
+    let told = told(alloc, &mut machine, input.as_bytes(), &mut output)?;
+    expect_text(rt, &told, story, row);
+    expect(rt, output.as_slice() == printed.as_bytes(), row);
+    expect_registers(rt, &machine, registers)
 }
 
 #[test]
-fn programs(rt: HostRuntime) -> Result<(), Fail> {
-    for line in PROGRAMS.lines() {
-        expect_line(&rt, rt.alloc(), line)?;
+fn programs(rt: HostRuntime) {
+    for row in PROGRAMS.lines() {
+        let read = expect_run(&rt, rt.alloc(), row);
+        expect(&rt, read.is_some(), row);
     }
-    Ok(())
+}
+
+/// A word that is stored at the address of a row and loaded again lies there, or nothing does.
+fn expect_end<A: Abort>(rt: &A, alloc: Global, row: &str) -> Option<()> {
+    let (calls, rest) = row.split_once(' ')?;
+    let (address, what) = rest.split_once(' ')?;
+    let (high, low) = address.split_at_checked(4)?;
+    // lui $8, HIGH; ori $8, $8, LOW; addiu $9, $0, 7; sw $9, 0($8); lw $10, 0($8); break
+    let words = format!(in alloc; "3c08{high} 3508{low} 24090007 ad090000 8d0a0000 0000000d").ok()?;
+    let mut machine = program_of(alloc, &words, decimal(calls)?)?;
+    let told = told(alloc, &mut machine, b"", &mut Vec::new(alloc))?;
+    let (story, loaded) = match what {
+        "word" => ("Ended(Trap(Break)) after 6", 7),
+        _ => ("Ended(Trap(NoSuchAddress)) after 4", 0),
+    };
+    expect_text(rt, &told, story, row);
+    expect_number(rt, machine.reg(10), loaded, row);
+    Some(())
 }
 
 #[test]
-fn ends_of_ranges(rt: HostRuntime) -> Result<(), Fail> {
-    for line in ENDS_OF_RANGES.lines() {
-        let (calls, rest) = line.split_once(' ').ok_or("no address")?;
-        let (address, what) = rest.split_once(' ').ok_or("nothing said")?;
-        let (high, low) = address.split_at_checked(4).ok_or("a short address")?;
-        // lui $8, HIGH; ori $8, $8, LOW; addiu $9, $0, 7; sw $9, 0($8); lw $10, 0($8); break
-        let words = format!(in rt.alloc();
-            "3c08{high} 3508{low} 24090007 ad090000 8d0a0000 0000000d"
-        )?;
-        let mut machine = program_of(rt.alloc(), &words, calls.parse()?)?;
-        let mut output = Vec::new(rt.alloc());
-        let (event, count) = run(&mut machine, b"", &mut output)?;
-        let told = format!(in rt.alloc(); "{event:?} after {count}, {}", machine.reg(10))?;
-        let story = match what {
-            "word" => "Ended(Trap(Break)) after 6, 7",
-            _ => "Ended(Trap(NoSuchAddress)) after 4, 0",
-        };
-        assert_eq!(rt; told.as_str(), story, "{line}");
+fn ends_of_ranges(rt: HostRuntime) {
+    for row in ENDS_OF_RANGES.lines() {
+        let read = expect_end(&rt, rt.alloc(), row);
+        expect(&rt, read.is_some(), row);
     }
-    Ok(())
 }
 
 /// Steps so many times, and notes each event with what register 2 holds after it.
-fn note(machine: &mut Machine, steps: u32, alloc: Global, notes: &mut String) -> Result<(), Fail> {
+fn note(machine: &mut Machine, steps: u32, notes: &mut String) -> Option<()> {
     for _ in 0..steps {
         let event = machine.step();
-        let told = format!(in alloc; "{event:?} {}; ", machine.reg(2))?;
-        notes.push_str(&told)?;
+        write!(notes, "{event:?} {}; ", machine.reg(2)).ok()?;
     }
-    Ok(())
+    Some(())
+}
+
+/// The story of a program that waits for a byte and is then given this one.
+fn story_of(alloc: Global, byte: Option<u8>) -> Option<String> {
+    // addiu $2, $0, 1; syscall; addiu $4, $2, 0; addiu $2, $0, 3; syscall
+    let words = "24020001 0000000c 24440000 24020003 0000000c";
+    let mut machine = program_of(alloc, words, 1)?;
+    let mut notes = String::new(alloc);
+    machine.give(Some(9));
+    note(&mut machine, 3, &mut notes)?;
+    machine.give(byte);
+    machine.give(Some(9));
+    note(&mut machine, 3, &mut notes)?;
+    machine.give(Some(9));
+    note(&mut machine, 1, &mut notes)?;
+    Some(notes)
 }
 
 /// A byte is wanted until it is given, giving at another time does nothing, and an end stays.
 #[test]
-fn waiting(rt: HostRuntime) -> Result<(), Fail> {
-    // addiu $2, $0, 1; syscall; addiu $4, $2, 0; addiu $2, $0, 3; syscall
-    let words = "24020001 0000000c 24440000 24020003 0000000c";
-    for (byte, story) in [
+fn waiting(rt: HostRuntime) {
+    for &(byte, want) in &[
         (
-            Some(200u8),
+            Some(200),
             "Ran 1; WantsByte 1; WantsByte 1; Ran 200; Ran 3; Ended(Returned(200)) 3; Ended(Returned(200)) 3; ",
         ),
         (
@@ -215,18 +261,11 @@ fn waiting(rt: HostRuntime) -> Result<(), Fail> {
             "Ran 1; WantsByte 1; WantsByte 1; Ran 4294967295; Ran 3; Ended(Returned(-1)) 3; Ended(Returned(-1)) 3; ",
         ),
     ] {
-        let mut machine = program_of(rt.alloc(), words, 1)?;
-        let mut notes = String::new(rt.alloc());
-        machine.give(Some(9));
-        note(&mut machine, 3, rt.alloc(), &mut notes)?;
-        machine.give(byte);
-        machine.give(Some(9));
-        note(&mut machine, 3, rt.alloc(), &mut notes)?;
-        machine.give(Some(9));
-        note(&mut machine, 1, rt.alloc(), &mut notes)?;
-        assert_eq!(rt; notes.as_str(), story);
+        match story_of(rt.alloc(), byte) {
+            Some(story) => expect_text(&rt, &story, want, "waiting"),
+            None => expect(&rt, false, "waiting"),
+        }
     }
-    Ok(())
 }
 
 /// Text of six words and no stored data.
@@ -234,64 +273,77 @@ fn waiting(rt: HostRuntime) -> Result<(), Fail> {
 const TEXT: &str = "00400000 18 3c081000 8d090004 8d0a0008 3c0b0040 8d6c0100 8d6d0018";
 
 /// What segments leave in memory: the rest of a segment is 0, and nothing lies between two segments of text.
+fn expect_loads<A: Abort>(rt: &A, alloc: Global) -> Option<()> {
+    let segments = format!(in alloc; "{TEXT}\n10000004 9 01020304\n00400100 1 ").ok()?;
+    let mut machine = machine_of(alloc, &segments, 1)?;
+    let told = told(alloc, &mut machine, b"", &mut Vec::new(alloc))?;
+    expect_text(rt, &told, "Ended(Trap(NoSuchAddress)) after 6", "the loads");
+    expect_registers(rt, &machine, "9=01020304 10=0 12=0")
+}
+
 #[test]
-fn images(rt: HostRuntime) -> Result<(), Fail> {
-    let segments = format!(in rt.alloc(); "{TEXT}\n10000004 9 01020304\n00400100 1 ")?;
-    let mut machine = machine_of(rt.alloc(), &segments, 1)?;
-    let mut output = Vec::new(rt.alloc());
-    let (event, count) = run(&mut machine, b"", &mut output)?;
-    let told = format!(in rt.alloc(); "{event:?} after {count}")?;
-    assert_eq!(rt; told.as_str(), "Ended(Trap(NoSuchAddress)) after 6");
-    expect_registers(&rt, &machine, "9=01020304 10=0 12=0", "the loads")
+fn images(rt: HostRuntime) {
+    let read = expect_loads(&rt, rt.alloc());
+    expect(&rt, read.is_some(), "the loads");
 }
 
 /// Empty segments beside the text, by address and size in hexadecimal, and what loading them comes to.
 const SEGMENTS: &str = "\
-10000000 400000 None
-10000004 400000 Some(Outside)
-0ffffffc 8 Some(Outside)
-01fffffc 4 None
-01fffffc 5 Some(Outside)
-30000000 4 Some(Outside)
-30000000 0 None
-7fffe000 4 Some(Outside)
+10000000 400000 loaded
+10000004 400000 outside
+0ffffffc 8 outside
+01fffffc 4 loaded
+01fffffc 5 outside
+30000000 4 outside
+30000000 0 loaded
+7fffe000 4 outside
 ";
+
+/// What loading the image of a file comes to, in a word.
+fn loading(alloc: Global, file: &[u8], limits: Limits) -> Option<&'static str> {
+    match load(alloc, file, limits)? {
+        Ok(_) => Some("loaded"),
+        Err(LoadFault::Outside) => Some("outside"),
+        Err(LoadFault::Memory) => None,
+    }
+}
+
+/// An empty segment beside the text is loaded or outside, as its row says.
+fn expect_loading<A: Abort>(rt: &A, alloc: Global, row: &str) -> Option<()> {
+    let (segment, want) = row.rsplit_once(' ')?;
+    let segments = format!(in alloc; "{TEXT}\n{segment} ").ok()?;
+    let file = file_of(alloc, &segments)?;
+    let got = loading(alloc, &file, Limits::new(65_536, 1)?)?;
+    expect_text(rt, got, want, row);
+    Some(())
+}
 
 /// Which segments are outside.
 #[test]
-fn segments_outside(rt: HostRuntime) -> Result<(), Fail> {
-    for line in SEGMENTS.lines() {
-        let (segment, want) = line.rsplit_once(' ').ok_or("nothing wanted")?;
-        let segments = format!(in rt.alloc(); "{TEXT}\n{segment} ")?;
-        let file = file_of(rt.alloc(), &segments)?;
-        let image = read_image(rt.alloc(), &file)?;
-        let limits = Limits::new(65_536, 1).ok_or("limits out of range")?;
-        let fault = Machine::load(rt.alloc(), &image, limits).err();
-        let told = format!(in rt.alloc(); "{fault:?}")?;
-        assert_eq!(rt; told.as_str(), want, "{line}");
+fn segments_outside(rt: HostRuntime) {
+    for row in SEGMENTS.lines() {
+        let read = expect_loading(&rt, rt.alloc(), row);
+        expect(&rt, read.is_some(), row);
     }
-    Ok(())
+}
+
+/// Whether there are limits of so many pages and calls, which then have them.
+fn are_limits(pages: u32, calls: u32) -> Option<bool> {
+    let limits = Limits::new(pages, calls)?;
+    Some(limits.pages() == pages && limits.calls() == calls)
 }
 
 /// Which limits there are.
 #[test]
-fn limits(rt: HostRuntime) -> Result<(), Fail> {
-    for line in [
-        "3 1 yes",
-        "65536 4096 yes",
-        "2 1 no",
-        "65537 1 no",
-        "3 0 no",
-        "3 4097 no",
-    ] {
-        let (pages, rest) = line.split_once(' ').ok_or("no calls")?;
-        let (calls, allowed) = rest.split_once(' ').ok_or("no answer")?;
-        let (pages, calls) = (pages.parse::<u32>()?, calls.parse::<u32>()?);
-        let limits = Limits::new(pages, calls);
-        assert_eq!(rt; limits.is_some(), allowed == "yes", "{line}");
-        if let Some(limits) = limits {
-            assert_eq!(rt; (limits.pages(), limits.calls()), (pages, calls));
-        }
+fn limits(rt: HostRuntime) {
+    for &(pages, calls) in &[(3, 1), (65_536, 4096)] {
+        expect(
+            &rt,
+            are_limits(pages, calls).unwrap_or(false),
+            "allowed limits",
+        );
     }
-    Ok(())
+    for &(pages, calls) in &[(2, 1), (65_537, 1), (3, 0), (3, 4097)] {
+        expect(&rt, are_limits(pages, calls).is_none(), "other limits");
+    }
 }

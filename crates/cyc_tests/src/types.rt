@@ -1,10 +1,11 @@
 //! Which region outlives which, worked out by hand, and types that are far deeper than any that a text can have.
 
+use crate::rows::expect;
 use cyc_syntax::PointerKind;
 use cyc_types::{Outlives, Region, ScopeKind, Ty};
 use smallvec::SmallVec;
 use std::alloc::Global;
-use std::test::Fail;
+use std::process::Abort;
 
 const A: Region = Region::Variable(0);
 
@@ -15,63 +16,67 @@ const C: Region = Region::Variable(2);
 const D: Region = Region::Variable(3);
 
 /// For the heap, the unique region, A, B, C and D in turn, which of them in the same order it outlives.
-fn table(alloc: Global, outlives: &Outlives) -> Result<String, Fail> {
+fn expect_table<R: Abort>(rt: &R, outlives: &Outlives, want: &str) {
     let regions = [Region::Heap, Region::Unique, A, B, C, D];
-    let mut out = String::new(alloc);
-    for a in &regions {
-        for b in &regions {
-            out.push(if outlives.outlives(*a, *b) { '1' } else { '0' })?;
+    for (a, row) in regions.iter().zip(want.split(' ')) {
+        for (b, mark) in regions.iter().zip(row.chars()) {
+            expect(rt, outlives.outlives(*a, *b) == (mark == '1'), row);
         }
-        out.push(' ')?;
     }
-    Ok(out)
 }
 
 /// A lexical region, C, between an opened dynamic region, B, and an alias block, D.
-#[test]
-fn scopes_within_scopes(rt: HostRuntime) -> Result<(), Fail> {
-    let alloc = rt.alloc();
-    let mut outlives = Outlives::new(alloc, &[], &[A, Region::Unique])?;
-    outlives.open_scope(B, ScopeKind::Dynamic)?;
-    outlives.open_scope(C, ScopeKind::Lexical)?;
-    outlives.open_scope(D, ScopeKind::Alias)?;
-    let open = table(alloc, &outlives)?;
-    assert_eq!(rt; open.as_str(), "101111 010000 001010 000110 000010 000001 ");
+fn expect_scopes<R: Abort>(rt: &R, alloc: Global) -> Option<()> {
+    let mut outlives = Outlives::new(alloc, &[], &[A, Region::Unique]).ok()?;
+    outlives.open_scope(B, ScopeKind::Dynamic).ok()?;
+    outlives.open_scope(C, ScopeKind::Lexical).ok()?;
+    outlives.open_scope(D, ScopeKind::Alias).ok()?;
+    expect_table(rt, &outlives, "101111 010000 001010 000110 000010 000001");
     outlives.close_scope();
     outlives.close_scope();
-    let closed = table(alloc, &outlives)?;
-    assert_eq!(rt;
-        closed.as_str(),
-        "101111 010000 001000 000100 000010 000001 "
-    );
-    let written = Outlives::new(alloc, &[(A, B), (B, C)], &[])?;
-    let written = table(alloc, &written)?;
-    assert_eq!(rt;
-        written.as_str(),
-        "101111 010000 001110 000110 000010 000001 "
-    );
-    Ok(())
+    expect_table(rt, &outlives, "101111 010000 001000 000100 000010 000001");
+    Some(())
 }
 
 #[test]
-fn deep_types(rt: HostRuntime) -> Result<(), Fail> {
-    let alloc = rt.alloc();
-    let mut ty = Ty::Struct {
-        number: 3,
-        regions: SmallVec::from_slice(alloc, &[A, Region::Heap, C])?,
-    };
+fn scopes_within_scopes(rt: HostRuntime) {
+    let made = expect_scopes(&rt, rt.alloc());
+    expect(&rt, made.is_some(), "the scopes");
+    match Outlives::new(rt.alloc(), &[(A, B), (B, C)], &[]) {
+        Ok(written) => expect_table(&rt, &written, "101111 010000 001110 000110 000010 000001"),
+        Err(_) => expect(&rt, false, "the constraints"),
+    }
+}
+
+/// A fat pointer to a fat pointer, and so on to a structure, 2000 deep.
+fn deep_type(alloc: Global) -> Option<Ty> {
+    let regions = SmallVec::from_slice(alloc, &[A, Region::Heap, C]).ok()?;
+    let mut ty = Ty::Struct { number: 3, regions };
     for number in 0..2000 {
-        let target = Box::new(alloc, ty)?;
+        let target = Box::new(alloc, ty).ok()?;
         ty = Ty::Pointer {
             kind: PointerKind::Fat,
             target,
             region: Region::Variable(number % 5),
         };
     }
-    let same = ty.substituted(alloc, &[])?;
-    assert!(rt; ty.equals(&same));
-    let other = ty.substituted(alloc, &[A, B, Region::Heap])?;
-    assert!(rt; !ty.equals(&other));
-    assert_eq!(rt; ty.words(), 3);
-    Ok(())
+    Some(ty)
+}
+
+/// Whether a deep type equals itself with no region replaced, differs from itself with one replaced, and has the words of a fat
+/// pointer.
+fn deep_type_is_right(alloc: Global) -> Option<bool> {
+    let ty = deep_type(alloc)?;
+    let same = ty.substituted(alloc, &[]).ok()?;
+    let other = ty.substituted(alloc, &[A, B, Region::Heap]).ok()?;
+    Some(ty.equals(&same) && !ty.equals(&other) && ty.words() == 3)
+}
+
+#[test]
+fn deep_types(rt: HostRuntime) {
+    expect(
+        &rt,
+        deep_type_is_right(rt.alloc()).unwrap_or(false),
+        "a deep type",
+    );
 }

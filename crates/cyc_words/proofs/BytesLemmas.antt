@@ -1,15 +1,9 @@
 -- A word is its four bytes.
-use Rattle.std.proofs.Common.{◌≡◌, ℕ, ◌^◌, ◌<◌, List, [], ◌∷◌, length, refl, arith, rules}
+use Rattle.std.proofs.Common.{◌≡◌, ℕ, ◌^◌, ◌<◌, List, [], ◌∷◌, length, arith}
 use Rattle.std.proofs.lemmas.List.{get_or_past}
 use Rattle.std.specs.Prelude.{All, slice_index}
 use Rattle.cyc_words.specs.Word.{IsWord}
 use Rattle.cyc_words.specs.Bytes.{IsByte, bytes_of_word, word_of_bytes}
-
-pub length-bytes_of_word : (w : ℕ) → length (bytes_of_word w) ≡ 4
-length-bytes_of_word w = refl
-
-pub All-bytes_of_word : (w : ℕ) → All IsByte (bytes_of_word w)
-All-bytes_of_word w = search rules
 
 pub word_of_bytes-bytes_of_word : (w : ℕ) → IsWord w → word_of_bytes (bytes_of_word w) ≡ w
 word_of_bytes-bytes_of_word w h = omega arith
@@ -29,6 +23,3 @@ bytes_of_word-word_of_bytes (a ∷ b ∷ c ∷ d ∷ e ∷ rest) n each = absurd
 
 below : (bs : List ℕ) → All IsByte bs → (k : ℕ) → slice_index bs k < 2 ^ 8
 below bs each k = grind (arith, get_or_past bs k 0, each k 0)
-
-pub IsWord-word_of_bytes : (bs : List ℕ) → All IsByte bs → IsWord (word_of_bytes bs)
-IsWord-word_of_bytes bs each = omega (arith, below bs each 0, below bs each 1, below bs each 2, below bs each 3)

@@ -1,21 +1,15 @@
 -- What several calls of a device do, from what each did.
-use Rattle.std.proofs.Common.{◌≡◌, ◌<◌, ℕ, suc, get_or, drop, drop-cons, length, subst, List, [], ◌∷◌, ◌++◌, Option, None, Some, Result, Ok, Err, IsErr, take, refl, sym, ap, ◌∙◌, append_assoc, append-nil}
+use Rattle.std.proofs.Common.{◌≡◌, ◌<◌, ℕ, suc, get_or, drop, drop-cons, length, subst, List, [], ◌++◌, Option, None, Some, Result, Ok, Err, IsErr, take, refl, sym, ap, ◌∙◌, append_assoc, append-nil}
 use Rattle.std.proofs.lemmas.List.{take-append-drop}
 use Rattle.std.proofs.lemmas.List.Concat.{flat_map-append}
 use Rattle.std.specs.Prelude.{flat_map}
 use Rattle.std.specs.Io.KnownBytes.{Consumes, Appends, Keeps}
 use Rattle.cyc_words.proofs.PrefixLemmas.{IsPrefix-nil, IsPrefix-append, IsPrefix-append_both, IsPrefix-trans}
-use Rattle.cyc_words.specs.Device.{AppendsPrefix, Takes, TakesText}
+use Rattle.cyc_words.specs.Device.{AppendsPrefix, TakesText}
 
 pub Keeps-refl : (a : Option (List ℕ)) → Keeps a a
 Keeps-refl None = tt
 Keeps-refl (Some xs) = refl
-
-pub Keeps-trans : (a b c : Option (List ℕ)) → Keeps a b → Keeps b c → Keeps a c
-Keeps-trans None b c h k = tt
-Keeps-trans (Some xs) None c h k = absurd h
-Keeps-trans (Some xs) (Some ys) None h k = absurd k
-Keeps-trans (Some xs) (Some ys) (Some zs) h k = k ∙ h
 
 pub Appends-nil : (a b : Option (List ℕ)) → Keeps a b → Appends a b []
 Appends-nil None b h = tt
@@ -51,11 +45,6 @@ pub TakesText-fails : {A E : Type 0} (a b : Option (List ℕ)) (xs ys : List ℕ
 TakesText-fails a b xs ys (Ok v) err h = cc
 TakesText-fails a b xs ys (Err e) err h =
     (h.0, IsPrefix-trans h.0 xs (xs ++ ys) h.1 (IsPrefix-append xs ys), h.2)
-
--- one byte is a text of one byte
-pub TakesText-byte : {A E : Type 0} (a b : Option (List ℕ)) (byte : ℕ) (r : Result A E) → Takes a byte r b → TakesText a (byte ∷ []) r b
-TakesText-byte a b byte (Ok v) h = h
-TakesText-byte a b byte (Err e) h = ([], IsPrefix-nil (byte ∷ []), Appends-nil a b h)
 
 -- a part of a text that fails after the bytes before it
 pub TakesText_exit : {A E : Type 0} (a b c : Option (List ℕ)) (xs ys more : List ℕ) (r : Result A E) → IsErr r → Appends a b xs → AppendsPrefix b c ys → TakesText a (xs ++ (ys ++ more)) r c

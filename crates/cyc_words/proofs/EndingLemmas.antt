@@ -1,5 +1,5 @@
 -- Alike endings are equal, and the other way round.
-use Rattle.std.proofs.Common.{◌≡◌, refl, sym, ap, ◌∙◌, subst}
+use Rattle.std.proofs.Common.{◌≡◌, refl, ap, subst}
 use Rattle.cyc_words.specs.Ending.{Ending, Returned, Uncaught, Full, Alike}
 
 pub Alike-refl : (e : Ending) → Alike e e
@@ -20,9 +20,3 @@ same_when_alike Full (Uncaught u y) h = absurd h
 
 pub alike_when_same : (e f : Ending) → e ≡ f → Alike e f
 alike_when_same e f h = let P : Ending → Type 0 = Alike e in subst P h (Alike-refl e)
-
-pub Alike-sym : (e f : Ending) → Alike e f → Alike f e
-Alike-sym e f h = alike_when_same f e (sym (same_when_alike e f h))
-
-pub Alike-trans : (e f g : Ending) → Alike e f → Alike f g → Alike e g
-Alike-trans e f g h k = alike_when_same e g (same_when_alike e f h ∙ same_when_alike f g k)

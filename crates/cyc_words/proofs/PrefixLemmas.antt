@@ -1,6 +1,5 @@
 -- The prefix order on lists of bytes.
-use Rattle.std.proofs.Common.{◌≡◌, ℕ, ◌≤◌, List, [], ◌∷◌, ◌++◌, length, take, drop, refl, sym, ap, ◌∙◌, append_assoc, append-nil, inl, inr, arith, length-append}
-use Rattle.std.proofs.lemmas.List.{take-append-drop}
+use Rattle.std.proofs.Common.{◌≡◌, ℕ, List, [], ◌∷◌, ◌++◌, refl, sym, ap, ◌∙◌, append_assoc, append-nil, inl, inr}
 use Rattle.std.specs.Prelude.{◌⊎◌}
 use Rattle.cyc_words.specs.Prefix.{IsPrefix}
 
@@ -21,12 +20,6 @@ IsPrefix-trans xs ys zs h k =
 pub IsPrefix-append_both : (front xs ys : List ℕ) → IsPrefix xs ys → IsPrefix (front ++ xs) (front ++ ys)
 IsPrefix-append_both front xs ys h =
     (h.0, ap (λ (l : List ℕ). front ++ l) h.1 ∙ sym (append_assoc front xs h.0))
-
-pub length-IsPrefix : (xs ys : List ℕ) → IsPrefix xs ys → length xs ≤ length ys
-length-IsPrefix xs ys h = omega (arith, ap length h.1, length-append xs h.0)
-
-pub IsPrefix-take : (n : ℕ) (xs : List ℕ) → IsPrefix (take n xs) xs
-IsPrefix-take n xs = (drop n xs, sym (take-append-drop n xs))
 
 -- of two prefixes of one list, one is a prefix of the other
 pub IsPrefix-total : (xs ys zs : List ℕ) → IsPrefix xs zs → IsPrefix ys zs → IsPrefix xs ys ⊎ IsPrefix ys xs

@@ -1,5 +1,5 @@
 -- Laws of words that later layers cite.
-use Rattle.std.proofs.Common.{◌≡◌, ◌≢◌, ℕ, zero, suc, ◌+◌, ◌-◌, ◌*◌, ◌/◌, ◌%◌, ◌^◌, ◌<◌, ◌≤◌, ℤ, pos, negsuc, ◌+ℤ◌, ◌-ℤ◌, ◌*ℤ◌, neg_ℤ, ◌≤ℤ◌, ◌<ℤ◌, refl, sym, ap, subst, inl, inr, ◌∙◌, arith, rules}
+use Rattle.std.proofs.Common.{◌≡◌, ◌≢◌, ℕ, zero, suc, ◌+◌, ◌-◌, ◌*◌, ◌/◌, ◌%◌, ◌^◌, ◌<◌, ◌≤◌, ℤ, pos, negsuc, ◌+ℤ◌, ◌-ℤ◌, ◌*ℤ◌, neg_ℤ, ◌≤ℤ◌, ◌<ℤ◌, refl, sym, ap, inl, inr, ◌∙◌, arith, rules}
 use Rattle.std.specs.Prelude.{◌⊎◌, ◌↔◌, FitsSigned, bit_and, bit_or, bit_xor, int_div, int_rem}
 use Rattle.std.specs.Int.{w16, w32, bit_at, int_wrap}
 use Rattle.std.proofs.lemmas.Int.{ints, int_wrap-mul_left, int_wrap-mul_right, wrapping_mul-bits, quot-rem}
@@ -25,10 +25,6 @@ IsWord-unsigned (negsuc n) = omega arith
 
 pub FitsSigned-signed : (w : ℕ) → IsWord w → FitsSigned w32 (signed w)
 FitsSigned-signed w h = search (rules, ints)
-
--- equal signed meanings are of one word
-pub signed-injective : (a b : ℕ) → IsWord a → IsWord b → signed a ≡ signed b → a ≡ b
-signed-injective a b ha hb e = sym (unsigned-signed a ha) ∙ ap unsigned e ∙ unsigned-signed b hb
 
 -- the signed meaning in either half of the words
 pub signed_low : (w : ℕ) → w < 2 ^ 31 → signed w ≡ pos w
@@ -89,22 +85,6 @@ sub_of-signed a b ha hb = simp (unsigned-sub, unsigned-signed)
 
 pub mul_of-signed : (a b : ℕ) → IsWord a → IsWord b → mul_of a b ≡ unsigned (signed a *ℤ signed b)
 mul_of-signed a b ha hb = simp (unsigned-mul, unsigned-signed)
-
--- and where the result fits, that result
-pub signed-add_of : (a b : ℕ) → IsWord a → IsWord b → FitsSigned w32 (signed a +ℤ signed b) → signed (add_of a b) ≡ signed a +ℤ signed b
-signed-add_of a b ha hb fits = rw (add_of-signed a b ha hb) (signed-unsigned (signed a +ℤ signed b) fits)
-
-pub signed-sub_of : (a b : ℕ) → IsWord a → IsWord b → FitsSigned w32 (signed a -ℤ signed b) → signed (sub_of a b) ≡ signed a -ℤ signed b
-signed-sub_of a b ha hb fits = rw (sub_of-signed a b ha hb) (signed-unsigned (signed a -ℤ signed b) fits)
-
-pub signed-mul_of : (a b : ℕ) → IsWord a → IsWord b → FitsSigned w32 (signed a *ℤ signed b) → signed (mul_of a b) ≡ signed a *ℤ signed b
-signed-mul_of a b ha hb fits = rw (mul_of-signed a b ha hb) (signed-unsigned (signed a *ℤ signed b) fits)
-
-pub add_of-zero : (a : ℕ) → IsWord a → add_of a 0 ≡ a
-add_of-zero a h = omega arith
-
-pub add_of-assoc : (a b c : ℕ) → add_of (add_of a b) c ≡ add_of a (add_of b c)
-add_of-assoc a b c = omega arith
 
 -- ---- shifts to the right, quotients and remainders
 
@@ -203,14 +183,6 @@ pub slt_of_cases : (a b : ℕ) → ((slt_of a b ≡ 1) × (signed a <ℤ signed 
 unfolding slt_of
 slt_of_cases a b = grind (arith, ints)
 
-pub slt_of-one : (a b : ℕ) → signed a <ℤ signed b → slt_of a b ≡ 1
-unfolding slt_of
-slt_of-one a b h = grind (arith, ints)
-
-pub slt_of-zero : (a b : ℕ) → signed b ≤ℤ signed a → slt_of a b ≡ 0
-unfolding slt_of
-slt_of-zero a b h = grind (arith, ints)
-
 pub sltu_of_cases : (a b : ℕ) → ((sltu_of a b ≡ 1) × (a < b)) ⊎ ((sltu_of a b ≡ 0) × (b ≤ a))
 sltu_of_cases a b = grind arith
 
@@ -253,9 +225,6 @@ pub bit_or-halves : (w : ℕ) → IsWord w → bit_or (shl_of (w / 2 ^ 16) 16) (
 bit_or-halves w h = bit_or-shl_of (w / 2 ^ 16) (w % 2 ^ 16) (IsHalf-high w h) (IsHalf-low w) ∙ halves w
 
 -- ---- sign extension of a half
-pub IsWord-sign_extended : (h : ℕ) → IsWord (sign_extended h)
-unfolding sign_extended
-IsWord-sign_extended h = IsWord-unsigned (signed_half h)
 
 -- extension keeps the signed meaning
 pub signed-sign_extended : (h : ℕ) → IsHalf h → signed (sign_extended h) ≡ signed_half h
@@ -275,16 +244,3 @@ sign_extended_high h high hh = grind (arith, ints)
 pub sign_extended-low_half : (w : ℕ) → IsWord w → FitsSigned w16 (signed w) → sign_extended (w % 2 ^ 16) ≡ w
 unfolding sign_extended
 sign_extended-low_half w h fits = grind (arith, ints)
-
--- an address and a signed offset: the sum on whole numbers, where that is a word
-pub add_of-sign_extended : (a h : ℕ) → IsWord a → IsHalf h → pos 0 ≤ℤ (pos a +ℤ signed_half h) → (pos a +ℤ signed_half h) <ℤ pos (2 ^ 32) → pos (add_of a (sign_extended h)) ≡ pos a +ℤ signed_half h
-unfolding sign_extended
-add_of-sign_extended a h ha hh low high = grind (arith, ints)
-
--- the same on signed numbers
-pub signed-add_of-sign_extended : (a h : ℕ) → IsWord a → IsHalf h → FitsSigned w32 (signed a +ℤ signed_half h) → signed (add_of a (sign_extended h)) ≡ signed a +ℤ signed_half h
-signed-add_of-sign_extended a h ha hh fits =
-    let same : signed a +ℤ signed (sign_extended h) ≡ signed a +ℤ signed_half h =
-    ap (λ z. signed a +ℤ z) (signed-sign_extended h hh) in
-    let P : ℤ → Type 0 = FitsSigned w32 in
-    signed-add_of a (sign_extended h) ha (IsWord-sign_extended h) (subst P (sym same) fits) ∙ same

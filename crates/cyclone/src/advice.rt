@@ -79,24 +79,36 @@ pub fn hint(code: Code) -> &'static str {
     }
 }
 
+/// What an image's fault of this number is.
+fn image_fault(number: u32) -> &'static str {
+    match number {
+        1 => "not an image: the file is truncated",
+        2 => "not an image: not a 32-bit big-endian ELF file",
+        3 => "not an image: not an executable for MIPS",
+        4 => "not an image: invalid segment",
+        5 => "not an image: it needs a dynamic loader",
+        6 => "not an image: the entry point is in no segment",
+        _ => "a segment of the image lies outside the machine's memory",
+    }
+}
+
+/// What the exception of this number is.
+fn exception(number: u32) -> &'static str {
+    match number {
+        1 => "uncaught exception Null_Exception: a null pointer was dereferenced",
+        2 => "uncaught exception Array_bounds: index out of bounds",
+        3 => "uncaught exception Array_size: array too large",
+        4 => "uncaught exception Div_zero: division by zero",
+        _ => "uncaught exception that the program declares",
+    }
+}
+
 /// What there is to say about an answer to a person, beside its last line and what was said when it
 /// arose.
 pub fn explanation(answer: &Answer) -> Option<&'static str> {
     match *answer {
-        Answer::BadImage(1) => Some("not an image: the file is truncated"),
-        Answer::BadImage(2) => Some("not an image: not a 32-bit big-endian ELF file"),
-        Answer::BadImage(3) => Some("not an image: not an executable for MIPS"),
-        Answer::BadImage(4) => Some("not an image: invalid segment"),
-        Answer::BadImage(5) => Some("not an image: it needs a dynamic loader"),
-        Answer::BadImage(6) => Some("not an image: the entry point is in no segment"),
-        Answer::BadImage(_) => Some("a segment of the image lies outside the machine's memory"),
-        Answer::Uncaught(1, _) => Some(
-            "uncaught exception Null_Exception: a null pointer was dereferenced",
-        ),
-        Answer::Uncaught(2, _) => Some("uncaught exception Array_bounds: index out of bounds"),
-        Answer::Uncaught(3, _) => Some("uncaught exception Array_size: array too large"),
-        Answer::Uncaught(4, _) => Some("uncaught exception Div_zero: division by zero"),
-        Answer::Uncaught(_, _) => Some("uncaught exception that the program declares"),
+        Answer::BadImage(number) => Some(image_fault(number)),
+        Answer::Uncaught(number, _) => Some(exception(number)),
         Answer::Full => Some("more nested calls than --calls, or more memory than --pages"),
         Answer::Trapped(_) => Some("the machine refused an instruction of the image"),
         Answer::Spent => Some("more instructions than --steps"),

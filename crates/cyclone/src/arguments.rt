@@ -1,8 +1,8 @@
 //! The command line: what the words ask for.
-ghost use Rattle.std.specs.Prelude.{◌≡◌, ◌≤◌, Some, IfOk, IfSome};
+ghost use Rattle.std.specs.Prelude.{◌≡◌, ◌≤◌, Some, IfOk, IfSome, codes};
 ghost use Rattle.std.specs.Str.Parse.{digits_value};
 ghost use Rattle.clap.specs.Words.{first_value, found_of};
-ghost use Rattle.cyclone.specs.Request.{IsRunRequest, IsWithinBudget};
+ghost use Rattle.cyclone.specs.Request.{IsNumberOf, IsRunRequest, IsWithinBudget};
 
 use crate::number;
 use clap::error::ErrorKind;
@@ -117,24 +117,41 @@ fn compile_command<'a>(alloc: Global) -> Result<Command<'a>, AllocError> {
         .arg(image)
 }
 
-fn run_command<'a>(alloc: Global) -> Result<Command<'a>, AllocError> {
+fn pages<'a>(alloc: Global) -> Arg<'a> {
+    limit(
+        alloc,
+        "pages",
+        "1024",
+        "Memory for regions, in pages of 4096 bytes, from 3 to 65536",
+    )
+}
+
+fn calls<'a>(alloc: Global) -> Arg<'a> {
+    limit(alloc, "calls", "4096", "Nested calls, from 1 to 4096")
+}
+
+fn steps<'a>(alloc: Global) -> Arg<'a> {
+    limit(
+        alloc,
+        "steps",
+        "1000000000",
+        "Instructions executed, from 1 to 1000000000000",
+    )
+}
+
+/// The command `run` before it has its limits.
+fn plain_run_command<'a>(alloc: Global) -> Result<Command<'a>, AllocError> {
     Command::new(alloc, "run")
         .about("Runs an image")
         .after_help(RUN_HELP)
-        .arg(file(alloc, "image", "The image file").value_name("IMAGE"))?
-        .arg(limit(
-            alloc,
-            "pages",
-            "1024",
-            "Memory for regions, in pages of 4096 bytes, from 3 to 65536",
-        ))?
-        .arg(limit(alloc, "calls", "4096", "Nested calls, from 1 to 4096"))?
-        .arg(limit(
-            alloc,
-            "steps",
-            "1000000000",
-            "Instructions executed, from 1 to 1000000000000",
-        ))
+        .arg(file(alloc, "image", "The image file").value_name("IMAGE"))
+}
+
+fn run_command<'a>(alloc: Global) -> Result<Command<'a>, AllocError> {
+    let command = plain_run_command(alloc)?;
+    let command = command.arg(pages(alloc))?;
+    let command = command.arg(calls(alloc))?;
+    command.arg(steps(alloc))
 }
 
 fn disasm_command<'a>(alloc: Global) -> Result<Command<'a>, AllocError> {
@@ -195,6 +212,24 @@ fn file_of<'a>(
     }
 }
 
+/// The limits of a run.
+fn limits_of<'a>(
+    alloc: Global,
+    program: &mut Command<'a>,
+    matches: &ArgMatches<'a>,
+) -> Result<Limits, Error>
+    ensures pages { IfOk result
+        (λ limits. IsNumberOf (first_value (found_of matches.now)) (codes "pages") limits.pages) }
+    ensures calls { IfOk result
+        (λ limits. IsNumberOf (first_value (found_of matches.now)) (codes "calls") limits.calls) }
+{
+    let (least, most) = (u64::from(MIN_PAGES), u64::from(MAX_PAGES));
+    let pages = number_of(alloc, program, matches, "pages", least, most)?;
+    let (least, most) = (u64::from(MIN_CALLS), u64::from(MAX_CALLS));
+    let calls = number_of(alloc, program, matches, "calls", least, most)?;
+    Ok(Limits::new(pages as u32, calls as u32).unwrap())
+}
+
 fn run_request<'a>(
     alloc: Global,
     program: &mut Command<'a>,
@@ -203,24 +238,8 @@ fn run_request<'a>(
     ensures { IfOk result (IsRunRequest (first_value (found_of matches.now))) }
 {
     let image = file_of(program, matches, "image")?;
-    let pages = number_of(
-        alloc,
-        program,
-        matches,
-        "pages",
-        u64::from(MIN_PAGES),
-        u64::from(MAX_PAGES),
-    )?;
-    let calls = number_of(
-        alloc,
-        program,
-        matches,
-        "calls",
-        u64::from(MIN_CALLS),
-        u64::from(MAX_CALLS),
-    )?;
+    let limits = limits_of(alloc, program, matches)?;
     let budget = number_of(alloc, program, matches, "steps", 1, MOST_STEPS)?;
-    let limits = Limits::new(pages as u32, calls as u32).unwrap();
     Ok(Request::Run {
         image,
         limits,

@@ -10,7 +10,7 @@ returns-clause-image c = λ p is.
     let code = labelled_of c.in_ok-code.code in
     let few : length code.globals ≤ globals_length = omega (arith, ap length c.in_ok-code.ensures.globals, c.requires.well_formed.globals) in
     image_made p c.args.framed.now.program code (addresses_of code) c.in_ok-words.words.items c.deref.result.now c.deref-2.result.now c.in_ok-file.file.items
-    c.deref.ensures.value c.deref-2.ensures.value is c.in_ok-code.ensures.selected c.in_ok-words.ensures.means c.in_ok-words.ensures.runs
+    c.deref.ensures.value c.deref-2.ensures.value is c.in_ok-code.ensures.selected c.in_ok-code.ensures.globals c.in_ok-words.ensures.means c.in_ok-words.ensures.runs
     few c.in_ok-file.ensures.words c.in_ok-file.ensures.globals c.in_ok-file.ensures.read c.in_ok-file.ensures.exact
 
 pub write_program-requires-clause-some : goal.write_program-requires-clause-some

@@ -1,5 +1,7 @@
+use Rattle.std.proofs.Common.{[], ◌∷◌, ◌++◌, ◌∙◌, ap}
 use Rattle.std.proofs.lemmas.Result.{on_ok_weaker}
 use Rattle.cyc_types.specs.TypedTreeView.{view_expression, view_statement}
+use Rattle.cyc_plain.specs.declared.instruction.Instruction.{Instruction}
 use Rattle.cyc_plain.specs.declared.instruction.Instruction.TheVariants.{Jump}
 use Rattle.cyc_lower.proofs.Branching.{made_block, made_if, made_loop}
 use Rattle.cyc_lower.proofs.emitter.Emitter.+statement.Goals as goal
@@ -9,7 +11,7 @@ looped-returns t c =
     made_loop (view_expression c.args.condition.now) (view_statement c.args.body.now) c.args.slot c.args.self.now.code.items (Jump 0)
     c.continued.new.self.code.items c.reserve.new.self.code.items c.expression.new.self.code.items c.emit.new.self.code.items c.statement.new.self.code.items c.continued-2.new.self.code.items c.jump_here.new.self.code.items
     c.place-head.result c.in_ok-leaving.leaving c.place-head.ensures
-    c.in_ok-continued.ensures c.in_ok-leaving.ensures.0 c.in_ok-leaving.ensures.1 c.in_ok-expression.ensures c.in_ok-emit.ensures c.in_ok-statement.ensures c.in_ok-continued-2.ensures c.jump_here.ensures
+    c.in_ok-continued.ensures c.in_ok-leaving.ensures.0 c.in_ok-leaving.ensures.1 c.in_ok-expression.ensures (c.in_ok-emit.ensures ∙ ap (λ (i : Instruction). c.expression.new.self.code.items ++ i ∷ []) c.jump_if_zero.ensures) c.in_ok-statement.ensures c.in_ok-continued-2.ensures c.jump_here.ensures
 
 pub statement-returns-in-Block : goal.statement-returns-in-Block
 statement-returns-in-Block t c =

@@ -1,0 +1,108 @@
+-- How many lines operands, plans and tests have, as they are counted: so many, and few.
+use Rattle.std.proofs.Common.{◌≡◌, ℕ, ◌+◌, ◌≤◌, Bool, true, false, List, [], ◌∷◌, length, refl, arith, length-append}
+use Rattle.std.specs.Prelude.{if◌then◌else◌}
+use Rattle.cyc_isa.specs.declared.instr.Instr.{Instr}
+use Rattle.cyc_plain.specs.declared.instruction.BinaryOperator.{BinaryOperator}
+use Rattle.cyc_plain.specs.declared.instruction.BinaryOperator.TheVariants as binary
+use Rattle.cyc_plain.specs.declared.instruction.Operand.{Operand}
+use Rattle.cyc_plain.specs.declared.instruction.Operand.TheVariants as operands
+use Rattle.cyc_frame.specs.declared.frame.Frame.{Frame}
+use Rattle.cyc_select.specs.declared.constants.TheConstants.{FIRST, SECOND, THIRD, ZERO}
+use Rattle.cyc_select.specs.declared.plan.Operation.{Operation}
+use Rattle.cyc_select.specs.declared.plan.Operation.TheVariants as operations
+use Rattle.cyc_select.specs.declared.plan.Outcome.{Outcome}
+use Rattle.cyc_select.specs.declared.plan.Outcome.TheVariants as outcomes
+use Rattle.cyc_select.specs.declared.plan.Plan.{Plan}
+use Rattle.cyc_select.specs.declared.plan.Test.{Test}
+use Rattle.cyc_select.specs.declared.plan.Test.TheVariants as tests
+use Rattle.cyc_select.specs.Plans.{binary_plan}
+use Rattle.cyc_select.specs.Selection.{word_code, load_code, is_zero_word, operand_code, operand_register, operation_code, outcome_code, operands_code, operation_of, computed_code, plan_code, test_code, loads_code, divided_code, store_slot, add_immediate, minus, word_count, load_count, operand_count, operation_count, outcome_count, count_of_operation, plan_count, test_count, operator_count}
+
+-- ---- few
+
+pub load_small : (o : Operand) → load_count o ≤ 2
+load_small (operands.Slot number) = omega arith
+load_small (operands.Word word) = omega arith
+
+if_small : (b : Bool) (n : ℕ) → n ≤ 2 → (if b then 0 else n) ≤ 2
+if_small true n small = omega arith
+if_small false n small = small
+
+pub operand_small : (o : Operand) → operand_count o ≤ 2
+operand_small o = if_small (is_zero_word o) (load_count o) (load_small o)
+
+operation_small : (o : Operation) → operation_count o ≤ 2
+operation_small (operations.Arithmetic op) = omega arith
+operation_small (operations.Shift op) = omega arith
+operation_small (operations.MultiplyDivide op from) = omega arith
+
+outcome_small : (o : Outcome) → outcome_count o ≤ 1
+outcome_small outcomes.AsItIs = omega arith
+outcome_small outcomes.WhetherZero = omega arith
+outcome_small outcomes.WhetherNotZero = omega arith
+
+computed_small : (plan : Plan) → count_of_operation plan ≤ 6
+computed_small plan = omega (arith, operand_small plan.left, operand_small plan.right, operation_small plan.operation)
+
+pub plan_small : (plan : Plan) → plan_count plan ≤ 8
+plan_small plan = omega (arith, computed_small plan, outcome_small plan.outcome)
+
+pub test_small : (test : Test) → test_count test ≤ 6
+test_small (tests.Operands op left right) = omega (arith, operand_small left, operand_small right)
+test_small (tests.Computed plan) = computed_small plan
+
+pub operator_small : (operator : BinaryOperator) (left right : Operand) → operator_count operator left right ≤ 11
+operator_small binary.Divide left right = omega (arith, load_small left, load_small right)
+operator_small binary.Remainder left right = omega (arith, load_small left, load_small right)
+operator_small operator left right = omega (arith, plan_small (binary_plan operator left right))
+
+-- ---- so many
+
+pub length_word : (target word : ℕ) → length (word_code target word) ≡ word_count word
+length_word target word = refl
+
+pub length_load : (frame : Frame) (target : ℕ) (o : Operand) → length (load_code frame target o) ≡ load_count o
+length_load frame target (operands.Slot number) = refl
+length_load frame target (operands.Word word) = length_word target word
+
+length_if : (b : Bool) (is : List Instr) (n : ℕ) → length is ≡ n → length (if b then [] else is) ≡ (if b then 0 else n)
+length_if true is n same = refl
+length_if false is n same = same
+
+pub length_operand : (frame : Frame) (register : ℕ) (o : Operand) → length (operand_code frame register o) ≡ operand_count o
+length_operand frame register o = length_if (is_zero_word o) (load_code frame register o) (load_count o) (length_load frame register o)
+
+length_operation : (o : Operation) (left right : ℕ) → length (operation_code o left right) ≡ operation_count o
+length_operation (operations.Arithmetic op) left right = refl
+length_operation (operations.Shift op) left right = refl
+length_operation (operations.MultiplyDivide op from) left right = refl
+
+length_outcome : (o : Outcome) → length (outcome_code o) ≡ outcome_count o
+length_outcome outcomes.AsItIs = refl
+length_outcome outcomes.WhetherZero = refl
+length_outcome outcomes.WhetherNotZero = refl
+
+length_operands : (frame : Frame) (left right : Operand) → length (operands_code frame left right) ≡ operand_count left + operand_count right
+length_operands frame left right =
+    omega (arith, length-append (operand_code frame FIRST left) (operand_code frame SECOND right), length_operand frame FIRST left, length_operand frame SECOND right)
+
+length_operation_of : (frame : Frame) (plan : Plan) → length (operation_of frame plan) ≡ count_of_operation plan
+length_operation_of frame plan =
+    let last = operation_code plan.operation (operand_register FIRST plan.left) (operand_register SECOND plan.right) in
+    omega (arith, length-append (operands_code frame plan.left plan.right) last, length_operands frame plan.left plan.right, length_operation plan.operation (operand_register FIRST plan.left) (operand_register SECOND plan.right))
+
+pub length_computed : (frame : Frame) (plan : Plan) → length (computed_code frame plan) ≡ count_of_operation plan + outcome_count plan.outcome
+length_computed frame plan =
+    omega (arith, length-append (operation_of frame plan) (outcome_code plan.outcome), length_operation_of frame plan, length_outcome plan.outcome)
+
+pub length_plan : (frame : Frame) (plan : Plan) (destination : ℕ) → length (plan_code frame plan destination) ≡ plan_count plan
+length_plan frame plan destination =
+    omega (arith, length-append (computed_code frame plan) (store_slot frame FIRST destination ∷ []), length_computed frame plan)
+
+pub length_test : (frame : Frame) (test : Test) → length (test_code frame test) ≡ test_count test
+length_test frame (tests.Operands op left right) = length_operands frame left right
+length_test frame (tests.Computed plan) = length_operation_of frame plan
+
+pub length_divided : (frame : Frame) (left right : Operand) → length (divided_code frame left right) ≡ load_count left + load_count right + 1
+length_divided frame left right =
+    omega (arith, length-append (load_code frame FIRST left) (load_code frame SECOND right), length-append (loads_code frame left right) (add_immediate THIRD ZERO (minus 1) ∷ []), length_load frame FIRST left, length_load frame SECOND right)
