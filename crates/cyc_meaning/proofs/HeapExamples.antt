@@ -11,7 +11,7 @@ use Rattle.cyc_types.specs.declared.region.Region.TheVariants.{Heap}
 use Rattle.cyc_types.specs.TypedTrees.{Expression, Number, NullPointer, Counter, Load, AddressOf, AddressOfCell, NumberOfElements, Unary, New, Member, OnHeap, Fields, Array, Convert, MoreArguments, NoArguments, StructType, Program, NoClauses}
 use Rattle.cyc_types.specs.TypedTrees as typed
 use Rattle.cyc_meaning.specs.Values.{Value as Datum, Int as Word, Fat}
-use Rattle.cyc_meaning.specs.State.{InRegion, HasEnded, IsWrong, Running, Repeating, Throwing, no_locals, first_world}
+use Rattle.cyc_meaning.specs.State.{InRegion, HasEnded, IsWrong, Running, Beginning, Throwing, no_locals, first_world}
 use Rattle.cyc_meaning.specs.Allocation.{makes_array}
 use Rattle.cyc_meaning.proofs.ExampleTrees.{here, int, local, two, assign, print, execute, return, declare, program, end, long_end, long_printed, printed, star, at, fat, convert, null_as, variable, target, element, apply, put, set, new, array, define, try_to, case}
 
@@ -150,9 +150,12 @@ array_of_negative_length = refl
 array_too_long : end (program (define 0 fat (convert fat fat (array OnHeap fat (Number 1001) (Number 1))) ∷ return (Number 0) ∷ [])) ≡ HasEnded (Uncaught 3 (pos 0))
 array_too_long = refl
 
--- 334 fat pointers have 1,002 words
+-- 334 fat pointers have 1,002 words, and 333 have 999
 array_of_too_many_words : makes_array (InRegion 0) 0 kinds.Fat (NullPointer) (Word 334) [] no_locals (first_world (program []) []) ≡ Running (Throwing 3 0) [] no_locals (first_world (program []) [])
 array_of_too_many_words = refl
+
+array_of_enough_words : makes_array (InRegion 0) 0 kinds.Fat NullPointer (Word 333) [] no_locals (first_world (program []) []) ≡ Running (Beginning (InRegion 0) 333 0 kinds.Fat NullPointer) [] no_locals (first_world (program []) [])
+array_of_enough_words = refl
 
 -- int ?p = new {for i < 0 : 1}; return numelts(p) + (p == NULL); it is not null
 empty_array : end (program (define 0 fat (convert fat fat (array OnHeap fat (Number 0) (Number 1))) ∷ return (two (NumberOfElements (variable 0 fat)) operators.Add (apply (variable 0 fat) pointers.FatIsNull NullPointer Int)) ∷ [])) ≡ HasEnded (Returned (pos 0))

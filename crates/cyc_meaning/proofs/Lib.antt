@@ -3,6 +3,7 @@ pub mod RunLaws
 -- what the laws of this crate cite
 pub mod Outcomes
 pub mod WorldLaws
+pub mod DemandLaws
 pub mod NestingLemmas
 pub mod Nested
 pub mod ListLemmas

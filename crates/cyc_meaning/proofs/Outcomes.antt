@@ -16,13 +16,13 @@ use Rattle.cyc_meaning.specs.Values.{Value, Int, Null, Thin, Fat, Handle, Key, O
 use Rattle.cyc_meaning.specs.Operators.{Result, Gives, Raises, Misfits, is_zero, binary_result, unary_result, truth_of, decides}
 use Rattle.cyc_meaning.specs.Pointers.{element_count, pointer_result, result_kind, takes_kind, Reach, At, Stops, Nowhere, followed}
 use Rattle.cyc_meaning.specs.Conversion.{conversion}
-use Rattle.cyc_meaning.specs.State.{Sort, Heap, Globals, Stack, Lexical, Dynamic, Region, Owner, InRegion, Unique, Object, World, Access, Found, Closed, Missing, region_at, Located, cell_at, Environment, no_locals, Awaiting, ConvertTo, Operate, Chain, Apply, ApplyPointer, Decide, Store, StoreCell, Pass, Follow, FollowMember, Index, Advance, CountElements, FreeObject, CloseByKey, PlaceBy, MakePlain, MakeFields, MakeArray, FillElement, Initialise, Choose, Test, Return, ThrowWith, OpenBy, AliasOf, AwaitingPlace, LoadFrom, TakeAddress, StoreTo, SwapLeft, SwapRight, Entry, Needs, NeedsPlace, Discard, Rest, Join, Loop, CloseRegion, CloseLexical, EndLoan, Handler, Caller, Main, Write, Focus, Evaluating, Locating, Given, GivenPlace, Executing, Proceeding, Calling, Entering, Binding, Naming, Writing, Repeating, Swapping, Breaking, Continuing, Returning, Throwing, Catching, State, Running, Ended, Dead, Wrong, calls_in, closed}
+use Rattle.cyc_meaning.specs.State.{Sort, Heap, Globals, Stack, Lexical, Dynamic, Region, Owner, InRegion, Unique, Object, World, Access, Found, Closed, Missing, region_at, Located, cell_at, Environment, no_locals, Awaiting, ConvertTo, Operate, Chain, Apply, ApplyPointer, Decide, Store, StoreCell, Pass, Follow, FollowMember, Index, Advance, CountElements, FreeObject, CloseByKey, PlaceBy, MakePlain, MakeFields, MakeArray, FillElement, Initialise, Choose, Test, Return, ThrowWith, OpenBy, AliasOf, AwaitingPlace, LoadFrom, TakeAddress, StoreTo, SwapLeft, SwapRight, Entry, Needs, NeedsPlace, Discard, Rest, Join, Loop, CloseRegion, CloseLexical, EndLoan, Handler, Caller, Main, Write, Focus, Evaluating, Locating, Given, GivenPlace, Executing, Proceeding, Calling, Entering, Binding, Naming, Writing, Beginning, Repeating, Swapping, Breaking, Continuing, Returning, Throwing, Catching, State, Running, Ended, Dead, Wrong, calls_in, closed}
 use Rattle.cyc_meaning.specs.Objects.{compared, created_in, created, made_in, made_unique}
 use Rattle.cyc_meaning.specs.Parts.{gives, computed, object_of, read, loaded, loaded_from, stored, stored_at, step_writing, declared, inside, region_end, closing}
 use Rattle.cyc_meaning.specs.Parts as parts
 use Rattle.cyc_meaning.specs.Places.{arrives, follows, follows_member, member_of, indexes, advances, locates_member, step_locating, loaded_at, placed, step_given_place}
 use Rattle.cyc_meaning.specs.Swaps.{finds_right_object, finds_right, finds_left_object, swaps, swap_read, swap_content, swap_loaded, swap_loaded_at, step_swapping}
-use Rattle.cyc_meaning.specs.Allocation.{blanks_of, writes_from, filled, makes_of, makes_plain, makes_fields, blanks, begun, makes_array, step_repeating, fills_element, makes, allocates, makes_by, most_words}
+use Rattle.cyc_meaning.specs.Allocation.{blanks_of, writes_from, filled, makes_of, makes_plain, makes_fields, blanks, begun, makes_array, step_beginning, step_repeating, fills_element, makes, allocates, makes_by, most_words}
 use Rattle.cyc_meaning.specs.Exceptions.{throws, throws_value, tries, catches, step_catching}
 use Rattle.cyc_meaning.specs.Regions.{is_dynamic, step_naming, opens_lexical, closing_lexical, opens_dynamic, opens_by_key, opened_by, opens_with, closes_dynamic, closes_with, aliases, aliased, frees_owned, frees_object, frees}
 use Rattle.cyc_meaning.specs.Step.{values_of, called, step_calling, step_binding, passes, assigned, addressed, counts, step_evaluating, decided, tested, awaits_right, chained, tells, applies_pointer, chosen, looped, converts, initialises, supplied, step_given, step_executing, declares, continues_with, step_proceeding, step_breaking, step_continuing, returned, ends_with, main_returned, step_returning, step_throwing, stepped}
@@ -217,7 +217,7 @@ filling (Unique false) values stack e w = Fails
 making_plain : (owner : Owner) (kind : Kind) (value : Operand) (stack : List Entry) (e : Environment) (w : World) → Silent true stack e w (makes_plain owner kind value stack e w)
 making_plain owner kind value stack e w = either (is_kind value.kind kind) _ _ (filling owner (value ∷ []) stack e w) Fails
 
-beginning : (owner : Owner) (count level : ℕ) (kind : Kind) (element : Expression) (stack : List Entry) (e : Environment) (w : World) → Silent true stack e w (begun (created w owner (blanks count kind)) (length w.objects) count level kind element stack e w)
+beginning : (owner : Owner) (count level : ℕ) (kind : Kind) (element : Expression) (stack : List Entry) (e : Environment) (w : World) → Silent true stack e w (step_beginning owner count level kind element stack e w)
 beginning (InRegion region) count level kind element stack e w = go (region_at w region) refl
   where
     go : (a : Access Region) → region_at w region ≡ a → Silent true stack e w (begun (created_in w region a (blanks count kind)) (length w.objects) count level kind element stack e w)
@@ -227,9 +227,9 @@ beginning (InRegion region) count level kind element stack e w = go (region_at w
 beginning (Unique true) count level kind element stack e w = Goes refl (MakesUnique (blanks count kind)) (λ h. h)
 beginning (Unique false) count level kind element stack e w = Fails
 
-making_array : (owner : Owner) (level : ℕ) (kind : Kind) (element : Expression) (value : Value) (stack : List Entry) (e : Environment) (w : World) → Silent true stack e w (makes_array owner level kind element value stack e w)
+making_array : {access : Bool} (owner : Owner) (level : ℕ) (kind : Kind) (element : Expression) (value : Value) (stack : List Entry) (e : Environment) (w : World) → Silent access stack e w (makes_array owner level kind element value stack e w)
 making_array owner level kind element (Int count) stack e w =
-    either (nat_le (count * words_of_kind kind) most_words) _ _ (beginning owner count level kind element stack e w) (Goes refl Keeps (λ h. h))
+    either (nat_le (count * words_of_kind kind) most_words) _ _ (Goes refl Keeps (λ h. h)) (Goes refl Keeps (λ h. h))
 making_array owner level kind element value stack e w = Fails
 
 repeating : {access : Bool} (object count index level : ℕ) (kind : Kind) (element : Expression) (stack : List Entry) (e : Environment) (w : World) → Silent access stack e w (step_repeating object count index level kind element stack e w)
@@ -567,6 +567,7 @@ outcome program (Entering h arguments) stack e w = Goes refl (Opens Stack) (nest
 outcome program (Binding number types arguments body) stack e w = binding number types arguments body stack e w
 outcome program (Naming number operand items) stack e w = naming number operand items stack e w
 outcome program (Writing writes result) stack e w = writing writes result stack e w
+outcome program (Beginning owner count level kind element) stack e w = beginning owner count level kind element stack e w
 outcome program (Repeating object count index level kind element) stack e w = repeating object count index level kind element stack e w
 outcome program (Swapping kind left right before) stack e w = swapping_values kind left right before stack e w
 outcome program Breaking stack e w = breaking stack e w

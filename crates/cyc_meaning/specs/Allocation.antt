@@ -7,7 +7,7 @@ use Rattle.cyc_types.specs.declared.typed.Kind.TheVariants as kinds
 use Rattle.cyc_types.specs.TypedTrees.{Expression, Placement, OnHeap, AsUnique, ByHandle, Initial, Plain, Fields, Array, Convert, Arguments, NoArguments, MoreArguments}
 use Rattle.cyc_meaning.specs.Values.{Value, Int, Thin, Fat, Handle, Operand, Cell, blank, words_of_kind, is_kind}
 use Rattle.cyc_meaning.specs.Operators.{array_size}
-use Rattle.cyc_meaning.specs.State.{Owner, InRegion, Unique, World, Access, Found, Closed, Missing, heap_number, cell_at, Environment, with_counter, ConvertTo, PlaceBy, MakePlain, MakeFields, MakeArray, FillElement, Entry, Needs, Write, Evaluating, Writing, Repeating, Throwing, State, Running}
+use Rattle.cyc_meaning.specs.State.{Owner, InRegion, Unique, World, Access, Found, Closed, Missing, heap_number, cell_at, Environment, with_counter, ConvertTo, PlaceBy, MakePlain, MakeFields, MakeArray, FillElement, Entry, Needs, Write, Evaluating, Writing, Beginning, Repeating, Throwing, State, Running}
 use Rattle.cyc_meaning.specs.Objects.{created}
 use Rattle.cyc_meaning.specs.Parts.{dead, wrong, gives, stored}
 
@@ -56,13 +56,17 @@ begun (Found new) object count level kind element stack e w = Running (Repeating
 begun Closed object count level kind element stack e w = dead w
 begun Missing object count level kind element stack e w = wrong w
 
--- A length below 0, a word of 2 ^ 31 and more, is too long as well.
+-- The length is checked, and then the block is made. A length below 0, a word of 2 ^ 31 and more, is too long as well.
 abbrev pub makes_array : Owner → (level : ℕ) → Kind → (element : Expression) → Value → List Entry → Environment → World → State
 makes_array owner level kind element (Int count) stack e w =
     if nat_le (count * words_of_kind kind) most_words
-    then begun (created w owner (blanks count kind)) (length w.objects) count level kind element stack e w
+    then Running (Beginning owner count level kind element) stack e w
     else Running (Throwing array_size 0) stack e w
 makes_array owner level kind element value stack e w = wrong w
+
+abbrev pub step_beginning : Owner → (count level : ℕ) → Kind → (element : Expression) → List Entry → Environment → World → State
+step_beginning owner count level kind element stack e w =
+    begun (created w owner (blanks count kind)) (length w.objects) count level kind element stack e w
 
 -- The elements are evaluated with the counter at 0, 1 and so on, and each is written as soon as it is evaluated. The pointer has the
 -- length of the array, and its index is 0.

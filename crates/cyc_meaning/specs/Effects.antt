@@ -1,10 +1,11 @@
 -- The words in which the laws of the step are said: what is seen of it, by its focus and the control stack alone, what it
 -- changes, and what stays.
-use Rattle.std.specs.Prelude.{◌≡◌, ℕ, suc, ◌%◌, Bool, true, false, List, [], ◌∷◌, ◌++◌, drop, Option, Some, slice_get}
+use Rattle.std.specs.Prelude.{◌≡◌, ℕ, suc, ◌+◌, ◌%◌, Bool, true, false, if◌then◌else◌, List, [], ◌∷◌, ◌++◌, drop, Option, Some, slice_get}
 use Rattle.cyc_types.specs.declared.typed.Kind.{Kind}
 use Rattle.cyc_types.specs.declared.typed.Callee.TheVariants as callees
-use Rattle.cyc_meaning.specs.Values.{Value, Int, Operand, Cell, kinds_of}
-use Rattle.cyc_meaning.specs.State.{Sort, Region, Owner, InRegion, Unique, Object, World, Found, region_at, Located, cell_at, opened_as, closed, variable, made, written, State, Running, Ended, Dead, Wrong, Entry, Caller, Main, Focus, Calling, Proceeding, Returning, Throwing, calls_in}
+use Rattle.cyc_meaning.specs.Values.{Value, Int, Operand, Cell, kinds_of, block_size}
+use Rattle.cyc_meaning.specs.State.{Sort, Region, Owner, InRegion, Unique, Object, World, Found, region_at, Located, cell_at, new_region, opened_as, closed, variable, made, written, State, Running, Ended, Dead, Wrong, Entry, Caller, Main, Focus, Calling, Proceeding, Returning, Throwing, has_pages, counted, calls_in}
+use Rattle.cyc_words.specs.Demand.{total, region_pages, demand_of}
 use Rattle.cyc_meaning.specs.Objects.{made_in, made_unique, freed}
 use Rattle.cyc_meaning.specs.Step.{values_of}
 
@@ -51,6 +52,25 @@ pub data Changes (w : World) : (printed : List ℕ) → (count : ℕ) → World 
   Writes : (object offset : ℕ) (at : Located) (value : Value) → cell_at w object offset ≡ Found at → Changes w [] 0 (written w object offset at value)
   Prints : (word : ℕ) → Changes w (word % 256 ∷ []) 0 (record w { output = w.output ++ word % 256 ∷ [] })
   Reads : Changes w [] 1 (record w { input = drop 1 w.input })
+
+-- ---- demand
+
+-- the pages that the store keeps for all, and those of a region where it has any
+abbrev pub pages_of : World → ℕ
+pages_of w = demand_of (counted w.regions) w.classes
+
+abbrev pub pages_in : Region → ℕ
+pages_in r = if has_pages r.sort r.is_open then region_pages r.blocks else 0
+
+-- What a change makes of the demand. A region that opens has its first page if the store keeps it, and one that closes gives its pages
+-- back; a block may need a page more in its region, or in its class, whose pages never fall. Nothing else changes the demand.
+abbrev pub DemandChanges : {w new : World} {printed : List ℕ} {count : ℕ} → Changes w printed count new → Type 0
+DemandChanges {w} {new} (Opens sort) = pages_of new ≡ pages_of w + pages_in (new_region sort)
+DemandChanges {w} {new} (Closes number r found) = pages_of new + pages_in r ≡ pages_of w + pages_in (record r { is_open = false })
+DemandChanges {w} {new} (MakesIn number r cells found) =
+    pages_of new + pages_in r ≡ pages_of w + pages_in (record r { blocks = r.blocks ++ block_size cells ∷ [] })
+DemandChanges {w} {new} (MakesUnique cells) = pages_of new + total w.classes ≡ pages_of w + total new.classes
+DemandChanges {w} {new} change = pages_of new ≡ pages_of w
 
 -- after a step that does not end the run
 abbrev pub ChangesIn : World → (printed : List ℕ) → (count : ℕ) → State → Type 0

@@ -4,7 +4,7 @@ use Rattle.std.specs.Prelude.{◌≡◌, ℕ, ◌<◌, Bool, true, false, List, 
 use Rattle.cyc_types.specs.declared.typed.PointerOperator.{PointerOperator}
 use Rattle.cyc_types.specs.declared.typed.PointerOperator.TheVariants as pointers
 use Rattle.cyc_types.specs.TypedTrees.{Arguments, NoArguments, Expression, Copy, Move, Peek, New, Placement, OnHeap, Initial, Fields, Items, MoreItems, Item, OpenRegion, DeclareAlias}
-use Rattle.cyc_meaning.specs.State.{Sort, Heap, Globals, Stack, Lexical, Dynamic, Region, World, Access, Found, Closed, Missing, found_region, globals_number, Environment, Awaiting, ApplyPointer, Store, StoreCell, FreeObject, CloseByKey, PlaceBy, MakePlain, MakeFields, MakeArray, FillElement, OpenBy, AwaitingPlace, LoadFrom, Entry, Needs, NeedsPlace, Rest, CloseRegion, CloseLexical, Handler, Caller, Focus, Evaluating, Given, GivenPlace, Proceeding, Writing, Swapping, State, Running, Ended, Dead, Wrong}
+use Rattle.cyc_meaning.specs.State.{Sort, Heap, Globals, Stack, Lexical, Dynamic, Region, World, Access, Found, Closed, Missing, found_region, globals_number, Environment, Awaiting, ApplyPointer, Store, StoreCell, FreeObject, CloseByKey, PlaceBy, MakePlain, MakeFields, FillElement, OpenBy, AwaitingPlace, LoadFrom, Entry, Needs, NeedsPlace, Rest, CloseRegion, CloseLexical, Handler, Caller, Focus, Evaluating, Given, GivenPlace, Proceeding, Writing, Beginning, Swapping, State, Running, Ended, Dead, Wrong}
 
 -- the regions that will end, innermost first, and that of the globals, which never does
 abbrev pub ends_of : List Entry → List ℕ
@@ -55,7 +55,6 @@ is_access_of CloseByKey = true
 is_access_of (PlaceBy (Fields NoArguments)) = true
 is_access_of (MakePlain owner kind) = true
 is_access_of (MakeFields owner before NoArguments) = true
-is_access_of (MakeArray owner level kind element) = true
 is_access_of (FillElement object count index level kind element) = true
 is_access_of (OpenBy number lent items) = true
 is_access_of waiting = false
@@ -78,6 +77,7 @@ is_access (Given value) (Needs waiting ∷ stack) = is_access_of waiting
 is_access (GivenPlace place) (NeedsPlace (LoadFrom kind) ∷ stack) = true
 is_access Proceeding (Rest items ∷ stack) = is_access_by items
 is_access (Writing writes result) stack = true
+is_access (Beginning owner count level kind element) stack = true
 is_access (Swapping kind left right before) stack = true
 is_access focus stack = false
 

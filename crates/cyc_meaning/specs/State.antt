@@ -269,7 +269,8 @@ pub data Focus : Type 0 where
   Naming : (number : ℕ) → Operand → Items → Focus
   -- the cells of a new object, and both of a swap, are written one by one; then a value is handed on, if there is one
   Writing : List Write → Option Operand → Focus
-  -- the next element of a new array
+  -- the block of an array of so many elements is made, and then the next of its elements is evaluated
+  Beginning : Owner → (count level : ℕ) → Kind → (element : Expression) → Focus
   Repeating : (object count index level : ℕ) → Kind → (element : Expression) → Focus
   -- both places of a swap of values of this kind are found, and are read one by one: the left one is read already where there is an
   -- operand

@@ -19,11 +19,11 @@ use Rattle.cyc_meaning.specs.Values.{Value, Int, Null, Thin, Handle, Operand, ki
 use Rattle.cyc_meaning.specs.Operators.{is_zero, truth, binary_result, unary_result, truth_of, decides}
 use Rattle.cyc_meaning.specs.Pointers.{element_count, pointer_result, result_kind, takes_kind}
 use Rattle.cyc_meaning.specs.Conversion.{conversion}
-use Rattle.cyc_meaning.specs.State.{World, Access, Found, Closed, Missing, heap_number, region_at, opened, Environment, no_locals, Awaiting, ConvertTo, Operate, Chain, Apply, ApplyPointer, Decide, Store, StoreCell, Pass, Follow, FollowMember, Index, Advance, CountElements, FreeObject, CloseByKey, PlaceBy, MakePlain, MakeFields, MakeArray, FillElement, Initialise, Choose, Test, Return, ThrowWith, OpenBy, AliasOf, LoadFrom, TakeAddress, StoreTo, Entry, Needs, NeedsPlace, Discard, Rest, Join, Loop, CloseRegion, CloseLexical, EndLoan, Handler, Caller, Main, Focus, Evaluating, Locating, Given, GivenPlace, Executing, Proceeding, Calling, Entering, Binding, Naming, Writing, Repeating, Swapping, Breaking, Continuing, Returning, Throwing, Catching, State, Running, Ended, Dead, Wrong}
+use Rattle.cyc_meaning.specs.State.{World, Access, Found, Closed, Missing, heap_number, region_at, opened, Environment, no_locals, Awaiting, ConvertTo, Operate, Chain, Apply, ApplyPointer, Decide, Store, StoreCell, Pass, Follow, FollowMember, Index, Advance, CountElements, FreeObject, CloseByKey, PlaceBy, MakePlain, MakeFields, MakeArray, FillElement, Initialise, Choose, Test, Return, ThrowWith, OpenBy, AliasOf, LoadFrom, TakeAddress, StoreTo, Entry, Needs, NeedsPlace, Discard, Rest, Join, Loop, CloseRegion, CloseLexical, EndLoan, Handler, Caller, Main, Focus, Evaluating, Locating, Given, GivenPlace, Executing, Proceeding, Calling, Entering, Binding, Naming, Writing, Beginning, Repeating, Swapping, Breaking, Continuing, Returning, Throwing, Catching, State, Running, Ended, Dead, Wrong}
 use Rattle.cyc_meaning.specs.Objects.{compared}
 use Rattle.cyc_meaning.specs.Places.{follows, follows_member, indexes, advances, step_locating, step_given_place}
 use Rattle.cyc_meaning.specs.Swaps.{swaps, step_swapping}
-use Rattle.cyc_meaning.specs.Allocation.{makes_plain, makes_fields, step_repeating, makes_array, fills_element, allocates, makes_by}
+use Rattle.cyc_meaning.specs.Allocation.{makes_plain, makes_fields, step_beginning, step_repeating, makes_array, fills_element, allocates, makes_by}
 use Rattle.cyc_meaning.specs.Exceptions.{throws, throws_value, tries, step_catching}
 use Rattle.cyc_meaning.specs.Regions.{step_naming, opens_lexical, closing_lexical, opens_dynamic, opens_by_key, opens_with, closes_with, aliases, aliased, frees}
 pub use Rattle.cyc_meaning.specs.Parts.{dead, wrong, ends, gives, computed, object_of, read, loaded, loaded_from, stored, stored_at, step_writing, declared, inside, region_end, closing}
@@ -377,6 +377,7 @@ stepped program (Entering h arguments) stack e w = step_entering h arguments sta
 stepped program (Binding number types arguments body) stack e w = step_binding number types arguments body stack e w
 stepped program (Naming number operand items) stack e w = step_naming number operand items stack e w
 stepped program (Writing writes result) stack e w = step_writing writes result stack e w
+stepped program (Beginning owner count level kind element) stack e w = step_beginning owner count level kind element stack e w
 stepped program (Repeating object count index level kind element) stack e w =
     step_repeating object count index level kind element stack e w
 stepped program (Swapping kind left right before) stack e w = step_swapping kind left right before stack e w

@@ -10,7 +10,7 @@ ghost use Rattle.cyc_types.specs.TypedTrees.{Program};
 ghost use Rattle.cyc_meaning.specs.State.{World, Environment, Entry, Focus, State, Throwing, Status, GoesOn, HasEnded, IsDead, output_of, input_of, status_of, depth};
 ghost use Rattle.cyc_meaning.specs.State as state;
 ghost use Rattle.cyc_meaning.specs.Step.{step};
-ghost use Rattle.cyc_meaning.specs.Effects.{printed_by, read_by, calls_after, ChangesIn, StaysIn};
+ghost use Rattle.cyc_meaning.specs.Effects.{printed_by, read_by, calls_after, Changes, DemandChanges, ChangesIn, StaysIn};
 ghost use Rattle.cyc_meaning.specs.Nesting.{Nests, is_access, IsUntried};
 ghost use Rattle.cyc_meaning.specs.Run.{start, steps, run, is_within, limited_steps, limited_run};
 
@@ -108,4 +108,10 @@ pub fn uncaught_ends()
     ensures { (program : Program) (input : List ℕ) (count tag value : ℕ) (stack : List Entry) (e : Environment) (w : World)
         → run program input count ≡ state.Running (Throwing tag value) stack e w → IsUntried stack
         → run program input (count + suc (length stack)) ≡ state.Ended (Uncaught tag (signed value)) w.output w.input }
+{}
+
+/// What each kind of step makes of the demand: opening, closing and making are all that changes it, by the pages of one region or of
+/// the classes of unique blocks.
+pub fn demand_is_counted()
+    ensures { (w new : World) (printed : List ℕ) (count : ℕ) (change : Changes w printed count new) → DemandChanges change }
 {}
