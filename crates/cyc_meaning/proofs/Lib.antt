@@ -15,4 +15,5 @@ pub mod ExceptionExamples
 pub mod UniqueExamples
 pub mod RegionExamples
 pub mod DeadExamples
+pub mod FrameExamples
 pub mod ValueExamples
