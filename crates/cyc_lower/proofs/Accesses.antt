@@ -4,9 +4,9 @@ use Rattle.std.specs.Prelude.{if◌then◌else◌}
 use Rattle.std.proofs.lemmas.Option.{none-some, same_Some}
 use Rattle.cyc_words.specs.Simulation.{Failed}
 use Rattle.cyc_types.specs.declared.typed.Kind.{Kind}
-use Rattle.cyc_meaning.specs.Values.{Value, Cell}
+use Rattle.cyc_meaning.specs.Values.{Value, Operand, Cell, is_kind}
 use Rattle.cyc_meaning.specs.State.{Sort, Heap, Globals, Stack, Lexical, Dynamic, Region, Object, World, Access, Found, Closed, Missing, found_region, region_at, is_live, Located, located, cell_in, cell_at, stack_region, closed, written, has_pages, counted, Environment, with_local, made, variable, Entry, Focus, Given, State, Running, status_of}
-use Rattle.cyc_meaning.specs.Step.{read, loaded, loaded_from, stored, declared, closing}
+use Rattle.cyc_meaning.specs.Step.{wrong, read, loaded, loaded_from, stored, declared, closing}
 use Rattle.cyc_meaning.specs.SourceMachine.{status_in}
 use Rattle.cyc_lower.proofs.Relation.{content_of_cell, content_of, contents, IsQuietSort, AreQuiet}
 use Rattle.cyc_lower.proofs.Data.{get_set_same, get_set_other}
@@ -14,64 +14,81 @@ use Rattle.cyc_lower.proofs.Data.{get_set_same, get_set_other}
 abbrev pub IsWell : State → Type 0
 IsWell s = status_in (status_of s) ≡ Failed → ⊥
 
+-- a check that did not fail held
+pub is_fitting : (fits : Bool) (s : State) (w : World) → IsWell (if fits then s else wrong w) → fits ≡ true
+is_fitting true s w well = refl
+is_fitting false s w well = absurd (well refl)
+
 -- ---- a value is read
 
-pub record IsLoaded (object : Option ℕ) (stack : List Entry) (e : Environment) (w : World) : Type 0 where
+pub record IsLoaded (kind : Kind) (object : Option ℕ) (stack : List Entry) (e : Environment) (w : World) : Type 0 where
   pub number : ℕ
   pub value : Value
   pub there : object ≡ Some number
   pub has : contents w.objects number ≡ Some value
-  pub gives : loaded_from object stack e w ≡ Running (Given value) stack e w
+  pub gives : loaded_from kind object stack e w ≡ Running (Given (record { kind = kind; value = value })) stack e w
 
-read_cell : (content : Option Value) (stack : List Entry) (e : Environment) (w : World) → IsWell (read content stack e w) → (v : Value) × (content ≡ Some v) × (read content stack e w ≡ Running (Given v) stack e w)
-read_cell None stack e w well = absurd (well refl)
-read_cell (Some v) stack e w well = (v, refl, refl)
+-- of the value that a cell holds
+abbrev Reads : Kind → Option Value → State → List Entry → Environment → World → Type 0
+Reads kind content s stack e w = (v : Value) × (content ≡ Some v) × (s ≡ Running (Given (record { kind = kind; value = v })) stack e w)
 
-read_object : (x : Object) (cell : Option Cell) (live : Bool) (stack : List Entry) (e : Environment) (w : World)
-    → IsWell (loaded (if live then located x cell else Closed) stack e w)
-    → (v : Value) × (content_of_cell cell ≡ Some v) × (loaded (if live then located x cell else Closed) stack e w ≡ Running (Given v) stack e w)
-read_object x cell false stack e w well = absurd (well refl)
-read_object x None true stack e w well = absurd (well refl)
-read_object x (Some c) true stack e w well = read_cell c.content stack e w well
+read_cell : (kind : Kind) (content : Option Value) (fits : Bool) (stack : List Entry) (e : Environment) (w : World)
+    → IsWell (if fits then read kind content stack e w else wrong w) → Reads kind content (if fits then read kind content stack e w else wrong w) stack e w
+read_cell kind content false stack e w well = absurd (well refl)
+read_cell kind None true stack e w well = absurd (well refl)
+read_cell kind (Some v) true stack e w well = (v, refl, refl)
 
-read_from : (x : Option Object) (stack : List Entry) (e : Environment) (w : World)
-    → IsWell (loaded (cell_in w x 0) stack e w)
-    → (v : Value) × (content_of x ≡ Some v) × (loaded (cell_in w x 0) stack e w ≡ Running (Given v) stack e w)
-read_from None stack e w well = absurd (well refl)
-read_from (Some x) stack e w well = read_object x (slice_get x.cells 0) (is_live w x.owner) stack e w well
+read_object : (kind : Kind) (x : Object) (cell : Option Cell) (live : Bool) (stack : List Entry) (e : Environment) (w : World)
+    → IsWell (loaded kind (if live then located x cell else Closed) stack e w)
+    → Reads kind (content_of_cell cell) (loaded kind (if live then located x cell else Closed) stack e w) stack e w
+read_object kind x cell false stack e w well = absurd (well refl)
+read_object kind x None true stack e w well = absurd (well refl)
+read_object kind x (Some c) true stack e w well = read_cell kind c.content (is_kind c.kind kind) stack e w well
 
-pub is_loaded : (object : Option ℕ) (stack : List Entry) (e : Environment) (w : World) → IsWell (loaded_from object stack e w) → IsLoaded object stack e w
-is_loaded None stack e w well = absurd (well refl)
-is_loaded (Some number) stack e w well =
-    let (v, has, gives) = read_from (slice_get w.objects number) stack e w well in
+read_from : (kind : Kind) (x : Option Object) (stack : List Entry) (e : Environment) (w : World)
+    → IsWell (loaded kind (cell_in w x 0) stack e w)
+    → Reads kind (content_of x) (loaded kind (cell_in w x 0) stack e w) stack e w
+read_from kind None stack e w well = absurd (well refl)
+read_from kind (Some x) stack e w well = read_object kind x (slice_get x.cells 0) (is_live w x.owner) stack e w well
+
+pub is_loaded : (kind : Kind) (object : Option ℕ) (stack : List Entry) (e : Environment) (w : World) → IsWell (loaded_from kind object stack e w) → IsLoaded kind object stack e w
+is_loaded kind None stack e w well = absurd (well refl)
+is_loaded kind (Some number) stack e w well =
+    let (v, has, gives) = read_from kind (slice_get w.objects number) stack e w well in
     record { number = number; value = v; there = refl; has = has; gives = gives }
 
 -- ---- a value is stored
 
-pub record IsStored (number : ℕ) (v : Value) (stack : List Entry) (e : Environment) (w : World) : Type 0 where
+pub record IsStored (number : ℕ) (v : Operand) (focus : Focus) (stack : List Entry) (e : Environment) (w : World) : Type 0 where
   pub at : Located
   pub object_there : slice_get w.objects number ≡ Some at.object
   pub cell_there : slice_get at.object.cells 0 ≡ Some at.cell
-  pub gives : stored (cell_at w number 0) number 0 v stack e w ≡ Running (Given v) stack e (written w number 0 at v)
+  pub gives : stored (cell_at w number 0) number 0 v focus stack e w ≡ Running focus stack e (written w number 0 at v.value)
 
-store_object : (x : Object) (cell : Option Cell) (live : Bool) (number : ℕ) (v : Value) (stack : List Entry) (e : Environment) (w : World)
-    → IsWell (stored (if live then located x cell else Closed) number 0 v stack e w)
-    → (c : Cell) × (cell ≡ Some c) × (stored (if live then located x cell else Closed) number 0 v stack e w ≡ Running (Given v) stack e (written w number 0 (record { object = x; cell = c }) v))
-store_object x cell false number v stack e w well = absurd (well refl)
-store_object x None true number v stack e w well = absurd (well refl)
-store_object x (Some c) true number v stack e w well = (c, refl, refl)
+store_cell : (at : Located) (fits : Bool) (number : ℕ) (v : Operand) (focus : Focus) (stack : List Entry) (e : Environment) (w : World)
+    → IsWell (if fits then Running focus stack e (written w number 0 at v.value) else wrong w)
+    → (if fits then Running focus stack e (written w number 0 at v.value) else wrong w) ≡ Running focus stack e (written w number 0 at v.value)
+store_cell at true number v focus stack e w well = refl
+store_cell at false number v focus stack e w well = absurd (well refl)
 
-store_into : (x : Option Object) (number : ℕ) (v : Value) (stack : List Entry) (e : Environment) (w : World)
-    → IsWell (stored (cell_in w x 0) number 0 v stack e w)
-    → (at : Located) × (x ≡ Some at.object) × (slice_get at.object.cells 0 ≡ Some at.cell) × (stored (cell_in w x 0) number 0 v stack e w ≡ Running (Given v) stack e (written w number 0 at v))
-store_into None number v stack e w well = absurd (well refl)
-store_into (Some x) number v stack e w well =
-    let (c, there, gives) = store_object x (slice_get x.cells 0) (is_live w x.owner) number v stack e w well in
+store_object : (x : Object) (cell : Option Cell) (live : Bool) (number : ℕ) (v : Operand) (focus : Focus) (stack : List Entry) (e : Environment) (w : World)
+    → IsWell (stored (if live then located x cell else Closed) number 0 v focus stack e w)
+    → (c : Cell) × (cell ≡ Some c) × (stored (if live then located x cell else Closed) number 0 v focus stack e w ≡ Running focus stack e (written w number 0 (record { object = x; cell = c }) v.value))
+store_object x cell false number v focus stack e w well = absurd (well refl)
+store_object x None true number v focus stack e w well = absurd (well refl)
+store_object x (Some c) true number v focus stack e w well = (c, refl, store_cell (record { object = x; cell = c }) (is_kind c.kind v.kind) number v focus stack e w well)
+
+store_into : (x : Option Object) (number : ℕ) (v : Operand) (focus : Focus) (stack : List Entry) (e : Environment) (w : World)
+    → IsWell (stored (cell_in w x 0) number 0 v focus stack e w)
+    → (at : Located) × (x ≡ Some at.object) × (slice_get at.object.cells 0 ≡ Some at.cell) × (stored (cell_in w x 0) number 0 v focus stack e w ≡ Running focus stack e (written w number 0 at v.value))
+store_into None number v focus stack e w well = absurd (well refl)
+store_into (Some x) number v focus stack e w well =
+    let (c, there, gives) = store_object x (slice_get x.cells 0) (is_live w x.owner) number v focus stack e w well in
     (record { object = x; cell = c }, refl, there, gives)
 
-pub is_stored : (number : ℕ) (v : Value) (stack : List Entry) (e : Environment) (w : World) → IsWell (stored (cell_at w number 0) number 0 v stack e w) → IsStored number v stack e w
-is_stored number v stack e w well =
-    let (at, object_there, cell_there, gives) = store_into (slice_get w.objects number) number v stack e w well in
+pub is_stored : (number : ℕ) (v : Operand) (focus : Focus) (stack : List Entry) (e : Environment) (w : World) → IsWell (stored (cell_at w number 0) number 0 v focus stack e w) → IsStored number v focus stack e w
+is_stored number v focus stack e w well =
+    let (at, object_there, cell_there, gives) = store_into (slice_get w.objects number) number v focus stack e w well in
     record { at = at; object_there = object_there; cell_there = cell_there; gives = gives }
 
 -- what the objects then hold

@@ -6,6 +6,8 @@ use Rattle.std.proofs.lemmas.List.{length-reverse}
 use Rattle.std.proofs.lemmas.Grind.{and_numeral}
 use Rattle.cyc_words.specs.Ending.{Full}
 use Rattle.cyc_words.proofs.PrefixLemmas.{IsPrefix-append}
+use Rattle.cyc_types.specs.declared.typed.Kind.{Kind}
+use Rattle.cyc_types.specs.declared.typed.Kind.TheVariants as kinds
 use Rattle.cyc_types.specs.declared.typed.Callee.{Callee}
 use Rattle.cyc_types.specs.declared.typed.Callee.TheVariants as callees
 use Rattle.cyc_types.specs.Types.{Ty}
@@ -19,16 +21,16 @@ use Rattle.cyc_plain.specs.Step as plain_step
 use Rattle.cyc_plain.proofs.RunLaws.{limited-full}
 use Rattle.cyc_plain.proofs.SlotLaws.{put-same, put-other}
 use Rattle.cyc_words.proofs.Matching.{way_after}
-use Rattle.cyc_meaning.specs.Values.{Value, Int, kind_of}
+use Rattle.cyc_meaning.specs.Values.{Value, Int, Operand, kind_of, is_kind}
 use Rattle.cyc_meaning.specs.State.{World, Environment, no_locals, with_local, variable, made, opened, region_at, Entry, Rest, Caller, calls_in, demand, status_of, Focus, Given, Proceeding, Calling, Entering, Binding, State, Running, Ended}
-use Rattle.cyc_meaning.specs.Step.{wrong, inside, region_end, called, step}
+use Rattle.cyc_meaning.specs.Step.{wrong, declared, inside, region_end, called, step}
 use Rattle.cyc_meaning.specs.SourceMachine.{status_in}
 use Rattle.cyc_meaning.specs.Run.{is_within, limited_step}
 use Rattle.cyc_lower.specs.Lowering.{lower_program}
 use Rattle.cyc_lower.proofs.Stands.{At, ItemsAt}
 use Rattle.cyc_lower.proofs.Relation.{Is, HoldsFrom, held, callers, Shared, DataAt, SharedAt, ValueStack, StatementStack, Related, Matches, code_of, bounds_in, bounds_at, base_of, top}
 use Rattle.cyc_lower.proofs.Data.{height-least, Holds-put, Holds-rest, in_order, arguments_copied, data_put, data_declared, data_called}
-use Rattle.cyc_lower.proofs.Accesses.{IsWell, is_declared}
+use Rattle.cyc_lower.proofs.Accesses.{IsWell, is_fitting, is_declared}
 use Rattle.cyc_lower.proofs.Matched.{IsMatched, above, below, matching, silently, one, three, shared_within, shared_way, steps_to, place_in, known, value_depth}
 use Rattle.cyc_lower.proofs.Evaluations.{IsStep, given_value}
 use Rattle.cyc_lower.proofs.StatementSteps.{shared_opened}
@@ -53,20 +55,20 @@ module _ (source : Program) (pages calls : ℕ) (some_page : 1 ≤ pages) where
         fits = shared.fits;
       } in
       one source pages calls some_page refl shared here
-      (λ choice. given_value source pages calls some_page (Int byte) word k e next read q (ap (λ (l : List ℕ). unwrap_or (slice_get l 0) (2 ^ 32 - 1)) shared.same_input) shared_read facts holds end stack)
+      (λ choice. given_value source pages calls some_page (record { kind = kinds.Int; value = Int byte }) word k e next read q (ap (λ (l : List ℕ). unwrap_or (slice_get l 0) (2 ^ 32 - 1)) shared.same_input) shared_read facts holds end stack)
 
   low_byte : (a : ℕ) → bit_and a 255 ≡ a % 256
   low_byte a = and_numeral a 254 refl
 
-  prints : (a : ℕ) (k : List Entry) (e : Environment) (w : World) (c : Configuration) → IsStep source pages calls some_page (Calling callees.Putchar (Int a ∷ [])) k e w c
-  prints a k e w c well (shared, facts, (q, (write, mask, low, end), (is, holds), stack)) =
+  prints : (i : Kind) (a : ℕ) (k : List Entry) (e : Environment) (w : World) (c : Configuration) → IsStep source pages calls some_page (Calling callees.Putchar (record { kind = i; value = Int a } ∷ [])) k e w c
+  prints i a k e w c well (shared, facts, (q, (write, mask, low, end), (is, holds), stack)) =
       let g = c.active.function in
       let base = base_of source g in
       let d = top source g k in
       let x = c.active.slots d in
-      let s = Running (Calling callees.Putchar (Int a ∷ [])) k e w in
+      let s = Running (Calling callees.Putchar (record { kind = i; value = Int a } ∷ [])) k e w in
       let next : World = record w { output = w.output ++ a % 256 ∷ [] } in
-      let after = Running (Given (Int (a % 256))) k e next in
+      let after = Running (Given (record { kind = kinds.Int; value = Int (a % 256) })) k e next in
       let first : Configuration = advanced (record c { output = c.output ++ x % 256 ∷ [] }) in
       let slots = put c.active.slots (suc d) 255 in
       let second : Configuration = advanced (with_slots first slots) in
@@ -87,8 +89,8 @@ module _ (source : Program) (pages calls : ℕ) (some_page : 1 ≤ pages) where
       ∙ ap (bit_and x) (put-same c.active.slots (suc d) 255) ∙ low_byte x ∙ ap (λ y. y % 256) is in
       let facts_second = data_put source g w.objects e.locals (callers k) c.active.slots c.globals c.frames (suc d) 255 (omega (arith, height-least base (held k))) facts in
       let holds_second = Holds-put c.active.slots base (held k) (suc d) 255 (omega arith) holds in
-      let done : Related source calls (Given (Int (a % 256))) k e next last =
-      given_value source pages calls some_page (Int (a % 256)) (bit_and (slots d) (slots (suc d))) k e next second q value shared_next facts_second holds_second end stack in
+      let done : Related source calls (Given (record { kind = kinds.Int; value = Int (a % 256) })) k e next last =
+      given_value source pages calls some_page (record { kind = kinds.Int; value = Int (a % 256) }) (bit_and (slots d) (slots (suc d))) k e next second q value shared_next facts_second holds_second end stack in
       let way : (c' : Configuration) → c'.output ≡ w.output ++ a % 256 ∷ [] → IsOnTheWay (above source pages calls some_page) (below source pages calls some_page) s (plain.Running c') = λ c' same.
       way_after (above source pages calls some_page) (below source pages calls some_page) (matching source pages calls some_page) s after (plain.Running c')
       (steps_to source pages calls some_page s after (plain.Running last) refl done) (IsPrefix-append w.output (a % 256 ∷ [])) refl same in
@@ -101,13 +103,13 @@ module _ (source : Program) (pages calls : ℕ) (some_page : 1 ≤ pages) where
 
   -- ---- the parameters of a call
 
-  pub entering : (h : Function) (arguments : List Value) (k : List Entry) (e : Environment) (w : World) (c : Configuration) → IsStep source pages calls some_page (Entering h arguments) k e w c
+  pub entering : (h : Function) (arguments : List Operand) (k : List Entry) (e : Environment) (w : World) (c : Configuration) → IsStep source pages calls some_page (Entering h arguments) k e w c
   entering h arguments k e w c well (shared, facts, (m, items, stack, holds, few)) =
       silently source pages calls some_page (Running (Entering h arguments) k e w) (Running (Binding 0 h.parameters arguments h.body) (region_end e w ∷ k) (inside e w) (opened w)) (plain.Running c) refl
       (shared_opened source pages calls some_page w c shared, facts, (m, items, stack, holds, omega (arith, few)))
       (omega arith)
 
-  pub binding : (n : ℕ) (types : List Ty) (arguments : List Value) (body : Items) (k : List Entry) (e : Environment) (w : World) (c : Configuration) → IsStep source pages calls some_page (Binding n types arguments body) k e w c
+  pub binding : (n : ℕ) (types : List Ty) (arguments : List Operand) (body : Items) (k : List Entry) (e : Environment) (w : World) (c : Configuration) → IsStep source pages calls some_page (Binding n types arguments body) k e w c
   binding n [] [] body k e w c well (shared, facts, (m, items, stack, holds, few)) =
       silently source pages calls some_page (Running (Binding n [] [] body) k e w) (Running Proceeding (Rest body ∷ k) e w) (plain.Running c) refl
       (shared, facts, inl (0, (m, items, stack)))
@@ -116,13 +118,16 @@ module _ (source : Program) (pages calls : ℕ) (some_page : 1 ≤ pages) where
   binding n (t ∷ types) [] body k e w c well related = absurd (well refl)
   binding n (t ∷ types) (v ∷ arguments) body k e w c well (shared, facts, (m, items, stack, (is, holds), few)) =
       let g = c.active.function in
-      let x = variable e.home (kind_of t) (Some v) in
+      let x = variable e.home (kind_of t) (Some v.value) in
+      let made_it = declared (region_at w e.home) (Binding (suc n) types arguments body) n (kind_of t) (Some v.value) k e w in
+      let does : step source (Running (Binding n (t ∷ types) (v ∷ arguments) body) k e w) ≡ made_it =
+      ap (λ (b : Bool). if b then made_it else wrong w) (is_fitting (is_kind v.kind (kind_of t)) made_it w well) in
       silently source pages calls some_page (Running (Binding n (t ∷ types) (v ∷ arguments) body) k e w)
       (Running (Binding (suc n) types arguments body) k (with_local e n (length w.objects)) (made w x)) (plain.Running c)
-      (is_declared (region_at w e.home) (Binding (suc n) types arguments body) n (kind_of t) (Some v) k e w well) (
+      (does ∙ is_declared (region_at w e.home) (Binding (suc n) types arguments body) n (kind_of t) (Some v.value) k e w (subst IsWell does well)) (
         shared,
         data_declared source g w.objects e (callers k) c.active.slots c.active.slots c.globals c.frames n x (omega (arith, few)) (λ i less other. refl)
-            (λ u has. subst (λ y. Is y (c.active.slots n)) (let same : v ≡ u = ap (λ o. unwrap_or o v) has in same) is) facts,
+            (λ u has. subst (λ y. Is y (c.active.slots n)) (let same : v.value ≡ u = ap (λ o. unwrap_or o v.value) has in same) is) facts,
         (m, items, stack, holds, omega (arith, few)),
       )
       (omega arith)
@@ -141,7 +146,7 @@ module _ (source : Program) (pages calls : ℕ) (some_page : 1 ≤ pages) where
       omega (arith, locals)
 
   -- a function has been called, with its arguments in the first slots
-  pub entered : FunctionsStand → (n : ℕ) (h : Function) (arguments : List Value) (k : List Entry) (w : World) (slots globals : Words) (handlers : List ℕ) (frames : List Frame) (store : Store) (output input : List ℕ)
+  pub entered : FunctionsStand → (n : ℕ) (h : Function) (arguments : List Operand) (k : List Entry) (w : World) (slots globals : Words) (handlers : List ℕ) (frames : List Frame) (store : Store) (output input : List ℕ)
       → slice_get source.functions n ≡ Some h
       → Shared calls w.regions w.classes w.output w.input output input store.pages (length frames)
       → DataAt source n w.objects (λ (number : ℕ). None) (callers k) slots globals frames
@@ -186,7 +191,7 @@ module _ (source : Program) (pages calls : ℕ) (some_page : 1 ≤ pages) where
         );
       }
 
-  calls_function : FunctionsStand → (n : ℕ) (before : List Value) (found : Option Function) (k : List Entry) (e : Environment) (w : World) (c : Configuration)
+  calls_function : FunctionsStand → (n : ℕ) (before : List Operand) (found : Option Function) (k : List Entry) (e : Environment) (w : World) (c : Configuration)
       → slice_get source.functions n ≡ found → IsWell (called found (reverse before) (Caller e ∷ k) w)
       → Related source calls (Calling (callees.Function n) before) k e w c
       → IsMatched source pages calls some_page (Running (Calling (callees.Function n) before) k e w) (plain.Running c)
@@ -231,11 +236,19 @@ module _ (source : Program) (pages calls : ℕ) (some_page : 1 ≤ pages) where
                 (λ m at_end. (at_end, (refl, Holds-rest c.active.slots base before (held k) holds, subst (λ (i : ℕ). ValueStack source g e.locals i c.frames k) (sym end) stack))))
           ]
 
-  pub calling : FunctionsStand → (f : Callee) (before : List Value) (k : List Entry) (e : Environment) (w : World) (c : Configuration) → IsStep source pages calls some_page (Calling f before) k e w c
+  prints_value : (i : Kind) (v : Value) (k : List Entry) (e : Environment) (w : World) (c : Configuration) → IsStep source pages calls some_page (Calling callees.Putchar (record { kind = i; value = v } ∷ [])) k e w c
+  prints_value i (Int a) k e w c well related = prints i a k e w c well related
+  prints_value i v k e w c well related = absurd (well refl)
+
+  -- one argument too many
+  prints_more : (i : Kind) (v : Value) (u : Operand) (before : List Operand) (k : List Entry) (e : Environment) (w : World) (c : Configuration) → IsStep source pages calls some_page (Calling callees.Putchar (record { kind = i; value = v } ∷ u ∷ before)) k e w c
+  prints_more i (Int a) u before k e w c well related = absurd (well refl)
+  prints_more i v u before k e w c well related = absurd (well refl)
+
+  pub calling : FunctionsStand → (f : Callee) (before : List Operand) (k : List Entry) (e : Environment) (w : World) (c : Configuration) → IsStep source pages calls some_page (Calling f before) k e w c
   calling stand callees.Putchar [] k e w c well related = absurd (well refl)
-  calling stand callees.Putchar (Int a ∷ []) k e w c well related = prints a k e w c well related
-  calling stand callees.Putchar (Int a ∷ v ∷ before) k e w c well related = absurd (well refl)
-  calling stand callees.Putchar (v ∷ before) k e w c well related = absurd (well refl)
+  calling stand callees.Putchar (v ∷ []) k e w c well related = prints_value v.kind v.value k e w c well related
+  calling stand callees.Putchar (v ∷ u ∷ before) k e w c well related = prints_more v.kind v.value u before k e w c well related
   calling stand callees.Getchar [] k e w c well related = reads k e w c well related
   calling stand callees.Getchar (v ∷ before) k e w c well related = absurd (well refl)
   calling stand (callees.Function n) before k e w c well related = calls_function stand n before (slice_get source.functions n) k e w c refl well related

@@ -7,68 +7,68 @@ use Rattle.std.proofs.lemmas.Option.{same_Some, none-some}
 use Rattle.cyc_types.specs.TypedTrees.{Program}
 use Rattle.cyc_plain.specs.State.{Words, put, copied, Frame}
 use Rattle.cyc_plain.proofs.SlotLaws.{put-same, put-other, copied-inside}
-use Rattle.cyc_meaning.specs.Values.{Value}
+use Rattle.cyc_meaning.specs.Values.{Value, Operand}
 use Rattle.cyc_meaning.specs.State.{Object, Environment, with_local}
 use Rattle.cyc_lower.specs.Lowering.{slot_of}
 use Rattle.cyc_lower.proofs.Relation.{Is, height, Holds, HoldsFrom, content_of, contents, LocalsHold, GlobalsHold, FramesHold, DataAt, base_of}
 
 -- ---- values in slots
 
-pub height-is : (base : ℕ) (vs : List Value) → height base vs ≡ base + length vs
+pub height-is : (base : ℕ) (vs : List Operand) → height base vs ≡ base + length vs
 height-is base [] = omega arith
 height-is base (v ∷ vs) = omega (arith, height-is base vs)
 
-pub height-least : (base : ℕ) (vs : List Value) → base ≤ height base vs
+pub height-least : (base : ℕ) (vs : List Operand) → base ≤ height base vs
 height-least base vs = omega (arith, height-is base vs)
 
-pub height-append : (base : ℕ) (vs rest : List Value) → height base (vs ++ rest) ≡ height base rest + length vs
+pub height-append : (base : ℕ) (vs rest : List Operand) → height base (vs ++ rest) ≡ height base rest + length vs
 height-append base [] rest = omega arith
 height-append base (v ∷ vs) rest = omega (arith, height-append base vs rest)
 
 -- slots that are equal below some slot hold the same values there
-pub Holds-same : (slots other : Words) (base : ℕ) (vs : List Value) → ((n : ℕ) → n < height base vs → other n ≡ slots n) → Holds slots base vs → Holds other base vs
+pub Holds-same : (slots other : Words) (base : ℕ) (vs : List Operand) → ((n : ℕ) → n < height base vs → other n ≡ slots n) → Holds slots base vs → Holds other base vs
 Holds-same slots other base [] same holds = tt
 Holds-same slots other base (v ∷ vs) same (is, holds) = (
-  subst (Is v) (sym (same (height base vs) (omega arith))) is,
+  subst (Is v.value) (sym (same (height base vs) (omega arith))) is,
   Holds-same slots other base vs (λ n below. same n (omega (arith, below))) holds,
 )
 
-pub Holds-put : (slots : Words) (base : ℕ) (vs : List Value) (n w : ℕ) → height base vs ≤ n → Holds slots base vs → Holds (put slots n w) base vs
+pub Holds-put : (slots : Words) (base : ℕ) (vs : List Operand) (n w : ℕ) → height base vs ≤ n → Holds slots base vs → Holds (put slots n w) base vs
 Holds-put slots base vs n w above holds =
     Holds-same slots (put slots n w) base vs (λ m below. put-other slots n m w (λ same. absurd (omega (arith, same, below, above)))) holds
 
 -- a write to a local
-pub Holds-local : (slots : Words) (base : ℕ) (vs : List Value) (n w : ℕ) → n < base → Holds slots base vs → Holds (put slots n w) base vs
+pub Holds-local : (slots : Words) (base : ℕ) (vs : List Operand) (n w : ℕ) → n < base → Holds slots base vs → Holds (put slots n w) base vs
 Holds-local slots base [] n w below holds = tt
 Holds-local slots base (v ∷ vs) n w below (is, holds) = (
-  subst (Is v) (sym (put-other slots n (height base vs) w (λ same. absurd (omega (arith, same, below, height-least base vs))))) is,
+  subst (Is v.value) (sym (put-other slots n (height base vs) w (λ same. absurd (omega (arith, same, below, height-least base vs))))) is,
   Holds-local slots base vs n w below holds,
 )
 
-pub Holds-rest : (slots : Words) (base : ℕ) (vs rest : List Value) → Holds slots base (vs ++ rest) → Holds slots base rest
+pub Holds-rest : (slots : Words) (base : ℕ) (vs rest : List Operand) → Holds slots base (vs ++ rest) → Holds slots base rest
 Holds-rest slots base [] rest holds = holds
 Holds-rest slots base (v ∷ vs) rest (is, holds) = Holds-rest slots base vs rest holds
 
-HoldsFrom-snoc : (slots : Words) (first : ℕ) (vs : List Value) (v : Value) → HoldsFrom slots first vs → Is v (slots (first + length vs)) → HoldsFrom slots first (vs ++ v ∷ [])
-HoldsFrom-snoc slots first [] v holds is = (subst (λ n. Is v (slots n)) (let e : first + 0 ≡ first = omega arith in e) is, tt)
+HoldsFrom-snoc : (slots : Words) (first : ℕ) (vs : List Operand) (v : Operand) → HoldsFrom slots first vs → Is v.value (slots (first + length vs)) → HoldsFrom slots first (vs ++ v ∷ [])
+HoldsFrom-snoc slots first [] v holds is = (subst (λ n. Is v.value (slots n)) (let e : first + 0 ≡ first = omega arith in e) is, tt)
 HoldsFrom-snoc slots first (u ∷ vs) v (is_u, holds) is = (
   is_u,
-  HoldsFrom-snoc slots (suc first) vs v holds (subst (λ n. Is v (slots n)) (let e : first + suc (length vs) ≡ suc first + length vs = omega arith in e) is),
+  HoldsFrom-snoc slots (suc first) vs v holds (subst (λ n. Is v.value (slots n)) (let e : first + suc (length vs) ≡ suc first + length vs = omega arith in e) is),
 )
 
 -- values that were pushed one by one stand in order
-pub in_order : (slots : Words) (base : ℕ) (vs rest : List Value) → Holds slots base (vs ++ rest) → HoldsFrom slots (height base rest) (reverse vs)
+pub in_order : (slots : Words) (base : ℕ) (vs rest : List Operand) → Holds slots base (vs ++ rest) → HoldsFrom slots (height base rest) (reverse vs)
 in_order slots base [] rest holds = tt
 in_order slots base (v ∷ vs) rest (is, holds) =
     let place : height base (vs ++ rest) ≡ height base rest + length (reverse vs) = omega (arith, height-append base vs rest, length-reverse vs) in
     subst (HoldsFrom slots (height base rest)) (sym (reverse-append (v ∷ []) vs))
-    (HoldsFrom-snoc slots (height base rest) (reverse vs) v (in_order slots base vs rest holds) (subst (λ n. Is v (slots n)) place is))
+    (HoldsFrom-snoc slots (height base rest) (reverse vs) v (in_order slots base vs rest holds) (subst (λ n. Is v.value (slots n)) place is))
 
 -- arguments come into the first slots of a call
-pub arguments_copied : (from to : Words) (source i many : ℕ) (vs : List Value) → i + length vs ≤ many → HoldsFrom from (source + i) vs → HoldsFrom (copied from source many to 0) i vs
+pub arguments_copied : (from to : Words) (source i many : ℕ) (vs : List Operand) → i + length vs ≤ many → HoldsFrom from (source + i) vs → HoldsFrom (copied from source many to 0) i vs
 arguments_copied from to source i many [] few holds = tt
 arguments_copied from to source i many (v ∷ vs) few (is, holds) = (
-  subst (Is v) (sym (let start : i ≡ 0 + i = omega arith in ap (copied from source many to 0) start ∙ copied-inside from to source many 0 i (omega (arith, few)))) is,
+  subst (Is v.value) (sym (let start : i ≡ 0 + i = omega arith in ap (copied from source many to 0) start ∙ copied-inside from to source many 0 i (omega (arith, few)))) is,
   arguments_copied from to source (suc i) many vs (omega (arith, few)) (subst (λ n. HoldsFrom from n vs) (let e : suc (source + i) ≡ source + suc i = omega arith in e) holds),
 )
 

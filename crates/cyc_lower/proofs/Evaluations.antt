@@ -3,6 +3,7 @@ use Rattle.std.proofs.Common.{◌≡◌, ℕ, ◌+◌, ◌≤◌, ◌<◌, List,
 use Rattle.std.proofs.lemmas.Option.{same_Some}
 use Rattle.cyc_types.specs.declared.typed.Callee.{Callee}
 use Rattle.cyc_types.specs.declared.typed.Kind.{Kind}
+use Rattle.cyc_types.specs.declared.typed.Kind.TheVariants as kinds
 use Rattle.cyc_types.specs.Types.{Ty, ValueType}
 use Rattle.cyc_types.specs.TypedTrees.{Lvalue, Local, Global, Expression, Number, Copy, Call, Unary, Binary, Assign, Convert, Arguments, NoArguments, MoreArguments, Function, Program}
 use Rattle.cyc_types.specs.Numbered.{argument_count}
@@ -10,7 +11,7 @@ use Rattle.cyc_plain.specs.State as plain
 use Rattle.cyc_plain.specs.State.{put, Configuration}
 use Rattle.cyc_plain.specs.Step.{with_slots, advanced}
 use Rattle.cyc_plain.proofs.SlotLaws.{put-same}
-use Rattle.cyc_meaning.specs.Values.{Value, Int, Thin}
+use Rattle.cyc_meaning.specs.Values.{Value, Int, Thin, Operand, kind_of}
 use Rattle.cyc_meaning.specs.State.{World, Environment, ConvertTo, Operate, Chain, Store, Entry, Needs, Focus, Evaluating, Given, Running}
 use Rattle.cyc_meaning.specs.Step.{object_of, assigned, passes, step}
 use Rattle.cyc_lower.specs.Lowering.{slot_of}
@@ -22,7 +23,7 @@ use Rattle.cyc_lower.proofs.Accesses.{IsWell, is_loaded}
 use Rattle.cyc_lower.proofs.Matched.{IsMatched, silently, one}
 
 -- an object is found in the same way, wherever new variables live
-pub object_of_same : (l : Lvalue) (e : Environment) → object_of (record { locals = e.locals; home = 0 }) l ≡ object_of e l
+pub object_of_same : (l : Lvalue) (e : Environment) → object_of (record { locals = e.locals; home = 0; counters = λ level. None }) l ≡ object_of e l
 object_of_same (Local p n) e = refl
 object_of_same (Global n) e = refl
 
@@ -32,7 +33,7 @@ module _ (source : Program) (pages calls : ℕ) (some_page : 1 ≤ pages) where
   IsStep focus k e w c = IsWell (step source (Running focus k e w)) → Related source calls focus k e w c → IsMatched source pages calls some_page (Running focus k e w) (plain.Running c)
 
   -- a value comes to the top, and the next instruction is the one behind
-  pub given_value : (v : Value) (word : ℕ) (k : List Entry) (e : Environment) (w : World) (c : Configuration) (q : ℕ) → Is v word
+  pub given_value : (v : Operand) (word : ℕ) (k : List Entry) (e : Environment) (w : World) (c : Configuration) (q : ℕ) → Is v.value word
       → SharedAt source calls w c → DataAt source c.active.function w.objects e.locals (callers k) c.active.slots c.globals c.frames
       → Holds c.active.slots (base_of source c.active.function) (held k) → c.active.next + 1 ≡ q → ValueStack source c.active.function e.locals q c.frames k
       → Related source calls (Given v) k e w (advanced (with_slots c (put c.active.slots (top source c.active.function k) word)))
@@ -42,7 +43,7 @@ module _ (source : Program) (pages calls : ℕ) (some_page : 1 ≤ pages) where
         shared,
         data_put source c.active.function w.objects e.locals (callers k) c.active.slots c.globals c.frames d word (height-least base (held k)) facts,
         (
-          subst (Is v) (sym (put-same c.active.slots d word)) is,
+          subst (Is v.value) (sym (put-same c.active.slots d word)) is,
           Holds-put c.active.slots base (held k) d word (omega arith) holds,
           subst (λ r. ValueStack source c.active.function e.locals r c.frames k) (sym end) stack,
         ),
@@ -51,7 +52,7 @@ module _ (source : Program) (pages calls : ℕ) (some_page : 1 ≤ pages) where
   -- ---- calls
 
   -- the next argument is evaluated, or the call is made
-  pub passes_related : (f : Callee) (before : List Value) (cs : Arguments) (k : List Entry) (e : Environment) (w : World) (c : Configuration) (m q all : ℕ)
+  pub passes_related : (f : Callee) (before : List Operand) (cs : Arguments) (k : List Entry) (e : Environment) (w : World) (c : Configuration) (m q all : ℕ)
       → SharedAt source calls w c → DataAt source c.active.function w.objects e.locals (callers k) c.active.slots c.globals c.frames
       → ArgumentsAt (code_of source c.active.function) (bounds_at source c.active.function) cs (height (base_of source c.active.function) (before ++ held k)) c.active.next m
       → CallAt (code_of source c.active.function) (bounds_at source c.active.function) f all (top source c.active.function k) m q
@@ -73,7 +74,7 @@ module _ (source : Program) (pages calls : ℕ) (some_page : 1 ≤ pages) where
   passes_related f before (MoreArguments (Convert from to a) cs) k e w c m q all shared facts (r, (s, at_a, at_to), at) call long holds stack =
       (shared, facts, (s, at_a, holds, (r, at_to, (m, q, all, at, call, long, stack))))
 
-  pub passes_weight : (f : Callee) (before : List Value) (cs : Arguments) (k : List Entry) (e : Environment) (w : World) → weight (passes f before cs k e w) ≤ arguments_weight cs + stack_weight k
+  pub passes_weight : (f : Callee) (before : List Operand) (cs : Arguments) (k : List Entry) (e : Environment) (w : World) → weight (passes f before cs k e w) ≤ arguments_weight cs + stack_weight k
   passes_weight f before NoArguments k e w = omega arith
   passes_weight f before (MoreArguments (Convert from to a) cs) k e w = omega arith
 
@@ -89,21 +90,21 @@ module _ (source : Program) (pages calls : ℕ) (some_page : 1 ≤ pages) where
 
   copies : (l : Lvalue) (t : Ty) (k : List Entry) (e : Environment) (w : World) (c : Configuration) → IsStep (Evaluating (Copy l t)) k e w c
   copies (Local p n) t k e w c well (shared, (low, below, hold, waiting, words), (q, (at, end), holds, stack)) =
-      let found = is_loaded (e.locals n) k e w well in
+      let found = is_loaded (kind_of t) (e.locals n) k e w well in
       one source pages calls some_page found.gives shared at
-      (λ choice. given_value found.value (c.active.slots (slot_of n)) k e w c q (hold.holds n found.number found.value found.there found.has) shared (low, below, hold, waiting, words) holds end stack)
+      (λ choice. given_value (record { kind = kind_of t; value = found.value }) (c.active.slots (slot_of n)) k e w c q (hold.holds n found.number found.value found.there found.has) shared (low, below, hold, waiting, words) holds end stack)
   copies (Global n) t k e w c well (shared, (low, below, hold, waiting, words), (q, (few, at, end), holds, stack)) =
-      let found = is_loaded (Some n) k e w well in
+      let found = is_loaded (kind_of t) (Some n) k e w well in
       let same : n ≡ found.number = same_Some n found.number found.there in
       one source pages calls some_page found.gives shared at
-      (λ choice. given_value found.value (c.globals n) k e w c q (words n found.value (global_there c.active.function n few) (ap (contents w.objects) same ∙ found.has)) shared (low, below, hold, waiting, words) holds end stack)
+      (λ choice. given_value (record { kind = kind_of t; value = found.value }) (c.globals n) k e w c q (words n found.value (global_there c.active.function n few) (ap (contents w.objects) same ∙ found.has)) shared (low, below, hold, waiting, words) holds end stack)
 
   assigns : (l : Lvalue) (from to : Kind) (a : Expression) (t : ValueType) (k : List Entry) (e : Environment) (w : World) (c : Configuration) (object : Option ℕ)
       → object_of e l ≡ object → IsWell (assigned object (Convert from to a) k e w) → Related source calls (Evaluating (Assign l (Convert from to a) t)) k e w c
       → IsMatched source pages calls some_page (Running (Evaluating (Assign l (Convert from to a) t)) k e w) (plain.Running c)
   assigns l from to a t k e w c None is well related = absurd (well refl)
   assigns l from to a t k e w c (Some object) is well (shared, facts, (q, (m, (r, at_a, at_to), at), holds, stack)) =
-      silently source pages calls some_page (Running (Evaluating (Assign l (Convert from to a) t)) k e w) (Running (Evaluating a) (Needs (ConvertTo to) ∷ Needs (Store (Thin object 0)) ∷ k) e w) (plain.Running c)
+      silently source pages calls some_page (Running (Evaluating (Assign l (Convert from to a) t)) k e w) (Running (Evaluating a) (Needs (ConvertTo from to) ∷ Needs (Store (Thin object 0)) ∷ k) e w) (plain.Running c)
       (ap (λ o. assigned o (Convert from to a) k e w) is)
       (shared, facts, (r, at_a, holds, (m, at_to, (l, q, at, (object, refl, object_of_same l e ∙ is), stack))))
       (omega arith)
@@ -112,7 +113,7 @@ module _ (source : Program) (pages calls : ℕ) (some_page : 1 ≤ pages) where
 
   pub evaluating : (a : Expression) (k : List Entry) (e : Environment) (w : World) (c : Configuration) → IsStep (Evaluating a) k e w c
   evaluating (Number n) k e w c well (shared, facts, (q, (at, end), holds, stack)) =
-      one source pages calls some_page refl shared at (λ choice. given_value (Int n) n k e w c q refl shared facts holds end stack)
+      one source pages calls some_page refl shared at (λ choice. given_value (record { kind = kinds.Int; value = Int n }) n k e w c q refl shared facts holds end stack)
   evaluating (Copy l t) k e w c well related = copies l t k e w c well related
   evaluating (Call f cs t) k e w c well (shared, facts, (q, (m, at, call), holds, stack)) =
       silently source pages calls some_page (Running (Evaluating (Call f cs t)) k e w) (passes f [] cs k e w) (plain.Running c) refl

@@ -23,7 +23,7 @@ use Rattle.cyc_lower.specs.Lowering.{lower_program}
 use Rattle.cyc_meaning.specs.SourceMachine.{status_in, source_machine}
 use Rattle.cyc_lower.proofs.Weights.{weight}
 use Rattle.cyc_lower.proofs.Stands.{At}
-use Rattle.cyc_lower.proofs.Relation.{SharedAt, ValueStack, StatementStack, FocusAt, Related, Matches, code_of}
+use Rattle.cyc_lower.proofs.Relation.{IsPlainStack, SharedAt, ValueStack, StatementStack, FocusAt, Related, Matches, code_of}
 
 module _ (source : Program) where
   -- ---- calls under way
@@ -32,29 +32,22 @@ module _ (source : Program) where
   mutual
     pub value_depth : (g : ℕ) (locals : ℕ → Option ℕ) (p : ℕ) (frames : List Frame) (k : List Entry) → ValueStack source g locals p frames k → calls_in k ≡ suc (length frames)
     value_depth g locals p frames [] stack = absurd stack
-    value_depth g locals p frames (Needs (ConvertTo kind) ∷ k) (q, at, stack) = omega (arith, value_depth g locals q frames k stack)
+    value_depth g locals p frames (Needs (ConvertTo from to) ∷ k) (q, at, stack) = omega (arith, value_depth g locals q frames k stack)
     value_depth g locals p frames (Needs (Operate o) ∷ k) (at, stack) = omega (arith, value_depth g locals (p + 1) frames k stack)
     value_depth g locals p frames (Needs (Chain os) ∷ k) (q, at, stack) = omega (arith, value_depth g locals q frames k stack)
     value_depth g locals p frames (Needs (Apply o left) ∷ k) (q, at, stack) = omega (arith, value_depth g locals q frames k stack)
     value_depth g locals p frames (Needs Decide ∷ k) (q, at, stack) = omega (arith, value_depth g locals q frames k stack)
     value_depth g locals p frames (Needs (Store place) ∷ k) (l, q, at, is, stack) = omega (arith, value_depth g locals q frames k stack)
     value_depth g locals p frames (Needs (Pass f before cs) ∷ k) (m, q, all, at, call, long, stack) = omega (arith, value_depth g locals q frames k stack)
-    value_depth g locals p frames (Needs (Initialise n kind) ∷ k) (loop, at, below, stack) = omega (arith, statement_depth g loop (p + 1) frames k stack)
+    value_depth g locals p frames (Needs (Initialise n kind items) ∷ k) (loop, q, at, below, items_at, stack) = omega (arith, statement_depth g loop q frames k stack)
     value_depth g locals p frames (Needs (Choose s t) ∷ k) (loop, r, q, at, at_s, jump, at_t, stack) = omega (arith, statement_depth g loop q frames k stack)
     value_depth g locals p frames (Needs (Test a s) ∷ k) (loop, outer, q, at, r, jump, body, back, stack) = omega (arith, statement_depth g outer q frames k stack)
     value_depth g locals p frames (Needs Return ∷ k) (loop, q, at, one, stack) = omega (arith, statement_depth g loop q frames k stack)
     value_depth g locals p frames (Discard ∷ k) (loop, stack) = omega (arith, statement_depth g loop p frames k stack)
-    value_depth g locals p frames (Rest js ∷ k) stack = absurd stack
-    value_depth g locals p frames (Join ∷ k) stack = absurd stack
-    value_depth g locals p frames (Loop a s ∷ k) stack = absurd stack
-    value_depth g locals p frames (CloseRegion r h ∷ k) stack = absurd stack
-    value_depth g locals p frames (Caller e ∷ k) stack = absurd stack
-    value_depth g locals p frames (Main ∷ k) stack = absurd stack
+    value_depth g locals p frames (entry ∷ k) stack = absurd stack
 
     pub statement_depth : (g loop p : ℕ) (frames : List Frame) (k : List Entry) → StatementStack source g loop p frames k → calls_in k ≡ suc (length frames)
     statement_depth g loop p frames [] stack = absurd stack
-    statement_depth g loop p frames (Needs a ∷ k) stack = absurd stack
-    statement_depth g loop p frames (Discard ∷ k) stack = absurd stack
     statement_depth g loop p frames (Rest js ∷ k) (q, at, stack) = omega (arith, statement_depth g loop q frames k stack)
     statement_depth g loop p frames (Join ∷ k) (q, at, stack) = omega (arith, statement_depth g loop q frames k stack)
     statement_depth g loop p frames (Loop a s ∷ k) (outer, q, at, jump, stack) = omega (arith, statement_depth g outer q frames k stack)
@@ -64,6 +57,38 @@ module _ (source : Program) where
     statement_depth g loop p [] (Main ∷ []) (at, last) = omega arith
     statement_depth g loop p (f ∷ frames) (Main ∷ k) (at, last) = absurd last
     statement_depth g loop p [] (Main ∷ entry ∷ k) (at, last) = absurd last
+    statement_depth g loop p frames (entry ∷ k) stack = absurd stack
+
+  -- and nothing waits but what the int language has
+  mutual
+    pub value_plain : (g : ℕ) (locals : ℕ → Option ℕ) (p : ℕ) (frames : List Frame) (k : List Entry) → ValueStack source g locals p frames k → IsPlainStack k
+    value_plain g locals p frames [] stack = absurd stack
+    value_plain g locals p frames (Needs (ConvertTo from to) ∷ k) (q, at, stack) = value_plain g locals q frames k stack
+    value_plain g locals p frames (Needs (Operate o) ∷ k) (at, stack) = value_plain g locals (p + 1) frames k stack
+    value_plain g locals p frames (Needs (Chain os) ∷ k) (q, at, stack) = value_plain g locals q frames k stack
+    value_plain g locals p frames (Needs (Apply o left) ∷ k) (q, at, stack) = value_plain g locals q frames k stack
+    value_plain g locals p frames (Needs Decide ∷ k) (q, at, stack) = value_plain g locals q frames k stack
+    value_plain g locals p frames (Needs (Store place) ∷ k) (l, q, at, is, stack) = value_plain g locals q frames k stack
+    value_plain g locals p frames (Needs (Pass f before cs) ∷ k) (m, q, all, at, call, long, stack) = value_plain g locals q frames k stack
+    value_plain g locals p frames (Needs (Initialise n kind items) ∷ k) (loop, q, at, below, items_at, stack) = statement_plain g loop q frames k stack
+    value_plain g locals p frames (Needs (Choose s t) ∷ k) (loop, r, q, at, at_s, jump, at_t, stack) = statement_plain g loop q frames k stack
+    value_plain g locals p frames (Needs (Test a s) ∷ k) (loop, outer, q, at, r, jump, body, back, stack) = statement_plain g outer q frames k stack
+    value_plain g locals p frames (Needs Return ∷ k) (loop, q, at, one, stack) = statement_plain g loop q frames k stack
+    value_plain g locals p frames (Discard ∷ k) (loop, stack) = statement_plain g loop p frames k stack
+    value_plain g locals p frames (entry ∷ k) stack = absurd stack
+
+    statement_plain : (g loop p : ℕ) (frames : List Frame) (k : List Entry) → StatementStack source g loop p frames k → IsPlainStack k
+    statement_plain g loop p frames [] stack = absurd stack
+    statement_plain g loop p frames (Rest js ∷ k) (q, at, stack) = statement_plain g loop q frames k stack
+    statement_plain g loop p frames (Join ∷ k) (q, at, stack) = statement_plain g loop q frames k stack
+    statement_plain g loop p frames (Loop a s ∷ k) (outer, q, at, jump, stack) = statement_plain g outer q frames k stack
+    statement_plain g loop p frames (CloseRegion r h ∷ k) stack = statement_plain g loop p frames k stack
+    statement_plain g loop p [] (Caller e ∷ k) (at, below) = absurd below
+    statement_plain g loop p (f ∷ frames) (Caller e ∷ k) (at, (result, holds, stack)) = value_plain f.caller.function e.locals f.caller.next frames k stack
+    statement_plain g loop p [] (Main ∷ []) (at, last) = tt
+    statement_plain g loop p (f ∷ frames) (Main ∷ k) (at, last) = absurd last
+    statement_plain g loop p [] (Main ∷ entry ∷ k) (at, last) = absurd last
+    statement_plain g loop p frames (entry ∷ k) stack = absurd stack
 
   -- what a related state shares
   pub shared_of : (calls : ℕ) (focus : Focus) (k : List Entry) (e : Environment) (w : World) (c : Configuration) → Related source calls focus k e w c → SharedAt source calls w c
@@ -83,7 +108,7 @@ module _ (source : Program) where
   depth_going Continuing k locals g p slots frames (loop, q, at, stack) = statement_depth g loop q frames k stack
   depth_going (Returning (Some v)) k locals g p slots frames (loop, q, s, at, is, one, stack) = statement_depth g loop q frames k stack
   depth_going (Returning None) k locals g p slots frames (loop, q, s, at, stack) = statement_depth g loop q frames k stack
-  depth_going (Throwing tag value) k locals g p slots frames at = absurd at
+  depth_going focus k locals g p slots frames at = absurd at
 
   depth_fits : (calls : ℕ) (focus : Focus) (k : List Entry) (e : Environment) (w : World) (c : Configuration) → Related source calls focus k e w c → calls_in k ≤ calls
   depth_fits calls (Throwing tag value) k e w c r = r.1

@@ -12,17 +12,43 @@ use Rattle.cyc_types.specs.declared.typed.Expr.TheVariants as expr
 use Rattle.cyc_types.specs.declared.typed.Converted.{Converted as ConvertedCode}
 use Rattle.cyc_types.specs.declared.typed.Operation.{Operation}
 use Rattle.cyc_types.specs.declared.typed.Operation.TheVariants as operation
-use Rattle.cyc_types.specs.declared.typed.Stmt.{Stmt}
+use Rattle.cyc_types.specs.declared.typed.Stmt.{Stmt, Row_of-Item, end_of-Item, more_of-Item}
 use Rattle.cyc_types.specs.declared.typed.Stmt.TheVariants as stmt
 use Rattle.cyc_types.specs.declared.typed.Item.{Item as ItemCode}
 use Rattle.cyc_types.specs.declared.typed.Item.TheVariants as item
 use Rattle.cyc_types.specs.Types.{Ty, words_of}
 use Rattle.cyc_types.specs.TypeView.{view_ty, view_value_type}
-use Rattle.cyc_types.specs.TypedTrees.{type_of}
-use Rattle.cyc_types.specs.TypedTreeView.{view_expression, view_converted, view_statement, arguments_of, operations_of, items_of}
+use Rattle.cyc_types.specs.TypedTrees.{type_of, Items, MoreItems}
+use Rattle.cyc_types.specs.TypedTreeView.{view_expression, view_converted, view_statement, view_items, view_item, arguments_of, operations_of, items_of}
 use Rattle.cyc_types.proofs.TypedTreeViewLemmas.{view_call, view_binary, view_block}
-use Rattle.cyc_meaning.specs.FrameCount.{operand_words, converted_words, expression_need, converted_need, argument_words, arguments_need, operations_need, statement_need, items_need, words_of_all}
+use Rattle.cyc_meaning.specs.FrameCount.{operand_words, converted_words, expression_need, converted_need, argument_words, arguments_need, operations_need, statement_need, items_need, kept_by, kept_by_items, words_of_all}
 use Rattle.cyc_lower.specs.Emission.{call_need, operation_need, item_need}
+
+-- ---- what is kept
+
+-- no form that is built keeps words beside its variables
+mutual
+  statement_keeps : (s : Stmt) → kept_by (view_statement s) ≡ 0
+  statement_keeps (stmt.Block' r shape row) = row_keeps row
+  statement_keeps stmt.Empty = refl
+  statement_keeps (stmt.Evaluate e) = refl
+  statement_keeps (stmt.If' c b s b' t) = omega (arith, statement_keeps s, statement_keeps t)
+  statement_keeps (stmt.While' p c b s) = statement_keeps s
+  statement_keeps (stmt.Return v) = refl
+  statement_keeps stmt.Break = refl
+  statement_keeps stmt.Continue = refl
+
+  row_keeps : {m : _} (row : Row_of-Item m) → kept_by_items (view_items row) ≡ 0
+  row_keeps end_of-Item = refl
+  row_keeps (more_of-Item i row) = item_keeps i (view_items row) (row_keeps row)
+
+  item_keeps : (i : ItemCode) (js : Items) → kept_by_items js ≡ 0 → kept_by_items (MoreItems (view_item i) js) ≡ 0
+  item_keeps (item.Execute s) js rest = omega (arith, statement_keeps s, rest)
+  item_keeps (item.Local n t v) js rest = rest
+
+pub nothing_kept : (is : List ItemCode) → kept_by_items (items_of is) ≡ 0
+nothing_kept [] = refl
+nothing_kept (i ∷ is) = item_keeps i (items_of is) (nothing_kept is)
 
 -- ---- arguments
 

@@ -9,8 +9,8 @@ use Rattle.cyc_plain.specs.declared.instruction.Instruction.TheVariants as instr
 use Rattle.cyc_plain.specs.Program.{routine_at}
 use Rattle.cyc_plain.specs.State.{Words, Frame, Configuration}
 use Rattle.cyc_plain.specs.State as plain
-use Rattle.cyc_meaning.specs.Values.{Value, Int, Null, Thin, Fat, Handle, Key, Cell}
-use Rattle.cyc_meaning.specs.State.{Sort, Heap, Globals, Stack, Lexical, Dynamic, Region, Object, World, counted, Environment, ConvertTo, Operate, Chain, Apply, Decide, Store, Pass, Initialise, Choose, Test, Return, Entry, Needs, Discard, Rest, Join, Loop, CloseRegion, Caller, Main, calls_in, Focus, Evaluating, Given, Executing, Proceeding, Calling, Entering, Binding, Breaking, Continuing, Returning, Throwing, State, Running, Ended}
+use Rattle.cyc_meaning.specs.Values.{Value, Int, Null, Thin, Fat, Handle, Key, Operand, Cell}
+use Rattle.cyc_meaning.specs.State.{Sort, Heap, Globals, Stack, Lexical, Dynamic, Region, Object, World, counted, first_classes, Environment, ConvertTo, Operate, Chain, Apply, Decide, Store, Pass, Initialise, Choose, Test, Return, Entry, Needs, NeedsPlace, Discard, Rest, Join, Loop, CloseRegion, CloseLexical, EndLoan, Handler, Caller, Main, calls_in, Focus, Evaluating, Given, Executing, Proceeding, Calling, Entering, Binding, Breaking, Continuing, Returning, Throwing, State, Running, Ended}
 use Rattle.cyc_meaning.specs.Step.{object_of}
 use Rattle.cyc_lower.specs.Lowering.{jump_if_zero, slot_of, unary_operator, break_target, continue_target, results_of, lower_program}
 use Rattle.cyc_lower.proofs.Stands.{At, ConversionAt, OperatorAt, TruthAt, StoreAt, CallAt, ExpressionAt, ArgumentsAt, OperationsAt, StatementAt, ItemsAt}
@@ -27,30 +27,30 @@ Is (Handle region) w = ⊥
 Is (Key region) w = ⊥
 
 -- the slot behind values, of which the last one stands in the first slot
-abbrev pub height : ℕ → List Value → ℕ
+abbrev pub height : ℕ → List Operand → ℕ
 height base [] = base
 height base (v ∷ vs) = suc (height base vs)
 
-abbrev pub Holds : Words → ℕ → List Value → Type 0
+abbrev pub Holds : Words → ℕ → List Operand → Type 0
 Holds slots base [] = Unit {0}
-Holds slots base (v ∷ vs) = Is v (slots (height base vs)) × Holds slots base vs
+Holds slots base (v ∷ vs) = Is v.value (slots (height base vs)) × Holds slots base vs
 
 -- values in order from this slot on
-abbrev pub HoldsFrom : Words → ℕ → List Value → Type 0
+abbrev pub HoldsFrom : Words → ℕ → List Operand → Type 0
 HoldsFrom slots first [] = Unit {0}
-HoldsFrom slots first (v ∷ vs) = Is v (slots first) × HoldsFrom slots (suc first) vs
+HoldsFrom slots first (v ∷ vs) = Is v.value (slots first) × HoldsFrom slots (suc first) vs
 
 -- the values of the running call that are inside the entries of a stack
-abbrev pub held : List Entry → List Value
+abbrev pub held : List Entry → List Operand
 held [] = []
-held (Needs (ConvertTo kind) ∷ k) = held k
+held (Needs (ConvertTo from to) ∷ k) = held k
 held (Needs (Operate operator) ∷ k) = held k
 held (Needs (Chain rest) ∷ k) = held k
 held (Needs (Apply operator left) ∷ k) = left ∷ held k
 held (Needs Decide ∷ k) = held k
 held (Needs (Store place) ∷ k) = held k
 held (Needs (Pass callee before rest) ∷ k) = before ++ held k
-held (Needs (Initialise number kind) ∷ k) = []
+held (Needs (Initialise number kind items) ∷ k) = []
 held (Needs (Choose then otherwise) ∷ k) = []
 held (Needs (Test condition body) ∷ k) = []
 held (Needs Return ∷ k) = []
@@ -85,6 +85,15 @@ callers [] = []
 callers (Caller e ∷ k) = e ∷ callers k
 callers (entry ∷ k) = callers k
 
+-- nothing waits but what the int language has: no `try`, no place, no region of a program
+abbrev pub IsPlainStack : List Entry → Type 0
+IsPlainStack [] = Unit {0}
+IsPlainStack (NeedsPlace a ∷ k) = ⊥
+IsPlainStack (CloseLexical region ∷ k) = ⊥
+IsPlainStack (EndLoan lent ∷ k) = ⊥
+IsPlainStack (Handler handler ∷ k) = ⊥
+IsPlainStack (entry ∷ k) = IsPlainStack k
+
 -- ---- regions
 
 abbrev pub IsQuietSort : Sort → Type 0
@@ -107,7 +116,7 @@ pub record Shared (calls : ℕ) (regions : List Region) (classes output input : 
   pub one_page : pages ≡ 1
   pub quiet : AreQuiet regions
   pub heap_alone : counted regions ≡ [] ∷ []
-  pub no_class : classes ≡ []
+  pub no_class : classes ≡ first_classes
   pub fits : suc waiting ≤ calls
 
 module _ (source : Program) where
@@ -171,15 +180,15 @@ module _ (source : Program) where
 
   -- where a place that is to be assigned lies
   abbrev pub IsPlaceOf : (ℕ → Option ℕ) → Lvalue → Value → Type 0
-  IsPlaceOf locals l place = (object : ℕ) × (place ≡ Thin object 0) × (object_of (record { locals = locals; home = 0 }) l ≡ Some object)
+  IsPlaceOf locals l place = (object : ℕ) × (place ≡ Thin object 0) × (object_of (record { locals = locals; home = 0; counters = λ level. None }) l ≡ Some object)
 
   -- From place p on stands what is done with the value at the top, and with all that waits: of the running call, whose function
   -- is g, and of its callers.
   abbrev mutual
     pub ValueStack : (g : ℕ) → (ℕ → Option ℕ) → (p : ℕ) → List Frame → List Entry → Type 0
     ValueStack g locals p frames [] = ⊥
-    ValueStack g locals p frames (Needs (ConvertTo kind) ∷ k) =
-        (q : ℕ) × ConversionAt (code_of g) (bounds_at g) kind (top g k) p q × ValueStack g locals q frames k
+    ValueStack g locals p frames (Needs (ConvertTo from to) ∷ k) =
+        (q : ℕ) × ConversionAt (code_of g) (bounds_at g) to (top g k) p q × ValueStack g locals q frames k
     ValueStack g locals p frames (Needs (Operate operator) ∷ k) =
         At (code_of g) p (instructions.Unary (unary_operator operator) (top g k) (operands.Slot (top g k))) × ValueStack g locals (p + 1) frames k
     ValueStack g locals p frames (Needs (Chain operations) ∷ k) =
@@ -194,8 +203,9 @@ module _ (source : Program) where
         (m : ℕ) × (q : ℕ) × (all : ℕ) × ArgumentsAt (code_of g) (bounds_at g) arguments (suc (height (base_of g) (before ++ held k))) p m
         × CallAt (code_of g) (bounds_at g) callee all (top g k) m q × (length before + suc (argument_count arguments) ≡ all)
         × ValueStack g locals q frames k
-    ValueStack g locals p frames (Needs (Initialise number kind) ∷ k) =
-        (loop : ℕ) × At (code_of g) p (instructions.Move (slot_of number) (operands.Slot (base_of g))) × (number < base_of g) × StatementStack g loop (p + 1) frames k
+    ValueStack g locals p frames (Needs (Initialise number kind items) ∷ k) =
+        (loop : ℕ) × (q : ℕ) × At (code_of g) p (instructions.Move (slot_of number) (operands.Slot (base_of g))) × (number < base_of g)
+        × ItemsAt (code_of g) (bounds_at g) items loop (base_of g) (p + 1) q × StatementStack g loop q frames k
     ValueStack g locals p frames (Needs (Choose then otherwise) ∷ k) =
         (loop : ℕ) × (r : ℕ) × (q : ℕ) × At (code_of g) p (jump_if_zero (base_of g) (r + 1))
         × StatementAt (code_of g) (bounds_at g) then loop (base_of g) (p + 1) r × At (code_of g) r (instructions.Jump q)
@@ -232,7 +242,7 @@ module _ (source : Program) where
   FocusAt (Evaluating a) k locals g p slots frames =
       (q : ℕ) × ExpressionAt (code_of g) (bounds_at g) a (top g k) p q × Holds slots (base_of g) (held k) × ValueStack g locals q frames k
   FocusAt (Given v) k locals g p slots frames =
-      Is v (slots (top g k)) × Holds slots (base_of g) (held k) × ValueStack g locals p frames k
+      Is v.value (slots (top g k)) × Holds slots (base_of g) (held k) × ValueStack g locals p frames k
   FocusAt (Executing s) k locals g p slots frames =
       (loop : ℕ) × (q : ℕ) × StatementAt (code_of g) (bounds_at g) s loop (base_of g) p q × StatementStack g loop q frames k
   FocusAt Proceeding k locals g p slots frames =
@@ -251,11 +261,11 @@ module _ (source : Program) where
   FocusAt Continuing k locals g p slots frames =
       (loop : ℕ) × (q : ℕ) × At (code_of g) p (instructions.Jump (continue_target loop)) × StatementStack g loop q frames k
   FocusAt (Returning (Some v)) k locals g p slots frames =
-      (loop : ℕ) × (q : ℕ) × (s : ℕ) × At (code_of g) p (instructions.Return s) × Is v (slots s) × (results_of (bounds_at g).result ≡ 1)
+      (loop : ℕ) × (q : ℕ) × (s : ℕ) × At (code_of g) p (instructions.Return s) × Is v.value (slots s) × (results_of (bounds_at g).result ≡ 1)
       × StatementStack g loop q frames k
   FocusAt (Returning None) k locals g p slots frames =
       (loop : ℕ) × (q : ℕ) × (s : ℕ) × At (code_of g) p (instructions.Return s) × StatementStack g loop q frames k
-  FocusAt (Throwing tag value) k locals g p slots frames = ⊥
+  FocusAt focus k locals g p slots frames = ⊥
 
   -- ---- states
 
@@ -271,7 +281,7 @@ module _ (source : Program) where
   -- An exception that nothing catches ends the plain program at once, while the source leaves one entry after the other.
   abbrev pub Throws : (calls : ℕ) → (tag value : ℕ) → List Entry → World → Configuration → Type 0
   Throws calls tag value k w c =
-      SharedAt calls w c × (calls_in k ≤ calls)
+      SharedAt calls w c × (calls_in k ≤ calls) × IsPlainStack k
       × (s : ℕ) × At (code_of c.active.function) c.active.next (instructions.Uncaught tag (operands.Slot s)) × (c.active.slots s ≡ value)
 
   abbrev pub Related : (calls : ℕ) → Focus → List Entry → Environment → World → Configuration → Type 0

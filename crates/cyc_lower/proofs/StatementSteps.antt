@@ -3,6 +3,7 @@ use Rattle.std.proofs.Common.{◌≡◌, ℕ, zero, suc, ◌+◌, ◌≤◌, ◌
 use Rattle.std.proofs.lemmas.Option.{same_Some, none-some}
 use Rattle.cyc_words.specs.Word.{signed}
 use Rattle.cyc_words.specs.Ending.{Returned, Uncaught}
+use Rattle.cyc_types.specs.declared.typed.Kind.{Kind}
 use Rattle.cyc_types.specs.Types.{Ty}
 use Rattle.cyc_types.specs.TypedTrees.{Expression, Converted, Convert, Statement, Block, Empty, Evaluate, If, While, Break, Continue, Items, NoItems, MoreItems, Execute, Declare, Function, Program}
 use Rattle.cyc_types.specs.TypedTrees as typed
@@ -13,8 +14,8 @@ use Rattle.cyc_plain.specs.State as plain
 use Rattle.cyc_plain.specs.State.{Words, copied, Activation, Frame, Store, Configuration}
 use Rattle.cyc_plain.specs.Step.{at}
 use Rattle.cyc_plain.proofs.SlotLaws.{copied-inside, copied-below}
-use Rattle.cyc_meaning.specs.Values.{Value, Int, kind_of}
-use Rattle.cyc_meaning.specs.State.{Region, World, Environment, variable, made, opened, closed, with_local, region_at, ConvertTo, Initialise, Choose, Return, Entry, Needs, Discard, Rest, Join, Loop, CloseRegion, Caller, Main, Focus, Evaluating, Executing, Proceeding, Breaking, Continuing, Returning, Throwing, Running}
+use Rattle.cyc_meaning.specs.Values.{Value, Int, kind_of, Operand}
+use Rattle.cyc_meaning.specs.State.{Region, World, Environment, variable, made, opened, closed, with_local, region_at, ConvertTo, Initialise, Choose, Return, Entry, Needs, NeedsPlace, Discard, Rest, Join, Loop, CloseRegion, CloseLexical, EndLoan, Handler, Caller, Main, Focus, Evaluating, Executing, Proceeding, Breaking, Continuing, Returning, Throwing, Running}
 use Rattle.cyc_meaning.specs.Step.{inside, region_end, step}
 use Rattle.cyc_lower.specs.Lowering.{break_target, results_of, lower_function, lower_program}
 use Rattle.cyc_lower.proofs.Stands.{At, ItemsAt}
@@ -88,7 +89,7 @@ module _ (source : Program) (pages calls : ℕ) (some_page : 1 ≤ pages) where
       (shared, facts, (loop, q, base_of source c.active.function, here, stack))
       (omega arith)
   executing (typed.Return (Some (Convert from to a))) k e w c well (shared, facts, (loop, q, (m, (s, at_a, at_to), here, single), stack)) =
-      silently source pages calls some_page (Running (Executing (typed.Return (Some (Convert from to a)))) k e w) (Running (Evaluating a) (Needs (ConvertTo to) ∷ Needs Return ∷ k) e w) (plain.Running c) refl
+      silently source pages calls some_page (Running (Executing (typed.Return (Some (Convert from to a)))) k e w) (Running (Evaluating a) (Needs (ConvertTo from to) ∷ Needs Return ∷ k) e w) (plain.Running c) refl
       (shared, facts, (s, at_a, tt, (m, at_to, (loop, q, here, single, stack))))
       (omega arith)
   executing Break k e w c well (shared, facts, (loop, q, here, stack)) =
@@ -135,10 +136,10 @@ module _ (source : Program) (pages calls : ℕ) (some_page : 1 ≤ pages) where
       one source pages calls some_page does shared here (λ choice. (back.0, back.1, inr (back.2, stack)))
 
   -- with a value
-  hands_back : (v : Value) (active : Activation) (frames : List Frame) (globals : Words) (store : Store) (output input : List ℕ) (k : List Entry) (e outer : Environment) (w : World) (s : ℕ)
+  hands_back : (v : Operand) (active : Activation) (frames : List Frame) (globals : Words) (store : Store) (output input : List ℕ) (k : List Entry) (e outer : Environment) (w : World) (s : ℕ)
       → SharedAt source calls w (record { active = active; frames = frames; globals = globals; store = store; output = output; input = input })
       → DataAt source active.function w.objects e.locals (outer ∷ callers k) active.slots globals frames
-      → At (code_of source active.function) active.next (instructions.Return s) → Is v (active.slots s) → (routine_at (lower_program source) active.function).results ≡ 1
+      → At (code_of source active.function) active.next (instructions.Return s) → Is v.value (active.slots s) → (routine_at (lower_program source) active.function).results ≡ 1
       → Below source frames (λ f rest. (f.result ≡ top source f.caller.function k) × Holds f.caller.slots (base_of source f.caller.function) (held k) × ValueStack source f.caller.function outer.locals f.caller.next rest k)
       → IsMatched source pages calls some_page (Running (Returning (Some v)) (Caller outer ∷ k) e w) (plain.Running (record { active = active; frames = frames; globals = globals; store = store; output = output; input = input }))
   hands_back v active [] globals store output input k e outer w s shared facts here is single below = absurd below
@@ -149,7 +150,7 @@ module _ (source : Program) (pages calls : ℕ) (some_page : 1 ≤ pages) where
       let same : copied active.slots s results f.caller.slots f.result (top source f.caller.function k) ≡ active.slots (s + 0) =
       ap (copied active.slots s results f.caller.slots f.result) place ∙ copied-inside active.slots f.caller.slots s results f.result 0 (omega (arith, single)) in
       one source pages calls some_page refl shared here
-      (λ choice. (back.0, back.1, (subst (Is v) (sym (same ∙ ap active.slots (let z : s + 0 ≡ s = omega arith in z))) is, back.2, stack)))
+      (λ choice. (back.0, back.1, (subst (Is v.value) (sym (same ∙ ap active.slots (let z : s + 0 ≡ s = omega arith in z))) is, back.2, stack)))
 
   -- ---- what goes on when something is done
 
@@ -195,6 +196,13 @@ module _ (source : Program) (pages calls : ℕ) (some_page : 1 ≤ pages) where
   pub proceeding : (k : List Entry) (e : Environment) (w : World) (c : Configuration) → IsStep source pages calls some_page Proceeding k e w c
   proceeding [] e w c well related = absurd (well refl)
   proceeding (Needs a ∷ k) e w c well related = absurd (well refl)
+  proceeding (NeedsPlace a ∷ k) e w c well related = absurd (well refl)
+  proceeding (CloseLexical region ∷ k) e w c well (shared, facts, inl (loop, stack)) = absurd stack
+  proceeding (CloseLexical region ∷ k) e w c well (shared, facts, inr (holds, stack)) = absurd stack
+  proceeding (EndLoan lent ∷ k) e w c well (shared, facts, inl (loop, stack)) = absurd stack
+  proceeding (EndLoan lent ∷ k) e w c well (shared, facts, inr (holds, stack)) = absurd stack
+  proceeding (Handler handler ∷ k) e w c well (shared, facts, inl (loop, stack)) = absurd stack
+  proceeding (Handler handler ∷ k) e w c well (shared, facts, inr (holds, stack)) = absurd stack
   proceeding (Main ∷ k) e w c well related = absurd (well refl)
   proceeding (Discard ∷ k) e w c well (shared, facts, inl (loop, stack)) = absurd stack
   proceeding (Discard ∷ k) e w c well (shared, facts, inr (holds, (loop, stack))) =
@@ -215,8 +223,8 @@ module _ (source : Program) (pages calls : ℕ) (some_page : 1 ≤ pages) where
   proceeding (Rest (MoreItems (Declare n t (Some (Convert from to a))) js) ∷ k) e w c well (shared, facts, inl (loop, (q, (m, (few, r, (s, at_a, at_to), here, end), items), stack))) =
       let g = c.active.function in
       silently source pages calls some_page (Running Proceeding (Rest (MoreItems (Declare n t (Some (Convert from to a))) js) ∷ k) e w)
-      (Running (Evaluating a) (Needs (ConvertTo to) ∷ Needs (Initialise n (kind_of t)) ∷ Rest js ∷ k) e w) (plain.Running c) refl
-      (shared, facts, (s, at_a, tt, (r, at_to, (loop, here, few, (q, subst (λ p. ItemsAt (code_of source g) (bounds_at source g) js loop (base_of source g) p q) (sym end) items, stack)))))
+      (Running (Evaluating a) (Needs (ConvertTo from to) ∷ Needs (Initialise n (kind_of t) js) ∷ k) e w) (plain.Running c) refl
+      (shared, facts, (s, at_a, tt, (r, at_to, (loop, q, here, few, subst (λ p. ItemsAt (code_of source g) (bounds_at source g) js loop (base_of source g) p q) (sym end) items, stack))))
       (omega arith)
   proceeding (Rest js ∷ k) e w c well (shared, facts, inl (loop, (q, items, stack))) = absurd items
   proceeding (Join ∷ k) e w c well (shared, facts, inr (holds, stack)) = absurd stack
@@ -261,6 +269,10 @@ module _ (source : Program) (pages calls : ℕ) (some_page : 1 ≤ pages) where
       (shared_closed w c region found.region found.there shared, facts, (loop, q, here, stack))
       (omega arith)
   breaking (Caller outer ∷ k) e w c well related = absurd (well refl)
+  breaking (NeedsPlace a ∷ k) e w c well (shared, facts, (loop, q, here, stack)) = absurd stack
+  breaking (CloseLexical region ∷ k) e w c well (shared, facts, (loop, q, here, stack)) = absurd stack
+  breaking (EndLoan lent ∷ k) e w c well (shared, facts, (loop, q, here, stack)) = absurd stack
+  breaking (Handler handler ∷ k) e w c well (shared, facts, (loop, q, here, stack)) = absurd stack
   breaking (Main ∷ k) e w c well related = absurd (well refl)
 
   pub continuing : (k : List Entry) (e : Environment) (w : World) (c : Configuration) → IsStep source pages calls some_page Continuing k e w c
@@ -280,21 +292,25 @@ module _ (source : Program) (pages calls : ℕ) (some_page : 1 ≤ pages) where
       (shared_closed w c region found.region found.there shared, facts, (loop, q, here, stack))
       (omega arith)
   continuing (Caller outer ∷ k) e w c well related = absurd (well refl)
+  continuing (NeedsPlace a ∷ k) e w c well (shared, facts, (loop, q, here, stack)) = absurd stack
+  continuing (CloseLexical region ∷ k) e w c well (shared, facts, (loop, q, here, stack)) = absurd stack
+  continuing (EndLoan lent ∷ k) e w c well (shared, facts, (loop, q, here, stack)) = absurd stack
+  continuing (Handler handler ∷ k) e w c well (shared, facts, (loop, q, here, stack)) = absurd stack
   continuing (Main ∷ k) e w c well related = absurd (well refl)
 
   -- ---- returns
 
   -- `main` returns, and no call waits
-  ends_main : (v : Value) (active : Activation) (frames : List Frame) (globals : Words) (store : Store) (output input : List ℕ) (k : List Entry) (e : Environment) (w : World) (s : ℕ)
-      → IsWell (step source (Running (Returning (Some v)) (Main ∷ k) e w))
+  ends_main : (i : Kind) (v : Value) (active : Activation) (frames : List Frame) (globals : Words) (store : Store) (output input : List ℕ) (k : List Entry) (e : Environment) (w : World) (s : ℕ)
+      → IsWell (step source (Running (Returning (Some (record { kind = i; value = v }))) (Main ∷ k) e w))
       → SharedAt source calls w (record { active = active; frames = frames; globals = globals; store = store; output = output; input = input })
       → At (code_of source active.function) active.next (instructions.Return s) → Is v (active.slots s) → IsLast source frames k
-      → IsMatched source pages calls some_page (Running (Returning (Some v)) (Main ∷ k) e w) (plain.Running (record { active = active; frames = frames; globals = globals; store = store; output = output; input = input }))
-  ends_main (Int a) active [] globals store output input [] e w s well shared here is last =
+      → IsMatched source pages calls some_page (Running (Returning (Some (record { kind = i; value = v }))) (Main ∷ k) e w) (plain.Running (record { active = active; frames = frames; globals = globals; store = store; output = output; input = input }))
+  ends_main i (Int a) active [] globals store output input [] e w s well shared here is last =
       one source pages calls some_page refl shared here (λ choice. (ap (λ x. Returned (signed x)) is, shared.same_output))
-  ends_main (Int a) active [] globals store output input (entry ∷ k) e w s well shared here is last = absurd last
-  ends_main (Int a) active (f ∷ frames) globals store output input k e w s well shared here is last = absurd last
-  ends_main v active frames globals store output input k e w s well shared here is last = absurd (well refl)
+  ends_main i (Int a) active [] globals store output input (entry ∷ k) e w s well shared here is last = absurd last
+  ends_main i (Int a) active (f ∷ frames) globals store output input k e w s well shared here is last = absurd last
+  ends_main i v active frames globals store output input k e w s well shared here is last = absurd (well refl)
 
   returning_none : (k : List Entry) (e : Environment) (w : World) (c : Configuration) → IsStep source pages calls some_page (Returning None) k e w c
   returning_none [] e w c well related = absurd (well refl)
@@ -313,9 +329,13 @@ module _ (source : Program) (pages calls : ℕ) (some_page : 1 ≤ pages) where
       (omega arith)
   returning_none (Caller outer ∷ k) e w c well (shared, facts, (loop, q, s, here, (last, below))) =
       leaves_call (Returning None) c.active c.frames c.globals c.store c.output c.input k e outer w s refl shared facts here below
+  returning_none (NeedsPlace a ∷ k) e w c well (shared, facts, (loop, q, s, here, stack)) = absurd stack
+  returning_none (CloseLexical region ∷ k) e w c well (shared, facts, (loop, q, s, here, stack)) = absurd stack
+  returning_none (EndLoan lent ∷ k) e w c well (shared, facts, (loop, q, s, here, stack)) = absurd stack
+  returning_none (Handler handler ∷ k) e w c well (shared, facts, (loop, q, s, here, stack)) = absurd stack
   returning_none (Main ∷ k) e w c well related = absurd (well refl)
 
-  returning_some : (v : Value) (k : List Entry) (e : Environment) (w : World) (c : Configuration) → IsStep source pages calls some_page (Returning (Some v)) k e w c
+  returning_some : (v : Operand) (k : List Entry) (e : Environment) (w : World) (c : Configuration) → IsStep source pages calls some_page (Returning (Some v)) k e w c
   returning_some v [] e w c well related = absurd (well refl)
   returning_some v (Needs a ∷ k) e w c well (shared, facts, (loop, q, s, here, is, single, stack)) = absurd stack
   returning_some v (Discard ∷ k) e w c well (shared, facts, (loop, q, s, here, is, single, stack)) = absurd stack
@@ -332,34 +352,42 @@ module _ (source : Program) (pages calls : ℕ) (some_page : 1 ≤ pages) where
       (omega arith)
   returning_some v (Caller outer ∷ k) e w c well (shared, facts, (loop, q, s, here, is, single, (last, below))) =
       hands_back v c.active c.frames c.globals c.store c.output c.input k e outer w s shared facts here is (results_at c.active.function ∙ single) below
+  returning_some v (NeedsPlace a ∷ k) e w c well (shared, facts, (loop, q, s, here, is, single, stack)) = absurd stack
+  returning_some v (CloseLexical region ∷ k) e w c well (shared, facts, (loop, q, s, here, is, single, stack)) = absurd stack
+  returning_some v (EndLoan lent ∷ k) e w c well (shared, facts, (loop, q, s, here, is, single, stack)) = absurd stack
+  returning_some v (Handler handler ∷ k) e w c well (shared, facts, (loop, q, s, here, is, single, stack)) = absurd stack
   returning_some v (Main ∷ k) e w c well (shared, facts, (loop, q, s, here, is, single, (last, none))) =
-      ends_main v c.active c.frames c.globals c.store c.output c.input k e w s well shared here is none
+      ends_main v.kind v.value c.active c.frames c.globals c.store c.output c.input k e w s well shared here is none
 
-  pub returning : (v : Option Value) (k : List Entry) (e : Environment) (w : World) (c : Configuration) → IsStep source pages calls some_page (Returning v) k e w c
+  pub returning : (v : Option Operand) (k : List Entry) (e : Environment) (w : World) (c : Configuration) → IsStep source pages calls some_page (Returning v) k e w c
   returning None k e w c well related = returning_none k e w c well related
   returning (Some v) k e w c well related = returning_some v k e w c well related
 
   -- ---- exceptions
 
   pub throwing : (tag value : ℕ) (k : List Entry) (e : Environment) (w : World) (c : Configuration) → IsStep source pages calls some_page (Throwing tag value) k e w c
-  throwing tag value [] e w c well (shared, fits, s, here, is) =
+  throwing tag value [] e w c well (shared, fits, plain_stack, s, here, is) =
       one source pages calls some_page refl shared here (λ choice. (ap (λ x. Uncaught tag (signed x)) is, shared.same_output))
-  throwing tag value (Needs a ∷ k) e w c well (shared, fits, s, here, is) =
-      silently source pages calls some_page (Running (Throwing tag value) (Needs a ∷ k) e w) (Running (Throwing tag value) k e w) (plain.Running c) refl (shared, fits, s, here, is) (omega arith)
-  throwing tag value (Discard ∷ k) e w c well (shared, fits, s, here, is) =
-      silently source pages calls some_page (Running (Throwing tag value) (Discard ∷ k) e w) (Running (Throwing tag value) k e w) (plain.Running c) refl (shared, fits, s, here, is) (omega arith)
-  throwing tag value (Rest js ∷ k) e w c well (shared, fits, s, here, is) =
-      silently source pages calls some_page (Running (Throwing tag value) (Rest js ∷ k) e w) (Running (Throwing tag value) k e w) (plain.Running c) refl (shared, fits, s, here, is) (omega arith)
-  throwing tag value (Join ∷ k) e w c well (shared, fits, s, here, is) =
-      silently source pages calls some_page (Running (Throwing tag value) (Join ∷ k) e w) (Running (Throwing tag value) k e w) (plain.Running c) refl (shared, fits, s, here, is) (omega arith)
-  throwing tag value (Loop a b ∷ k) e w c well (shared, fits, s, here, is) =
-      silently source pages calls some_page (Running (Throwing tag value) (Loop a b ∷ k) e w) (Running (Throwing tag value) k e w) (plain.Running c) refl (shared, fits, s, here, is) (omega arith)
-  throwing tag value (CloseRegion region home ∷ k) e w c well (shared, fits, s, here, is) =
+  throwing tag value (Needs a ∷ k) e w c well (shared, fits, plain_stack, s, here, is) =
+      silently source pages calls some_page (Running (Throwing tag value) (Needs a ∷ k) e w) (Running (Throwing tag value) k e w) (plain.Running c) refl (shared, fits, plain_stack, s, here, is) (omega arith)
+  throwing tag value (Discard ∷ k) e w c well (shared, fits, plain_stack, s, here, is) =
+      silently source pages calls some_page (Running (Throwing tag value) (Discard ∷ k) e w) (Running (Throwing tag value) k e w) (plain.Running c) refl (shared, fits, plain_stack, s, here, is) (omega arith)
+  throwing tag value (Rest js ∷ k) e w c well (shared, fits, plain_stack, s, here, is) =
+      silently source pages calls some_page (Running (Throwing tag value) (Rest js ∷ k) e w) (Running (Throwing tag value) k e w) (plain.Running c) refl (shared, fits, plain_stack, s, here, is) (omega arith)
+  throwing tag value (Join ∷ k) e w c well (shared, fits, plain_stack, s, here, is) =
+      silently source pages calls some_page (Running (Throwing tag value) (Join ∷ k) e w) (Running (Throwing tag value) k e w) (plain.Running c) refl (shared, fits, plain_stack, s, here, is) (omega arith)
+  throwing tag value (Loop a b ∷ k) e w c well (shared, fits, plain_stack, s, here, is) =
+      silently source pages calls some_page (Running (Throwing tag value) (Loop a b ∷ k) e w) (Running (Throwing tag value) k e w) (plain.Running c) refl (shared, fits, plain_stack, s, here, is) (omega arith)
+  throwing tag value (CloseRegion region home ∷ k) e w c well (shared, fits, plain_stack, s, here, is) =
       let found = is_closed (Throwing tag value) region home k e w well in
       silently source pages calls some_page (Running (Throwing tag value) (CloseRegion region home ∷ k) e w) (Running (Throwing tag value) k (record e { home = home }) (closed w region found.region)) (plain.Running c) found.gives
-      (shared_closed w c region found.region found.there shared, fits, s, here, is)
+      (shared_closed w c region found.region found.there shared, fits, plain_stack, s, here, is)
       (omega arith)
-  throwing tag value (Caller outer ∷ k) e w c well (shared, fits, s, here, is) =
-      silently source pages calls some_page (Running (Throwing tag value) (Caller outer ∷ k) e w) (Running (Throwing tag value) k outer w) (plain.Running c) refl (shared, omega (arith, fits), s, here, is) (omega arith)
-  throwing tag value (Main ∷ k) e w c well (shared, fits, s, here, is) =
-      silently source pages calls some_page (Running (Throwing tag value) (Main ∷ k) e w) (Running (Throwing tag value) k e w) (plain.Running c) refl (shared, omega (arith, fits), s, here, is) (omega arith)
+  throwing tag value (Caller outer ∷ k) e w c well (shared, fits, plain_stack, s, here, is) =
+      silently source pages calls some_page (Running (Throwing tag value) (Caller outer ∷ k) e w) (Running (Throwing tag value) k outer w) (plain.Running c) refl (shared, omega (arith, fits), plain_stack, s, here, is) (omega arith)
+  throwing tag value (NeedsPlace a ∷ k) e w c well (shared, fits, plain_stack, s, here, is) = absurd plain_stack
+  throwing tag value (CloseLexical region ∷ k) e w c well (shared, fits, plain_stack, s, here, is) = absurd plain_stack
+  throwing tag value (EndLoan lent ∷ k) e w c well (shared, fits, plain_stack, s, here, is) = absurd plain_stack
+  throwing tag value (Handler handler ∷ k) e w c well (shared, fits, plain_stack, s, here, is) = absurd plain_stack
+  throwing tag value (Main ∷ k) e w c well (shared, fits, plain_stack, s, here, is) =
+      silently source pages calls some_page (Running (Throwing tag value) (Main ∷ k) e w) (Running (Throwing tag value) k e w) (plain.Running c) refl (shared, omega (arith, fits), plain_stack, s, here, is) (omega arith)

@@ -62,6 +62,7 @@ module _ (source : Program) (pages calls : ℕ) (some_page : 1 ≤ pages) (stand
   stepping Continuing k e w c well related = continuing source pages calls some_page k e w c well related
   stepping (Returning v) k e w c well related = returning source pages calls some_page v k e w c well related
   stepping (Throwing tag value) k e w c well related = throwing source pages calls some_page tag value k e w c well related
+  stepping focus k e w c well (shared, facts, at) = absurd at
 
   -- what fails is within all limits
   failed_within : (s : State) → status_in (status_of s) ≡ Failed → is_within pages calls s ≡ true

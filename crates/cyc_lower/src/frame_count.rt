@@ -224,6 +224,7 @@ fn words_of_all(types: &[Ty]) -> usize
 }
 
 /// The frame count of a function.
+#[tactic(auto, using(crate::proofs::NeedsFound::nothing_kept))]
 pub(crate) fn frame_count(function: &Function) -> usize
     requires { frame_count (view_function function.now) ≤ most_frame_count }
     ensures { result ≡ frame_count (view_function function.now) }

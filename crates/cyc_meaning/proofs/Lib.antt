@@ -3,8 +3,17 @@ pub mod RunLaws
 -- what the laws of this crate cite
 pub mod Outcomes
 pub mod WorldLaws
+pub mod DemandLaws
+pub mod NestingLemmas
 pub mod Nested
 pub mod ListLemmas
 -- examples
+pub mod ExampleTrees
 pub mod Examples
+pub mod HeapExamples
+pub mod ExceptionExamples
+pub mod UniqueExamples
+pub mod RegionExamples
+pub mod DeadExamples
+pub mod FrameExamples
 pub mod ValueExamples

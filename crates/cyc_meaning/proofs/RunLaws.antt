@@ -9,52 +9,63 @@ use Rattle.cyc_words.proofs.PrefixLemmas.{IsPrefix-refl, IsPrefix-trans}
 use Rattle.cyc_types.specs.TypedTrees.{Function, Program}
 use Rattle.cyc_meaning.specs.State.{World, Environment, Entry, Main, Focus, Entering, no_locals, State, Running, Ended, Dead, Wrong, Status, GoesOn, HasEnded, IsDead, IsWrong, output_of, input_of, status_of, depth, first_world}
 use Rattle.cyc_meaning.specs.Step.{called, wrong, step}
-use Rattle.cyc_meaning.specs.Effects.{Changes, Keeps, Opens, Closes, Makes, Writes, Prints, Reads, ChangesIn, printed_by, read_by, calls_after}
+use Rattle.cyc_meaning.specs.Effects.{Changes, Keeps, Opens, Closes, Makes, MakesIn, MakesUnique, Frees, Writes, Prints, Reads, ChangesIn, printed_by, read_by, calls_after}
 use Rattle.cyc_meaning.specs.Run.{start, steps, run, is_within, limited, limited_step, limited_steps}
+use Rattle.cyc_meaning.specs.Nesting.{IsNested}
 use Rattle.cyc_meaning.proofs.Outcomes.{Outcome, Goes, Ends, Dies, Fails, outcome, calls_function}
 
 -- ---- one step
 
+-- `main` is called where only the globals' region is there
+pub start_nested : (program : Program) (input : List ℕ) → IsNested (Main ∷ []) no_locals (first_world program input)
+start_nested program input = ((tt, tt), (omega arith, tt), refl)
+
 change_printed : {w new : World} {printed : List ℕ} {count : ℕ} → Changes w printed count new → new.output ≡ w.output ++ printed
 change_printed {w} Keeps = sym (append-nil w.output)
-change_printed {w} Opens = sym (append-nil w.output)
+change_printed {w} (Opens sort) = sym (append-nil w.output)
 change_printed {w} (Closes number r found) = sym (append-nil w.output)
 change_printed {w} (Makes number r kind content found) = sym (append-nil w.output)
+change_printed {w} (MakesIn number r cells found) = sym (append-nil w.output)
+change_printed {w} (MakesUnique cells) = sym (append-nil w.output)
+change_printed {w} (Frees number x there live) = sym (append-nil w.output)
 change_printed {w} (Writes object offset at value found) = sym (append-nil w.output)
 change_printed {w} (Prints word) = refl
 change_printed {w} Reads = sym (append-nil w.output)
 
 change_read : {w new : World} {printed : List ℕ} {count : ℕ} → Changes w printed count new → new.input ≡ drop count w.input
 change_read Keeps = refl
-change_read Opens = refl
+change_read (Opens sort) = refl
 change_read (Closes number r found) = refl
 change_read (Makes number r kind content found) = refl
+change_read (MakesIn number r cells found) = refl
+change_read (MakesUnique cells) = refl
+change_read (Frees number x there live) = refl
 change_read (Writes object offset at value found) = refl
 change_read (Prints word) = refl
 change_read Reads = refl
 
-outcome_printed : {w : World} {printed : List ℕ} {count calls : ℕ} {s : State} → Outcome w printed count calls s → output_of s ≡ w.output ++ printed
-outcome_printed (Goes calls changes) = change_printed changes
-outcome_printed {w} (Ends ending other) = sym (append-nil w.output)
-outcome_printed {w} Dies = sym (append-nil w.output)
+outcome_printed : {nested : Type 0} {w : World} {access : Bool} {printed : List ℕ} {count calls : ℕ} {s : State} → Outcome nested w access printed count calls s → output_of s ≡ w.output ++ printed
+outcome_printed (Goes calls changes nests) = change_printed changes
+outcome_printed {w = w} (Ends ending other) = sym (append-nil w.output)
+outcome_printed {w = w} (Dies alone) = sym (append-nil w.output)
 outcome_printed {w} Fails = sym (append-nil w.output)
 
-outcome_read : {w : World} {printed : List ℕ} {count calls : ℕ} {s : State} → Outcome w printed count calls s → input_of s ≡ drop count w.input
-outcome_read (Goes calls changes) = change_read changes
+outcome_read : {nested : Type 0} {w : World} {access : Bool} {printed : List ℕ} {count calls : ℕ} {s : State} → Outcome nested w access printed count calls s → input_of s ≡ drop count w.input
+outcome_read (Goes calls changes nests) = change_read changes
 outcome_read (Ends ending other) = refl
-outcome_read Dies = refl
+outcome_read (Dies alone) = refl
 outcome_read Fails = refl
 
-outcome_calls : {w : World} {printed : List ℕ} {count calls : ℕ} {s : State} → Outcome w printed count calls s → status_of s ≡ GoesOn → depth s ≡ calls
-outcome_calls (Goes calls changes) going = calls
+outcome_calls : {nested : Type 0} {w : World} {access : Bool} {printed : List ℕ} {count calls : ℕ} {s : State} → Outcome nested w access printed count calls s → status_of s ≡ GoesOn → depth s ≡ calls
+outcome_calls (Goes calls changes nests) going = calls
 outcome_calls (Ends ending other) going = absurd (let e : HasEnded ending ≡ GoesOn = going in cc)
-outcome_calls Dies going = absurd (let e : IsDead ≡ GoesOn = going in cc)
+outcome_calls (Dies alone) going = absurd (let e : IsDead ≡ GoesOn = going in cc)
 outcome_calls Fails going = absurd (let e : IsWrong ≡ GoesOn = going in cc)
 
-outcome_not_full : {w : World} {printed : List ℕ} {count calls : ℕ} {s : State} → Outcome w printed count calls s → status_of s ≢ HasEnded Full
-outcome_not_full (Goes calls changes) full = let e : GoesOn ≡ HasEnded Full = full in cc
+outcome_not_full : {nested : Type 0} {w : World} {access : Bool} {printed : List ℕ} {count calls : ℕ} {s : State} → Outcome nested w access printed count calls s → status_of s ≢ HasEnded Full
+outcome_not_full (Goes calls changes nests) full = let e : GoesOn ≡ HasEnded Full = full in cc
 outcome_not_full (Ends ending other) full = let e : HasEnded ending ≡ HasEnded Full = full in other cc
-outcome_not_full Dies full = let e : IsDead ≡ HasEnded Full = full in cc
+outcome_not_full (Dies alone) full = let e : IsDead ≡ HasEnded Full = full in cc
 outcome_not_full Fails full = let e : IsWrong ≡ HasEnded Full = full in cc
 
 module _ (program : Program) (focus : Focus) (stack : List Entry) (e : Environment) (w : World) where
@@ -70,10 +81,10 @@ module _ (program : Program) (focus : Focus) (stack : List Entry) (e : Environme
   pub step_calls : status_of (step program (Running focus stack e w)) ≡ GoesOn → depth (step program (Running focus stack e w)) ≡ calls_after focus stack
   step_calls going = outcome_calls (outcome program focus stack e w) going
 
-outcome_changes : {w : World} {printed : List ℕ} {count calls : ℕ} {s : State} → Outcome w printed count calls s → ChangesIn w printed count s
-outcome_changes (Goes calls changes) = changes
+outcome_changes : {nested : Type 0} {w : World} {access : Bool} {printed : List ℕ} {count calls : ℕ} {s : State} → Outcome nested w access printed count calls s → ChangesIn w printed count s
+outcome_changes (Goes calls changes nests) = changes
 outcome_changes (Ends ending other) = tt
-outcome_changes Dies = tt
+outcome_changes (Dies alone) = tt
 outcome_changes Fails = tt
 
 pub step_changes : (program : Program) (focus : Focus) (stack : List Entry) (e : Environment) (w : World) → ChangesIn w (printed_by focus) (read_by focus) (step program (Running focus stack e w))
@@ -237,10 +248,10 @@ limited_comes_to program pages calls n s status other is =
 -- ---- the start
 
 pub start_not_full : (program : Program) (input : List ℕ) → status_of (start program input) ≢ HasEnded Full
-start_not_full program input = outcome_not_full (calls_function (slice_get program.functions program.main) [] (Main ∷ []) (first_world program input))
+start_not_full program input = outcome_not_full (calls_function {access = false} {nested = Unit {0}} (slice_get program.functions program.main) [] (Main ∷ []) (first_world program input) (λ u. start_nested program input))
 
 pub start_calls : (program : Program) (input : List ℕ) → status_of (start program input) ≡ GoesOn → depth (start program input) ≡ 1
-start_calls program input going = outcome_calls (calls_function (slice_get program.functions program.main) [] (Main ∷ []) (first_world program input)) going
+start_calls program input going = outcome_calls (calls_function {access = false} {nested = Unit {0}} (slice_get program.functions program.main) [] (Main ∷ []) (first_world program input) (λ u. start_nested program input)) going
 
 pub run_not_full : (program : Program) (n : ℕ) (s : State) → status_of s ≢ HasEnded Full → status_of (steps program n s) ≢ HasEnded Full
 run_not_full program zero s other = other
@@ -250,17 +261,20 @@ run_not_full program (suc n) s other = run_not_full program n (step program s) (
 
 byte_printed : {w new : World} {printed : List ℕ} {count : ℕ} → Changes w printed count new → AllByRecursion (λ b. b < 256) printed
 byte_printed Keeps = tt
-byte_printed Opens = tt
+byte_printed (Opens sort) = tt
 byte_printed (Closes number r found) = tt
 byte_printed (Makes number r kind content found) = tt
+byte_printed (MakesIn number r cells found) = tt
+byte_printed (MakesUnique cells) = tt
+byte_printed (Frees number x there live) = tt
 byte_printed (Writes object offset at value found) = tt
 byte_printed (Prints word) = (omega arith, tt)
 byte_printed Reads = tt
 
-bytes_printed : {w : World} {printed : List ℕ} {count calls : ℕ} {s : State} → Outcome w printed count calls s → AllByRecursion (λ b. b < 256) printed
-bytes_printed (Goes calls changes) = byte_printed changes
+bytes_printed : {nested : Type 0} {w : World} {access : Bool} {printed : List ℕ} {count calls : ℕ} {s : State} → Outcome nested w access printed count calls s → AllByRecursion (λ b. b < 256) printed
+bytes_printed (Goes calls changes nests) = byte_printed changes
 bytes_printed (Ends ending other) = tt
-bytes_printed Dies = tt
+bytes_printed (Dies alone) = tt
 bytes_printed Fails = tt
 
 bytes-append : (xs ys : List ℕ) → AllByRecursion (λ b. b < 256) xs → AllByRecursion (λ b. b < 256) ys → AllByRecursion (λ b. b < 256) (xs ++ ys)
@@ -280,7 +294,7 @@ steps_bytes program zero s bytes = bytes
 steps_bytes program (suc n) s bytes = steps_bytes program n (step program s) (step_bytes program s bytes)
 
 start_output : (program : Program) (input : List ℕ) → output_of (start program input) ≡ []
-start_output program input = outcome_printed (calls_function (slice_get program.functions program.main) [] (Main ∷ []) (first_world program input))
+start_output program input = outcome_printed (calls_function {access = false} {nested = Unit {0}} (slice_get program.functions program.main) [] (Main ∷ []) (first_world program input) (λ u. start_nested program input))
 
 pub run_bytes : (program : Program) (input : List ℕ) (n : ℕ) → AllByRecursion (λ b. b < 256) (output_of (run program input n))
 run_bytes program input n = steps_bytes program n (start program input) (subst (AllByRecursion (λ b. b < 256)) (sym (start_output program input)) tt)

@@ -1,8 +1,16 @@
 -- what a program means
 pub mod Values
 pub mod Operators
+pub mod Pointers
 pub mod Conversion
 pub mod State
+pub mod Objects
+pub mod Parts
+pub mod Swaps
+pub mod Places
+pub mod Allocation
+pub mod Exceptions
+pub mod Regions
 pub mod Step
 pub mod Run
 -- what the laws and the contracts of the compiler add to that

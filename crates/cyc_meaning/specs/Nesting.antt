@@ -1,23 +1,25 @@
--- Regions of variables end in the opposite order of that in which they were opened: what holds of every state, by its control
--- stack. (Lexical regions of programs will nest in the same way, as in Grossman et al. 2002.)
+-- Regions of blocks and lexical regions end in the opposite order of that in which they were opened: what holds of every state, by its
+-- control stack (Grossman et al. 2002). Dynamic regions are closed by programs, whenever they like, and are none of these.
 use Rattle.std.specs.Prelude.{◌≡◌, ℕ, ◌<◌, Bool, true, false, List, [], ◌∷◌, length, slice_get}
-use Rattle.cyc_types.specs.TypedTrees.{Copy}
-use Rattle.cyc_meaning.specs.State.{Region, World, Access, Found, Closed, Missing, found_region, globals_number, Environment, Store, Entry, Needs, Discard, Rest, Join, Loop, CloseRegion, Caller, Main, Focus, Evaluating, Given, State, Running, Ended, Dead, Wrong}
+use Rattle.cyc_types.specs.declared.typed.PointerOperator.{PointerOperator}
+use Rattle.cyc_types.specs.declared.typed.PointerOperator.TheVariants as pointers
+use Rattle.cyc_types.specs.TypedTrees.{Arguments, NoArguments, Expression, Copy, Move, Peek, New, Placement, OnHeap, Initial, Fields, Items, MoreItems, Item, OpenRegion, DeclareAlias}
+use Rattle.cyc_meaning.specs.State.{Sort, Heap, Globals, Stack, Lexical, Dynamic, Region, World, Access, Found, Closed, Missing, found_region, globals_number, Environment, Awaiting, ApplyPointer, Store, StoreCell, FreeObject, CloseByKey, PlaceBy, MakePlain, MakeFields, FillElement, OpenBy, AwaitingPlace, LoadFrom, Entry, Needs, NeedsPlace, Rest, CloseRegion, CloseLexical, Handler, Caller, Focus, Evaluating, Given, GivenPlace, Proceeding, Writing, Beginning, Swapping, State, Running, Ended, Dead, Wrong}
 
 -- the regions that will end, innermost first, and that of the globals, which never does
 abbrev pub ends_of : List Entry → List ℕ
 ends_of [] = globals_number ∷ []
-ends_of (Needs a ∷ stack) = ends_of stack
-ends_of (Discard ∷ stack) = ends_of stack
-ends_of (Rest items ∷ stack) = ends_of stack
-ends_of (Join ∷ stack) = ends_of stack
-ends_of (Loop condition body ∷ stack) = ends_of stack
 ends_of (CloseRegion region home ∷ stack) = region ∷ ends_of stack
-ends_of (Caller outer ∷ stack) = ends_of stack
-ends_of (Main ∷ stack) = ends_of stack
+ends_of (CloseLexical region ∷ stack) = region ∷ ends_of stack
+ends_of (entry ∷ stack) = ends_of stack
+
+-- programs close no region of this sort by themselves
+abbrev pub IsScoped : Sort → Type 0
+IsScoped Dynamic = ⊥
+IsScoped sort = Unit {0}
 
 abbrev pub IsFound : Access Region → Type 0
-IsFound (Found r) = Unit {0}
+IsFound (Found r) = IsScoped r.sort
 IsFound Closed = ⊥
 IsFound Missing = ⊥
 
@@ -30,34 +32,54 @@ abbrev pub AreBelow : ℕ → List ℕ → Type 0
 AreBelow bound [] = Unit {0}
 AreBelow bound (n ∷ ns) = (n < bound) × AreBelow n ns
 
--- variables live in the region that ends next, and a call begins with none
+-- variables live in the region of variables that ends next, and a call begins with none
 abbrev pub IsHome : ℕ → List Entry → Type 0
 IsHome home [] = home ≡ globals_number
-IsHome home (Needs a ∷ stack) = IsHome home stack
-IsHome home (Discard ∷ stack) = IsHome home stack
-IsHome home (Rest items ∷ stack) = IsHome home stack
-IsHome home (Join ∷ stack) = IsHome home stack
-IsHome home (Loop condition body ∷ stack) = IsHome home stack
 IsHome home (CloseRegion region outer ∷ stack) = (home ≡ region) × IsHome outer stack
 IsHome home (Caller outer ∷ stack) = (home ≡ globals_number) × IsHome outer.home stack
-IsHome home (Main ∷ stack) = IsHome home stack
+IsHome home (entry ∷ stack) = IsHome home stack
 
 -- all these regions are open, they nest, and variables live in the innermost
 abbrev pub IsNested : List Entry → Environment → World → Type 0
 IsNested stack e w = AreOpen w.regions (ends_of stack) × AreBelow (length w.regions) (ends_of stack) × IsHome e.home stack
 
--- whether this focus is a read or a write of a variable
-abbrev pub is_access : Focus → List Entry → Bool
-is_access (Evaluating (Copy place t)) stack = true
-is_access (Given value) (Needs (Store place) ∷ stack) = true
-is_access focus stack = false
+-- Whether this focus touches a cell, an object or a region: it reads or writes a variable or a cell that a pointer led to, compares
+-- pointers, makes an object, frees one, or opens or closes a region by its key.
+abbrev pub is_access_of : Awaiting → Bool
+is_access_of (ApplyPointer peek pointers.EqualThin left) = true
+is_access_of (ApplyPointer peek pointers.NotEqualThin left) = true
+is_access_of (Store place) = true
+is_access_of (StoreCell peek place) = true
+is_access_of FreeObject = true
+is_access_of CloseByKey = true
+is_access_of (PlaceBy (Fields NoArguments)) = true
+is_access_of (MakePlain owner kind) = true
+is_access_of (MakeFields owner before NoArguments) = true
+is_access_of (FillElement object count index level kind element) = true
+is_access_of (OpenBy number lent items) = true
+is_access_of waiting = false
 
--- after a step that may be dead where it is an access alone
-abbrev pub IsNestedIn : (access : Bool) → State → Type 0
-IsNestedIn access (Running focus stack e w) = IsNested stack e w
-IsNestedIn access (Ended ending output input) = Unit {0}
-IsNestedIn access (Dead output input) = access ≡ true
-IsNestedIn access (Wrong output input) = Unit {0}
+abbrev pub is_access_by : Items → Bool
+is_access_by (MoreItems (OpenRegion region number p key) items) = true
+is_access_by (MoreItems (DeclareAlias region number t p source) items) = true
+is_access_by items = false
+
+abbrev pub is_access_in : Expression → Bool
+is_access_in (Copy place t) = true
+is_access_in (Move p number t) = true
+is_access_in (Peek p number t) = true
+is_access_in (New placement (Fields NoArguments) t) = true
+is_access_in a = false
+
+abbrev pub is_access : Focus → List Entry → Bool
+is_access (Evaluating a) stack = is_access_in a
+is_access (Given value) (Needs waiting ∷ stack) = is_access_of waiting
+is_access (GivenPlace place) (NeedsPlace (LoadFrom kind) ∷ stack) = true
+is_access Proceeding (Rest items ∷ stack) = is_access_by items
+is_access (Writing writes result) stack = true
+is_access (Beginning owner count level kind element) stack = true
+is_access (Swapping kind left right before) stack = true
+is_access focus stack = false
 
 -- what holds in every state of a run
 abbrev pub Nests : State → Type 0
@@ -65,3 +87,9 @@ Nests (Running focus stack e w) = IsNested stack e w
 Nests (Ended ending output input) = Unit {0}
 Nests (Dead output input) = Unit {0}
 Nests (Wrong output input) = Unit {0}
+
+-- no `try` is under way
+abbrev pub IsUntried : List Entry → Type 0
+IsUntried [] = Unit {0}
+IsUntried (Handler handler ∷ stack) = ⊥
+IsUntried (entry ∷ stack) = IsUntried stack

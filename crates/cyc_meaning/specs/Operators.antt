@@ -24,6 +24,9 @@ null_exception = 1
 abbrev pub array_bounds : ℕ
 array_bounds = 2
 
+abbrev pub array_size : ℕ
+array_size = 3
+
 abbrev pub division_by_zero : ℕ
 division_by_zero = 4
 

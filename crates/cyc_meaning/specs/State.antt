@@ -7,10 +7,11 @@ use Rattle.cyc_types.specs.declared.typed.Kind.{Kind}
 use Rattle.cyc_types.specs.declared.typed.Callee.{Callee}
 use Rattle.cyc_types.specs.declared.typed.UnaryOperator.{UnaryOperator}
 use Rattle.cyc_types.specs.declared.typed.Operator.{Operator}
+use Rattle.cyc_types.specs.declared.typed.PointerOperator.{PointerOperator}
 use Rattle.cyc_types.specs.Types.{Ty}
-use Rattle.cyc_types.specs.TypedTrees.{Expression, Arguments, Operations, Statement, Items, Constant, Word, GlobalVariable, Function, Program}
+use Rattle.cyc_types.specs.TypedTrees.{Expression, Dereference, Initial, Converted, Arguments, Operations, Side, Statement, Items, Clauses, Constant, Word, GlobalVariable, Function, Program}
 use Rattle.cyc_types.specs.TypedTrees as typed
-use Rattle.cyc_meaning.specs.Values.{Value, Int, Null, Cell, kind_of}
+use Rattle.cyc_meaning.specs.Values.{Value, Int, Null, Operand, Cell, kind_of}
 use Rattle.cyc_words.specs.Demand.{demand_of}
 
 -- ---- regions and objects
@@ -96,12 +97,20 @@ cell_at w object offset = cell_in w (slice_get w.objects object) offset
 
 -- ---- what changes
 
-abbrev pub stack_region : Region
-stack_region = record { sort = Stack; is_open = true; blocks = [] }
+-- a region that nothing was made in yet
+abbrev pub new_region : Sort → Region
+new_region sort = record { sort = sort; is_open = true; blocks = [] }
 
--- a region of variables more, with the next number
+-- a region of this sort more, with the next number
+abbrev pub opened_as : Sort → World → World
+opened_as sort w = record w { regions = w.regions ++ new_region sort ∷ [] }
+
+-- a region of variables
+abbrev pub stack_region : Region
+stack_region = new_region Stack
+
 abbrev pub opened : World → World
-opened w = record w { regions = w.regions ++ stack_region ∷ [] }
+opened w = opened_as Stack w
 
 abbrev pub closed : World → ℕ → Region → World
 closed w number r = record w { regions = set w.regions number (record r { is_open = false }) }
@@ -124,48 +133,96 @@ written w object offset at value = record w {
 
 -- ---- calls
 
--- What the running call knows: the object of each of its locals, and the region in which the variables of the innermost block
--- live. A local that is declared again, in another pass of a loop, is another object.
+-- What the running call knows: the object of each of its locals, the region in which the variables of the innermost block live, and
+-- the value of the counter of each level, which is no variable. A local that is declared again, in another pass of a loop, is another
+-- object.
 pub record Environment : Type 0 where
   pub locals : ℕ → Option ℕ
   pub home : ℕ
+  pub counters : ℕ → Option ℕ
 
 -- of a call that has no region yet
 abbrev pub no_locals : Environment
-no_locals = record { locals = λ (number : ℕ). None; home = globals_number }
+no_locals = record { locals = λ (number : ℕ). None; home = globals_number; counters = λ (level : ℕ). None }
 
 abbrev pub with_local : Environment → (number object : ℕ) → Environment
 with_local e number object = record e {
   locals = λ (other : ℕ). if other == number then Some object else e.locals other;
 }
 
+abbrev pub with_counter : Environment → (level index : ℕ) → Environment
+with_counter e level index = record e {
+  counters = λ (other : ℕ). if other == level then Some index else e.counters other;
+}
+
 -- ---- the control stack
 
--- What waits for a value. Values that were computed before are inside.
+-- What waits for a value. Operands that were computed before are inside. Where `peek` is a local, a place or an operand was reached
+-- by a peek of it, and it must stay as it is while what is awaited is evaluated.
 pub data Awaiting : Type 0 where
-  -- the value is converted
-  ConvertTo : Kind → Awaiting
+  -- the value, of the first kind, is converted to the second
+  ConvertTo : (from to : Kind) → Awaiting
   Operate : UnaryOperator → Awaiting
   -- what follows in a chain of operators; the value is that of all before
   Chain : Operations → Awaiting
-  -- a right operand, with the left one's value
-  Apply : Operator → (left : Value) → Awaiting
+  -- a right operand, with the left one
+  Apply : Operator → (left : Operand) → Awaiting
+  ApplyPointer : (peek : Option ℕ) → PointerOperator → (left : Operand) → Awaiting
   -- the right operand of `&&` or `||`, where the left one did not decide
   Decide : Awaiting
-  -- the value is stored in a place, a thin pointer
+  -- the value is stored in a variable, whose place is this thin pointer, and in a cell that a pointer led to
   Store : (place : Value) → Awaiting
-  -- an argument, with the values of those before it, newest first, and the arguments after it
-  Pass : Callee → (before : List Value) → Arguments → Awaiting
-  -- the initial value of a local
-  Initialise : (number : ℕ) → Kind → Awaiting
+  StoreCell : (peek : Option ℕ) → (place : Value) → Awaiting
+  -- an argument, with those before it, newest first, and the arguments after it
+  Pass : Callee → (before : List Operand) → Arguments → Awaiting
+  -- the pointer of `*e`, of this kind
+  Follow : (pointer : Kind) → Awaiting
+  -- that of `e->f`, with the kinds of the struct's fields and the number of this one
+  FollowMember : (pointer : Kind) → (fields : List Kind) → (field : ℕ) → Awaiting
+  -- the fat pointer of `e[i]`, and then the index
+  Index : (peek : Option ℕ) → (index : Expression) → Awaiting
+  Advance : (peek : Option ℕ) → (base : Operand) → Awaiting
+  -- what `numelts`, `ufree` and `free_ukey` work on
+  CountElements : Awaiting
+  FreeObject : Awaiting
+  CloseByKey : Awaiting
+  -- the handle of the region in which `rnew` makes an object
+  PlaceBy : Initial → Awaiting
+  -- the value of the only cell of a new object, of this kind; where it is to be made is said by its owner
+  MakePlain : Owner → Kind → Awaiting
+  -- a field of a new struct, with those before it, newest first, and those after it
+  MakeFields : Owner → (before : List Operand) → Arguments → Awaiting
+  -- the length of a new array, and then each of its elements
+  MakeArray : Owner → (level : ℕ) → Kind → (element : Expression) → Awaiting
+  FillElement : (object count index level : ℕ) → Kind → (element : Expression) → Awaiting
+  -- the initial value of a local, and what is left of its block
+  Initialise : (number : ℕ) → Kind → Items → Awaiting
   -- the condition of an `if`, and of a `while`
   Choose : Statement → Statement → Awaiting
   Test : Expression → Statement → Awaiting
   -- what a call returns
   Return : Awaiting
+  -- the int of an exception
+  ThrowWith : (tag : ℕ) → Awaiting
+  -- the key of the region that a local becomes the handle of, and the pointer that a local becomes an alias of: what is lent is the
+  -- local `lent`
+  OpenBy : (number lent : ℕ) → Items → Awaiting
+  AliasOf : (number lent : ℕ) → Items → Awaiting
+
+-- What waits for a place that a pointer leads to.
+pub data AwaitingPlace : Type 0 where
+  -- a cell of this kind is read
+  LoadFrom : Kind → AwaitingPlace
+  TakeAddress : AwaitingPlace
+  -- the left side of `=`, with the right side
+  StoreTo : (peek : Option ℕ) → Converted → AwaitingPlace
+  -- a side of a swap of values of this kind: the left one, with the right side, and the right one, with the left place
+  SwapLeft : Kind → (peek : Option ℕ) → (right : Side) → AwaitingPlace
+  SwapRight : Kind → (peek : Option ℕ) → (left : Value) → AwaitingPlace
 
 pub data Entry : Type 0 where
   Needs : Awaiting → Entry
+  NeedsPlace : AwaitingPlace → Entry
   -- an expression that stands for its effects: its value, if it has one, is dropped
   Discard : Entry
   -- what is left of a block
@@ -174,32 +231,57 @@ pub data Entry : Type 0 where
   Join : Entry
   -- the body of a loop is executed
   Loop : Expression → Statement → Entry
-  -- a region ends, and then variables live in `home` again
+  -- a region of variables ends, and then variables live in `home` again
   CloseRegion : (region home : ℕ) → Entry
+  -- a lexical region ends
+  CloseLexical : (region : ℕ) → Entry
+  -- what this local holds is lent to the end of the block: its unique object, or the region that it is the key of
+  EndLoan : (lent : ℕ) → Entry
+  -- the body of a `try` is executed
+  Handler : Clauses → Entry
   -- a call ends, and its caller goes on with this environment
   Caller : Environment → Entry
   -- the call of `main` ends
   Main : Entry
 
+-- a cell that is to be written, by a thin pointer, and what it gets
+pub record Write : Type 0 where
+  pub place : Value
+  pub operand : Operand
+
 -- What is done next.
 pub data Focus : Type 0 where
   Evaluating : Expression → Focus
-  -- a value is handed to the newest entry
-  Given : Value → Focus
+  -- a place that a pointer leads to is evaluated
+  Locating : Dereference → Focus
+  -- a value is handed to the newest entry, and a place, as a thin pointer
+  Given : Operand → Focus
+  GivenPlace : (place : Value) → Focus
   Executing : Statement → Focus
   -- what was to be done is done, and the newest entry goes on
   Proceeding : Focus
   -- all arguments are evaluated, newest first, and the call is made
-  Calling : Callee → (arguments : List Value) → Focus
+  Calling : Callee → (arguments : List Operand) → Focus
   -- The region of a call is opened, and then its parameters are made from this number on. Arguments are in order.
-  Entering : Function → (arguments : List Value) → Focus
-  Binding : (number : ℕ) → List Ty → (arguments : List Value) → (body : Items) → Focus
+  Entering : Function → (arguments : List Operand) → Focus
+  Binding : (number : ℕ) → List Ty → (arguments : List Operand) → (body : Items) → Focus
+  -- a local is made that holds this from the start, and what is left of its block goes on
+  Naming : (number : ℕ) → Operand → Items → Focus
+  -- the cells of a new object, and both of a swap, are written one by one; then a value is handed on, if there is one
+  Writing : List Write → Option Operand → Focus
+  -- the block of an array of so many elements is made, and then the next of its elements is evaluated
+  Beginning : Owner → (count level : ℕ) → Kind → (element : Expression) → Focus
+  Repeating : (object count index level : ℕ) → Kind → (element : Expression) → Focus
+  -- both places of a swap of values of this kind are found, and are read one by one: the left one is read already where there is an
+  -- operand
+  Swapping : Kind → (left right : Value) → Option Operand → Focus
   -- entries are left, newest first: up to a loop, or to the end of the call
   Breaking : Focus
   Continuing : Focus
-  Returning : Option Value → Focus
-  -- up to whatever catches the exception: nothing does
+  Returning : Option Operand → Focus
+  -- up to a `try` one of whose clauses catches the exception
   Throwing : (tag value : ℕ) → Focus
+  Catching : (tag value : ℕ) → Clauses → Focus
 
 -- ---- states
 
@@ -261,14 +343,9 @@ demand (Wrong output input) = 0
 -- the calls under way, with that of `main`; `putchar` and `getchar` are none
 abbrev pub calls_in : List Entry → ℕ
 calls_in [] = 0
-calls_in (Needs a ∷ stack) = calls_in stack
-calls_in (Discard ∷ stack) = calls_in stack
-calls_in (Rest items ∷ stack) = calls_in stack
-calls_in (Join ∷ stack) = calls_in stack
-calls_in (Loop condition body ∷ stack) = calls_in stack
-calls_in (CloseRegion region home ∷ stack) = calls_in stack
 calls_in (Caller e ∷ stack) = suc (calls_in stack)
 calls_in (Main ∷ stack) = suc (calls_in stack)
+calls_in (entry ∷ stack) = calls_in stack
 
 abbrev pub depth : State → ℕ
 depth (Running focus stack e w) = calls_in stack
@@ -285,19 +362,20 @@ constant_value typed.Null = Null
 abbrev pub global_object : GlobalVariable → Object
 global_object g = variable globals_number (kind_of g.of_type) (Some (constant_value g.value))
 
--- the heap and the region of the globals; no class of unique blocks has pages
+-- the heap and the region of the globals
 abbrev pub first_regions : List Region
-first_regions =
-    record { sort = Heap; is_open = true; blocks = [] }
-    ∷ record { sort = Globals; is_open = true; blocks = [] }
-    ∷ []
+first_regions = new_region Heap ∷ new_region Globals ∷ []
+
+-- no class of unique blocks has pages: the classes are those of 1, 2, 4 and so on up to 1,024 words
+abbrev pub first_classes : List ℕ
+first_classes = 0 ∷ 0 ∷ 0 ∷ 0 ∷ 0 ∷ 0 ∷ 0 ∷ 0 ∷ 0 ∷ 0 ∷ 0 ∷ []
 
 -- each global is the object with its number
 abbrev pub first_world : Program → (input : List ℕ) → World
 first_world program input = record {
   regions = first_regions;
   objects = map global_object program.globals;
-  classes = [];
+  classes = first_classes;
   output = [];
   input = input;
 }

@@ -2,155 +2,125 @@
 -- operation, a check, a conversion, a read or a write of one value, the making of one object, the opening or closing of one
 -- region, one call or return, one byte read or printed. Evaluation is left to right (this project's own choice,
 -- where C leaves it open), and a value is converted as soon as it is evaluated.
-use Rattle.std.specs.Prelude.{ℕ, suc, ◌-◌, ◌%◌, ◌^◌, ◌==◌, Bool, true, false, if◌then◌else◌, List, [], ◌∷◌, ◌++◌, reverse, drop, length, Option, Some, None, slice_get, unwrap_or}
+use Rattle.std.specs.Prelude.{ℕ, suc, ◌-◌, ◌%◌, ◌^◌, ◌==◌, Bool, true, false, if◌then◌else◌, List, [], ◌∷◌, ◌++◌, map, reverse, drop, length, Option, Some, None, slice_get, unwrap_or}
 use Rattle.cyc_words.specs.Word.{signed}
-use Rattle.cyc_words.specs.Ending.{Ending, Returned, Uncaught}
+use Rattle.cyc_words.specs.Ending.{Returned, Uncaught}
 use Rattle.cyc_types.specs.declared.typed.Kind.{Kind}
+use Rattle.cyc_types.specs.declared.typed.Kind.TheVariants as kinds
 use Rattle.cyc_types.specs.declared.typed.Callee.{Callee}
 use Rattle.cyc_types.specs.declared.typed.Callee.TheVariants as callees
 use Rattle.cyc_types.specs.declared.typed.LogicalOperator.{LogicalOperator}
+use Rattle.cyc_types.specs.declared.typed.PointerOperator.{PointerOperator}
+use Rattle.cyc_types.specs.declared.typed.PointerOperator.TheVariants as pointers
 use Rattle.cyc_types.specs.Types.{Ty}
-use Rattle.cyc_types.specs.TypedTrees.{Lvalue, Local, Global, Expression, Number, Copy, Call, Unary, Binary, Assign, Converted, Convert, Arguments, NoArguments, MoreArguments, Operations, NoOperations, ThenCompute, ThenTest, Statement, Block, Empty, Evaluate, If, While, Break, Continue, Items, NoItems, MoreItems, Execute, Declare, Function, Program}
+use Rattle.cyc_types.specs.TypedTrees.{Lvalue, Local, Global, Expression, Number, NullPointer, HeapRegion, Counter, Copy, Move, Peek, Load, AddressOf, AddressOfCell, NumberOfElements, FreeUnique, FreeKey, Call, Unary, Binary, Assign, New, type_of_place, peeked, Converted, Convert, Arguments, NoArguments, MoreArguments, Operations, NoOperations, ThenCompute, ThenTest, ThenPointer, ThenPointerPeek, Statement, Block, Empty, Evaluate, Swap, If, While, Break, Continue, Throw, Try, Items, NoItems, MoreItems, Execute, Declare, DeclareRegion, OpenRegion, DeclareAlias, DeclareKey, Function, Program}
 use Rattle.cyc_types.specs.TypedTrees as typed
-use Rattle.cyc_meaning.specs.Values.{Value, Int, Thin, kind_of}
-use Rattle.cyc_meaning.specs.Operators.{Result, Gives, Raises, Misfits, is_zero, binary_result, unary_result, truth_of, decides}
+use Rattle.cyc_meaning.specs.Values.{Value, Int, Null, Thin, Handle, Operand, kind_of, is_kind}
+use Rattle.cyc_meaning.specs.Operators.{is_zero, truth, binary_result, unary_result, truth_of, decides}
+use Rattle.cyc_meaning.specs.Pointers.{element_count, pointer_result, result_kind, takes_kind}
 use Rattle.cyc_meaning.specs.Conversion.{conversion}
-use Rattle.cyc_meaning.specs.State.{Region, World, Access, Found, Closed, Missing, region_at, Located, cell_at, opened, closed, variable, made, written, Environment, no_locals, with_local, Awaiting, ConvertTo, Operate, Chain, Apply, Decide, Store, Pass, Initialise, Choose, Test, Return, Entry, Needs, Discard, Rest, Join, Loop, CloseRegion, Caller, Main, Focus, Evaluating, Given, Executing, Proceeding, Calling, Entering, Binding, Breaking, Continuing, Returning, Throwing, State, Running, Ended, Dead, Wrong}
-
--- ---- outcomes
-
-abbrev pub dead : World → State
-dead w = Dead w.output w.input
-
-abbrev pub wrong : World → State
-wrong w = Wrong w.output w.input
-
-abbrev pub ends : Ending → World → State
-ends ending w = Ended ending w.output w.input
-
--- what was computed is handed on, or its exception is thrown
-abbrev pub computed : Result → List Entry → Environment → World → State
-computed (Gives value) stack e w = Running (Given value) stack e w
-computed (Raises tag) stack e w = Running (Throwing tag 0) stack e w
-computed Misfits stack e w = wrong w
-
--- ---- cells
-
--- the object of a variable
-abbrev pub object_of : Environment → Lvalue → Option ℕ
-object_of e (Local place number) = e.locals number
-object_of e (Global number) = Some number
-
-abbrev pub read : Option Value → List Entry → Environment → World → State
-read (Some value) stack e w = Running (Given value) stack e w
-read None stack e w = wrong w
-
-abbrev pub loaded : Access Located → List Entry → Environment → World → State
-loaded (Found at) stack e w = read at.cell.content stack e w
-loaded Closed stack e w = dead w
-loaded Missing stack e w = wrong w
-
-abbrev pub loaded_from : Option ℕ → List Entry → Environment → World → State
-loaded_from (Some object) stack e w = loaded (cell_at w object 0) stack e w
-loaded_from None stack e w = wrong w
-
--- the value of an assignment is what was stored
-abbrev pub stored : Access Located → (object offset : ℕ) → Value → List Entry → Environment → World → State
-stored (Found at) object offset value stack e w = Running (Given value) stack e (written w object offset at value)
-stored Closed object offset value stack e w = dead w
-stored Missing object offset value stack e w = wrong w
-
-abbrev pub stored_at : (place value : Value) → List Entry → Environment → World → State
-stored_at (Thin object offset) value stack e w = stored (cell_at w object offset) object offset value stack e w
-stored_at place value stack e w = wrong w
-
--- A place is found before the right side is evaluated.
-abbrev pub assigned : Option ℕ → Converted → List Entry → Environment → World → State
-assigned (Some object) (Convert from to a) stack e w = Running (Evaluating a) (Needs (ConvertTo to) ∷ Needs (Store (Thin object 0)) ∷ stack) e w
-assigned None c stack e w = wrong w
-
--- A local is a new object in the region of the innermost block.
-abbrev pub declared : Access Region → Focus → (number : ℕ) → Kind → Option Value → List Entry → Environment → World → State
-declared (Found r) focus number kind content stack e w =
-    Running focus stack (with_local e number (length w.objects)) (made w (variable e.home kind content))
-declared Closed focus number kind content stack e w = dead w
-declared Missing focus number kind content stack e w = wrong w
-
--- ---- regions
-
--- variables live in the region that is opened next
-abbrev pub inside : Environment → World → Environment
-inside e w = record e { home = length w.regions }
-
--- the end of the region that is opened next
-abbrev pub region_end : Environment → World → Entry
-region_end e w = CloseRegion (length w.regions) e.home
-
--- a region is closed, by whichever way it is left
-abbrev pub closing : Access Region → Focus → (region home : ℕ) → List Entry → Environment → World → State
-closing (Found r) focus region home stack e w = Running focus stack (record e { home = home }) (closed w region r)
-closing Closed focus region home stack e w = dead w
-closing Missing focus region home stack e w = wrong w
+use Rattle.cyc_meaning.specs.State.{World, Access, Found, Closed, Missing, heap_number, region_at, opened, Environment, no_locals, Awaiting, ConvertTo, Operate, Chain, Apply, ApplyPointer, Decide, Store, StoreCell, Pass, Follow, FollowMember, Index, Advance, CountElements, FreeObject, CloseByKey, PlaceBy, MakePlain, MakeFields, MakeArray, FillElement, Initialise, Choose, Test, Return, ThrowWith, OpenBy, AliasOf, LoadFrom, TakeAddress, StoreTo, Entry, Needs, NeedsPlace, Discard, Rest, Join, Loop, CloseRegion, CloseLexical, EndLoan, Handler, Caller, Main, Focus, Evaluating, Locating, Given, GivenPlace, Executing, Proceeding, Calling, Entering, Binding, Naming, Writing, Beginning, Repeating, Swapping, Breaking, Continuing, Returning, Throwing, Catching, State, Running, Ended, Dead, Wrong}
+use Rattle.cyc_meaning.specs.Objects.{compared}
+use Rattle.cyc_meaning.specs.Places.{follows, follows_member, indexes, advances, step_locating, step_given_place}
+use Rattle.cyc_meaning.specs.Swaps.{swaps, step_swapping}
+use Rattle.cyc_meaning.specs.Allocation.{makes_plain, makes_fields, step_beginning, step_repeating, makes_array, fills_element, allocates, makes_by}
+use Rattle.cyc_meaning.specs.Exceptions.{throws, throws_value, tries, step_catching}
+use Rattle.cyc_meaning.specs.Regions.{step_naming, opens_lexical, closing_lexical, opens_dynamic, opens_by_key, opens_with, closes_with, aliases, aliased, frees}
+pub use Rattle.cyc_meaning.specs.Parts.{dead, wrong, ends, gives, computed, object_of, read, loaded, loaded_from, stored, stored_at, step_writing, declared, inside, region_end, closing}
 
 -- ---- calls
 
 -- a function is called with as many arguments as it has parameters, in order
-abbrev pub called : Option Function → (arguments : List Value) → List Entry → World → State
+abbrev pub called : Option Function → (arguments : List Operand) → List Entry → World → State
 called (Some h) arguments stack w =
     if length arguments == length h.parameters then Running (Entering h arguments) stack no_locals w else wrong w
 called None arguments stack w = wrong w
 
+abbrev pub values_of : List Operand → List Value
+values_of operands = map (λ (o : Operand). o.value) operands
+
 -- the low 8 bits are printed, and are the answer
 abbrev pub prints : (arguments : List Value) → List Entry → Environment → World → State
 prints (Int word ∷ []) stack e w =
-    Running (Given (Int (word % 256))) stack e (record w { output = w.output ++ word % 256 ∷ [] })
+    gives kinds.Int (Int (word % 256)) stack e (record w { output = w.output ++ word % 256 ∷ [] })
 prints arguments stack e w = wrong w
 
 -- the next byte of the input, or -1 at its end
 abbrev pub reads : (arguments : List Value) → List Entry → Environment → World → State
 reads [] stack e w =
-    Running (Given (Int (unwrap_or (slice_get w.input 0) (2 ^ 32 - 1)))) stack e (record w { input = drop 1 w.input })
+    gives kinds.Int (Int (unwrap_or (slice_get w.input 0) (2 ^ 32 - 1))) stack e (record w { input = drop 1 w.input })
 reads arguments stack e w = wrong w
 
-abbrev pub step_calling : Program → Callee → (arguments : List Value) → List Entry → Environment → World → State
-step_calling program callees.Putchar arguments stack e w = prints arguments stack e w
-step_calling program callees.Getchar arguments stack e w = reads arguments stack e w
+abbrev pub step_calling : Program → Callee → (arguments : List Operand) → List Entry → Environment → World → State
+step_calling program callees.Putchar arguments stack e w = prints (values_of arguments) stack e w
+step_calling program callees.Getchar arguments stack e w = reads (values_of arguments) stack e w
 step_calling program (callees.Function number) arguments stack e w =
     called (slice_get program.functions number) (reverse arguments) (Caller e ∷ stack) w
 
 -- the region of the function's parameters and of its body's own variables is opened
-abbrev pub step_entering : Function → (arguments : List Value) → List Entry → Environment → World → State
+abbrev pub step_entering : Function → (arguments : List Operand) → List Entry → Environment → World → State
 step_entering h arguments stack e w =
     Running (Binding 0 h.parameters arguments h.body) (region_end e w ∷ stack) (inside e w) (opened w)
 
 -- a parameter is a local that holds its argument
-abbrev pub step_binding : (number : ℕ) → List Ty → (arguments : List Value) → (body : Items) → List Entry → Environment → World → State
+abbrev pub step_binding : (number : ℕ) → List Ty → (arguments : List Operand) → (body : Items) → List Entry → Environment → World → State
 step_binding number [] [] body stack e w = Running Proceeding (Rest body ∷ stack) e w
 step_binding number (t ∷ types) (value ∷ arguments) body stack e w =
-    declared (region_at w e.home) (Binding (suc number) types arguments body) number (kind_of t) (Some value) stack e w
+    if is_kind value.kind (kind_of t)
+    then declared (region_at w e.home) (Binding (suc number) types arguments body) number (kind_of t) (Some value.value) stack e w
+    else wrong w
 step_binding number types arguments body stack e w = wrong w
 
 -- ---- evaluation
 
 -- arguments are evaluated and converted one by one
-abbrev pub passes : Callee → (before : List Value) → Arguments → List Entry → Environment → World → State
+abbrev pub passes : Callee → (before : List Operand) → Arguments → List Entry → Environment → World → State
 passes callee before NoArguments stack e w = Running (Calling callee before) stack e w
 passes callee before (MoreArguments (Convert from to a) arguments) stack e w =
-    Running (Evaluating a) (Needs (ConvertTo to) ∷ Needs (Pass callee before arguments) ∷ stack) e w
+    Running (Evaluating a) (Needs (ConvertTo from to) ∷ Needs (Pass callee before arguments) ∷ stack) e w
 
+-- A place is found before the right side is evaluated.
+abbrev pub assigned : Option ℕ → Converted → List Entry → Environment → World → State
+assigned (Some object) (Convert from to a) stack e w =
+    Running (Evaluating a) (Needs (ConvertTo from to) ∷ Needs (Store (Thin object 0)) ∷ stack) e w
+assigned None c stack e w = wrong w
+
+-- the address of a variable
+abbrev pub addressed : Option ℕ → List Entry → Environment → World → State
+addressed (Some object) stack e w = gives kinds.NonNull (Thin object 0) stack e w
+addressed None stack e w = wrong w
+
+-- the counter of a `for` around
+abbrev pub counts : Option ℕ → List Entry → Environment → World → State
+counts (Some index) stack e w = gives kinds.Int (Int index) stack e w
+counts None stack e w = wrong w
+
+-- A moved local keeps its value too: nothing here knows what is moved.
 abbrev pub step_evaluating : Expression → List Entry → Environment → World → State
-step_evaluating (Number n) stack e w = Running (Given (Int n)) stack e w
-step_evaluating (Copy place t) stack e w = loaded_from (object_of e place) stack e w
+step_evaluating (Number n) stack e w = gives kinds.Int (Int n) stack e w
+step_evaluating NullPointer stack e w = gives kinds.Nullable Null stack e w
+step_evaluating HeapRegion stack e w = gives kinds.Handle (Handle heap_number) stack e w
+step_evaluating (Counter level) stack e w = counts (e.counters level) stack e w
+step_evaluating (Copy place t) stack e w = loaded_from (kind_of t) (object_of e place) stack e w
+step_evaluating (Move p number t) stack e w = loaded_from (kind_of t) (e.locals number) stack e w
+step_evaluating (Peek p number t) stack e w = loaded_from (kind_of t) (e.locals number) stack e w
+step_evaluating (Load d) stack e w = Running (Locating d) (NeedsPlace (LoadFrom (kind_of (type_of_place d))) ∷ stack) e w
+step_evaluating (AddressOf place t) stack e w = addressed (object_of e place) stack e w
+step_evaluating (AddressOfCell d t) stack e w = Running (Locating d) (NeedsPlace TakeAddress ∷ stack) e w
+step_evaluating (NumberOfElements a) stack e w = Running (Evaluating a) (Needs CountElements ∷ stack) e w
+step_evaluating (FreeUnique a) stack e w = Running (Evaluating a) (Needs FreeObject ∷ stack) e w
+step_evaluating (FreeKey a) stack e w = Running (Evaluating a) (Needs CloseByKey ∷ stack) e w
 step_evaluating (Call callee arguments t) stack e w = passes callee [] arguments stack e w
 step_evaluating (Unary operator a) stack e w = Running (Evaluating a) (Needs (Operate operator) ∷ stack) e w
 step_evaluating (Binary a rest t) stack e w = Running (Evaluating a) (Needs (Chain rest) ∷ stack) e w
 step_evaluating (Assign place c t) stack e w = assigned (object_of e place) c stack e w
-step_evaluating a stack e w = wrong w
+step_evaluating (typed.Store d c t) stack e w = Running (Locating d) (NeedsPlace (StoreTo (peeked d) c) ∷ stack) e w
+step_evaluating (New placement initial t) stack e w = allocates placement initial stack e w
 
 -- The left operand of `&&` or `||` decides, or the right one does.
 abbrev pub decided : Bool → (fails : Bool) → Expression → Operations → List Entry → Environment → World → State
 decided true fails b rest stack e w =
-    Running (Given (Int (if fails then 0 else 1))) (Needs (Chain rest) ∷ stack) e w
+    gives kinds.Int (Int (if fails then 0 else 1)) (Needs (Chain rest) ∷ stack) e w
 decided false fails b rest stack e w =
     Running (Evaluating b) (Needs Decide ∷ Needs (Chain rest) ∷ stack) e w
 
@@ -159,14 +129,34 @@ tested (Some fails) operator b rest stack e w =
     decided (decides operator fails) fails b rest stack e w
 tested None operator b rest stack e w = wrong w
 
+-- a right operand is evaluated where the left one has a kind that its operator takes
+abbrev pub awaits_right : Bool → Awaiting → (right : Expression) → Operations → List Entry → Environment → World → State
+awaits_right true waiting b rest stack e w = Running (Evaluating b) (Needs waiting ∷ Needs (Chain rest) ∷ stack) e w
+awaits_right false waiting b rest stack e w = wrong w
+
 -- a chain goes on, with the value of all before
-abbrev pub chained : Operations → Value → List Entry → Environment → World → State
-chained NoOperations value stack e w = Running (Given value) stack e w
-chained (ThenCompute operator b rest) value stack e w =
-    Running (Evaluating b) (Needs (Apply operator value) ∷ Needs (Chain rest) ∷ stack) e w
-chained (ThenTest operator b rest) value stack e w =
-    tested (is_zero value) operator b rest stack e w
-chained rest value stack e w = wrong w
+abbrev pub chained : Operations → Operand → List Entry → Environment → World → State
+chained NoOperations left stack e w = Running (Given left) stack e w
+chained (ThenCompute operator b rest) left stack e w =
+    awaits_right (is_kind left.kind kinds.Int) (Apply operator left) b rest stack e w
+chained (ThenTest operator b rest) left stack e w =
+    tested (is_zero left.value) operator b rest stack e w
+chained (ThenPointer operator b rest) left stack e w =
+    awaits_right (takes_kind operator left.kind) (ApplyPointer None operator left) b rest stack e w
+chained (ThenPointerPeek number operator b rest) left stack e w =
+    awaits_right (takes_kind operator left.kind) (ApplyPointer (Some number) operator left) b rest stack e w
+
+-- whether two thin pointers are equal, or whether they differ
+abbrev pub tells : (negated : Bool) → Access Bool → List Entry → Environment → World → State
+tells false (Found equal) stack e w = gives kinds.Int (Int (truth equal)) stack e w
+tells true (Found equal) stack e w = gives kinds.Int (Int (if equal then 0 else 1)) stack e w
+tells negated Closed stack e w = dead w
+tells negated Missing stack e w = wrong w
+
+abbrev pub applies_pointer : PointerOperator → (left right : Value) → List Entry → Environment → World → State
+applies_pointer pointers.EqualThin left right stack e w = tells false (compared w left right) stack e w
+applies_pointer pointers.NotEqualThin left right stack e w = tells true (compared w left right) stack e w
+applies_pointer operator left right stack e w = computed (result_kind operator) (pointer_result operator left right) stack e w
 
 -- the first statement where a condition holds, and the second where it fails
 abbrev pub chosen : (fails : Option Bool) → (first second : Statement) → List Entry → Environment → World → State
@@ -180,22 +170,50 @@ looped (Some true) condition body stack e w = Running Proceeding stack e w
 looped (Some false) condition body stack e w = Running (Executing body) (Loop condition body ∷ stack) e w
 looped None condition body stack e w = wrong w
 
--- what waits for a value gets it
-abbrev pub supplied : Awaiting → Value → List Entry → Environment → World → State
-supplied (ConvertTo kind) value stack e w = computed (conversion kind value) stack e w
-supplied (Operate operator) value stack e w = computed (unary_result operator value) stack e w
-supplied (Chain rest) value stack e w = chained rest value stack e w
-supplied (Apply operator left) value stack e w = computed (binary_result operator left value) stack e w
-supplied Decide value stack e w = computed (truth_of (is_zero value)) stack e w
-supplied (Store place) value stack e w = stored_at place value stack e w
-supplied (Pass callee before arguments) value stack e w = passes callee (value ∷ before) arguments stack e w
-supplied (Initialise number kind) value stack e w =
-    declared (region_at w e.home) Proceeding number kind (Some value) stack e w
-supplied (Choose first second) value stack e w = chosen (is_zero value) first second stack e w
-supplied (Test condition body) value stack e w = looped (is_zero value) condition body stack e w
-supplied Return value stack e w = Running (Returning (Some value)) stack e w
+-- a value of the kind that the tree says is converted
+abbrev pub converts : (from to : Kind) → Operand → List Entry → Environment → World → State
+converts from to value stack e w = if is_kind value.kind from then computed to (conversion to value.value) stack e w else wrong w
 
-abbrev pub step_given : Value → List Entry → Environment → World → State
+-- A local gets its initial value. What is left of its block stands behind it.
+abbrev pub initialises : (number : ℕ) → Kind → Items → Operand → List Entry → Environment → World → State
+initialises number kind items value stack e w =
+    if is_kind value.kind kind
+    then declared (region_at w e.home) Proceeding number kind (Some value.value) (Rest items ∷ stack) e w
+    else wrong w
+
+-- what waits for a value gets it
+abbrev pub supplied : Awaiting → Operand → List Entry → Environment → World → State
+supplied (ConvertTo from to) value stack e w = converts from to value stack e w
+supplied (Operate operator) value stack e w = computed kinds.Int (unary_result operator value.value) stack e w
+supplied (Chain rest) value stack e w = chained rest value stack e w
+supplied (Apply operator left) value stack e w = computed kinds.Int (binary_result operator left.value value.value) stack e w
+supplied (ApplyPointer peek operator left) value stack e w = applies_pointer operator left.value value.value stack e w
+supplied Decide value stack e w = computed kinds.Int (truth_of (is_zero value.value)) stack e w
+supplied (Store place) value stack e w = stored_at place value (Given value) stack e w
+supplied (StoreCell peek place) value stack e w = stored_at place value (Given value) stack e w
+supplied (Pass callee before arguments) value stack e w = passes callee (value ∷ before) arguments stack e w
+supplied (Follow pointer) value stack e w = follows pointer value stack e w
+supplied (FollowMember pointer fields field) value stack e w = follows_member pointer fields field value stack e w
+supplied (Index peek index) value stack e w = indexes peek index value stack e w
+supplied (Advance peek base) value stack e w = advances base value stack e w
+supplied CountElements value stack e w = computed kinds.Int (element_count value.value) stack e w
+supplied FreeObject value stack e w = frees value.value stack e w
+supplied CloseByKey value stack e w = closes_with value.value stack e w
+supplied (PlaceBy initial) value stack e w = makes_by initial value.value stack e w
+supplied (MakePlain owner kind) value stack e w = makes_plain owner kind value stack e w
+supplied (MakeFields owner before fields) value stack e w = makes_fields owner (value ∷ before) fields stack e w
+supplied (MakeArray owner level kind element) value stack e w = makes_array owner level kind element value.value stack e w
+supplied (FillElement object count index level kind element) value stack e w =
+    fills_element object count index level kind element value stack e w
+supplied (Initialise number kind items) value stack e w = initialises number kind items value stack e w
+supplied (Choose first second) value stack e w = chosen (is_zero value.value) first second stack e w
+supplied (Test condition body) value stack e w = looped (is_zero value.value) condition body stack e w
+supplied Return value stack e w = Running (Returning (Some value)) stack e w
+supplied (ThrowWith tag) value stack e w = throws_value tag value.value stack e w
+supplied (OpenBy number lent items) value stack e w = opens_with number lent items value.value stack e w
+supplied (AliasOf number lent items) value stack e w = aliased number lent items value stack e w
+
+abbrev pub step_given : Operand → List Entry → Environment → World → State
 step_given value (Needs a ∷ stack) e w = supplied a value stack e w
 step_given value (Discard ∷ stack) e w = Running Proceeding stack e w
 step_given value stack e w = wrong w
@@ -209,7 +227,7 @@ tests condition body stack e w = Running (Evaluating condition) (Needs (Test con
 abbrev pub returns : Option Converted → List Entry → Environment → World → State
 returns None stack e w = Running (Returning None) stack e w
 returns (Some (Convert from to a)) stack e w =
-    Running (Evaluating a) (Needs (ConvertTo to) ∷ Needs Return ∷ stack) e w
+    Running (Evaluating a) (Needs (ConvertTo from to) ∷ Needs Return ∷ stack) e w
 
 abbrev pub step_executing : Statement → List Entry → Environment → World → State
 step_executing (Block region items) stack e w =
@@ -222,31 +240,41 @@ step_executing (While place condition body) stack e w = tests condition body sta
 step_executing (typed.Return value) stack e w = returns value stack e w
 step_executing Break stack e w = Running Breaking stack e w
 step_executing Continue stack e w = Running Continuing stack e w
-step_executing s stack e w = wrong w
+step_executing (Swap left right) stack e w = swaps left right stack e w
+step_executing (Throw tag value) stack e w = throws tag value stack e w
+step_executing (Try s handler) stack e w = tries s handler stack e w
 
 -- An initial value is evaluated before its local is made. Without one the local holds nothing yet.
-abbrev pub declares : (number : ℕ) → Ty → Option Converted → List Entry → Environment → World → State
-declares number t None stack e w =
-    declared (region_at w e.home) Proceeding number (kind_of t) None stack e w
-declares number t (Some (Convert from to a)) stack e w =
-    Running (Evaluating a) (Needs (ConvertTo to) ∷ Needs (Initialise number (kind_of t)) ∷ stack) e w
+abbrev pub declares : (number : ℕ) → Ty → Option Converted → Items → List Entry → Environment → World → State
+declares number t None items stack e w =
+    declared (region_at w e.home) Proceeding number (kind_of t) None (Rest items ∷ stack) e w
+declares number t (Some (Convert from to a)) items stack e w =
+    Running (Evaluating a) (Needs (ConvertTo from to) ∷ Needs (Initialise number (kind_of t) items) ∷ stack) e w
 
 abbrev pub continues_with : Items → List Entry → Environment → World → State
 continues_with NoItems stack e w = Running Proceeding stack e w
 continues_with (MoreItems (Execute s) items) stack e w = Running (Executing s) (Rest items ∷ stack) e w
-continues_with (MoreItems (Declare number t value) items) stack e w = declares number t value (Rest items ∷ stack) e w
-continues_with items stack e w = wrong w
+continues_with (MoreItems (Declare number t value) items) stack e w = declares number t value items stack e w
+continues_with (MoreItems (DeclareRegion region number) items) stack e w = opens_lexical number items stack e w
+continues_with (MoreItems (OpenRegion region number p key) items) stack e w = opens_by_key number key items stack e w
+continues_with (MoreItems (DeclareAlias region number t p source) items) stack e w = aliases number (kind_of t) source items stack e w
+continues_with (MoreItems (DeclareKey region number) items) stack e w = opens_dynamic number items stack e w
 
 -- The end of a function's body without a `return` is a return without a value.
 abbrev pub step_proceeding : List Entry → Environment → World → State
 step_proceeding [] e w = wrong w
 step_proceeding (Needs a ∷ stack) e w = wrong w
+step_proceeding (NeedsPlace a ∷ stack) e w = wrong w
 step_proceeding (Discard ∷ stack) e w = Running Proceeding stack e w
 step_proceeding (Rest items ∷ stack) e w = continues_with items stack e w
 step_proceeding (Join ∷ stack) e w = Running Proceeding stack e w
 step_proceeding (Loop condition body ∷ stack) e w = tests condition body stack e w
 step_proceeding (CloseRegion region home ∷ stack) e w =
     closing (region_at w region) Proceeding region home stack e w
+step_proceeding (CloseLexical region ∷ stack) e w =
+    closing_lexical (region_at w region) Proceeding region stack e w
+step_proceeding (EndLoan lent ∷ stack) e w = Running Proceeding stack e w
+step_proceeding (Handler handler ∷ stack) e w = Running Proceeding stack e w
 step_proceeding (Caller outer ∷ stack) e w = Running Proceeding stack outer w
 step_proceeding (Main ∷ stack) e w = wrong w
 
@@ -255,59 +283,83 @@ step_proceeding (Main ∷ stack) e w = wrong w
 abbrev pub step_breaking : List Entry → Environment → World → State
 step_breaking [] e w = wrong w
 step_breaking (Needs a ∷ stack) e w = Running Breaking stack e w
+step_breaking (NeedsPlace a ∷ stack) e w = Running Breaking stack e w
 step_breaking (Discard ∷ stack) e w = Running Breaking stack e w
 step_breaking (Rest items ∷ stack) e w = Running Breaking stack e w
 step_breaking (Join ∷ stack) e w = Running Breaking stack e w
 step_breaking (Loop condition body ∷ stack) e w = Running Proceeding stack e w
 step_breaking (CloseRegion region home ∷ stack) e w =
     closing (region_at w region) Breaking region home stack e w
+step_breaking (CloseLexical region ∷ stack) e w =
+    closing_lexical (region_at w region) Breaking region stack e w
+step_breaking (EndLoan lent ∷ stack) e w = Running Breaking stack e w
+step_breaking (Handler handler ∷ stack) e w = Running Breaking stack e w
 step_breaking (Caller outer ∷ stack) e w = wrong w
 step_breaking (Main ∷ stack) e w = wrong w
 
 abbrev pub step_continuing : List Entry → Environment → World → State
 step_continuing [] e w = wrong w
 step_continuing (Needs a ∷ stack) e w = Running Continuing stack e w
+step_continuing (NeedsPlace a ∷ stack) e w = Running Continuing stack e w
 step_continuing (Discard ∷ stack) e w = Running Continuing stack e w
 step_continuing (Rest items ∷ stack) e w = Running Continuing stack e w
 step_continuing (Join ∷ stack) e w = Running Continuing stack e w
 step_continuing (Loop condition body ∷ stack) e w = tests condition body stack e w
 step_continuing (CloseRegion region home ∷ stack) e w =
     closing (region_at w region) Continuing region home stack e w
+step_continuing (CloseLexical region ∷ stack) e w =
+    closing_lexical (region_at w region) Continuing region stack e w
+step_continuing (EndLoan lent ∷ stack) e w = Running Continuing stack e w
+step_continuing (Handler handler ∷ stack) e w = Running Continuing stack e w
 step_continuing (Caller outer ∷ stack) e w = wrong w
 step_continuing (Main ∷ stack) e w = wrong w
 
 -- the caller gets the value, if there is one
-abbrev pub returned : Option Value → List Entry → Environment → World → State
+abbrev pub returned : Option Operand → List Entry → Environment → World → State
 returned (Some value) stack e w = Running (Given value) stack e w
 returned None stack e w = Running Proceeding stack e w
 
 -- what `main` returns is the run's end
-abbrev pub main_returned : Option Value → World → State
-main_returned (Some (Int word)) w = ends (Returned (signed word)) w
-main_returned value w = wrong w
+abbrev pub ends_with : Value → World → State
+ends_with (Int word) w = ends (Returned (signed word)) w
+ends_with value w = wrong w
 
-abbrev pub step_returning : Option Value → List Entry → Environment → World → State
+abbrev pub main_returned : Option Operand → World → State
+main_returned (Some value) w = ends_with value.value w
+main_returned None w = wrong w
+
+abbrev pub step_returning : Option Operand → List Entry → Environment → World → State
 step_returning value [] e w = wrong w
 step_returning value (Needs a ∷ stack) e w = Running (Returning value) stack e w
+step_returning value (NeedsPlace a ∷ stack) e w = Running (Returning value) stack e w
 step_returning value (Discard ∷ stack) e w = Running (Returning value) stack e w
 step_returning value (Rest items ∷ stack) e w = Running (Returning value) stack e w
 step_returning value (Join ∷ stack) e w = Running (Returning value) stack e w
 step_returning value (Loop condition body ∷ stack) e w = Running (Returning value) stack e w
 step_returning value (CloseRegion region home ∷ stack) e w =
     closing (region_at w region) (Returning value) region home stack e w
+step_returning value (CloseLexical region ∷ stack) e w =
+    closing_lexical (region_at w region) (Returning value) region stack e w
+step_returning value (EndLoan lent ∷ stack) e w = Running (Returning value) stack e w
+step_returning value (Handler handler ∷ stack) e w = Running (Returning value) stack e w
 step_returning value (Caller outer ∷ stack) e w = returned value stack outer w
 step_returning value (Main ∷ stack) e w = main_returned value w
 
--- an exception that nothing catches ends the run, once all is left
+-- An exception is caught by the clauses of a `try`, or goes on. One that nothing catches ends the run, once all is left.
 abbrev pub step_throwing : (tag value : ℕ) → List Entry → Environment → World → State
 step_throwing tag value [] e w = ends (Uncaught tag (signed value)) w
 step_throwing tag value (Needs a ∷ stack) e w = Running (Throwing tag value) stack e w
+step_throwing tag value (NeedsPlace a ∷ stack) e w = Running (Throwing tag value) stack e w
 step_throwing tag value (Discard ∷ stack) e w = Running (Throwing tag value) stack e w
 step_throwing tag value (Rest items ∷ stack) e w = Running (Throwing tag value) stack e w
 step_throwing tag value (Join ∷ stack) e w = Running (Throwing tag value) stack e w
 step_throwing tag value (Loop condition body ∷ stack) e w = Running (Throwing tag value) stack e w
 step_throwing tag value (CloseRegion region home ∷ stack) e w =
     closing (region_at w region) (Throwing tag value) region home stack e w
+step_throwing tag value (CloseLexical region ∷ stack) e w =
+    closing_lexical (region_at w region) (Throwing tag value) region stack e w
+step_throwing tag value (EndLoan lent ∷ stack) e w = Running (Throwing tag value) stack e w
+step_throwing tag value (Handler handler ∷ stack) e w = Running (Catching tag value handler) stack e w
 step_throwing tag value (Caller outer ∷ stack) e w = Running (Throwing tag value) stack outer w
 step_throwing tag value (Main ∷ stack) e w = Running (Throwing tag value) stack e w
 
@@ -315,16 +367,25 @@ step_throwing tag value (Main ∷ stack) e w = Running (Throwing tag value) stac
 
 abbrev pub stepped : Program → Focus → List Entry → Environment → World → State
 stepped program (Evaluating a) stack e w = step_evaluating a stack e w
+stepped program (Locating d) stack e w = step_locating program d stack e w
 stepped program (Given value) stack e w = step_given value stack e w
+stepped program (GivenPlace place) stack e w = step_given_place place stack e w
 stepped program (Executing s) stack e w = step_executing s stack e w
 stepped program Proceeding stack e w = step_proceeding stack e w
 stepped program (Calling callee arguments) stack e w = step_calling program callee arguments stack e w
 stepped program (Entering h arguments) stack e w = step_entering h arguments stack e w
 stepped program (Binding number types arguments body) stack e w = step_binding number types arguments body stack e w
+stepped program (Naming number operand items) stack e w = step_naming number operand items stack e w
+stepped program (Writing writes result) stack e w = step_writing writes result stack e w
+stepped program (Beginning owner count level kind element) stack e w = step_beginning owner count level kind element stack e w
+stepped program (Repeating object count index level kind element) stack e w =
+    step_repeating object count index level kind element stack e w
+stepped program (Swapping kind left right before) stack e w = step_swapping kind left right before stack e w
 stepped program Breaking stack e w = step_breaking stack e w
 stepped program Continuing stack e w = step_continuing stack e w
 stepped program (Returning value) stack e w = step_returning value stack e w
 stepped program (Throwing tag value) stack e w = step_throwing tag value stack e w
+stepped program (Catching tag value handler) stack e w = step_catching tag value handler stack e w
 
 -- One step, without limits. A run that is over stays as it is.
 abbrev pub step : Program → State → State

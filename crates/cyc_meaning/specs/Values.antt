@@ -1,6 +1,7 @@
--- Values and the cells that hold them. There are no addresses: a pointer names an object by its number. The kinds of values
--- and that a fat pointer takes three words are the Cyclone User's Manual's (1.0); the form is this project's own choice.
-use Rattle.std.specs.Prelude.{ℕ, ◌+◌, max, List, [], ◌∷◌, Option}
+-- Values, the cells that hold them, and the operands that wait with their kinds. There are no addresses: a pointer names an object
+-- by its number. The kinds of values and that a fat pointer takes three words are the Cyclone User's Manual's (1.0); the form is this
+-- project's own choice.
+use Rattle.std.specs.Prelude.{ℕ, ◌+◌, ◌==◌, ◌&&◌, Bool, true, false, max, List, [], ◌∷◌, map, Option, None}
 use Rattle.cyc_types.specs.declared.typed.Kind.{Kind}
 use Rattle.cyc_types.specs.declared.typed.Kind.TheVariants as kinds
 use Rattle.cyc_syntax.specs.declared.tree.PointerKind.{PointerKind}
@@ -21,6 +22,14 @@ pub data Value : Type 0 where
   Handle : (region : ℕ) → Value
   Key : (region : ℕ) → Value
 
+-- A value that waits until it is needed. It has the kind of what gave it, and so its words: a fat null pointer has three, a thin one
+-- has one.
+pub record Operand : Type 0 where
+  pub kind : Kind
+  pub value : Value
+
+-- ---- kinds
+
 abbrev pub kind_of_mark : PointerKind → Kind
 kind_of_mark marks.Nullable = kinds.Nullable
 kind_of_mark marks.NonNull = kinds.NonNull
@@ -34,10 +43,28 @@ kind_of (types.Handle region) = kinds.Handle
 kind_of (types.Key region) = kinds.Key
 kind_of (types.Struct number regions) = kinds.Int
 
--- a cell has its kind for good, and holds a value or nothing yet
-pub record Cell : Type 0 where
-  pub kind : Kind
-  pub content : Option Value
+-- kinds are told apart by numbers
+abbrev pub number_of_kind : Kind → ℕ
+number_of_kind kinds.Int = 0
+number_of_kind kinds.Nullable = 1
+number_of_kind kinds.NonNull = 2
+number_of_kind kinds.Fat = 3
+number_of_kind kinds.Handle = 4
+number_of_kind kinds.Key = 5
+
+abbrev pub is_kind : Kind → Kind → Bool
+is_kind a b = number_of_kind a == number_of_kind b
+
+abbrev pub are_kinds : List Kind → List Kind → Bool
+are_kinds [] [] = true
+are_kinds (a ∷ as') (b ∷ bs) = is_kind a b && are_kinds as' bs
+are_kinds as' bs = false
+
+-- a thin pointer, which may be null or not
+abbrev pub is_thin : Kind → Bool
+is_thin kinds.Nullable = true
+is_thin kinds.NonNull = true
+is_thin kind = false
 
 -- the words of a cell: a fat pointer has three, any other value one
 abbrev pub words_of_kind : Kind → ℕ
@@ -47,6 +74,20 @@ words_of_kind kinds.NonNull = 1
 words_of_kind kinds.Fat = 3
 words_of_kind kinds.Handle = 1
 words_of_kind kinds.Key = 1
+
+-- ---- cells
+
+-- a cell has its kind for good, and holds a value or nothing yet
+pub record Cell : Type 0 where
+  pub kind : Kind
+  pub content : Option Value
+
+abbrev pub kinds_of : List Cell → List Kind
+kinds_of cells = map (λ (c : Cell). c.kind) cells
+
+-- cells that hold nothing yet
+abbrev pub blank : Kind → Cell
+blank kind = record { kind = kind; content = None }
 
 abbrev pub words_of_cells : List Cell → ℕ
 words_of_cells [] = 0

@@ -7,11 +7,11 @@ ghost use Rattle.cyc_words.specs.Ending.{Full, Uncaught};
 ghost use Rattle.cyc_words.specs.Prefix.{IsPrefix};
 ghost use Rattle.cyc_words.specs.Word.{signed};
 ghost use Rattle.cyc_types.specs.TypedTrees.{Program};
-ghost use Rattle.cyc_meaning.specs.State.{World, Environment, Entry, Focus, State, Throwing, Status, GoesOn, HasEnded, IsDead, output_of, input_of, status_of, demand, depth};
+ghost use Rattle.cyc_meaning.specs.State.{World, Environment, Entry, Focus, State, Throwing, Status, GoesOn, HasEnded, IsDead, output_of, input_of, status_of, depth};
 ghost use Rattle.cyc_meaning.specs.State as state;
 ghost use Rattle.cyc_meaning.specs.Step.{step};
-ghost use Rattle.cyc_meaning.specs.Effects.{printed_by, read_by, calls_after, ChangesIn, StaysIn};
-ghost use Rattle.cyc_meaning.specs.Nesting.{Nests, is_access};
+ghost use Rattle.cyc_meaning.specs.Effects.{printed_by, read_by, calls_after, Changes, DemandChanges, ChangesIn, StaysIn};
+ghost use Rattle.cyc_meaning.specs.Nesting.{Nests, is_access, IsUntried};
 ghost use Rattle.cyc_meaning.specs.Run.{start, steps, run, is_within, limited_steps, limited_run};
 
 /// The step is a function, so a program with an input has one run: two states after so many steps are one state, and a run
@@ -50,7 +50,7 @@ pub fn only_services_are_seen()
     ensures bytes { (program : Program) (input : List ℕ) (count : ℕ) → AllByRecursion (λ b. b < 256) (output_of (run program input count)) }
 {}
 
-/// A step makes one change at most: a region opened or closed, an object made, a cell written, a byte printed or read.
+/// A step makes one change at most: a region opened or closed, an object made or freed, a cell written, a byte printed or read.
 pub fn one_change_at_most()
     ensures { (program : Program) (focus : Focus) (stack : List Entry) (e : Environment) (w : World)
         → ChangesIn w (printed_by focus) (read_by focus) (step program (state.Running focus stack e w)) }
@@ -87,14 +87,14 @@ pub fn limited_run_agrees()
 {}
 
 /// No number of a region or an object is used again: a region stays of its sort, and once closed it is closed for good; an object
-/// keeps its owner and the kinds of its cells.
+/// keeps the kinds of its cells and its owner, and once freed it is freed for good.
 pub fn numbers_stay()
     ensures { (program : Program) (count : ℕ) (focus : Focus) (stack : List Entry) (e : Environment) (w : World)
         → StaysIn w (steps program count (state.Running focus stack e w)) }
 {}
 
-/// Regions of variables nest: those that will end are open, each is opened before the next, and variables are made in the
-/// innermost. So no step is dead but a read or a write of a variable.
+/// Regions of blocks and lexical regions nest: those that will end are open, each is opened before the next, and variables are made in
+/// the innermost of blocks. So no step is dead but one that touches a cell, an object or a region by a value.
 pub fn regions_nest()
     ensures nest { (program : Program) (input : List ℕ) (count : ℕ) → Nests (run program input count) }
     ensures dies { (program : Program) (input : List ℕ) (count : ℕ) (focus : Focus) (stack : List Entry) (e : Environment) (w : World)
@@ -102,16 +102,16 @@ pub fn regions_nest()
         → is_access focus stack ≡ true }
 {}
 
-/// An exception that nothing catches leaves all that is under way, one entry a step, and then ends the run; nothing is printed or
+/// An exception that no `try` is round leaves all that is under way, one entry a step, and then ends the run; nothing is printed or
 /// read meanwhile.
 pub fn uncaught_ends()
     ensures { (program : Program) (input : List ℕ) (count tag value : ℕ) (stack : List Entry) (e : Environment) (w : World)
-        → run program input count ≡ state.Running (Throwing tag value) stack e w
+        → run program input count ≡ state.Running (Throwing tag value) stack e w → IsUntried stack
         → run program input (count + suc (length stack)) ≡ state.Ended (Uncaught tag (signed value)) w.output w.input }
 {}
 
-/// A program without regions and blocks of its own asks for the heap's first page and no more.
-pub fn heap_has_one_page()
-    ensures { (program : Program) (input : List ℕ) (count : ℕ) → status_of (run program input count) ≡ GoesOn
-        → demand (run program input count) ≡ 1 }
+/// What each kind of step makes of the demand: opening, closing and making are all that changes it, by the pages of one region or of
+/// the classes of unique blocks.
+pub fn demand_is_counted()
+    ensures { (w new : World) (printed : List ℕ) (count : ℕ) (change : Changes w printed count new) → DemandChanges change }
 {}

@@ -1,6 +1,6 @@
 -- The weight of a typed tree: how many tokens its spelling has at least, for the passes whose output is bounded by it. It counts as
 -- the weight of an abstract syntax tree does. Brackets are gone, and so is what may have been left out: an `else` with an empty
--- statement, the value of a global that is 0, the `void` of an empty list of parameters, labels, regions behind marks, effects and
+-- statement, the value of a global that is 0 or null, the `void` of an empty list of parameters, labels, regions behind marks, effects and
 -- constraints. Structs and exceptions count nothing: they have no code.
 use Rattle.std.specs.Prelude.{ℕ, zero, suc, ◌+◌, Option, None, Some}
 use Rattle.cyc_syntax.specs.Weight.{sum_of, separated_weight, optional_weight}
@@ -116,7 +116,7 @@ abbrev mutual
 abbrev pub constant_weight : Constant → ℕ
 constant_weight (Word zero) = 0
 constant_weight (Word (suc n)) = 2
-constant_weight Null = 2
+constant_weight Null = 0
 
 abbrev pub global_weight : GlobalVariable → ℕ
 global_weight g = 3 + constant_weight g.value

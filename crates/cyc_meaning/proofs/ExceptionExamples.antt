@@ -1,0 +1,128 @@
+-- Worked examples of exceptions, each proved by computation. What each gives is said by the language's rules.
+use Rattle.std.proofs.Common.{◌≡◌, ℕ, List, [], ◌∷◌, Some, None, pos, negsuc, refl}
+use Rattle.cyc_words.specs.Word.{div_of, rem_of}
+use Rattle.cyc_words.specs.Ending.{Returned, Uncaught, Full}
+use Rattle.cyc_types.specs.declared.typed.Kind.TheVariants as kinds
+use Rattle.cyc_types.specs.declared.typed.UnaryOperator.TheVariants as unary
+use Rattle.cyc_types.specs.declared.typed.Operator.TheVariants as operators
+use Rattle.cyc_types.specs.Types.{Ty, Int}
+use Rattle.cyc_types.specs.TypedTrees.{Expression, Number, Counter, Unary, If, Evaluate, Block, Empty, Throw, Case, OnHeap, NoClauses, Items, Execute, Function, Program}
+use Rattle.cyc_types.specs.TypedTrees as typed
+use Rattle.cyc_meaning.specs.State.{HasEnded}
+use Rattle.cyc_meaning.proofs.ExampleTrees.{int, local, two, assign, print, call, items, execute, return, declare, block, while, function, program, program_with, end, printed, long_end, long_printed, limited_end, end_within, printed_within, fat, convert, array, define, when, try_to, case, otherwise, throw}
+
+-- int m = -2147483647 - 1; int d = -1; int z = 0; if (m / d == m) putchar(65); if (m % d == 0) putchar(66);
+-- try putchar(1 / z); catch { case &Div_zero: putchar(67); } return 0;
+abbrev division : Program
+division = program (
+    declare 0 (two (Unary unary.Negate (Number 2147483647)) operators.Subtract (Number 1))
+    ∷ declare 1 (Unary unary.Negate (Number 1))
+    ∷ declare 2 (Number 0)
+    ∷ when (two (two (local 0) operators.Divide (local 1)) operators.Equal (local 0)) (print (Number 65))
+    ∷ when (two (two (local 0) operators.Remainder (local 1)) operators.Equal (Number 0)) (print (Number 66))
+    ∷ try_to (Evaluate (print (two (Number 1) operators.Divide (local 2)))) (case 4 (execute (print (Number 67)) ∷ []) NoClauses)
+    ∷ return (Number 0)
+    ∷ [])
+
+division_end : long_end division ≡ HasEnded (Returned (pos 0))
+unfolding div_of rem_of
+division_end = refl
+
+division_printed : long_printed division ≡ 65 ∷ 66 ∷ 67 ∷ []
+unfolding div_of rem_of
+division_printed = refl
+
+-- datatype exn { A; B(int); }; throw new B(9);
+uncaught : end (program (throw 6 (Some (Number 9)) ∷ [])) ≡ HasEnded (Uncaught 6 (pos 9))
+uncaught = refl
+
+-- throw new A; its int is 0
+uncaught_without_int : end (program (throw 5 None ∷ [])) ≡ HasEnded (Uncaught 5 (pos 0))
+uncaught_without_int = refl
+
+-- datatype exn { A; B; }; try { try throw new A; catch { case &B: putchar(66); } } catch { case &A: putchar(65); } return 0;
+abbrev goes_on : Program
+goes_on = program (
+    try_to (block (try_to (Throw 5 None) (case 6 (execute (print (Number 66)) ∷ []) NoClauses) ∷ [])) (case 5 (execute (print (Number 65)) ∷ []) NoClauses)
+    ∷ return (Number 0)
+    ∷ [])
+
+goes_on_end : end goes_on ≡ HasEnded (Returned (pos 0))
+goes_on_end = refl
+
+goes_on_printed : printed goes_on ≡ 65 ∷ []
+goes_on_printed = refl
+
+-- try { putchar(65); throw new B(7); putchar(66); } catch { case &A: return 1; case &B(v): v = v + 1; return v; default: return 2; }
+-- the second clause catches, and its local is one like others
+second_clause : long_end (program (
+    try_to (block (execute (print (Number 65)) ∷ throw 6 (Some (Number 7)) ∷ execute (print (Number 66)) ∷ []))
+    (case 5 (return (Number 1) ∷ [])
+    (Case 6 (Some 0) 2 (items (execute (assign 0 (two (local 0) operators.Add (Number 1))) ∷ return (local 0) ∷ []))
+    (otherwise (return (Number 2) ∷ []))))
+    ∷ [])) ≡ HasEnded (Returned (pos 8))
+second_clause = refl
+
+-- try throw new C; catch { case &A: return 1; default: return 2; }
+default_clause : end (program (try_to (Throw 7 None) (case 5 (return (Number 1) ∷ []) (otherwise (return (Number 2) ∷ []))) ∷ [])) ≡ HasEnded (Returned (pos 2))
+default_clause = refl
+
+-- try putchar(65); catch { default: putchar(66); } return 3; the end of the body leaves the `try`
+body_ends : end (program (try_to (Evaluate (print (Number 65))) (otherwise (execute (print (Number 66)) ∷ [])) ∷ return (Number 3) ∷ [])) ≡ HasEnded (Returned (pos 3))
+body_ends = refl
+
+-- try throw new A; catch { default: throw new B(1); } a clause is not in its own `try`
+thrown_in_clause : end (program (try_to (Throw 5 None) (otherwise (throw 6 (Some (Number 1)) ∷ [])) ∷ [])) ≡ HasEnded (Uncaught 6 (pos 1))
+thrown_in_clause = refl
+
+-- while (1) try break; catch { default: return 1; } return 2; a break leaves the `try`
+break_leaves : end (program (while (Number 1) (typed.Try typed.Break (otherwise (return (Number 1) ∷ []))) ∷ return (Number 2) ∷ [])) ≡ HasEnded (Returned (pos 2))
+break_leaves = refl
+
+-- the conversion of what is returned is in the `try`: int f(){ try return g / 0; catch { default: return 4; } }
+returned_in_try : end (program (try_to (typed.Return (Some (int (two (Number 1) operators.Divide (Number 0))))) (otherwise (return (Number 4) ∷ [])) ∷ [])) ≡ HasEnded (Returned (pos 4))
+returned_in_try = refl
+
+-- int dig(int n){ if (n == 0) throw new Out(6); return dig(n - 1); }
+abbrev dig : Function
+dig = function (Int ∷ []) (
+    Execute (If (two (local 0) operators.Equal (Number 0)) (Throw 5 (Some (Number 6))) Empty)
+    ∷ return (call 1 (two (local 0) operators.Subtract (Number 1) ∷ []))
+    ∷ [])
+
+-- try s = s + dig(1); catch { case &Out(v): s = s + v; }
+abbrev digs : typed.Item
+digs = try_to (Evaluate (assign 0 (two (local 0) operators.Add (call 1 (Number 1 ∷ []))))) (Case 5 (Some 1) 2 (items (execute (assign 0 (two (local 0) operators.Add (local 1))) ∷ [])) NoClauses)
+
+-- int s = 0; twice the same; return s; a throw leaves calls: with room for three none is left under way
+abbrev digs_twice : Program
+digs_twice = program_with (dig ∷ []) (declare 0 (Number 0) ∷ digs ∷ digs ∷ return (local 0) ∷ [])
+
+digs_end : end_within 1 3 digs_twice ≡ HasEnded (Returned (pos 12))
+digs_end = refl
+
+digs_full : end_within 1 2 digs_twice ≡ HasEnded Full
+digs_full = refl
+
+-- datatype exn { Stop; }; int at(int i){ if (i == 1) throw new Stop; return i; }
+-- try { int ?p = new {for i < 600 : at(i)}; } catch { case &Stop: putchar(120); }
+abbrev stops : typed.Item
+stops = try_to (block (define 0 fat (convert fat fat (array OnHeap fat (Number 600) (call 1 (Counter 0 ∷ [])))) ∷ [])) (case 5 (execute (print (Number 120)) ∷ []) NoClauses)
+
+-- twice: a throw among the elements leaves the block made, so that the second one needs a page more
+abbrev stops_twice : Program
+stops_twice = program_with
+    (function (Int ∷ []) (Execute (If (two (local 0) operators.Equal (Number 1)) (Throw 5 None) Empty) ∷ return (local 0) ∷ []) ∷ [])
+    (stops ∷ stops ∷ return (Number 0) ∷ [])
+
+stops_with_two_pages : end_within 2 2 stops_twice ≡ HasEnded (Returned (pos 0))
+stops_with_two_pages = refl
+
+stops_printed : printed_within 2 2 stops_twice ≡ 120 ∷ 120 ∷ []
+stops_printed = refl
+
+full_with_one_page : end_within 1 2 stops_twice ≡ HasEnded Full
+full_with_one_page = refl
+
+full_with_one_page_printed : printed_within 1 2 stops_twice ≡ 120 ∷ []
+full_with_one_page_printed = refl

@@ -1,0 +1,106 @@
+-- Worked examples of needs and frame counts, each proved by computation; the sums stand beside them.
+use Rattle.std.proofs.Common.{◌≡◌, ℕ, zero, suc, ◌+◌, List, [], ◌∷◌, Some, None, refl}
+use Rattle.cyc_types.specs.declared.region.Region.TheVariants.{Heap}
+use Rattle.cyc_types.specs.declared.typed.Kind.TheVariants as kinds
+use Rattle.cyc_types.specs.declared.typed.Operator.TheVariants as operators
+use Rattle.cyc_types.specs.declared.typed.PointerOperator.TheVariants as pointers
+use Rattle.cyc_types.specs.Types.{Ty, Int, Handle, Key, Void}
+use Rattle.cyc_types.specs.TypedTrees.{Expression, Number, NullPointer, Counter, Load, AddressOf, AddressOfCell, NumberOfElements, FreeKey, New, OnHeap, AsUnique, ByHandle, Array, CellSide, Swap, Evaluate, Throw, NoClauses, DeclareRegion, OpenRegion, Function}
+use Rattle.cyc_types.specs.TypedTrees as typed
+use Rattle.cyc_meaning.specs.FrameCount.{expression_need, statement_need, frame_count}
+use Rattle.cyc_meaning.proofs.ExampleTrees.{here, int, local, two, assign, call, execute, return, function, procedure, star, at, fat, own, convert, null_as, variable, move, target, element, put, set, new, array, apply, side, try_to, case}
+
+-- ---- expressions
+
+-- a = 1: the place, its value, and the result: 3 + 1 + 1
+of_assignment : expression_need (assign 0 (Number 1)) ≡ 5
+of_assignment = refl
+
+-- *p of a thin pointer: the pointer and the int; a place that is read counts nothing more
+of_read : expression_need (Load (target at (variable 0 at))) ≡ 2
+of_read = refl
+
+-- p[i]: 3 + 1 + 1
+of_element : expression_need (Load (element (variable 0 fat) (local 1))) ≡ 5
+of_element = refl
+
+-- p[i] = 1: the place has 3 words behind its operands, 3 + 1 + 3, which is more than 3 + 1 + 1
+of_element_assigned : expression_need (put (element (variable 0 fat) (local 1)) (Number 1)) ≡ 7
+of_element_assigned = refl
+
+-- &x: 3 + 1, and &p[i]: 3 + 1 + 3
+of_address : expression_need (AddressOf (typed.Local here 0) at) ≡ 4
+of_address = refl
+
+of_element_address : expression_need (AddressOfCell (element (variable 0 fat) (local 1)) at) ≡ 7
+of_element_address = refl
+
+-- p == NULL of a fat pointer: 3 + 1 + 1
+of_null_test : expression_need (apply (variable 0 fat) pointers.FatIsNull NullPointer Int) ≡ 5
+of_null_test = refl
+
+-- NULL == p[i] for an int pointer's cell: NULL, and then the need of p[i]: 1 + 5
+of_null_first : expression_need (apply NullPointer pointers.NullIs (Load (element (variable 0 fat) (local 1))) Int) ≡ 6
+of_null_first = refl
+
+-- p + 1: 3 + 1 + 3, and numelts(p): 3 + 1
+of_sum : expression_need (apply (variable 0 fat) pointers.AddFat (Number 1) fat) ≡ 7
+of_sum = refl
+
+of_count : expression_need (NumberOfElements (variable 0 fat)) ≡ 4
+of_count = refl
+
+-- q = p with q fat and p thin: 3 + 3 + 3, the converted operand counts the more of its words
+of_converted : expression_need (set 0 fat (convert at fat (variable 1 at))) ≡ 9
+of_converted = refl
+
+-- new 1: 1 + 1, rnew(h) 1 and rnew(unique_region) 1: 1 + 1 + 1
+of_new : expression_need (new OnHeap at (Number 1)) ≡ 2
+of_new = refl
+
+of_new_by_handle : expression_need (new (ByHandle (variable 0 (Handle Heap))) at (Number 1)) ≡ 3
+of_new_by_handle = refl
+
+of_new_unique : expression_need (new AsUnique own (Number 1)) ≡ 3
+of_new_unique = refl
+
+-- new {for i < n : i}: 4 beside the element, and the element and the pointer: 4 + 1 + 3; behind a handle one more
+of_array : expression_need (array OnHeap fat (local 0) (Counter 0)) ≡ 8
+of_array = refl
+
+of_array_by_handle : expression_need (array (ByHandle (variable 1 (Handle Heap))) fat (local 0) (Counter 0)) ≡ 9
+of_array_by_handle = refl
+
+-- free_ukey(k): the key, and no value
+of_free_key : expression_need (FreeKey (move 0 (Key Heap))) ≡ 1
+of_free_key = refl
+
+-- p[i] :=: x: two places, 3 + 3, and the first with its operands, 3 + 1 + 3
+of_swap : statement_need (Swap (CellSide (element (variable 0 fat) (local 1))) (side 2 Int)) ≡ 7
+of_swap = refl
+
+-- x :=: p[i]: the second behind the first: 3 + 3 + 1 + 3
+of_swap_right : statement_need (Swap (side 2 Int) (CellSide (element (variable 0 fat) (local 1)))) ≡ 10
+of_swap_right = refl
+
+-- ---- functions
+
+-- so many ints
+abbrev ints : ℕ → List Ty
+ints zero = []
+ints (suc n) = Int ∷ ints n
+
+-- a function that only declares 232 ints has a frame of 256 words
+of_ints : frame_count (record (procedure [] []) { locals = ints 232 }) ≡ 256
+of_ints = refl
+
+-- region<`a> h; counts two words for its handle, and region<`k> h = open(k); one: 24 + 1 + 1
+of_lexical : frame_count (record (procedure [] (DeclareRegion 1 0 ∷ [])) { locals = Handle Heap ∷ [] }) ≡ 26
+of_lexical = refl
+
+of_opened : frame_count (record (procedure [] (OpenRegion 1 1 here 0 ∷ [])) { locals = Handle Heap ∷ [] }) ≡ 25
+of_opened = refl
+
+-- try throw new A; catch { case &A: try ; catch { default: ; } } counts six words twice: 24 + 12
+of_tries : frame_count (procedure [] (try_to (Throw 5 None) (case 5 (try_to typed.Empty (typed.Default 2 typed.NoItems) ∷ []) NoClauses) ∷ [])) ≡ 36
+of_tries = refl

@@ -1,0 +1,151 @@
+-- Regions of blocks and lexical regions nest: what opening, closing, calling and returning make of that, and making objects.
+use Rattle.std.proofs.Common.{◌≡◌, ℕ, zero, suc, ◌+◌, ◌≤◌, Bool, true, false, List, [], ◌∷◌, ◌++◌, set, length, Option, Some, None, refl, sym, ap, subst, ◌∙◌, arith, length-append}
+use Rattle.std.specs.Prelude.{◌≢◌, if◌then◌else◌, slice_get}
+use Rattle.std.proofs.lemmas.List.{length-set}
+use Rattle.cyc_meaning.specs.Values.{Cell, block_size}
+use Rattle.cyc_meaning.specs.State.{Sort, Heap, Globals, Stack, Lexical, Dynamic, Region, World, Access, Found, Closed, Missing, found_region, region_at, globals_number, new_region, stack_region, opened, opened_as, closed, Environment, no_locals, Entry, Needs, NeedsPlace, Discard, Rest, Join, Loop, CloseRegion, CloseLexical, EndLoan, Handler, Caller, Main}
+use Rattle.cyc_meaning.specs.Parts.{inside, region_end}
+use Rattle.cyc_meaning.specs.Objects.{made_in}
+use Rattle.cyc_meaning.specs.Nesting.{ends_of, IsScoped, IsFound, AreOpen, AreBelow, IsHome, IsNested}
+use Rattle.cyc_meaning.proofs.ListLemmas.{slice_get-end, slice_get-set_other}
+
+-- ---- what is found
+
+region_is : (o : Option Region) (r : Region) → found_region o ≡ Found r → o ≡ Some r
+region_is None r found = absurd (let e : Missing ≡ Found r = found in cc)
+region_is (Some s) r found = go s.is_open refl
+  where
+    go : (b : Bool) → s.is_open ≡ b → Some s ≡ Some r
+    go true e =
+        let k : Found s ≡ Found r = ap (λ (b : Bool). if b then Found s else Closed) (sym e) ∙ found in
+        let h : s ≡ r = cc in ap (λ t. Some t) h
+    go false e = absurd (let k : Closed ≡ Found r = ap (λ (b : Bool). if b then Found s else Closed) (sym e) ∙ found in cc)
+
+pub region_found : (w : World) (number : ℕ) (r : Region) → region_at w number ≡ Found r → slice_get w.regions number ≡ Some r
+region_found w number r found = region_is (slice_get w.regions number) r found
+
+-- ---- regions
+
+still_there : (regions more : List Region) (n : ℕ) → IsFound (found_region (slice_get regions n)) → IsFound (found_region (slice_get (regions ++ more) n))
+still_there [] more n found = absurd found
+still_there (r ∷ regions) more zero found = found
+still_there (r ∷ regions) more (suc n) found = still_there regions more n found
+
+pub still_open : (regions more : List Region) (ns : List ℕ) → AreOpen regions ns → AreOpen (regions ++ more) ns
+still_open regions more [] h = tt
+still_open regions more (n ∷ ns) (found, h) = (still_there regions more n found, still_open regions more ns h)
+
+below_more : (ns : List ℕ) (bound more : ℕ) → bound ≤ more → AreBelow bound ns → AreBelow more ns
+below_more [] bound more less h = tt
+below_more (n ∷ ns) bound more less (first, h) = (omega (arith, first, less), h)
+
+-- those below a region stay open where it is closed
+open_below : (regions : List Region) (number : ℕ) (r : Region) (ns : List ℕ) → AreBelow number ns → AreOpen regions ns → AreOpen (set regions number r) ns
+open_below regions number r [] below h = tt
+open_below regions number r (n ∷ ns) (less, below) (found, h) =
+    let other : n ≢ number = λ e. (let k : n ≡ number = e in absurd (omega (arith, less, k))) in (
+      subst (λ (o : Option Region). IsFound (found_region o)) (sym (slice_get-set_other regions number n r other)) found,
+      open_below regions number r ns (below_more ns n number (omega (arith, less)) below) h,
+    )
+
+-- where a region is replaced by one that is found as well
+set_found : (regions : List Region) (number n : ℕ) (r s : Region) → slice_get regions number ≡ Some r → (IsFound (found_region (Some r)) → IsFound (found_region (Some s)))
+    → IsFound (found_region (slice_get regions n)) → IsFound (found_region (slice_get (set regions number s) n))
+set_found [] number n r s at keep found = absurd found
+set_found (x ∷ regions) zero zero r s at keep found = keep (subst (λ (o : Option Region). IsFound (found_region o)) at found)
+set_found (x ∷ regions) zero (suc n) r s at keep found = found
+set_found (x ∷ regions) (suc number) zero r s at keep found = found
+set_found (x ∷ regions) (suc number) (suc n) r s at keep found = set_found regions number n r s at keep found
+
+set_open : (regions : List Region) (number : ℕ) (r s : Region) (ns : List ℕ) → slice_get regions number ≡ Some r → (IsFound (found_region (Some r)) → IsFound (found_region (Some s))) → AreOpen regions ns → AreOpen (set regions number s) ns
+set_open regions number r s [] at keep h = tt
+set_open regions number r s (n ∷ ns) at keep (found, h) = (set_found regions number n r s at keep found, set_open regions number r s ns at keep h)
+
+globals_found : (regions : List Region) (stack : List Entry) → AreOpen regions (ends_of stack) → IsFound (found_region (slice_get regions globals_number))
+globals_found regions [] h = h.0
+globals_found regions (CloseRegion region home ∷ stack) h = globals_found regions stack h.1
+globals_found regions (CloseLexical region ∷ stack) h = globals_found regions stack h.1
+globals_found regions (entry ∷ stack) h = globals_found regions stack h
+
+-- variables are made in an open region
+pub home_found : (regions : List Region) (home : ℕ) (stack : List Entry) → IsHome home stack → AreOpen regions (ends_of stack) → IsFound (found_region (slice_get regions home))
+home_found regions home [] is h = subst (λ (n : ℕ). IsFound (found_region (slice_get regions n))) (sym is) h.0
+home_found regions home (CloseRegion region outer ∷ stack) is h = subst (λ (n : ℕ). IsFound (found_region (slice_get regions n))) (sym is.0) h.0
+home_found regions home (CloseLexical region ∷ stack) is h = home_found regions home stack is h.1
+home_found regions home (Caller outer ∷ stack) is h = subst (λ (n : ℕ). IsFound (found_region (slice_get regions n))) (sym is.0) (globals_found regions stack h)
+home_found regions home (entry ∷ stack) is h = home_found regions home stack is h
+
+-- ---- opening, closing, calling and returning
+
+opened_open : (sort : Sort) (stack : List Entry) (w : World) → AreOpen w.regions (ends_of stack) → AreOpen (opened_as sort w).regions (ends_of stack)
+opened_open sort stack w h = still_open w.regions (new_region sort ∷ []) (ends_of stack) h
+
+newest_found : (sort : Sort) (w : World) → IsScoped sort → IsFound (found_region (slice_get (opened_as sort w).regions (length w.regions)))
+newest_found sort w scoped = subst (λ (o : Option Region). IsFound (found_region o)) (sym (slice_get-end w.regions (new_region sort))) scoped
+
+pub nested_opened : (stack : List Entry) (e : Environment) (w : World) → IsNested stack e w → IsNested (region_end e w ∷ stack) (inside e w) (opened w)
+nested_opened stack e w (open_all, below, is) = (
+  (newest_found Stack w tt, opened_open Stack stack w open_all),
+  (omega (arith, length-append w.regions (stack_region ∷ [])), below),
+  (refl, is),
+)
+
+pub nested_lexical : (stack : List Entry) (e : Environment) (w : World) → IsNested stack e w → IsNested (CloseLexical (length w.regions) ∷ stack) e (opened_as Lexical w)
+nested_lexical stack e w (open_all, below, is) = (
+  (newest_found Lexical w tt, opened_open Lexical stack w open_all),
+  (omega (arith, length-append w.regions (new_region Lexical ∷ [])), below),
+  is,
+)
+
+pub nested_dynamic : (stack : List Entry) (e : Environment) (w : World) → IsNested stack e w → IsNested stack e (opened_as Dynamic w)
+nested_dynamic stack e w (open_all, below, is) = (
+  opened_open Dynamic stack w open_all,
+  below_more (ends_of stack) (length w.regions) (length (w.regions ++ new_region Dynamic ∷ [])) (omega (arith, length-append w.regions (new_region Dynamic ∷ []))) below,
+  is,
+)
+
+below_closed : (region number : ℕ) (r : Region) (ns : List ℕ) (w : World) → AreBelow region ns → AreBelow (length w.regions) (region ∷ ns) → AreBelow (length (closed w number r).regions) ns
+below_closed region number r ns w below (less, rest) =
+    below_more ns region (length (set w.regions number (record r { is_open = false }))) (omega (arith, less, length-set w.regions number (record r { is_open = false }))) below
+
+pub nested_closed : (region home : ℕ) (r : Region) (stack : List Entry) (e : Environment) (w : World) → IsNested (CloseRegion region home ∷ stack) e w → IsNested stack (record e { home = home }) (closed w region r)
+nested_closed region home r stack e w ((found, open_all), (less, below), (same, is)) = (
+  open_below w.regions region (record r { is_open = false }) (ends_of stack) below open_all,
+  below_closed region region r (ends_of stack) w below (less, below),
+  is,
+)
+
+pub nested_closed_lexical : (region : ℕ) (r : Region) (stack : List Entry) (e : Environment) (w : World) → IsNested (CloseLexical region ∷ stack) e w → IsNested stack e (closed w region r)
+nested_closed_lexical region r stack e w ((found, open_all), (less, below), is) = (
+  open_below w.regions region (record r { is_open = false }) (ends_of stack) below open_all,
+  below_closed region region r (ends_of stack) w below (less, below),
+  is,
+)
+
+-- a region that no scope ends is closed
+pub nested_closed_dynamic : (number : ℕ) (r : Region) (stack : List Entry) (e : Environment) (w : World) → region_at w number ≡ Found r → (IsScoped r.sort → ⊥) → IsNested stack e w → IsNested stack e (closed w number r)
+nested_closed_dynamic number r stack e w found free (open_all, below, is) =
+    let there : slice_get w.regions number ≡ Some r = region_found w number r found in
+    let here : found_region (Some r) ≡ Found r = sym (ap found_region there) ∙ found in (
+      set_open w.regions number r (record r { is_open = false }) (ends_of stack) there (λ scoped. absurd (free (subst IsFound here scoped))) open_all,
+      below_more (ends_of stack) (length w.regions) (length (set w.regions number (record r { is_open = false }))) (omega (arith, length-set w.regions number (record r { is_open = false }))) below,
+      is,
+    )
+
+with_blocks : (r : Region) (blocks : List ℕ) (b : Bool) → IsFound (if b then Found r else Closed) → IsFound (if b then Found (record r { blocks = blocks }) else Closed)
+with_blocks r blocks true scoped = scoped
+with_blocks r blocks false scoped = scoped
+
+pub nested_made_in : (number : ℕ) (r : Region) (cells : List Cell) (stack : List Entry) (e : Environment) (w : World) → region_at w number ≡ Found r → IsNested stack e w → IsNested stack e (made_in w number r cells)
+nested_made_in number r cells stack e w found (open_all, below, is) =
+    let s : Region = record r { blocks = r.blocks ++ block_size cells ∷ [] } in (
+      set_open w.regions number r s (ends_of stack) (region_found w number r found) (with_blocks r (r.blocks ++ block_size cells ∷ []) r.is_open) open_all,
+      below_more (ends_of stack) (length w.regions) (length (set w.regions number s)) (omega (arith, length-set w.regions number s)) below,
+      is,
+    )
+
+pub nested_call : (stack : List Entry) (e : Environment) (w : World) → IsNested stack e w → IsNested (Caller e ∷ stack) no_locals w
+nested_call stack e w (open_all, below, is) = (open_all, below, (refl, is))
+
+pub nested_return : (stack : List Entry) (e outer : Environment) (w : World) → IsNested (Caller outer ∷ stack) e w → IsNested stack outer w
+nested_return stack e outer w (open_all, below, (same, is)) = (open_all, below, is)

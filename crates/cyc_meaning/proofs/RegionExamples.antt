@@ -1,0 +1,121 @@
+-- Worked examples of regions and keys, each proved by computation. What each gives is said by the language's rules.
+use Rattle.std.proofs.Common.{◌≡◌, ℕ, List, [], ◌∷◌, Some, None, pos, negsuc, refl}
+use Rattle.cyc_words.specs.Ending.{Returned, Uncaught, Full}
+use Rattle.cyc_types.specs.declared.region.Region.TheVariants.{Heap, Variable}
+use Rattle.cyc_types.specs.declared.typed.Kind.TheVariants as kinds
+use Rattle.cyc_types.specs.declared.typed.Operator.TheVariants as operators
+use Rattle.cyc_types.specs.declared.typed.PointerOperator.TheVariants as pointers
+use Rattle.cyc_types.specs.Types.{Ty, Int, Handle, Key}
+use Rattle.cyc_types.specs.TypedTrees.{Expression, Number, NullPointer, HeapRegion, Load, FreeKey, If, Throw, Empty, Evaluate, Block, Case, NoClauses, ByHandle, Placement, Execute, DeclareRegion, OpenRegion, DeclareKey, Function, Program}
+use Rattle.cyc_types.specs.TypedTrees as typed
+use Rattle.cyc_meaning.specs.State.{HasEnded}
+use Rattle.cyc_meaning.proofs.ExampleTrees.{here, int, local, two, assign, print, call, items, execute, return, declare, block, while, function, program, program_with, end, long_end, long_printed, end_within, star, at, convert, null_as, variable, move, target, put, set, new, apply, define, try_to, case, otherwise}
+
+abbrev handle : ℕ → Expression
+handle number = variable number (Handle Heap)
+
+-- where the handle in a local says
+abbrev by : ℕ → Placement
+by number = ByHandle (handle number)
+
+abbrev free_key : ℕ → typed.Item
+free_key number = execute (FreeKey (move number (Key Heap)))
+
+-- int @p = rnew(heap_region) 4; return *p;
+in_the_heap : end (program (define 0 at (convert at at (new (ByHandle HeapRegion) at (Number 4))) ∷ return (Load (target at (variable 0 at))) ∷ [])) ≡ HasEnded (Returned (pos 4))
+in_the_heap = refl
+
+-- ---- lexical regions
+
+-- region<`a> h; int @`a p = rnew(h) 3; return *p;
+lexical : end (program (DeclareRegion 1 0 ∷ define 1 at (convert at at (new (by 0) at (Number 3))) ∷ return (Load (target at (variable 1 at))) ∷ [])) ≡ HasEnded (Returned (pos 3))
+lexical = refl
+
+-- { region<`a> h; rnew(h) 7; }
+abbrev in_a_block : typed.Item
+in_a_block = Execute (block (DeclareRegion 2 0 ∷ execute (new (by 0) at (Number 7)) ∷ []))
+
+-- twice: a lexical region's pages are given back at the end of its block
+regions_in_turn : end_within 2 1 (program (in_a_block ∷ in_a_block ∷ return (Number 0) ∷ [])) ≡ HasEnded (Returned (pos 0))
+regions_in_turn = refl
+
+regions_in_turn_full : end_within 1 1 (program (in_a_block ∷ in_a_block ∷ return (Number 0) ∷ [])) ≡ HasEnded Full
+regions_in_turn_full = refl
+
+-- datatype exn { Out(int); };
+-- int dig(int n){ if (n == 0) { region<`a> x; int @`a p = rnew(x) 1; region<`b> y; int @`b q = rnew(y) 2; region<`c> z;
+--   int @`c r = rnew(z) 3; throw new Out(*p + *q + *r); } return dig(n - 1); }
+abbrev dig : Function
+dig = function (Int ∷ []) (
+    Execute (If (two (local 0) operators.Equal (Number 0)) (block (
+    DeclareRegion 2 1
+    ∷ define 2 at (convert at at (new (by 1) at (Number 1)))
+    ∷ DeclareRegion 3 3
+    ∷ define 4 at (convert at at (new (by 3) at (Number 2)))
+    ∷ DeclareRegion 4 5
+    ∷ define 6 at (convert at at (new (by 5) at (Number 3)))
+    ∷ Execute (Throw 5 (Some (two (two (Load (target at (variable 2 at))) operators.Add (Load (target at (variable 4 at)))) operators.Add (Load (target at (variable 6 at))))))
+    ∷ [])) Empty)
+    ∷ return (call 1 (two (local 0) operators.Subtract (Number 1) ∷ []))
+    ∷ [])
+
+-- try s = s + dig(0); catch { case &Out(v): s = s + v; }
+abbrev digs : typed.Item
+digs = try_to (Evaluate (assign 0 (two (local 0) operators.Add (call 1 (Number 0 ∷ []))))) (Case 5 (Some 1) 2 (items (execute (assign 0 (two (local 0) operators.Add (local 1))) ∷ [])) NoClauses)
+
+-- int s = 0; twice the same; return s; a throw out of a call and 3 regions closes them: the heap's page and three more are enough
+abbrev digs_twice : Program
+digs_twice = program_with (dig ∷ []) (declare 0 (Number 0) ∷ digs ∷ digs ∷ return (local 0) ∷ [])
+
+digs_end : end_within 4 2 digs_twice ≡ HasEnded (Returned (pos 12))
+digs_end = refl
+
+digs_full : end_within 3 2 digs_twice ≡ HasEnded Full
+digs_full = refl
+
+-- ---- dynamic regions
+
+-- let NewDynamicRegion{<`k> k} = new_ukey(); int *`k p = NULL; { region<`k> h = open(k); p = rnew(h) 1; } free_ukey(k);
+abbrev opened_and_freed : List typed.Item → Program
+opened_and_freed after = program (
+    DeclareKey 1 0
+    ∷ define 1 star (null_as star)
+    ∷ Execute (block (
+    OpenRegion 1 2 here 0
+    ∷ execute (set 1 star (convert at star (new (by 2) at (Number 1))))
+    ∷ []))
+    ∷ free_key 0
+    ∷ after)
+
+-- return p == NULL; a stale pointer is not null
+stale_is_not_null : long_end (opened_and_freed (return (apply (variable 1 star) pointers.ThinIsNull NullPointer Int) ∷ [])) ≡ HasEnded (Returned (pos 0))
+stale_is_not_null = refl
+
+-- let NewDynamicRegion{<`k> k} = new_ukey(); try { region<`k> h = open(k); putchar(65); } catch { default: return 1; } free_ukey(k); return 0;
+abbrev opened_in_try : Program
+opened_in_try = program (
+    DeclareKey 1 0
+    ∷ try_to (block (OpenRegion 1 1 here 0 ∷ execute (print (Number 65)) ∷ [])) (otherwise (return (Number 1) ∷ []))
+    ∷ free_key 0
+    ∷ return (Number 0)
+    ∷ [])
+
+opened_in_try_end : long_end opened_in_try ≡ HasEnded (Returned (pos 0))
+opened_in_try_end = refl
+
+opened_in_try_printed : long_printed opened_in_try ≡ 65 ∷ []
+opened_in_try_printed = refl
+
+-- a dynamic region needs its page from `new_ukey` to `free_ukey`
+key_needs_a_page : end_within 1 1 opened_in_try ≡ HasEnded Full
+key_needs_a_page = refl
+
+-- the region stays open behind the block that opened it, and is open again in the next one
+opened_twice : long_end (program (
+    DeclareKey 1 0
+    ∷ define 1 star (null_as star)
+    ∷ Execute (block (OpenRegion 1 2 here 0 ∷ execute (set 1 star (convert at star (new (by 2) at (Number 1)))) ∷ []))
+    ∷ Execute (block (OpenRegion 1 3 here 0 ∷ execute (put (target star (variable 1 star)) (two (Load (target star (variable 1 star))) operators.Add (Number 8))) ∷ []))
+    ∷ return (Load (target star (variable 1 star)))
+    ∷ [])) ≡ HasEnded (Returned (pos 9))
+opened_twice = refl

@@ -1,0 +1,73 @@
+-- What is computed with pointers. (Fat pointers are the Cyclone User's Manual's, 1.0: a part of an object with its bounds, which only an
+-- access checks. That arithmetic wraps, and the order of the checks, are this project's own choice.)
+use Rattle.std.specs.Prelude.{ℕ, ◌+◌, ◌-◌, Bool, true, false, not, nat_lt, nat_le, if◌then◌else◌}
+use Rattle.cyc_words.specs.Word.{add_of, sub_of}
+use Rattle.cyc_types.specs.declared.typed.Kind.{Kind}
+use Rattle.cyc_types.specs.declared.typed.Kind.TheVariants as kinds
+use Rattle.cyc_types.specs.declared.typed.PointerOperator.{PointerOperator}
+use Rattle.cyc_types.specs.declared.typed.PointerOperator.TheVariants as operators
+use Rattle.cyc_meaning.specs.Values.{Value, Int, Null, Thin, Fat, Handle, Key, is_kind, is_thin}
+use Rattle.cyc_meaning.specs.Operators.{Result, Gives, Raises, Misfits, null_exception, array_bounds, truth}
+
+-- ---- arithmetic
+
+-- Arithmetic changes the index alone, and leaves null null.
+abbrev pub moved : (ℕ → ℕ) → Value → Result
+moved change Null = Gives Null
+moved change (Fat object start count index) = Gives (Fat object start count (change index))
+moved change value = Misfits
+
+-- The number of elements from the index on: the length minus the index where the index is 0 to the length, else 0. An index below 0 is
+-- a word of 2 ^ 31 and more, and no object has so many cells.
+abbrev pub element_count : Value → Result
+element_count Null = Gives (Int 0)
+element_count (Fat object start count index) = Gives (Int (if nat_le index count then count - index else 0))
+element_count value = Misfits
+
+-- ---- tests
+
+abbrev pub null_test : (negated : Bool) → Value → Result
+null_test negated Null = Gives (Int (truth (not negated)))
+null_test negated (Thin object offset) = Gives (Int (truth negated))
+null_test negated (Fat object start count index) = Gives (Int (truth negated))
+null_test negated value = Misfits
+
+-- Two thin pointers are compared where their objects are at hand.
+abbrev pub pointer_result : PointerOperator → (left right : Value) → Result
+pointer_result operators.AddFat left (Int n) = moved (λ index. add_of index n) left
+pointer_result operators.SubtractFat left (Int n) = moved (λ index. sub_of index n) left
+pointer_result operators.ThinIsNull left Null = null_test false left
+pointer_result operators.ThinIsNotNull left Null = null_test true left
+pointer_result operators.FatIsNull left Null = null_test false left
+pointer_result operators.FatIsNotNull left Null = null_test true left
+pointer_result operators.NullIs Null right = null_test false right
+pointer_result operators.NullIsNot Null right = null_test true right
+pointer_result operator left right = Misfits
+
+-- the kind of what an operator gives, and whether its left operand may have a kind
+abbrev pub result_kind : PointerOperator → Kind
+result_kind operators.AddFat = kinds.Fat
+result_kind operators.SubtractFat = kinds.Fat
+result_kind operator = kinds.Int
+
+abbrev pub takes_kind : PointerOperator → Kind → Bool
+takes_kind operators.AddFat kind = is_kind kind kinds.Fat
+takes_kind operators.SubtractFat kind = is_kind kind kinds.Fat
+takes_kind operators.FatIsNull kind = is_kind kind kinds.Fat
+takes_kind operators.FatIsNotNull kind = is_kind kind kinds.Fat
+takes_kind operator kind = is_thin kind
+
+-- ---- the cell that a pointer leads to
+
+pub data Reach : Type 0 where
+  At : (object offset : ℕ) → Reach
+  -- an exception of this tag is raised
+  Stops : (tag : ℕ) → Reach
+  Nowhere : Reach
+
+-- An access through null raises an exception, and so does one through a fat pointer whose index is not from 0 to below the length.
+abbrev pub followed : Value → Reach
+followed Null = Stops null_exception
+followed (Thin object offset) = At object offset
+followed (Fat object start count index) = if nat_lt index count then At object (start + index) else Stops array_bounds
+followed value = Nowhere

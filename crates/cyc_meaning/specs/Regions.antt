@@ -1,0 +1,93 @@
+-- Lexical and dynamic regions, keys, aliases, and unique objects that are given back. Leaving a block by any way closes its lexical
+-- regions, newest first, and then its own. A dynamic region is made by `new_ukey` and closed by `free_ukey` alone: `open` closes
+-- nothing at its block's end. (Grossman et al. 2002, and the Cyclone User's Manual, 1.0, on dynamic regions and unique pointers.)
+use Rattle.std.specs.Prelude.{ℕ, ◌==◌, Bool, true, false, if◌then◌else◌, List, ◌∷◌, length, Option, Some, None, slice_get}
+use Rattle.cyc_types.specs.declared.typed.Kind.{Kind}
+use Rattle.cyc_types.specs.declared.typed.Kind.TheVariants as kinds
+use Rattle.cyc_types.specs.TypedTrees.{Items}
+use Rattle.cyc_meaning.specs.Values.{Value, Null, Thin, Fat, Handle, Key, Operand}
+use Rattle.cyc_meaning.specs.State.{Sort, Lexical, Dynamic, Region, Owner, InRegion, Unique, Object, World, Access, Found, Closed, Missing, region_at, opened_as, closed, Environment, OpenBy, AliasOf, Entry, Needs, Rest, CloseLexical, EndLoan, Focus, Proceeding, Naming, State, Running}
+use Rattle.cyc_meaning.specs.State as state
+use Rattle.cyc_meaning.specs.Objects.{freed}
+use Rattle.cyc_meaning.specs.Parts.{dead, wrong, loaded_from, declared}
+
+abbrev pub is_dynamic : Sort → Bool
+is_dynamic Dynamic = true
+is_dynamic sort = false
+
+-- a local that holds something from the start, and what is left of its block
+abbrev pub step_naming : (number : ℕ) → Operand → Items → List Entry → Environment → World → State
+step_naming number operand items stack e w =
+    declared (region_at w e.home) Proceeding number operand.kind (Some operand.value) (Rest items ∷ stack) e w
+
+-- ---- lexical regions
+
+-- the region is opened, and then its handle is made, which is a local of the block
+abbrev pub opens_lexical : (number : ℕ) → Items → List Entry → Environment → World → State
+opens_lexical number items stack e w =
+    Running (Naming number (record { kind = kinds.Handle; value = Handle (length w.regions) }) items) (CloseLexical (length w.regions) ∷ stack) e (opened_as Lexical w)
+
+abbrev pub closing_lexical : Access Region → Focus → (region : ℕ) → List Entry → Environment → World → State
+closing_lexical (Found r) focus region stack e w = Running focus stack e (closed w region r)
+closing_lexical Closed focus region stack e w = dead w
+closing_lexical Missing focus region stack e w = wrong w
+
+-- ---- dynamic regions
+
+-- `new_ukey` opens a region, and its key is a local
+abbrev pub opens_dynamic : (number : ℕ) → Items → List Entry → Environment → World → State
+opens_dynamic number items stack e w =
+    Running (Naming number (record { kind = kinds.Key; value = Key (length w.regions) }) items) stack e (opened_as Dynamic w)
+
+-- `open` reads the key of a region that is open, and a local becomes the region's handle: the key is lent to the end of the block
+abbrev pub opens_by_key : (number key : ℕ) → Items → List Entry → Environment → World → State
+opens_by_key number key items stack e w = loaded_from kinds.Key (e.locals key) (Needs (OpenBy number key items) ∷ stack) e w
+
+abbrev pub opened_by : Access Region → (region number lent : ℕ) → Items → List Entry → Environment → World → State
+opened_by (Found r) region number lent items stack e w =
+    if is_dynamic r.sort
+    then Running (Naming number (record { kind = kinds.Handle; value = Handle region }) items) (EndLoan lent ∷ stack) e w
+    else wrong w
+opened_by Closed region number lent items stack e w = dead w
+opened_by Missing region number lent items stack e w = wrong w
+
+abbrev pub opens_with : (number lent : ℕ) → Items → (key : Value) → List Entry → Environment → World → State
+opens_with number lent items (Key region) stack e w = opened_by (region_at w region) region number lent items stack e w
+opens_with number lent items value stack e w = wrong w
+
+-- `free_ukey` closes the region of a key
+abbrev pub closes_dynamic : Access Region → (region : ℕ) → List Entry → Environment → World → State
+closes_dynamic (Found r) region stack e w = if is_dynamic r.sort then Running Proceeding stack e (closed w region r) else wrong w
+closes_dynamic Closed region stack e w = dead w
+closes_dynamic Missing region stack e w = wrong w
+
+abbrev pub closes_with : (key : Value) → List Entry → Environment → World → State
+closes_with (Key region) stack e w = closes_dynamic (region_at w region) region stack e w
+closes_with value stack e w = wrong w
+
+-- ---- aliases
+
+-- the unique pointer of a local is read, and another local holds it too: the first one is lent to the end of the block
+abbrev pub aliases : (number : ℕ) → Kind → (source : ℕ) → Items → List Entry → Environment → World → State
+aliases number kind source items stack e w = loaded_from kind (e.locals source) (Needs (AliasOf number source items) ∷ stack) e w
+
+abbrev pub aliased : (number lent : ℕ) → Items → Operand → List Entry → Environment → World → State
+aliased number lent items operand stack e w = Running (Naming number operand items) (EndLoan lent ∷ stack) e w
+
+-- ---- unique objects that are given back
+
+-- `ufree` gives back a whole unique object, whatever the index of a fat pointer to it. That of null does nothing.
+abbrev pub frees_owned : Owner → (number : ℕ) → Object → List Entry → Environment → World → State
+frees_owned (InRegion region) number x stack e w = wrong w
+frees_owned (Unique true) number x stack e w = Running Proceeding stack e (freed w number x)
+frees_owned (Unique false) number x stack e w = dead w
+
+abbrev pub frees_object : Option Object → (number : ℕ) → List Entry → Environment → World → State
+frees_object (Some x) number stack e w = frees_owned x.owner number x stack e w
+frees_object None number stack e w = wrong w
+
+abbrev pub frees : Value → List Entry → Environment → World → State
+frees Null stack e w = Running Proceeding stack e w
+frees (Thin object offset) stack e w = if offset == 0 then frees_object (slice_get w.objects object) object stack e w else wrong w
+frees (Fat object start count index) stack e w = if start == 0 then frees_object (slice_get w.objects object) object stack e w else wrong w
+frees value stack e w = wrong w
