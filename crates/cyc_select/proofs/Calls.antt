@@ -19,6 +19,7 @@ use Rattle.cyc_plain.proofs.SlotLaws.{put-same, copied-inside, copied-above}
 use Rattle.cyc_frame.specs.Layout.{AreFrames, frame_at, slot_word}
 use Rattle.cyc_frame.specs.declared.frame.Frame.{Frame}
 use Rattle.cyc_select.specs.declared.code.Line.{Line}
+use Rattle.cyc_select.specs.declared.code.Condition.TheVariants as conditions
 use Rattle.cyc_select.specs.declared.code.Line.TheVariants as lines
 use Rattle.cyc_select.specs.Labelled.{Labelled, IsFormed, AreAddresses}
 use Rattle.cyc_select.specs.Machine as labelled
@@ -79,10 +80,10 @@ module _ (program : Program) (well : IsWellFormed program) (frames : List Frame)
   at_full : Stands code (here + 1) (ordinary (small 2 11 ∷ syscall ∷ []))
   at_full =
       stands_front code (here + 1) (ordinary (small 2 11 ∷ syscall ∷ [])) (ordinary entry ++ (ordinary passed ++ call_line))
-      (stands_back code here (lines.Branch branch.NotEqual (register_of 30) (register_of 0) (here + 3) ∷ []) (ordinary (small 2 11 ∷ syscall ∷ entry) ++ (ordinary passed ++ call_line)) stands)
+      (stands_back code here (lines.Branch (conditions.Registers branch.NotEqual (register_of 30) (register_of 0)) (here + 3) ∷ []) (ordinary (small 2 11 ∷ syscall ∷ entry) ++ (ordinary passed ++ call_line)) stands)
 
   at_entry : Stands code (here + 3) (ordinary entry ++ (ordinary passed ++ call_line))
-  at_entry = stands_back code here (lines.Branch branch.NotEqual (register_of 30) (register_of 0) (here + 3) ∷ ordinary (small 2 11 ∷ syscall ∷ [])) (ordinary entry ++ (ordinary passed ++ call_line)) stands
+  at_entry = stands_back code here (lines.Branch (conditions.Registers branch.NotEqual (register_of 30) (register_of 0)) (here + 3) ∷ ordinary (small 2 11 ∷ syscall ∷ [])) (ordinary entry ++ (ordinary passed ++ call_line)) stands
 
   at_passed : Stands code (here + 3 + 3) (ordinary passed ++ call_line)
   at_passed = stands_back code (here + 3) (ordinary entry) (ordinary passed ++ call_line) at_entry
@@ -284,11 +285,11 @@ module _ (program : Program) (well : IsWellFormed program) (frames : List Frame)
   call_goes = elim (cases_eq (r 30) 0) [
     | inl none ↦
         let stays : (if not (r 30 == r 0) then here + 3 else here + 1) ≡ here + 1 = ap (λ (b : Bool). if not b then here + 3 else here + 1) (eq-eqb (r 30) (r 0) (none ∙ sym s.zero_is)) in
-        walk_branch code formed addresses globals_length (words_per_call * calls) 0 here here (here + (7 + 2 * count)) c.output c.input _ r w run branch.NotEqual (register_of 30) (register_of 0) (here + 3) (here + 1) now stands.0 (omega arith) stays
+        walk_branch code formed addresses globals_length (words_per_call * calls) 0 here here (here + (7 + 2 * count)) c.output c.input _ r w run (conditions.Registers branch.NotEqual (register_of 30) (register_of 0)) (here + 3) (here + 1) now stands.0 (omega arith) stays
         (λ d later. full_goes d none later)
     | inr other ↦
         let leaps : (if not (r 30 == r 0) then here + 3 else here + 1) ≡ here + 3 = ap (λ (b : Bool). if not b then here + 3 else here + 1) (ne_eqb (r 30) (r 0) (λ e. other (e ∙ s.zero_is))) in
-        walk_branch code formed addresses globals_length (words_per_call * calls) 0 here here (here + (7 + 2 * count)) c.output c.input _ r w run branch.NotEqual (register_of 30) (register_of 0) (here + 3) (here + 3) now stands.0 (omega arith) leaps
+        walk_branch code formed addresses globals_length (words_per_call * calls) 0 here here (here + (7 + 2 * count)) c.output c.input _ r w run (conditions.Registers branch.NotEqual (register_of 30) (register_of 0)) (here + 3) (here + 3) now stands.0 (omega arith) leaps
         (λ d later. room_goes (positive (r 30) other) d later)
   ]
     where

@@ -20,6 +20,7 @@ use Rattle.cyc_plain.proofs.SlotLaws.{put-same, put-other, copied-inside, copied
 use Rattle.cyc_frame.specs.Layout.{AreFrames, frame_at}
 use Rattle.cyc_frame.specs.declared.frame.Frame.{Frame}
 use Rattle.cyc_select.specs.declared.code.Line.{Line}
+use Rattle.cyc_select.specs.declared.code.Condition.TheVariants as conditions
 use Rattle.cyc_select.specs.declared.code.Line.TheVariants as lines
 use Rattle.cyc_select.specs.Labelled.{Labelled, IsFormed, AreAddresses}
 use Rattle.cyc_select.specs.Machine as labelled
@@ -266,18 +267,18 @@ module _ (program : Program) (well : IsWellFormed program) (frames : List Frame)
   main_goes main stands_here [] under (last, is_back, is_main) =
       let stays : (if not (r 31 == r 0) then here + 4 else here + 1) ≡ here + 1 = ap (λ (b : Bool). if not b then here + 4 else here + 1) (eq-eqb (r 31) (r 0) (is_back ∙ sym s.zero_is)) in
       let one : results ≡ 1 = ap (λ (f : ℕ). (routine_at program f).results) is_main ∙ well.main_results in
-      walk_branch code formed addresses globals_length (words_per_call * calls) 0 here here (here + (4 + results + 2)) c.output c.input _ r w run branch.NotEqual (register_of 31) (register_of 0) (here + 4) (here + 1) now stands_here.0 (omega arith) stays
+      walk_branch code formed addresses globals_length (words_per_call * calls) 0 here here (here + (4 + results + 2)) c.output c.input _ r w run (conditions.Registers branch.NotEqual (register_of 31) (register_of 0)) (here + 4) (here + 1) now stands_here.0 (omega arith) stays
       (λ d later.
       ends_goes (here + (4 + results + 2)) d (omega arith) under (omega (arith, one, in_range))
       (stands_front code (here + 1) (ordinary (load_slot frame 4 value ∷ small 2 3 ∷ syscall ∷ [])) tail
-      (stands_back code here (lines.Branch branch.NotEqual (register_of 31) (register_of 0) (here + 4) ∷ []) (ordinary (load_slot frame 4 value ∷ small 2 3 ∷ syscall ∷ []) ++ tail) stands_here))
+      (stands_back code here (lines.Branch (conditions.Registers branch.NotEqual (register_of 31) (register_of 0)) (here + 4) ∷ []) (ordinary (load_slot frame 4 value ∷ small 2 3 ∷ syscall ∷ []) ++ tail) stands_here))
       later)
   main_goes main stands_here (f ∷ waiting) under (arguments, count, index, known, at, next, is_back, holds, chain) =
       let line : ℕ = behind_line program f.caller.function index c.active.function arguments count f.result in
       let high = lie.from (behind_line program f.caller.function index c.active.function arguments count f.result) (inside f.caller.function index c.active.function arguments count f.result at) in
       let other : r 31 ≢ r 0 = λ e. absurd (omega (arith, e, s.zero_is, is_back, high)) in
       let leaps : (if not (r 31 == r 0) then here + 4 else here + 1) ≡ here + 4 = ap (λ (b : Bool). if not b then here + 4 else here + 1) (ne_eqb (r 31) (r 0) other) in
-      walk_branch code formed addresses globals_length (words_per_call * calls) 0 here here (here + (4 + results + 2)) c.output c.input _ r w run branch.NotEqual (register_of 31) (register_of 0) (here + 4) (here + 4) now stands_here.0 (omega arith) leaps
+      walk_branch code formed addresses globals_length (words_per_call * calls) 0 here here (here + (4 + results + 2)) c.output c.input _ r w run (conditions.Registers branch.NotEqual (register_of 31) (register_of 0)) (here + 4) (here + 4) now stands_here.0 (omega arith) leaps
       (λ d later.
       walk_from code formed addresses globals_length (words_per_call * calls) 0 (suc here) (here + 4) (here + (4 + results + 2)) c.output _ (Running d) (omega arith)
       (walk_few code formed addresses globals_length (words_per_call * calls) 0 1 (here + 4) (here + (4 + results + 2)) c.output _ (Running d) (omega arith)

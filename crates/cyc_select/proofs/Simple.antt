@@ -5,9 +5,8 @@ use Rattle.std.specs.List.{AllByRecursion}
 use Rattle.std.proofs.lemmas.Bool.{cases_eq, eq-eqb, ne_eqb}
 use Rattle.cyc_words.specs.Ending.{Ending, Uncaught}
 use Rattle.cyc_words.specs.Word.{IsWord, signed, add_of, sub_of, sign_extended}
-use Rattle.cyc_isa.specs.Effect.{branch_taken, load_upper_result, memory_address}
+use Rattle.cyc_isa.specs.Effect.{branch_taken, branch_zero_taken, load_upper_result, memory_address}
 use Rattle.cyc_isa.specs.declared.instr.Instr.{Instr}
-use Rattle.cyc_isa.specs.declared.instr.BranchOp.{BranchOp}
 use Rattle.cyc_isa.specs.declared.instr.BranchOp.TheVariants as branch
 use Rattle.cyc_isa.specs.declared.instr.MoveFromOp.{MoveFromOp}
 use Rattle.cyc_isa.specs.declared.instr.MoveFromOp.TheVariants.{High, Low}
@@ -36,6 +35,8 @@ use Rattle.cyc_frame.specs.Layout.{AreFrames, frame_at}
 use Rattle.cyc_frame.specs.declared.frame.Frame.{Frame}
 use Rattle.cyc_machine.specs.declared.constants.TheConstants.{ARGUMENT, END_UNCAUGHT, PUT_BYTE, SECOND_ARGUMENT, SERVICE}
 use Rattle.cyc_select.specs.declared.code.Line.{Line}
+use Rattle.cyc_select.specs.declared.code.Condition.{Condition}
+use Rattle.cyc_select.specs.declared.code.Condition.TheVariants as conditions
 use Rattle.cyc_select.specs.declared.code.Line.TheVariants as lines
 use Rattle.cyc_select.specs.declared.constants.TheConstants.{FIRST, SECOND, THIRD, ZERO}
 use Rattle.cyc_select.specs.declared.plan.Plan.{Plan}
@@ -44,7 +45,7 @@ use Rattle.cyc_select.specs.declared.plan.Test.TheVariants as tests
 use Rattle.cyc_select.specs.Plans.{unary_plan, binary_plan, test_of}
 use Rattle.cyc_select.specs.Labelled.{Labelled, IsFormed}
 use Rattle.cyc_select.specs.Machine as labelled
-use Rattle.cyc_select.specs.Machine.{State, Running, Ended}
+use Rattle.cyc_select.specs.Machine.{State, Running, Ended, holds_of}
 use Rattle.cyc_select.specs.Numbers.{is_zero_word}
 use Rattle.cyc_select.specs.Selection.{store_slot, slot_offset, small, arithmetic_of, ordinary, syscall, upper_of_global, at_global, word_code, load_code, operand_code, operand_register, operands_code, operation_of, computed_code, plan_code, branch_on, branch_code, divided_code, divide_code, word_count, load_count, operand_count, plan_count, test_count, is_tested, body, body_count, count_of, instruction_line}
 use Rattle.cyc_select.proofs.Blocks.{Keeps, puts_keeps, after_both, safe_append}
@@ -264,7 +265,7 @@ module _ (program : Program) (well : IsWellFormed program) (frames : List Frame)
 
     -- behind the operands, with the registers that they left
     module _ (q : Words) (d : labelled.Configuration) (later : At program well frames fit code formed addresses pages calls few (here + loads + 1) c.output c.input q w d)
-        (stands : Stands code (here + loads + 1) (lines.Branch branch.NotEqual (register_of SECOND) (register_of THIRD) (here + loads + 4) ∷ last))
+        (stands : Stands code (here + loads + 1) (lines.Branch (conditions.Registers branch.NotEqual (register_of SECOND) (register_of THIRD)) (here + loads + 4) ∷ last))
         (zero_same : q 0 ≡ r 0) (base_same : q 29 ≡ r 29) (left_same : q 30 ≡ r 30) (back_same : q 31 ≡ r 31)
         (dividend : q FIRST ≡ word_of left) (divisor : q SECOND ≡ word_of right) (third : q THIRD ≡ 2 ^ 32 - 1) where
       four : here + loads + 1 + 1 + 2 ≡ here + loads + 4
@@ -280,7 +281,7 @@ module _ (program : Program) (well : IsWellFormed program) (frames : List Frame)
       by_minus_one same =
           let stays : (if not (q SECOND == q THIRD) then here + loads + 4 else here + loads + 1 + 1) ≡ here + loads + 1 + 1 =
           ap (λ (b : Bool). if not b then here + loads + 4 else here + loads + 1 + 1) (eq-eqb (q SECOND) (q THIRD) (divisor ∙ (same ∙ sym third))) in
-          walk_branch code formed addresses globals_length (words_per_call * calls) 0 (here + loads + 1) (here + loads + 1) (here + (loads + 7)) c.output c.input _ q w d branch.NotEqual (register_of SECOND) (register_of THIRD) (here + loads + 4) (here + loads + 1 + 1) later stands.0 (omega arith) stays
+          walk_branch code formed addresses globals_length (words_per_call * calls) 0 (here + loads + 1) (here + loads + 1) (here + (loads + 7)) c.output c.input _ q w d (conditions.Registers branch.NotEqual (register_of SECOND) (register_of THIRD)) (here + loads + 4) (here + loads + 1 + 1) later stands.0 (omega arith) stays
           (λ e after.
           walk_few code formed addresses globals_length (words_per_call * calls) 0 (2 + 0) (suc (here + loads + 1)) (here + (loads + 7)) c.output _ (Running e) (omega arith)
           (walk_block code formed addresses globals_length (words_per_call * calls) changed 0 (here + loads + 1 + 1) (suc (here + loads + 1)) (here + (loads + 7)) c.output c.input _ q w e after
@@ -300,7 +301,7 @@ module _ (program : Program) (well : IsWellFormed program) (frames : List Frame)
       by_other other =
           let leaps : (if not (q SECOND == q THIRD) then here + loads + 4 else here + loads + 1 + 1) ≡ here + loads + 4 =
           ap (λ (b : Bool). if not b then here + loads + 4 else here + loads + 1 + 1) (ne_eqb (q SECOND) (q THIRD) (λ e. other (sym divisor ∙ (e ∙ third)))) in
-          walk_branch code formed addresses globals_length (words_per_call * calls) 0 (here + loads + 1) (here + loads + 1) (here + (loads + 7)) c.output c.input _ q w d branch.NotEqual (register_of SECOND) (register_of THIRD) (here + loads + 4) (here + loads + 4) later stands.0 (omega arith) leaps
+          walk_branch code formed addresses globals_length (words_per_call * calls) 0 (here + loads + 1) (here + loads + 1) (here + (loads + 7)) c.output c.input _ q w d (conditions.Registers branch.NotEqual (register_of SECOND) (register_of THIRD)) (here + loads + 4) (here + loads + 4) later stands.0 (omega arith) leaps
           (λ e after.
           walk_from code formed addresses globals_length (words_per_call * calls) 0 (suc (here + loads + 1)) (here + loads + 4) (here + (loads + 7)) c.output _ (Running e) (omega arith)
           (divided q e after last_stands zero_same base_same left_same back_same
@@ -318,12 +319,12 @@ module _ (program : Program) (well : IsWellFormed program) (frames : List Frame)
         let put_all = divided_put globals_length (words_per_call * calls) frame (r 29) w c.active.slots r w s.zero_is refl refl left right (held left left_there) (held right right_there) in
         let long : length tested ≡ loads + 1 = length_divided frame left right in
         let there : here + length tested ≡ here + loads + 1 = omega (arith, long) in
-        let behind = stands_back code here (ordinary tested) (lines.Branch branch.NotEqual (register_of SECOND) (register_of THIRD) (here + loads + 4) ∷ last) stands in
-        let behind_here : Stands code (here + loads + 1) (lines.Branch branch.NotEqual (register_of SECOND) (register_of THIRD) (here + loads + 4) ∷ last) =
-        subst (λ (n : ℕ). Stands code n (lines.Branch branch.NotEqual (register_of SECOND) (register_of THIRD) (here + loads + 4) ∷ last)) (ap (λ (n : ℕ). here + n) (length_ordinary tested) ∙ there) behind in
+        let behind = stands_back code here (ordinary tested) (lines.Branch (conditions.Registers branch.NotEqual (register_of SECOND) (register_of THIRD)) (here + loads + 4) ∷ last) stands in
+        let behind_here : Stands code (here + loads + 1) (lines.Branch (conditions.Registers branch.NotEqual (register_of SECOND) (register_of THIRD)) (here + loads + 4) ∷ last) =
+        subst (λ (n : ℕ). Stands code n (lines.Branch (conditions.Registers branch.NotEqual (register_of SECOND) (register_of THIRD)) (here + loads + 4) ∷ last)) (ap (λ (n : ℕ). here + n) (length_ordinary tested) ∙ there) behind in
         walk_few code formed addresses globals_length (words_per_call * calls) 1 (length tested + 1) here (here + (loads + 7)) c.output _ (Running run) (omega arith)
         (walk_block code formed addresses globals_length (words_per_call * calls) tested 1 here here (here + (loads + 7)) c.output c.input _ r w run now
-        (stands_front code here (ordinary tested) (lines.Branch branch.NotEqual (register_of SECOND) (register_of THIRD) (here + loads + 4) ∷ last) stands)
+        (stands_front code here (ordinary tested) (lines.Branch (conditions.Registers branch.NotEqual (register_of SECOND) (register_of THIRD)) (here + loads + 4) ∷ last) stands)
         put_all.keeps.safe (omega arith)
         (λ d later.
         walk_from code formed addresses globals_length (words_per_call * calls) 1 (here + length tested) (here + loads + 1) (here + (loads + 7)) c.output _ (Running d) (omega (arith, there))
@@ -347,23 +348,23 @@ module _ (program : Program) (well : IsWellFormed program) (frames : List Frame)
   line_taken false target other line n same = same
 
   -- a block that leaves what is tested in two registers, and the branch
-  branch_by : (i : Instruction) → IsAt i → (is : List Instr) (op : BranchOp) (left right target count : ℕ) (taken : Bool) → KeepsHere is
-      → branch_taken op (after_r is r w (left % 32)) (after_r is r w (right % 32)) ≡ taken → performed program zeros c i ≡ states.Running (at c (if taken then target else c.active.next + 1))
+  branch_by : (i : Instruction) → IsAt i → (is : List Instr) (condition : Condition) (target count : ℕ) (taken : Bool) → KeepsHere is
+      → holds_of (after_r is r w) condition ≡ taken → performed program zeros c i ≡ states.Running (at c (if taken then target else c.active.next + 1))
       → length is + 1 ≡ count → count_of program c.active.function i ≡ count
-      → Stands code here (ordinary is ++ lines.Branch op (register_of left) (register_of right) (instruction_line program c.active.function target) ∷ []) → Goes 1 here (here + count) (Running run)
-  branch_by i at_i is op left right target count taken keeps takes does long counted stands =
+      → Stands code here (ordinary is ++ lines.Branch condition (instruction_line program c.active.function target) ∷ []) → Goes 1 here (here + count) (Running run)
+  branch_by i at_i is condition target count taken keeps takes does long counted stands =
       let line : ℕ → ℕ = instruction_line program c.active.function in
-      let last : Line = lines.Branch op (register_of left) (register_of right) (line target) in
+      let last : Line = lines.Branch condition (line target) in
       let behind = stands_back code here (ordinary is) (last ∷ []) stands in
       let here_is : here + length (ordinary is) ≡ here + length is = ap (λ (n : ℕ). here + n) (length_ordinary is) in
       let last_stands : slice_get code.lines (here + length is) ≡ Some last = subst (λ (n : ℕ). slice_get code.lines n ≡ Some last) here_is behind.0 in
       let next : here + length is + 1 ≡ line (c.active.next + 1) = omega (arith, line_next program c.active.function c.active.next i at_i, counted, long) in
-      let there : (if branch_taken op (after_r is r w (left % 32)) (after_r is r w (right % 32)) then line target else here + length is + 1) ≡ line (if taken then target else c.active.next + 1) =
+      let there : (if holds_of (after_r is r w) condition then line target else here + length is + 1) ≡ line (if taken then target else c.active.next + 1) =
       ap (λ (b : Bool). if b then line target else here + length is + 1) takes ∙ line_taken taken target (c.active.next + 1) line (here + length is + 1) next in
       walk_few code formed addresses globals_length (words_per_call * calls) 1 (length is + 1) here (here + count) c.output _ (Running run) (omega arith)
       (walk_block code formed addresses globals_length (words_per_call * calls) is 1 here here (here + count) c.output c.input _ r w run now (stands_front code here (ordinary is) (last ∷ []) stands) keeps.safe (omega arith)
       (λ d later.
-      walk_branch code formed addresses globals_length (words_per_call * calls) 0 (here + length is) (here + length is) (here + count) c.output c.input _ (after_r is r w) (after_w is r w) d op (register_of left) (register_of right) (line target) (line (if taken then target else c.active.next + 1)) later last_stands (omega arith) there
+      walk_branch code formed addresses globals_length (words_per_call * calls) 0 (here + length is) (here + length is) (here + count) c.output c.input _ (after_r is r w) (after_w is r w) d condition (line target) (line (if taken then target else c.active.next + 1)) later last_stands (omega arith) there
       (λ e after.
       walk_end code formed addresses globals_length (words_per_call * calls) (suc (here + length is)) (here + count) c.output _ (Running e) (omega (arith, long))
       (reached_at program well frames fit code formed addresses pages calls few c i at_i r w base s (at c (if taken then target else c.active.next + 1)) (line (if taken then target else c.active.next + 1)) e (after_r is r w) (after_w is r w)
@@ -380,12 +381,18 @@ module _ (program : Program) (well : IsWellFormed program) (frames : List Frame)
       → Stands code here (branch_code frame test (instruction_line program c.active.function target)) → Goes 1 here (here + (test_count test + 1)) (Running run)
   test_goes_by i at_i (tests.Operands op left right) target taken (l, t) is does counted stands =
       let loaded = operands_put globals_length (words_per_call * calls) frame (r 29) w c.active.slots r w s.zero_is refl refl left right l t in
-      branch_by i at_i (operands_code frame left right) op (operand_register FIRST left) (operand_register SECOND right) target (test_count (tests.Operands op left right) + 1) taken loaded.keeps
+      branch_by i at_i (operands_code frame left right) (conditions.Registers op (register_of (operand_register FIRST left)) (register_of (operand_register SECOND right))) target (test_count (tests.Operands op left right) + 1) taken loaded.keeps
       (ap (λ (x : ℕ). branch_taken op x (after_r (operands_code frame left right) r w (operand_register SECOND right % 32))) loaded.left_is ∙ (ap (branch_taken op (word_of left)) loaded.right_is ∙ is))
       does (omega (arith, length_test frame (tests.Operands op left right))) counted stands
+  test_goes_by i at_i (tests.Sign op operand) target taken o is does counted stands =
+      let puts = operand_puts globals_length (words_per_call * calls) frame (r 29) w c.active.slots r w s.zero_is refl refl FIRST refl operand o in
+      branch_by i at_i (operand_code frame FIRST operand) (conditions.Sign op (register_of (operand_register FIRST operand))) target (test_count (tests.Sign op operand) + 1) taken
+      (puts_keeps globals_length (words_per_call * calls) (operand_code frame FIRST operand) r w FIRST _ _ (first_scratch globals_length (words_per_call * calls)) puts)
+      (ap (branch_zero_taken op) puts.result ∙ is)
+      does (omega (arith, length_test frame (tests.Sign op operand))) counted stands
   test_goes_by i at_i (tests.Computed plan) target taken (l, t, fine) is does counted stands =
       let leaves = operation_leaves globals_length (words_per_call * calls) frame (r 29) w c.active.slots r w s.zero_is refl refl plan l t fine in
-      branch_by i at_i (operation_of frame plan) (branch_on plan.outcome) FIRST ZERO target (test_count (tests.Computed plan) + 1) taken leaves.keeps
+      branch_by i at_i (operation_of frame plan) (conditions.Registers (branch_on plan.outcome) (register_of FIRST) (register_of ZERO)) target (test_count (tests.Computed plan) + 1) taken leaves.keeps
       (ap (λ (x : ℕ). branch_taken (branch_on plan.outcome) x (after_r (operation_of frame plan) r w ZERO)) leaves.result
       ∙ (ap (branch_taken (branch_on plan.outcome) (operation_word c.active.slots plan)) (leaves.keeps.zero ∙ s.zero_is) ∙ is))
       does (omega (arith, length_test frame (tests.Computed plan))) counted stands
