@@ -2,6 +2,7 @@
 use Rattle.std.proofs.Common.{◌≡◌, ◌≢◌, ℕ, zero, suc, ℤ, pos, ◌+◌, ◌*◌, ◌%◌, ◌≤◌, ◌<◌, List, [], ◌∷◌, length, Bool, true, false, cond, not, nat_eq, eq-eqb, Option, None, Some, refl, sym, ap, subst, ◌∙◌, arith, inl, inr}
 use Rattle.std.specs.Prelude.{int_le, int_lt}
 use Rattle.std.proofs.lemmas.Int.{ints}
+use Rattle.cyc_machine.specs.declared.constants.TheConstants.{RETURN_ADDRESS}
 use Rattle.cyc_words.specs.Word.{signed}
 use Rattle.std.specs.Prelude.{◌⊎◌, slice_get, slice_set}
 use Rattle.std.proofs.lemmas.Bool.{eqb-true, cases_lt}
@@ -206,15 +207,15 @@ module _ (code : Labelled) (addresses : ℕ → ℕ) (words : List ℕ) (text : 
         let back : return_address here ≡ addresses (c.line + 1) = sum ∙ sym next ∙ ap addresses (sym same) in
         by_jump (lines.Call label) found fine 2 (record (linked addresses c) { line = label }) (jump_target here jumps.index.index) (Jump AndLink jumps.index) jumps.jump jumps.slot (omega (arith, next)) (omega arith)
         refl refl small
-        (ap (λ (address : ℕ). Does events.Ran (world_at words (record c { registers = slice_set c.registers 31 address }) (here + 4) (jump_target here jumps.index.index) true).machine) back)
+        (ap (λ (address : ℕ). Does events.Ran (world_at words (record c { registers = slice_set c.registers RETURN_ADDRESS address }) (here + 4) (jump_target here jumps.index.index) true).machine) back)
         refl jumps.target
 
     return : (found : slice_get code.lines c.line ≡ Some lines.Return) → ((next : labelled.State) → May lines.Return next → labelled.status_of next ≡ Failed → ⊥)
         → Stands code words addresses c.line lines.Return → Stepped (placed c)
-    return found fine (at, slot, next) = elim (find addresses (word_in c 31) (length code.lines)) [
+    return found fine (at, slot, next) = elim (find addresses (word_in c RETURN_ADDRESS) (length code.lines)) [
       | inl there ↦
           let (line, below, is) = there in
-          by_jump lines.Return found fine 2 (record c { line = line }) (word_in c 31) (JumpRegister return_register) at slot (omega (arith, next)) (omega arith)
+          by_jump lines.Return found fine 2 (record c { line = line }) (word_in c RETURN_ADDRESS) (JumpRegister return_register) at slot (omega (arith, next)) (omega arith)
           refl refl small refl (inl (line, below, is, refl)) (sym is)
       | inr none ↦ absurd (fine (labelled.Stopped c.output c.input) (inr (none, refl)) refl)
     ]

@@ -3,6 +3,7 @@ use Rattle.std.proofs.Common.{◌≡◌, ◌≢◌, ℕ, suc, ◌+◌, ◌-◌, 
 use Rattle.std.specs.Prelude.{if◌then◌else◌, Contains}
 use Rattle.std.specs.List.{AllByRecursion, range_with_len}
 use Rattle.std.proofs.lemmas.List.FromFn.{get_or-range_with_len, length-range_with_len}
+use Rattle.cyc_machine.specs.declared.constants.TheConstants.{RETURN_ADDRESS}
 use Rattle.cyc_isa.specs.Effect.{branch_taken, branch_zero_taken, memory_address, high_result}
 use Rattle.cyc_isa.specs.declared.instr.Instr.{Instr}
 use Rattle.cyc_isa.specs.declared.instr.Instr.TheVariants.{Immediate, LoadUpper, Memory, Branch, BranchZero, Jump, Shift, ShiftVariable, JumpRegister, JumpRegisterLink, Exception, MoveFrom, MultiplyDivide, Arithmetic}
@@ -294,21 +295,21 @@ module _ (code : Labelled) (formed : IsFormed code) (addresses : ℕ → ℕ) (g
 
   pub walk_call : (n k lo hi : ℕ) (out input : List ℕ) (Goal : State → Type 0) (r w : Words) (c : Configuration) (label : ℕ)
       → Now k out input r w c → slice_get code.lines k ≡ Some (lines.Call label) → lo ≤ k → IsWord (addresses (k + 1))
-      → ((d : Configuration) → Now label out input (put r 31 (addresses (k + 1))) w d → Walk n (suc k) hi out Goal (Running d))
+      → ((d : Configuration) → Now label out input (put r RETURN_ADDRESS (addresses (k + 1))) w d → Walk n (suc k) hi out Goal (Running d))
       → Walk (suc n) lo hi out Goal (Running c)
   walk_call n k lo hi out input Goal r w c label now stands from word rest =
-      let view = view_put globals stack c r w now.view 31 (addresses (c.line + 1)) (addresses (k + 1)) label (omega arith) refl (ap (λ (x : ℕ). addresses (x + 1)) now.at_line) in
+      let view = view_put globals stack c r w now.view RETURN_ADDRESS (addresses (c.line + 1)) (addresses (k + 1)) label (omega arith) refl (ap (λ (x : ℕ). addresses (x + 1)) now.at_line) in
       walk_step n lo hi out Goal c (Running (at (linked addresses c) label)) (omega (arith, from, now.at_line)) now.output
       (λ next step. executes_line c (lines.Call label) next (stands_now k out input r w c (lines.Call label) now stands) step)
       (walk_from n (suc c.line) (suc k) hi out Goal (Running (at (linked addresses c) label)) (omega (arith, now.at_line))
-      (rest (at (linked addresses c) label) (record { view = view; r_words = put_words r 31 (addresses (k + 1)) now.r_words word; w_words = now.w_words; at_line = refl; output = now.output; input = now.input })))
+      (rest (at (linked addresses c) label) (record { view = view; r_words = put_words r RETURN_ADDRESS (addresses (k + 1)) now.r_words word; w_words = now.w_words; at_line = refl; output = now.output; input = now.input })))
 
   pub walk_return : (n k lo hi : ℕ) (out input : List ℕ) (Goal : State → Type 0) (r w : Words) (c : Configuration) (line : ℕ)
-      → AreAddresses code addresses → Now k out input r w c → slice_get code.lines k ≡ Some lines.Return → lo ≤ k → line < length code.lines → r 31 ≡ addresses line
+      → AreAddresses code addresses → Now k out input r w c → slice_get code.lines k ≡ Some lines.Return → lo ≤ k → line < length code.lines → r RETURN_ADDRESS ≡ addresses line
       → ((d : Configuration) → Now line out input r w d → Walk n (suc k) hi out Goal (Running d))
       → Walk (suc n) lo hi out Goal (Running c)
   walk_return n k lo hi out input Goal r w c line lie now stands from inside is_address rest =
-      let holds : word_in c 31 ≡ addresses line = now.view.reg 31 (omega arith) ∙ is_address in
+      let holds : word_in c RETURN_ADDRESS ≡ addresses line = now.view.reg RETURN_ADDRESS (omega arith) ∙ is_address in
       walk_step n lo hi out Goal c (Running (at c line)) (omega (arith, from, now.at_line)) now.output
       (λ next step. elim (executes_line c lines.Return next (stands_now k out input r w c lines.Return now stands) step) [
         | inl (other, below, lies, is) ↦ is ∙ ap (λ (x : ℕ). Running (at c x)) (lie.apart other line below inside (lies ∙ holds))
