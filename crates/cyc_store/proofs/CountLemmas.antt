@@ -50,10 +50,10 @@ pages_for-more class m n bound more = below (blocks_in_page class) (blocks-some 
 
 -- ---- how many blocks are of a class
 
-live-here : (c : ℕ) (b : Block) (bs : List Block) → class_of b.size ≡ c → live_in c (b ∷ bs) ≡ suc (live_in c bs)
+pub live-here : (c : ℕ) (b : Block) (bs : List Block) → class_of b.size ≡ c → live_in c (b ∷ bs) ≡ suc (live_in c bs)
 live-here c b bs same = when_equal (class_of b.size) c (suc (live_in c bs)) (live_in c bs) same
 
-live-there : (c : ℕ) (b : Block) (bs : List Block) → (class_of b.size ≡ c → ⊥) → live_in c (b ∷ bs) ≡ live_in c bs
+pub live-there : (c : ℕ) (b : Block) (bs : List Block) → (class_of b.size ≡ c → ⊥) → live_in c (b ∷ bs) ≡ live_in c bs
 live-there c b bs other = when_other (class_of b.size) c (suc (live_in c bs)) (live_in c bs) other
 
 pub live_in-append_same : (c : ℕ) (bs : List Block) (b : Block) → class_of b.size ≡ c → live_in c (bs ++ b ∷ []) ≡ suc (live_in c bs)

@@ -13,3 +13,7 @@ pub mod PagedRegions
 pub mod PagedStart
 pub mod PagedUnwinding
 pub mod ServiceLemmas
+pub mod SlotCounts
+pub mod SlotLemmas
+pub mod SlotModel
+pub mod SlotServices

@@ -39,7 +39,7 @@ holder_in-laid pages h (b ∷ bs) x k laid found = elim (cases_Bool (covers b x)
   | inr not ↦ holder_in-laid pages h bs x k laid.1 (sym (in-there h x b bs not) ∙ found)
 ]
 
-holder-laid : (pages : Pages) (rs : List Home) (x : ℕ) (k : Holder) → AreLaid pages rs → holder rs x ≡ Some k
+pub holder-laid : (pages : Pages) (rs : List Home) (x : ℕ) (k : Holder) → AreLaid pages rs → holder rs x ≡ Some k
     → IsLaid pages k.handle k.block × (covers k.block x ≡ true)
 holder-laid pages [] x k laid found = absurd (let e : None ≡ Some k = found in cc)
 holder-laid pages (r ∷ rs) x k laid found = elim (or_else-cases (holder_in r.handle r.blocks x) (holder rs x) k found) [
@@ -167,7 +167,7 @@ laid-opened pages rs page handle sort free laid =
     (stays-all pages (drawn pages page handle) rs (drawn-stays pages page handle free) laid)
     (tt, tt)
 
-laid-last : (pages : Pages) (h : ℕ) (bs : List Block) (b : Block) → AreLaidIn pages h bs → IsLaid pages h b → AreLaidIn pages h (bs ++ b ∷ [])
+pub laid-last : (pages : Pages) (h : ℕ) (bs : List Block) (b : Block) → AreLaidIn pages h bs → IsLaid pages h b → AreLaidIn pages h (bs ++ b ∷ [])
 laid-last pages h [] b laid new = (new, tt)
 laid-last pages h (a ∷ bs) b laid new = (laid.0, laid-last pages h bs b laid.1 new)
 

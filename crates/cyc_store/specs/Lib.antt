@@ -1,4 +1,5 @@
 pub mod Answers
+pub mod Ledger
 pub mod Lookup
 pub mod Run
 pub mod Services

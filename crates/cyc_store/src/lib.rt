@@ -6,7 +6,9 @@
 #![tactic(auto)]
 
 mod answer;
+mod change;
 pub mod laws;
+mod ledger;
 mod range;
 mod store;
 
