@@ -17,3 +17,4 @@ pub mod SlotCounts
 pub mod SlotLemmas
 pub mod SlotModel
 pub mod SlotServices
+pub mod SlotStock

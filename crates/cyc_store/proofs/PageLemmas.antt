@@ -99,7 +99,7 @@ stays-in : (pages others : Pages) (h : ℕ) (bs : List Block) → ((b : Block) �
 stays-in pages others h [] stays laid = tt
 stays-in pages others h (b ∷ bs) stays laid = (stays b laid.0, stays-in pages others h bs stays laid.1)
 
-stays-all : (pages others : Pages) (rs : List Home) → ((h : ℕ) (b : Block) → IsLaid pages h b → IsLaid others h b) → AreLaid pages rs → AreLaid others rs
+pub stays-all : (pages others : Pages) (rs : List Home) → ((h : ℕ) (b : Block) → IsLaid pages h b → IsLaid others h b) → AreLaid pages rs → AreLaid others rs
 stays-all pages others [] stays laid = tt
 stays-all pages others (r ∷ rs) stays laid =
     (stays-in pages others r.handle r.blocks (stays r.handle) laid.0, stays-all pages others rs stays laid.1)

@@ -14,7 +14,7 @@ use Rattle.cyc_store.proofs.PageServices.{mark_of, mark-made, mark-stays, mark-g
 abbrev pub block_in_page : (page word size : ℕ) → Block
 block_in_page page word size = record { address = page_start page + 4 * word; size = size }
 
-frees-stay : (count : ℕ) (pages : Pages) (page words : ℕ) (free : List ℕ) → AllByRecursion (IsFree count pages) free
+pub frees-stay : (count : ℕ) (pages : Pages) (page words : ℕ) (free : List ℕ) → AllByRecursion (IsFree count pages) free
     → AllByRecursion (IsFree count (filled_to pages page words)) free
 frees-stay count pages page words [] all = tt
 frees-stay count pages page words (p ∷ free) all = (record { owner = all.0.owner; below = all.0.below }, frees-stay count pages page words free all.1)
@@ -50,7 +50,7 @@ homes-made_in s h b other = when_other UNIQUE h
     (λ e. other (sym e))
 
 -- where the fill mark of another region's page moves, a chain stays
-chain-filled : (pages : Pages) (page words h : ℕ) (q : Home) → pages.owner page ≡ Some h → (q.handle ≡ h → ⊥) → HasChain pages q → HasChain (filled_to pages page words) q
+pub chain-filled : (pages : Pages) (page words h : ℕ) (q : Home) → pages.owner page ≡ Some h → (q.handle ≡ h → ⊥) → HasChain pages q → HasChain (filled_to pages page words) q
 chain-filled pages page words h q owned other chain = record {
   newest = record {
     page = chain.newest.page;

@@ -42,7 +42,7 @@ slot-lies owner class_at c w slot = record {
     least : (n : ℕ) → 0 ≤ n
     least n = omega arith
 
-same-words : (v w : ℕ) → place_of v ≡ place_of w → v ≡ w
+pub same-words : (v w : ℕ) → place_of v ≡ place_of w → v ≡ w
 same-words v w e = omega (arith, e)
 
 -- a slot has its first address
