@@ -4,7 +4,6 @@ pub mod Examples
 pub mod HolderLemmas
 pub mod LookupLemmas
 pub mod PageLemmas
-pub mod PageModel
 pub mod PageServices
 pub mod PagedAllocation
 pub mod PagedClosing
@@ -12,9 +11,10 @@ pub mod PagedOpening
 pub mod PagedRegions
 pub mod PagedStart
 pub mod PagedUnwinding
+pub mod RegionServices
 pub mod ServiceLemmas
 pub mod SlotCounts
 pub mod SlotLemmas
-pub mod SlotModel
 pub mod SlotServices
 pub mod SlotStock
+pub mod TableLemmas

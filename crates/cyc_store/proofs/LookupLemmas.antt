@@ -141,6 +141,18 @@ module _ {A : Type 0} (key : A → ℕ) where
     | inr other ↦ ap (λ l. lookup key l n) (without-there x xs n other) ∙ (lookup-there x (without key xs n) n other ∙ lookup-without xs n)
   ]
 
+  pub lookup-without_other : (xs : List A) (n m : ℕ) → (m ≡ n → ⊥) → lookup key (without key xs n) m ≡ lookup key xs m
+  lookup-without_other [] n m other = refl
+  lookup-without_other (x ∷ xs) n m other = elim (cases_eq (key x) n) [
+    | inl same ↦
+        ap (λ l. lookup key l m) (without-here x xs n same)
+        ∙ (lookup-without_other xs n m other ∙ sym (lookup-there x xs m (λ e. other (sym e ∙ same))))
+    | inr away ↦ ap (λ l. lookup key l m) (without-there x xs n away) ∙ elim (cases_eq (key x) m) [
+      | inl here ↦ lookup-here x (without key xs n) m here ∙ sym (lookup-here x xs m here)
+      | inr there ↦ lookup-there x (without key xs n) m there ∙ (lookup-without_other xs n m other ∙ sym (lookup-there x xs m there))
+    ]
+  ]
+
   -- ---- changed
 
   module _ (change : A → A) (keeps : (x : A) → key (change x) ≡ key x) where

@@ -10,7 +10,7 @@ use Rattle.cyc_store.specs.Services.{IsPlaced, IsApart}
 use Rattle.cyc_store.specs.declared.range.TheConstants.{STORE_BASE, PAGE_WORDS}
 use Rattle.cyc_store.proofs.LookupLemmas.{when_equal, when_other, cases_option, not_both, same_some, IsPart, is_empty, is_left, is_kept, lookup-none}
 use Rattle.cyc_store.proofs.HolderLemmas.{in-here, in-there, or_else-cases}
-use Rattle.cyc_store.proofs.PageModel.{page_start, LiesIn, Pages, AreFilled, IsLaid, AreLaidIn, AreLaid, filled_to, drawn, owner_without, given_back, Mark, next_mark, mark_from}
+use Rattle.cyc_store.specs.Pages.{page_start, LiesIn, Pages, AreFilled, IsLaid, AreLaidIn, AreLaid, filled_to, drawn, owner_without, given_back, Mark, next_mark, mark_from}
 
 -- ---- where a block is
 

@@ -9,20 +9,20 @@ use Rattle.cyc_store.specs.State.{Uniques, Home, handle_of, StoreState, sizes_of
 use Rattle.cyc_store.specs.Soundness.{IsSound}
 use Rattle.cyc_store.specs.declared.range.TheConstants.{UNIQUE}
 use Rattle.cyc_store.proofs.LookupLemmas.{when_equal, when_other, same_some, not_both, is_kept, lookup-here, lookup-there, lookup-none, lookup-key, lookup-part, lookup-without, IsPart-without}
-use Rattle.cyc_store.proofs.PageModel.{Pages, owner_without, given_back}
+use Rattle.cyc_store.specs.Pages.{Pages, owner_without, given_back, HasChain, IsFree, IsPaged}
 use Rattle.cyc_store.proofs.PageLemmas.{laid-part, laid-closed}
-use Rattle.cyc_store.proofs.PageServices.{HasChain, IsFree, IsPaged, pages-mark}
+use Rattle.cyc_store.proofs.PageServices.{pages-mark}
 
 -- ---- owners
 
-owner-kept : (gone g : ℕ) (o : Option ℕ) → owner_without gone o ≡ Some g → o ≡ Some g
+pub owner-kept : (gone g : ℕ) (o : Option ℕ) → owner_without gone o ≡ Some g → o ≡ Some g
 owner-kept gone g None e = e
 owner-kept gone g (Some n) e = elim (cases_eq n gone) [
   | inl same ↦ absurd (not_both (when_equal n gone None (Some n) same) e)
   | inr other ↦ sym (when_other n gone None (Some n) other) ∙ e
 ]
 
-owner-stays : (gone g : ℕ) (o : Option ℕ) → (g ≡ gone → ⊥) → o ≡ Some g → owner_without gone o ≡ Some g
+pub owner-stays : (gone g : ℕ) (o : Option ℕ) → (g ≡ gone → ⊥) → o ≡ Some g → owner_without gone o ≡ Some g
 owner-stays gone g o other is = ap (owner_without gone) is ∙ when_other g gone None (Some g) other
 
 owner-goes : (gone : ℕ) (o : Option ℕ) → o ≡ Some gone → owner_without gone o ≡ None

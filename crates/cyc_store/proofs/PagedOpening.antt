@@ -5,9 +5,8 @@ use Rattle.cyc_words.specs.Demand.{region_pages, demand_of, total}
 use Rattle.cyc_store.specs.State.{Sort, Home, handle_of, empty_home, StoreState, homes, sizes_of, sizes_in, demand, opened}
 use Rattle.cyc_store.specs.declared.range.TheConstants.{PAGE_WORDS}
 use Rattle.cyc_store.proofs.LookupLemmas.{when_equal, when_other, lookup-append_cases}
-use Rattle.cyc_store.proofs.PageModel.{Pages, drawn}
+use Rattle.cyc_store.specs.Pages.{Pages, drawn, HasChain, IsPaged}
 use Rattle.cyc_store.proofs.PageLemmas.{laid-opened}
-use Rattle.cyc_store.proofs.PageServices.{HasChain, IsPaged}
 use Rattle.cyc_store.proofs.PagedRegions.{frees-rest, least, still-filled, still-chained}
 
 empty-more : (n : ℕ) → 1 + n ≡ suc n

@@ -6,9 +6,9 @@ use Rattle.cyc_store.specs.Lookup.{lookup, changed}
 use Rattle.cyc_store.specs.State.{Block, Uniques, Home, handle_of, StoreState, homes, demand, with_block, made_in}
 use Rattle.cyc_store.specs.declared.range.TheConstants.{PAGE_WORDS, UNIQUE}
 use Rattle.cyc_store.proofs.LookupLemmas.{when_equal, when_other, same_some, not_both, lookup-key, lookup-changed_same, lookup-changed_other}
-use Rattle.cyc_store.proofs.PageModel.{page_start, Pages, AreFilled, AreLaid, filled_to, drawn, Mark}
+use Rattle.cyc_store.specs.Pages.{page_start, Pages, AreFilled, AreLaid, filled_to, drawn, Mark, mark_of, HasNewest, HasChain, IsFree, IsPaged}
 use Rattle.cyc_store.proofs.PageLemmas.{laid-made, laid-drawn}
-use Rattle.cyc_store.proofs.PageServices.{mark_of, mark-made, mark-stays, mark-goes, HasNewest, HasChain, IsFree, IsPaged, demand-stays, demand-grows}
+use Rattle.cyc_store.proofs.PageServices.{mark-made, mark-stays, mark-goes, demand-stays, demand-grows}
 
 -- the block of so many words that begins at a word of a page
 abbrev pub block_in_page : (page word size : ℕ) → Block

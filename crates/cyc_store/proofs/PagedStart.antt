@@ -4,8 +4,7 @@ use Rattle.std.specs.List.{AllByRecursion}
 use Rattle.cyc_words.specs.Simulation.{IsDistinct}
 use Rattle.cyc_store.specs.State.{Memory, Sort, Heap, StoreState, start, demand, opened}
 use Rattle.cyc_store.specs.declared.range.TheConstants.{HEAP, PAGE_WORDS}
-use Rattle.cyc_store.proofs.PageModel.{Pages, drawn}
-use Rattle.cyc_store.proofs.PageServices.{IsFree, IsPaged}
+use Rattle.cyc_store.specs.Pages.{Pages, drawn, IsFree, IsPaged}
 use Rattle.cyc_store.proofs.PagedAllocation.{ArePages}
 use Rattle.cyc_store.proofs.PagedOpening.{paged-opened, full-opening}
 

@@ -10,9 +10,9 @@ use Rattle.cyc_store.specs.Soundness.{IsSound}
 use Rattle.cyc_store.specs.declared.range.TheConstants.{STORE_BASE, PAGE_WORDS, UNIQUE}
 use Rattle.cyc_store.proofs.LookupLemmas.{cases_option, not_both, same_some, lookup-here, lookup-there, lookup-key}
 use Rattle.cyc_store.proofs.HolderLemmas.{covers_from, or_else-cases, in-here, in-there, holder_in-handle, holder-named}
-use Rattle.cyc_store.proofs.PageModel.{page_start, IsLaid}
+use Rattle.cyc_store.specs.Pages.{page_start, IsLaid}
 use Rattle.cyc_store.proofs.PageLemmas.{covers_bounds, holder-laid}
-use Rattle.cyc_store.proofs.SlotModel.{place_of, Layout, slot_block, IsSlot, IsLiveSlot, IsDeadSlot, IsCovered, IsLaidOut}
+use Rattle.cyc_store.specs.Slots.{place_of, Layout, slot_block, IsSlot, IsLiveSlot, IsDeadSlot, IsCovered, IsLaidOut}
 
 -- ---- arithmetic of slots
 

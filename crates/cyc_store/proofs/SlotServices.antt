@@ -14,10 +14,9 @@ use Rattle.cyc_store.specs.declared.range.TheConstants.{STORE_BASE, PAGE_WORDS, 
 use Rattle.cyc_store.proofs.LookupLemmas.{when_equal, when_other, not_both, lookup-append_cases, lookup-append_none, lookup-key, lookup-part, lookup-part_none, lookup-without, IsPart, is_empty, is_left, is_kept, IsPart-without}
 use Rattle.cyc_store.proofs.HolderLemmas.{covers_from}
 use Rattle.cyc_store.proofs.CountLemmas.{live_in-append_same, live_in-append_other}
-use Rattle.cyc_store.proofs.PageModel.{Pages, LiesIn, IsLaid, AreLaid, AreLaidIn}
+use Rattle.cyc_store.specs.Pages.{Pages, LiesIn, IsLaid, AreLaid, AreLaidIn, IsPaged}
 use Rattle.cyc_store.proofs.PageLemmas.{lies-placed, laid-last, laid-part}
-use Rattle.cyc_store.proofs.PageServices.{IsPaged}
-use Rattle.cyc_store.proofs.SlotModel.{place_of, Layout, slot_block, IsSlot, IsLiveSlot, IsDeadSlot, AreSlots, IsLaidOut}
+use Rattle.cyc_store.specs.Slots.{place_of, Layout, slot_block, IsSlot, IsLiveSlot, IsDeadSlot, AreSlots, IsLaidOut}
 use Rattle.cyc_store.proofs.SlotCounts.{class-power, raised-fits, live_in-without_same, live_in-without_other}
 use Rattle.cyc_store.proofs.SlotLemmas.{slots-one, slot-apart}
 

@@ -13,18 +13,12 @@ use Rattle.cyc_store.specs.Soundness.{IsSound}
 use Rattle.cyc_store.specs.declared.range.TheConstants.{PAGE_WORDS, UNIQUE}
 use Rattle.cyc_store.proofs.LookupLemmas.{when_equal, when_other, cases_option, not_both, same_some, lookup-key}
 use Rattle.cyc_store.proofs.CountLemmas.{class_of-bound}
-use Rattle.cyc_store.proofs.PageModel.{Pages, filled_to, drawn}
+use Rattle.cyc_store.specs.Pages.{Pages, filled_to, drawn, HasChain, IsFree, IsPaged}
 use Rattle.cyc_store.proofs.PageLemmas.{laid-drawn, filled-stays, stays-all}
-use Rattle.cyc_store.proofs.PageServices.{HasChain, IsFree, IsPaged}
 use Rattle.cyc_store.proofs.PagedRegions.{frees-stay, frees-rest, still-filled, chain-filled, still-chained, least}
-use Rattle.cyc_store.proofs.SlotModel.{place_of, Layout, slot_block, IsSlot, IsLiveSlot, IsDeadSlot, AreSlots, IsLaidOut}
+use Rattle.cyc_store.specs.Slots.{slots_from, place_of, Layout, slot_block, IsSlot, IsLiveSlot, IsDeadSlot, AreSlots, IsLaidOut}
 use Rattle.cyc_store.proofs.SlotCounts.{demand-set}
 use Rattle.cyc_store.proofs.SlotServices.{with_dead, same-words}
-
--- so many slots, one after another
-abbrev pub slots_from : (size word count : ℕ) → List ℕ
-slots_from size word zero = []
-slots_from size word (suc count) = word ∷ slots_from size (word + size) count
 
 pub slots-many : (size word count : ℕ) → length (slots_from size word count) ≡ count
 slots-many size word zero = refl

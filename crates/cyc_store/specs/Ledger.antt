@@ -38,3 +38,12 @@ after b (Closed handle) = record b { regions = without handle_of b.regions handl
 after b (Made handle address words) = blocks_of (made_in (plain_store b) handle (record { address = address; size = words }))
 after b (MadeUnique address words) = blocks_of (made_unique (plain_store b) (record { address = address; size = words }))
 after b (Freed address) = record b { unique = without address_of b.unique address }
+
+-- what contracts see of a store on an array of words: how many pages it has, the words of those that were used, and its blocks
+pub record Stored : Type 0 where
+  pub pages : ℕ
+  pub words : List ℕ
+  pub blocks : Blocks
+
+abbrev pub held_of : Stored → StoreState
+held_of s = store_of s.pages s.words s.blocks

@@ -1,6 +1,6 @@
 -- The page model with unique blocks: a page of a class is cut into slots of the class's size, and each slot has a live block
 -- or none. All slots that no block is in are on the class's list of dead ones.
-use Rattle.std.specs.Prelude.{◌≡◌, ℕ, ◌+◌, ◌*◌, ◌^◌, ◌<◌, ◌≤◌, true, List, Option, None, Some, length, slice_index}
+use Rattle.std.specs.Prelude.{◌≡◌, ℕ, zero, suc, ◌+◌, ◌*◌, ◌^◌, ◌<◌, ◌≤◌, true, List, [], ◌∷◌, Option, None, Some, length, slice_index}
 use Rattle.std.specs.List.{AllByRecursion}
 use Rattle.cyc_words.specs.Demand.{greatest_class, blocks_in_page}
 use Rattle.cyc_words.specs.Simulation.{IsDistinct}
@@ -8,8 +8,7 @@ use Rattle.cyc_store.specs.Lookup.{lookup}
 use Rattle.cyc_store.specs.State.{Block, address_of, Home, handle_of, StoreState, covers, block_at, live_in}
 use Rattle.cyc_store.specs.Soundness.{IsSound}
 use Rattle.cyc_store.specs.declared.range.TheConstants.{STORE_BASE, PAGE_WORDS, UNIQUE}
-use Rattle.cyc_store.proofs.PageModel.{Pages}
-use Rattle.cyc_store.proofs.PageServices.{IsPaged}
+use Rattle.cyc_store.specs.Pages.{Pages, IsPaged}
 
 -- the address of a word, by its number among the words of all pages
 abbrev pub place_of : (word : ℕ) → ℕ
@@ -66,3 +65,8 @@ pub record IsLaidOut (s : StoreState) (l : Layout) : Type 0 where
   pub covered : (page word handle : ℕ) → l.pages.owner page ≡ Some handle → (handle ≡ UNIQUE → ⊥) → word < l.pages.filled page
       → IsCovered s.regions handle (place_of (PAGE_WORDS * page + word))
   pub slots : AreSlots s.unique s.classes l
+
+-- so many slots, one after another
+abbrev pub slots_from : (size word count : ℕ) → List ℕ
+slots_from size word zero = []
+slots_from size word (suc count) = word ∷ slots_from size (word + size) count
