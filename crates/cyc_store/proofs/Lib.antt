@@ -2,6 +2,9 @@ pub mod BlockLemmas
 pub mod CountLemmas
 pub mod Examples
 pub mod HolderLemmas
+pub mod KeptServices
+pub mod KeptWords
+pub mod LiveWords
 pub mod LookupLemmas
 pub mod PageLemmas
 pub mod PageServices
@@ -12,9 +15,15 @@ pub mod PagedRegions
 pub mod PagedStart
 pub mod PagedUnwinding
 pub mod RegionServices
+pub mod Responses
 pub mod ServiceLemmas
 pub mod SlotCounts
 pub mod SlotLemmas
 pub mod SlotServices
 pub mod SlotStock
 pub mod TableLemmas
+pub mod TieClosing
+pub mod TieLemmas
+pub mod TieMaking
+pub mod TieSlots
+pub mod TieOpening

@@ -84,6 +84,13 @@ module _ {A : Type 0} (key : A → ℕ) where
       let (away, rest) = lookup-none a xs n none in
       lookup-there a (xs ++ y ∷ []) n away ∙ lookup-append_new xs y n rest same
 
+  pub lookup-append_other : (xs : List A) (y : A) (n : ℕ) → (key y ≡ n → ⊥) → lookup key (xs ++ y ∷ []) n ≡ lookup key xs n
+  lookup-append_other [] y n other = lookup-there y [] n other
+  lookup-append_other (a ∷ xs) y n other = elim (cases_eq (key a) n) [
+    | inl same ↦ lookup-here a (xs ++ y ∷ []) n same ∙ sym (lookup-here a xs n same)
+    | inr away ↦ lookup-there a (xs ++ y ∷ []) n away ∙ (lookup-append_other xs y n other ∙ sym (lookup-there a xs n away))
+  ]
+
   pub AreDistinct-append : (xs : List A) (y : A) → AreDistinct key xs → lookup key xs (key y) ≡ None → AreDistinct key (xs ++ y ∷ [])
   AreDistinct-append [] y distinct none = (refl, tt)
   AreDistinct-append (a ∷ xs) y distinct none =

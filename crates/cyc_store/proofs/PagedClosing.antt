@@ -28,12 +28,12 @@ owner-stays gone g o other is = ap (owner_without gone) is ∙ when_other g gone
 owner-goes : (gone : ℕ) (o : Option ℕ) → o ≡ Some gone → owner_without gone o ≡ None
 owner-goes gone o is = ap (owner_without gone) is ∙ when_equal gone gone None (Some gone) refl
 
-owned-stays : (pages : Pages) (gone g : ℕ) → (g ≡ gone → ⊥) → (older : List ℕ) → AllByRecursion (λ (p : ℕ). pages.owner p ≡ Some g) older
+pub owned-stays : (pages : Pages) (gone g : ℕ) → (g ≡ gone → ⊥) → (older : List ℕ) → AllByRecursion (λ (p : ℕ). pages.owner p ≡ Some g) older
     → AllByRecursion (λ (p : ℕ). (given_back pages gone).owner p ≡ Some g) older
 owned-stays pages gone g other [] all = tt
 owned-stays pages gone g other (p ∷ older) all = (owner-stays gone g (pages.owner p) other all.0, owned-stays pages gone g other older all.1)
 
-chain-stays : (pages : Pages) (gone : ℕ) (q : Home) → (q.handle ≡ gone → ⊥) → HasChain pages q → HasChain (given_back pages gone) q
+abbrev pub chain-stays : (pages : Pages) (gone : ℕ) (q : Home) → (q.handle ≡ gone → ⊥) → HasChain pages q → HasChain (given_back pages gone) q
 chain-stays pages gone q other chain = record {
   newest = record {
     page = chain.newest.page;

@@ -15,7 +15,7 @@ empty-more n = omega arith
 more-behind : (q x y : ℕ) → x ≡ suc y → q + x ≡ suc (q + y)
 more-behind q x y e = omega (arith, e)
 
-demand-more : (rs : List Home) (h : ℕ) (sort : Sort) (classes : List ℕ)
+pub demand-more : (rs : List Home) (h : ℕ) (sort : Sort) (classes : List ℕ)
     → demand_of (sizes_in (rs ++ empty_home h sort ∷ [])) classes ≡ suc (demand_of (sizes_in rs) classes)
 demand-more [] h sort classes = empty-more (total classes)
 demand-more (r ∷ rs) h sort classes =

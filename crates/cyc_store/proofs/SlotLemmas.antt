@@ -52,16 +52,16 @@ module _ (owner : ℕ → Option ℕ) (class_at : ℕ → ℕ) where
       let (low, high) = covers_bounds (slot_block c v) x inside in
       let (also_low, also_high) = covers_bounds (slot_block d w) x also in
       let pages : one.page ≡ other.page =
-          page-one STORE_BASE one.page other.page (one.number * 2 ^ c) (other.number * 2 ^ d) (2 ^ c) (2 ^ d) v w x one.at other.at low high also_low also_high one.fits other.fits in
+      page-one STORE_BASE one.page other.page (one.number * 2 ^ c) (other.number * 2 ^ d) (2 ^ c) (2 ^ d) v w x one.at other.at low high also_low also_high one.fits other.fits in
       let classes : c ≡ d = sym one.same ∙ (ap class_at pages ∙ other.same) in
       let sizes : 2 ^ c ≡ 2 ^ d = ap (λ n. 2 ^ n) classes in
       let moved : other.number * 2 ^ d ≡ other.number * 2 ^ c = ap (λ z. other.number * z) (sym sizes) in
       let numbers : one.number ≡ other.number = multiples-one one.number other.number (2 ^ c)
-          (subst (λ z. one.number * 2 ^ c < z + 2 ^ c) moved
-          (offset-below STORE_BASE one.page other.page (one.number * 2 ^ c) (other.number * 2 ^ d) (2 ^ c) (2 ^ d) v w x pages one.at other.at low also_high sizes))
-          (subst (λ z. z < one.number * 2 ^ c + 2 ^ c) moved
-          (subst (λ z. other.number * 2 ^ d < one.number * 2 ^ c + z) (sym sizes)
-          (offset-below STORE_BASE other.page one.page (other.number * 2 ^ d) (one.number * 2 ^ c) (2 ^ d) (2 ^ c) w v x (sym pages) other.at one.at also_low high (sym sizes)))) in
+      (subst (λ z. one.number * 2 ^ c < z + 2 ^ c) moved
+      (offset-below STORE_BASE one.page other.page (one.number * 2 ^ c) (other.number * 2 ^ d) (2 ^ c) (2 ^ d) v w x pages one.at other.at low also_high sizes))
+      (subst (λ z. z < one.number * 2 ^ c + 2 ^ c) moved
+      (subst (λ z. other.number * 2 ^ d < one.number * 2 ^ c + z) (sym sizes)
+      (offset-below STORE_BASE other.page one.page (other.number * 2 ^ d) (one.number * 2 ^ c) (2 ^ d) (2 ^ c) w v x (sym pages) other.at one.at also_low high (sym sizes)))) in
       (classes, words-one one.page other.page (one.number * 2 ^ c) (other.number * 2 ^ d) v w one.at other.at pages (ap (λ n. n * 2 ^ c) numbers ∙ sym moved))
 
 -- ---- blocks that are found
@@ -100,7 +100,7 @@ module _ (s : StoreState) (l : Layout) (laid : IsLaidOut s l) where
       let bound : old.lies.word + k.block.size ≤ l.pages.filled old.page = old.lies.before in
       let place : k.block.address ≡ STORE_BASE + 4 * (1024 * old.page) + 4 * old.lies.word = old.lies.at in
       let pages : slot.page ≡ old.page = page-same STORE_BASE slot.page old.page (slot.number * 2 ^ c) old.lies.word (2 ^ c) k.block.size w k.block.address x
-          slot.at place low high also_low also_high slot.fits (omega (arith, bound, most)) in
+      slot.at place low high also_low also_high slot.fits (omega (arith, bound, most)) in
       let unique : k.handle ≡ UNIQUE = same_some (sym old.owned ∙ (sym (ap l.pages.owner pages) ∙ slot.owned)) in
       let there : lookup address_of s.unique k.block.address ≡ Some k.block = holder-unique s x k laid.sound found unique in
       let live : IsLiveSlot l.pages.owner l.class k.block = laid.slots.live k.block.address k.block there in
@@ -145,8 +145,8 @@ module _ (s : StoreState) (l : Layout) (laid : IsLaidOut s l) where
       let first : b.address ≡ place_of w = lookup-key address_of s.unique (place_of w) b there in
       let same_place : live.word ≡ w = words (live.word) w (sym (ap address_of live.is) ∙ first) in
       let (classes, _) = slots-one l.pages.owner l.class live.class c live.word w (place_of w) live.slot slot
-          (covers_from (slot_block live.class live.word) (place_of w) (starts live.word w same_place) (within live.word w (2 ^ live.class) same_place (pow_pos live.class)))
-          (covers_from (slot_block c w) (place_of w) (starts w w refl) (within w w (2 ^ c) refl (pow_pos c))) in
+      (covers_from (slot_block live.class live.word) (place_of w) (starts live.word w same_place) (within live.word w (2 ^ live.class) same_place (pow_pos live.class)))
+      (covers_from (slot_block c w) (place_of w) (starts w w refl) (within w w (2 ^ c) refl (pow_pos c))) in
       let is : b ≡ slot_block c w = live.is ∙ (ap (λ n. slot_block n live.word) classes ∙ ap (slot_block c) same_place) in
       laid.sound.regions.apart UNIQUE (place_of w) x b there (subst (λ a. covers a x ≡ true) (sym is) inside)
     where
@@ -163,11 +163,12 @@ module _ (s : StoreState) (l : Layout) (laid : IsLaidOut s l) where
   pub filled-live : (page word handle : ℕ) → l.pages.owner page ≡ Some handle → (handle ≡ UNIQUE → ⊥) → word < l.pages.filled page
       → (k : Holder) × (holder (homes s) (place_of (PAGE_WORDS * page + word)) ≡ Some k)
   filled-live page word handle owned ordinary below =
-      let found : IsCovered s.regions handle (place_of (PAGE_WORDS * page + word)) = laid.covered page word handle owned ordinary below in
-      (record { handle = handle; block = found.block },
+      let found : IsCovered s.regions handle (place_of (PAGE_WORDS * page + word)) = laid.covered page word handle owned ordinary below in (
+        record { handle = handle; block = found.block },
         laid.sound.regions.apart handle found.block.address (place_of (PAGE_WORDS * page + word)) found.block
-        (ap (λ o. block_in o found.block.address) (lookup-there handle_of (record { handle = UNIQUE; sort = Uniques; blocks = s.unique }) s.regions handle (λ e. ordinary (sym e))) ∙ found.at)
-        found.inside)
+            (ap (λ o. block_in o found.block.address) (lookup-there handle_of (record { handle = UNIQUE; sort = Uniques; blocks = s.unique }) s.regions handle (λ e. ordinary (sym e))) ∙ found.at)
+            found.inside,
+      )
 
   -- and what is not below it, or is of a page that is free, is not
   pub past-dead : (page word : ℕ) → word < PAGE_WORDS → ((handle : ℕ) → l.pages.owner page ≡ Some handle → l.pages.filled page ≤ word)

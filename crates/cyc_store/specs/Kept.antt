@@ -12,7 +12,7 @@ use Rattle.cyc_store.specs.declared.row.Role.TheVariants as role
 use Rattle.cyc_store.specs.declared.row.Row.{Row}
 use Rattle.cyc_store.specs.declared.row.PageTable.{PageTable}
 use Rattle.cyc_store.specs.declared.row.TheConstants.{NONE}
-use Rattle.cyc_store.specs.declared.plain.ClassSlots.{ClassSlots}
+use Rattle.cyc_store.specs.declared.row.ClassSlots.{ClassSlots}
 use Rattle.cyc_store.specs.declared.range.TheConstants.{PAGE_WORDS, UNIQUE, MOST_PAGES}
 use Rattle.cyc_store.specs.Pages.{Pages, HasChain}
 use Rattle.cyc_store.specs.Slots.{place_of, Layout, IsLaidOut, slots_from}

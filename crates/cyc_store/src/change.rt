@@ -3,15 +3,30 @@
 /// A change of the blocks of a store.
 pub enum Change {
     /// A lexical region was opened.
-    OpenedLexical { handle: u32 },
+    OpenedLexical {
+        handle: u32,
+    },
     /// A dynamic region was opened.
-    OpenedDynamic { handle: u32 },
+    OpenedDynamic {
+        handle: u32,
+    },
     /// A region was closed.
-    Closed { handle: u32 },
+    Closed {
+        handle: u32,
+    },
     /// A block was made in a region.
-    Made { handle: u32, address: u32, words: u32 },
+    Made {
+        handle: u32,
+        address: u32,
+        words: u32,
+    },
     /// A unique block was made.
-    MadeUnique { address: u32, words: u32 },
+    MadeUnique {
+        address: u32,
+        words: u32,
+    },
     /// A unique block was freed.
-    Freed { address: u32 },
+    Freed {
+        address: u32,
+    },
 }

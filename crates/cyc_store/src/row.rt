@@ -34,6 +34,16 @@ pub struct Row {
     pub count: u32,
 }
 
+/// The slots of one class that no block is in.
+#[derive(Clone, Copy)]
+pub struct ClassSlots {
+    /// The first of those that a block was in. Each has the next one in its first word.
+    pub dead: u32,
+    /// The first of those behind it in its page that no block was in yet, and how many these are.
+    pub fresh: u32,
+    pub left: u32,
+}
+
 /// No page, and no slot.
 pub const NONE: u32 = 0xffff_ffff;
 

@@ -25,7 +25,6 @@ use Rattle.cyc_store.specs.contracts.ledger.Ledger.new as f
 use Rattle.cyc_store.proofs.ledger.Ledger.new.Statement as stated
 use Rattle.cyc_store.proofs.ledger.Ledger.new.Code as code
 use Rattle.cyc_store.specs.contracts.ledger.Ledger as made
-
 use Rattle.cyc_store.specs.Ledger.{no_blocks}
 
 abbrev stayed : Stays (f.ended).signature.params (f.ended).kept

@@ -32,7 +32,6 @@ use Rattle.cyc_store.proofs.ledger.Ledger.with.Statement as stated
 use Rattle.cyc_store.proofs.ledger.Ledger.with.Code as code
 use Rattle.cyc_store.specs.contracts.ledger.Ledger as trail
 use Rattle.cyc_store.specs.contracts.change.Change as name
-
 use Rattle.cyc_store.specs.Ledger.{after}
 
 abbrev stayed : Stays (f.ended).signature.params (f.ended).kept
