@@ -2,6 +2,7 @@ pub mod BlockLemmas
 pub mod CountLemmas
 pub mod Examples
 pub mod HolderLemmas
+pub mod KeptMaking
 pub mod KeptServices
 pub mod KeptWords
 pub mod LiveWords

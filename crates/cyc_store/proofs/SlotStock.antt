@@ -16,7 +16,7 @@ use Rattle.cyc_store.proofs.CountLemmas.{class_of-bound}
 use Rattle.cyc_store.specs.Pages.{Pages, filled_to, drawn, HasChain, IsFree, IsPaged}
 use Rattle.cyc_store.proofs.PageLemmas.{laid-drawn, filled-stays, stays-all}
 use Rattle.cyc_store.proofs.PagedRegions.{frees-stay, frees-rest, still-filled, chain-filled, still-chained, least}
-use Rattle.cyc_store.specs.Slots.{slots_from, place_of, Layout, slot_block, IsSlot, IsLiveSlot, IsDeadSlot, AreSlots, IsLaidOut}
+use Rattle.cyc_store.specs.Slots.{with_page, slots_from, place_of, Layout, slot_block, IsSlot, IsLiveSlot, IsDeadSlot, AreSlots, IsLaidOut}
 use Rattle.cyc_store.proofs.SlotCounts.{demand-set}
 use Rattle.cyc_store.proofs.SlotServices.{with_dead, same-words}
 
@@ -54,10 +54,6 @@ stocked l page rest class = record {
   class = put l.class page class;
   dead = λ (other : ℕ). if other == class then slots_from (2 ^ class) (PAGE_WORDS * page) (blocks_in_page class) else l.dead other;
 }
-
--- the store has one page more of the class
-abbrev pub with_page : StoreState → (class : ℕ) → StoreState
-with_page s class = record s { classes = set s.classes class (suc (slice_index s.classes class)) }
 
 -- a store that is not full has room for the slots
 pub with_page-demand : (s : StoreState) (c : ℕ) → IsSound s → c ≤ greatest_class → demand (with_page s c) ≡ suc (demand s)

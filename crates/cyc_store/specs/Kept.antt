@@ -98,6 +98,12 @@ pub record IsStocked (word : ℕ → ℕ) (slots : ClassSlots) (class : ℕ) (de
   pub all : dead ≡ chain ++ slots_from (2 ^ class) slots.fresh slots.left
   pub linked : IsChain word slots.dead chain
 
+-- the first slot, and the others
+abbrev pub next_slot_of : ClassSlots → (words : List ℕ) → (class : ℕ) → ℕ × ClassSlots
+next_slot_of slots words class =
+    if slots.dead == NONE then (slots.fresh, record { dead = NONE; fresh = slots.fresh + 2 ^ class; left = slots.left - 1 })
+    else (slots.dead, record slots { dead = slice_index words slots.dead })
+
 -- ---- all of it
 
 pub record IsTied (t : Table) (lexicals : List ℕ) (classes : ℕ → ClassSlots) (b : Blocks) (l : Layout) : Type 0 where
@@ -120,7 +126,7 @@ pub record IsTied (t : Table) (lexicals : List ℕ) (classes : ℕ → ClassSlot
 -- ---- a table in memory
 
 abbrev pub no_slots : ClassSlots
-no_slots = record { dead = NONE; fresh = 0; left = 0 }
+no_slots = record { dead = 0; fresh = 0; left = 0 }
 
 abbrev pub table_of : PageTable → Table
 table_of t = record {

@@ -1,9 +1,9 @@
 -- The blocks of a store as data, beside the words of its pages: what a store that stands on an array of words holds.
-use Rattle.std.specs.Prelude.{ℕ, ◌+◌, ◌-◌, ◌*◌, ◌/◌, ◌%◌, ◌==◌, ◌&&◌, nat_le, if◌then◌else◌, List, [], ◌∷◌, slice_index}
+use Rattle.std.specs.Prelude.{ℕ, ◌+◌, ◌-◌, ◌*◌, ◌/◌, ◌%◌, ◌==◌, ◌&&◌, nat_le, if◌then◌else◌, suc, List, [], ◌∷◌, slice_index, set}
 use Rattle.cyc_store.specs.Lookup.{without}
 use Rattle.cyc_store.specs.State.{Memory, Block, address_of, Lexical, Dynamic, Home, handle_of, StoreState, start, opened, made_in, made_unique}
 use Rattle.cyc_store.specs.declared.change.Change.{Change}
-use Rattle.cyc_store.specs.declared.change.Change.TheVariants.{OpenedLexical, OpenedDynamic, Closed, Made, MadeUnique, Freed}
+use Rattle.cyc_store.specs.declared.change.Change.TheVariants.{OpenedLexical, OpenedDynamic, Closed, Made, Stocked, MadeUnique, Freed}
 use Rattle.cyc_store.specs.declared.range.TheConstants.{STORE_BASE}
 
 -- the open regions, the live unique blocks, and the pages of each class
@@ -36,6 +36,7 @@ after b (OpenedLexical handle) = blocks_of (opened (plain_store b) handle Lexica
 after b (OpenedDynamic handle) = blocks_of (opened (plain_store b) handle Dynamic)
 after b (Closed handle) = record b { regions = without handle_of b.regions handle }
 after b (Made handle address words) = blocks_of (made_in (plain_store b) handle (record { address = address; size = words }))
+after b (Stocked class) = record b { classes = set b.classes class (suc (slice_index b.classes class)) }
 after b (MadeUnique address words) = blocks_of (made_unique (plain_store b) (record { address = address; size = words }))
 after b (Freed address) = record b { unique = without address_of b.unique address }
 

@@ -1,11 +1,12 @@
 -- The page model with unique blocks: a page of a class is cut into slots of the class's size, and each slot has a live block
 -- or none. All slots that no block is in are on the class's list of dead ones.
-use Rattle.std.specs.Prelude.{◌≡◌, ℕ, zero, suc, ◌+◌, ◌*◌, ◌^◌, ◌<◌, ◌≤◌, true, List, [], ◌∷◌, Option, None, Some, length, slice_index}
+use Rattle.std.specs.Prelude.{◌≡◌, ℕ, zero, suc, ◌+◌, ◌*◌, ◌^◌, ◌<◌, ◌≤◌, true, List, [], ◌∷◌, Option, None, Some, length, slice_index, set}
 use Rattle.std.specs.List.{AllByRecursion}
-use Rattle.cyc_words.specs.Demand.{greatest_class, blocks_in_page}
+use Rattle.cyc_words.specs.Demand.{greatest_class, class_of, blocks_in_page}
 use Rattle.cyc_words.specs.Simulation.{IsDistinct}
 use Rattle.cyc_store.specs.Lookup.{lookup}
-use Rattle.cyc_store.specs.State.{Block, address_of, Home, handle_of, StoreState, covers, block_at, live_in}
+use Rattle.cyc_store.specs.State.{Block, address_of, Home, handle_of, StoreState, homes, covers, block_at, demand, live_in, raised, made_unique}
+use Rattle.cyc_store.specs.Services.{IsPlaced, IsApart}
 use Rattle.cyc_store.specs.Soundness.{IsSound}
 use Rattle.cyc_store.specs.declared.range.TheConstants.{STORE_BASE, PAGE_WORDS, UNIQUE}
 use Rattle.cyc_store.specs.Pages.{Pages, IsPaged}
@@ -70,3 +71,27 @@ pub record IsLaidOut (s : StoreState) (l : Layout) : Type 0 where
 abbrev pub slots_from : (size word count : ℕ) → List ℕ
 slots_from size word zero = []
 slots_from size word (suc count) = word ∷ slots_from size (word + size) count
+
+-- a page of the class has a slot that no block is in
+abbrev pub HasSlot : StoreState → (class : ℕ) → Type 0
+HasSlot s class = live_in class s.unique < slice_index s.classes class * blocks_in_page class
+
+-- every page is in use
+abbrev pub IsSpent : StoreState → Type 0
+IsSpent s = demand s ≡ s.pages
+
+-- the store has one page more of the class
+abbrev pub with_page : StoreState → (class : ℕ) → StoreState
+with_page s class = record s { classes = set s.classes class (suc (slice_index s.classes class)) }
+
+-- a block was made in a slot
+pub record Fills (s : StoreState) (class address : ℕ) (t : StoreState) : Type 0 where
+  pub placed : IsPlaced s.pages (record { address = address; size = 2 ^ class })
+  pub apart : IsApart (homes s) (record { address = address; size = 2 ^ class })
+  pub classes : raised s.classes (class_of (2 ^ class)) (suc (live_in (class_of (2 ^ class)) s.unique)) ≡ s.classes
+  pub held : t ≡ made_unique s (record { address = address; size = 2 ^ class })
+
+-- a page was cut into slots
+pub record Stocks (s : StoreState) (class : ℕ) (t : StoreState) : Type 0 where
+  pub room : demand (with_page s class) ≤ s.pages
+  pub held : t ≡ with_page s class

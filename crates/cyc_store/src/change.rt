@@ -1,6 +1,7 @@
 //! What a service does to the blocks of a store.
 
 /// A change of the blocks of a store.
+#[derive(Clone, Copy)]
 pub enum Change {
     /// A lexical region was opened.
     OpenedLexical {
@@ -20,6 +21,8 @@ pub enum Change {
         address: u32,
         words: u32,
     },
+    /// A page was cut into slots of a class.
+    Stocked { class: u32 },
     /// A unique block was made.
     MadeUnique {
         address: u32,
