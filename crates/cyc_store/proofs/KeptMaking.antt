@@ -1,10 +1,11 @@
 -- A store on a table of pages stays one where a block is made in a region, and answers as the relation says.
-use Rattle.std.proofs.Common.{◌≡◌, ◌≢◌, ℕ, suc, ◌+◌, ◌*◌, ◌<◌, ◌≤◌, false, true, List, [], ◌∷◌, length, None, Some, refl, sym, ap, subst, ◌∙◌, inl, inr, arith, length-set}
+use Rattle.std.proofs.Common.{◌≡◌, ◌≢◌, ℕ, suc, ◌+◌, ◌*◌, ◌<◌, ◌≤◌, false, true, List, [], ◌∷◌, length, None, Some, refl, sym, ap, subst, ◌∙◌, inl, inr, arith, length-set, get_or-set_other}
 use Rattle.std.specs.Prelude.{◌⊎◌, ◌==◌, if◌then◌else◌, slice_index, slice_index_or, set}
 use Rattle.std.specs.List.{AllByRecursion}
-use Rattle.std.proofs.lemmas.Bool.{cases_lt}
+use Rattle.std.proofs.lemmas.Bool.{cases_eq}
+use Rattle.cyc_words.specs.Demand.{region_pages, demand_of}
 use Rattle.cyc_store.specs.Lookup.{lookup}
-use Rattle.cyc_store.specs.State.{Block, address_of, Home, handle_of, StoreState, homes, demand, made_in, with_block}
+use Rattle.cyc_store.specs.State.{Block, address_of, Home, handle_of, StoreState, homes, sizes_of, sizes_in, demand, made_in}
 use Rattle.cyc_store.specs.Services.{Allocate, Allocated, Refused, Full, refusal, IsPlaced, IsApart, Serves}
 use Rattle.cyc_store.specs.Soundness.{IsSound}
 use Rattle.cyc_store.specs.Ledger.{Blocks, store_of, plain_store, blocks_of}
@@ -16,17 +17,34 @@ use Rattle.cyc_store.specs.declared.row.PageTable.{PageTable}
 use Rattle.cyc_store.specs.declared.row.Row.{Row}
 use Rattle.cyc_store.specs.declared.row.ClassSlots.{ClassSlots}
 use Rattle.cyc_store.specs.declared.range.TheConstants.{PAGE_WORDS, UNIQUE, MOST_BLOCK_WORDS}
-use Rattle.cyc_store.proofs.LookupLemmas.{when_other, lookup-key}
+use Rattle.cyc_store.proofs.LookupLemmas.{when_other, not_both, same_some, lookup-here, lookup-there, lookup-key}
 use Rattle.cyc_store.proofs.BlockLemmas.{address-fresh_in}
 use Rattle.cyc_store.proofs.LiveWords.{odd-apart}
-use Rattle.cyc_store.proofs.PageServices.{stays-placed, drawn-placed, demand-stays, demand-grows, full-without}
+use Rattle.cyc_store.proofs.PageServices.{pages-mark, stays-placed, drawn-placed, demand-stays, demand-grows, full-without}
 use Rattle.cyc_store.proofs.PagedRegions.{block_in_page}
 use Rattle.cyc_store.proofs.RegionServices.{stays-laid, draws-laid}
 use Rattle.cyc_store.proofs.Responses.{named-home, region-none, region-full, serves-region, sound-region}
+use Rattle.cyc_store.proofs.TableLemmas.{row_at-read}
 use Rattle.cyc_store.proofs.TieLemmas.{chain-same, IsDrawn}
 use Rattle.cyc_store.proofs.TieOpening.{with_row}
 use Rattle.cyc_store.proofs.TieMaking.{filled_row, stays-tied, next_row, longer_row, draws-tied}
 use Rattle.cyc_store.proofs.KeptServices.{held-same, Rewrites, rewritten-row, rewritten-table, rewritten-whole, kept-full, kept-some, kept-drawn, drawn-none, drawn-away}
+
+region-few : (rs : List Home) (h : ℕ) (r : Home) (classes : List ℕ) → lookup handle_of rs h ≡ Some r → region_pages (sizes_of r.blocks) ≤ demand_of (sizes_in rs) classes
+region-few [] h r classes there = absurd (let e : None ≡ Some r = there in cc)
+region-few (q ∷ rs) h r classes there = elim (cases_eq q.handle h) [
+  | inl same ↦
+      let is : q ≡ r = same_some (sym (lookup-here handle_of q rs h same) ∙ there) in
+      subst (λ (x : Home). region_pages (sizes_of x.blocks) ≤ demand_of (sizes_in (q ∷ rs)) classes) is (first (region_pages (sizes_of q.blocks)) (demand_of (sizes_in rs) classes))
+  | inr other ↦ later (region_pages (sizes_of r.blocks)) (region_pages (sizes_of q.blocks)) (demand_of (sizes_in rs) classes)
+      (region-few rs h r classes (sym (lookup-there handle_of q rs h other) ∙ there))
+]
+  where
+    first : (m n : ℕ) → m ≤ m + n
+    first m n = omega arith
+
+    later : (m q n : ℕ) → m ≤ n → m ≤ q + n
+    later m q n e = omega (arith, e)
 
 -- the rows of two pages are written, the second with what was read of it then
 twice-table : (u v : PageTable) (page root : ℕ) (a : Row) (newest : ℕ) → page < length u.rows.items → root < length u.rows.items → v.most ≡ u.most → v.words.items ≡ u.words.items
@@ -84,6 +102,12 @@ module _ (t : PageTable) (lexicals : List ℕ) (classes : List ClassSlots) (b : 
 
   pub filled-few : (mark_of r).filled ≤ PAGE_WORDS
   filled-few = subst (λ n. n ≤ PAGE_WORDS) rooted.chain.newest.mark (k.laid.paged.filled rooted.chain.newest.page)
+
+  pub root-small : root < 65536
+  root-small = within root (length t.rows.items) t.most root-there k.tied.few k.tied.most
+    where
+      within : (p n m : ℕ) → p < n → n ≤ m → m ≤ 65536 → p < 65536
+      within p n m less few most = omega (arith, less, few, most)
 
   module _ (n : ℕ) (least : 1 ≤ n) (most : n ≤ MOST_BLOCK_WORDS) where
     fresh-address : (c : Block) → IsPlaced s.pages c × IsApart (homes s) c → lookup address_of r.blocks c.address ≡ None
@@ -223,3 +247,105 @@ module _ (t : PageTable) (lexicals : List ℕ) (classes : List ClassSlots) (b : 
             table_is : table_of v ≡ with_row (with_row (table_of u) page (next_row n rooted.chain.newest.page)) root
                 (longer_row ((with_row (table_of u) page (next_row n rooted.chain.newest.page)).row root) page)
             table_is = twice-table u v page root (next_row n rooted.chain.newest.page) page taken.there root-in-u most_is words_is live_is free_is rows_is
+
+  -- what is read at the first page, and at the newest
+  module _ (first : Row) (read : first ≡ slice_index_or t.rows.items root first) where
+    pub first-newest : first.newest ≡ rooted.chain.newest.page
+    first-newest = ap (λ (x : Row). x.newest) (sym (row_at-read t.rows.items root first root-there read)) ∙ newest-is
+
+    pub first-there : first.newest < length t.rows.items
+    first-there = subst (λ n. n < length t.rows.items) (sym first-newest) newest-there
+
+    pub first-small : first.newest < 65536
+    first-small = within first.newest (length t.rows.items) t.most first-there k.tied.few k.tied.most
+      where
+        within : (p n m : ℕ) → p < n → n ≤ m → m ≤ 65536 → p < 65536
+        within p n m less few most = omega (arith, less, few, most)
+
+    module _ (last : Row) (also : last ≡ slice_index_or t.rows.items first.newest last) where
+      last-row : row_at t.rows.items rooted.chain.newest.page ≡ last
+      last-row = ap (row_at t.rows.items) (sym first-newest) ∙ row_at-read t.rows.items first.newest last first-there also
+
+      pub last-filled : last.filled ≡ (mark_of r).filled
+      last-filled = ap (λ (x : Row). x.filled) (sym last-row) ∙ filled-is
+
+      pub last-few : last.filled ≤ 1024
+      last-few = subst (λ n. n ≤ 1024) (sym last-filled) filled-few
+
+      -- the block that is made behind what is filled
+      module _ (n : ℕ) (least : 1 ≤ n) (most : n ≤ MOST_BLOCK_WORDS) (room : last.filled + n ≤ 1024) (address : ℕ)
+          (place : address ≡ 536870912 + 4 * (1024 * first.newest + last.filled)) where
+        abbrev made_block : Block
+        made_block = record { address = address; size = n }
+
+        has-room : (mark_of r).filled + n ≤ PAGE_WORDS
+        has-room = subst (λ m. m + n ≤ 1024) last-filled room
+
+        block-is : made_block ≡ block_in_page rooted.chain.newest.page (mark_of r).filled n
+        block-is = ap (λ a. record { address = a; size = n })
+            (place ∙ (regroup 536870912 first.newest last.filled
+            ∙ (ap (λ p. 536870912 + 4 * (1024 * p) + 4 * last.filled) first-newest ∙ ap (λ m. page_start rooted.chain.newest.page + 4 * m) last-filled)))
+          where
+            regroup : (base p u : ℕ) → base + 4 * (1024 * p + u) ≡ base + 4 * (1024 * p) + 4 * u
+            regroup base p u = omega arith
+
+        pub behind-serves : (c : Blocks) → c ≡ blocks_of (made_in (plain_store b) h made_block) → Serves s (Allocate h n) (Allocated address) (store_of t.most t.words.items c)
+        behind-serves c noted = subst (λ d. Serves s (Allocate h n) (Allocated address) (store_of t.most t.words.items d)) (sym noted)
+            (subst (λ (x : Block). Serves s (Allocate h n) (Allocated x.address) (made_in s h x)) (sym block-is) (stays-serves n least most has-room))
+
+        pub behind-kept : (c : Blocks) → c ≡ blocks_of (made_in (plain_store b) h made_block) → (v : PageTable)
+            → Rewrites t v first.newest (record last { filled = last.filled + n }) → IsKept v lexicals classes c
+        behind-kept c noted v is = subst (IsKept v lexicals classes) (sym (noted ∙ ap (λ (x : Block). blocks_of (made_in (plain_store b) h x)) block-is))
+            (stays-kept n least most has-room v (subst (λ m. Rewrites t v rooted.chain.newest.page (filled_row (row_at t.rows.items rooted.chain.newest.page) (m + n))) last-filled
+            (subst (λ (x : Row). Rewrites t v rooted.chain.newest.page (filled_row x (last.filled + n))) (sym last-row)
+            (subst (λ p. Rewrites t v p (record last { filled = last.filled + n })) first-newest is))))
+
+      -- the block that is made in a page that is taken
+      module _ (n : ℕ) (least : 1 ≤ n) (most : n ≤ MOST_BLOCK_WORDS) (past : 1024 < last.filled + n) where
+        is-past : PAGE_WORDS < (mark_of r).filled + n
+        is-past = subst (λ m. 1024 < m + n) last-filled past
+
+        pub after-full : k.layout.free ≡ [] → Serves s (Allocate h n) (Refused Full) s
+        after-full none = draws-full n least most is-past none
+
+        pub after-none : (page : ℕ) (rest : List ℕ) → k.layout.free ≡ page ∷ rest → refusal s (Allocate h n) ≡ None
+        after-none page rest next = draws-none n least most is-past page rest next
+
+        module _ (u : PageTable) (page : ℕ) (draws : Draws t u page) (room : (length t.rows.items ≤ t.free) × (t.most ≤ length t.rows.items) → ⊥) (address : ℕ)
+            (place : address ≡ 536870912 + 4 * (1024 * page)) where
+          abbrev taken_block : Block
+          taken_block = record { address = address; size = n }
+
+          taken-is : taken_block ≡ block_in_page page 0 n
+          taken-is = ap (λ a. record { address = a; size = n }) (place ∙ regroup (536870912 + 4 * (1024 * page)))
+            where
+              regroup : (m : ℕ) → m ≡ m + 4 * 0
+              regroup m = omega arith
+
+          pub after-serves : (c : Blocks) → c ≡ blocks_of (made_in (plain_store b) h taken_block) → Serves s (Allocate h n) (Allocated address) (store_of u.most u.words.items c)
+          after-serves c noted = subst (λ (x : Block). Serves s (Allocate h n) (Allocated x.address) (store_of u.most u.words.items c)) (sym taken-is)
+              (draws-serves n least most is-past u page draws room c (noted ∙ ap (λ (x : Block). blocks_of (made_in (plain_store b) h x)) taken-is))
+
+          apart-root : root ≡ page → ⊥
+          apart-root e = not_both (drawn-none t lexicals classes b k u page draws room)
+              (ap k.layout.pages.owner (sym e ∙ sym root-is) ∙ rooted.owned)
+
+          pub after-kept : (c : Blocks) → c ≡ blocks_of (made_in (plain_store b) h taken_block) → (v : PageTable) → v.most ≡ u.most → v.words.items ≡ u.words.items
+              → v.live.items ≡ u.live.items → v.free ≡ u.free → v.rows.items ≡ set (set u.rows.items page (next_row n first.newest)) root (longer_row first page) → IsKept v lexicals classes c
+          after-kept c noted v most_is words_is live_is free_is rows_is =
+              draws-kept n least most is-past u page draws room c (noted ∙ ap (λ (x : Block). blocks_of (made_in (plain_store b) h x)) taken-is) v most_is words_is live_is free_is
+              (rows_is ∙ (ap (λ m. set (set u.rows.items page (next_row n m)) root (longer_row first page)) first-newest
+              ∙ ap (λ (x : Row). set (set u.rows.items page (next_row n rooted.chain.newest.page)) root (longer_row x page))
+              (sym (get_or-set_other u.rows.items page root (next_row n rooted.chain.newest.page) _ apart-root ∙ (draws.rows root ∙ row_at-read t.rows.items root first root-there read)))))
+
+  -- a region has no more pages than the store
+  pub first-count : (first : Row) → first ≡ slice_index_or t.rows.items root first → first.count ≤ 65536
+  first-count first read = within first.count (suc (length rooted.chain.older)) (mark_of r).pages (region_pages (sizes_of r.blocks)) (demand s) t.most
+      (ap (λ (x : Row). x.count) (sym (row_at-read t.rows.items root first root-there read)) ∙ (ap (λ n. (row_at t.rows.items n).count) (sym root-is) ∙ rooted.count))
+      rooted.chain.many (pages-mark r) (region-few b.regions h r b.classes named) k.laid.sound.demand k.tied.most
+    where
+      within : (c l m g d p : ℕ) → c ≡ l → l ≡ m → g ≡ m → g ≤ d → d ≤ p → p ≤ 65536 → c ≤ 65536
+      within c l m g d p e f i j q w = omega (arith, e, f, i, j, q, w)
+
+  pub first-counted : (first : Row) → first ≡ slice_index_or t.rows.items root first → first.count ≡ suc (length rooted.chain.older)
+  first-counted first read = ap (λ (x : Row). x.count) (sym (row_at-read t.rows.items root first root-there read)) ∙ (ap (λ n. (row_at t.rows.items n).count) (sym root-is) ∙ rooted.count)

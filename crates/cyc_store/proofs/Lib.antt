@@ -2,8 +2,10 @@ pub mod BlockLemmas
 pub mod CountLemmas
 pub mod Examples
 pub mod HolderLemmas
+pub mod KeptClosing
 pub mod KeptMaking
 pub mod KeptServices
+pub mod KeptStart
 pub mod KeptWords
 pub mod LiveWords
 pub mod LookupLemmas

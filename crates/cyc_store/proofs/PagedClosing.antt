@@ -57,7 +57,7 @@ chain-free count pages gone below [] (p ∷ free) owned all =
 chain-free count pages gone below (p ∷ chain) free owned all =
     (record { owner = owner-goes gone (pages.owner p) owned.0; below = below p gone owned.0 }, chain-free count pages gone below chain free owned.1 all)
 
-owned-apart : (count : ℕ) (pages : Pages) (p g : ℕ) → pages.owner p ≡ Some g → (free : List ℕ) → AllByRecursion (IsFree count pages) free
+pub owned-apart : (count : ℕ) (pages : Pages) (p g : ℕ) → pages.owner p ≡ Some g → (free : List ℕ) → AllByRecursion (IsFree count pages) free
     → AllByRecursion (λ (y : ℕ). p ≢ y) free
 owned-apart count pages p g owned [] all = tt
 owned-apart count pages p g owned (y ∷ free) all = (λ e. not_both all.0.owner (ap pages.owner (sym e) ∙ owned), owned-apart count pages p g owned free all.1)

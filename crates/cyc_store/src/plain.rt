@@ -1,6 +1,6 @@
 //! A store on an array of words, which grows by pages.
 
-ghost use Rattle.std.specs.Prelude.{◌≡◌, ◌≢◌, ℕ, ◌+◌, ◌*◌, ◌^◌, ◌<◌, ◌≤◌, ◌⊎◌, ◌↔◌, IfOk, IfErr, OnOk, OnErr, IsSomeAnd, IsTrue, true, length, is_some};
+ghost use Rattle.std.specs.Prelude.{◌≡◌, ◌≢◌, ℕ, ◌+◌, ◌*◌, ◌^◌, ◌<◌, ◌≤◌, ◌⊎◌, ◌↔◌, IfOk, IfErr, OnOk, OnErr, IsTrue, true, length, is_some};
 ghost use Rattle.cyc_words.specs.Demand.{class_of};
 ghost use Rattle.cyc_store.specs.Answers.{Responds, allocated};
 ghost use Rattle.cyc_store.specs.Ledger.{Stored, held_of, memory_of};
@@ -145,16 +145,19 @@ impl PlainStore {
 
     /// Makes a block of so many words in the region with this first page.
     fn alloc_in(&mut self, root: u32, words: u32) -> Result<u32, No>
-        requires named { IsSomeAnd (lookup handle_of self.old.blocks.regions (2 * root + 1)) (λ _. Unit {0}) }
+        requires named { is_some (lookup handle_of self.old.blocks.regions (2 * root + 1)) ≡ true }
         requires least { 1 ≤ words }
         requires most { words ≤ MOST_BLOCK_WORDS }
         ensures { Responds true (held_of self.old) (Allocate (2 * root + 1) words) (allocated result) (held_of self.new) }
     {
-        let newest = self.table.rows[root as usize].newest;
-        let filled = self.table.rows[newest as usize].filled;
-        if filled + words <= PAGE_WORDS {
-            self.table.rows[newest as usize].filled = filled + words;
-            let address = address_at(1024 * newest + filled);
+        let first = self.table.rows[root as usize];
+        let last = self.table.rows[first.newest as usize];
+        if last.filled + words <= PAGE_WORDS {
+            self.table.rows[first.newest as usize] = Row {
+                filled: last.filled + words,
+                ..last
+            };
+            let address = address_at(1024 * first.newest + last.filled);
             self.ledger = Ledger::with(
                 &self.ledger,
                 &Change::Made {
@@ -174,11 +177,10 @@ impl PlainStore {
         self.table.rows[page as usize] = Row {
             role: Role::Rest,
             filled: words,
-            next: newest,
+            next: first.newest,
             newest: NONE,
             count: 0,
         };
-        let first = self.table.rows[root as usize];
         self.table.rows[root as usize] = Row {
             newest: page,
             count: first.count + 1,
@@ -342,7 +344,10 @@ impl Store for PlainStore {
 
     fn close_dynamic(&mut self, handle: u32) -> Result<(), BadHandle> {
         let page = handle / 2;
-        if handle % 2 == 0 || self.table.rows.len() <= page as usize {
+        if handle % 2 == 0 {
+            return Err(BadHandle);
+        }
+        if self.table.rows.len() <= page as usize {
             return Err(BadHandle);
         }
         let first = self.table.rows[page as usize];
@@ -400,11 +405,17 @@ impl Store for PlainStore {
     }
 
     fn load(&self, address: u32) -> Option<u32> {
-        if address % 4 != 0 || address < STORE_BASE {
+        if address < STORE_BASE {
+            return None;
+        }
+        if address % 4 != 0 {
             return None;
         }
         let word = ((address - STORE_BASE) / 4) as usize;
-        if word < self.table.words.len() && self.is_live(word) {
+        if self.table.words.len() <= word {
+            return None;
+        }
+        if self.is_live(word) {
             Some(self.table.words[word])
         } else {
             None
