@@ -3,6 +3,7 @@ pub mod CountLemmas
 pub mod Examples
 pub mod HolderLemmas
 pub mod KeptClosing
+pub mod KeptLoads
 pub mod KeptMaking
 pub mod KeptServices
 pub mod KeptStart

@@ -1,21 +1,18 @@
 //! A store on an array of words, which grows by pages.
 
-ghost use Rattle.std.specs.Prelude.{◌≡◌, ◌≢◌, ℕ, ◌+◌, ◌*◌, ◌^◌, ◌<◌, ◌≤◌, ◌⊎◌, ◌↔◌, IfOk, IfErr, OnOk, OnErr, IsTrue, true, length, is_some};
-ghost use Rattle.cyc_words.specs.Demand.{class_of};
-ghost use Rattle.cyc_store.specs.Answers.{Responds, allocated};
+ghost use Rattle.std.specs.Prelude.{◌≡◌, ◌+◌, ◌*◌, ◌<◌, ◌≤◌, IfOk, true, length, is_some};
+ghost use Rattle.cyc_store.specs.Answers.{Responds, allocated, done_unless, opened_dynamic, opened_lexical};
 ghost use Rattle.cyc_store.specs.Ledger.{Stored, held_of, memory_of};
 ghost use Rattle.cyc_store.specs.Lookup.{lookup};
-ghost use Rattle.cyc_store.specs.Services.{Allocate};
-ghost use Rattle.cyc_store.specs.Kept.{next_slot_of};
-ghost use Rattle.cyc_store.specs.Slots.{HasSlot, IsSpent, Stocks, Fills};
-ghost use Rattle.cyc_store.specs.State.{start, homes, holder, handle_of, demand};
+ghost use Rattle.cyc_store.specs.Services.{Allocate, CloseDynamic, OpenDynamic, OpenLexical};
+ghost use Rattle.cyc_store.specs.Services as services;
+ghost use Rattle.cyc_store.specs.State.{start, homes, holder, handle_of, word_at};
 
-use super::answer::{BadHandle, BadMark, No, NotABlock};
+use super::answer::{BadHandle, No};
 use super::change::Change;
 use super::ledger::Ledger;
-use super::range::{LEAST_PAGES, MOST_BLOCK_WORDS, MOST_PAGES, PAGE_WORDS, STORE_BASE, UNIQUE};
+use super::range::{LEAST_PAGES, MOST_BLOCK_WORDS, MOST_PAGES, PAGE_WORDS, STORE_BASE};
 use super::row::{ClassSlots, NONE, PageTable, Role, Row};
-use super::store::Store;
 use std::alloc::{AllocError, Global};
 use std::marker::Model;
 
@@ -41,28 +38,6 @@ impl Model for PlainStore {
     ghost invariant = { λ s. IsKept s.table s.lexicals.items s.classes s.ledger.blocks };
 }
 
-/// The words of a block of a class.
-#[inline]
-fn size_of(class: u32) -> u32
-    requires { class ≤ 10 }
-    ensures { result ≡ 2 ^ class }
-{
-    1 << class
-}
-
-/// The class of a block: the exponent of the least power of two that holds it.
-fn class_of(words: u32) -> u32
-    requires { words ≤ 1024 }
-    ensures { result ≡ class_of words }
-{
-    for class in 0..10 {
-        if words <= size_of(class) {
-            return class;
-        }
-    }
-    10
-}
-
 /// The address of a word, by its number among the words of all pages.
 #[inline]
 fn address_at(word: u32) -> u32
@@ -70,31 +45,6 @@ fn address_at(word: u32) -> u32
     ensures { result ≡ STORE_BASE + 4 * word }
 {
     STORE_BASE + 4 * word
-}
-
-/// The first slot of those that no block is in, and the others.
-#[inline]
-fn next_slot(slots: ClassSlots, words: &Vec<u32>, class: u32) -> (u32, ClassSlots)
-    requires class { class ≤ 10 }
-    requires dead { slots.dead ≢ NONE → slots.dead < length words.now.items }
-    requires fresh { slots.dead ≡ NONE → (1 ≤ slots.left) × (slots.fresh < 0x400_0000) }
-    ensures { result ≡ next_slot_of slots words.now.items class }
-{
-    if slots.dead != NONE {
-        let rest = ClassSlots {
-            dead: words[slots.dead as usize],
-            fresh: slots.fresh,
-            left: slots.left,
-        };
-        (slots.dead, rest)
-    } else {
-        let rest = ClassSlots {
-            dead: NONE,
-            fresh: slots.fresh + size_of(class),
-            left: slots.left - 1,
-        };
-        (slots.fresh, rest)
-    }
 }
 
 impl PlainStore {
@@ -198,92 +148,10 @@ impl PlainStore {
         Ok(address)
     }
 
-    /// Whether a page of the class has a slot that no block is in.
-    fn has_slot(&self, class: u32) -> bool
-        requires { class ≤ 10 }
-        ensures { IsTrue result ↔ HasSlot (held_of self.now) class }
+    /// Opens a lexical region. Gives its handle, which nothing had, and the number of lexical regions that were open before.
+    pub fn open_lexical(&mut self) -> Result<(u32, u32), No>
+        ensures { Responds true (held_of self.old) OpenLexical (opened_lexical result) (held_of self.new) }
     {
-        let slots = self.classes[class as usize];
-        slots.dead != NONE || 0 < slots.left
-    }
-
-    /// Cuts a page that is free into slots of the class.
-    fn stock(&mut self, class: u32) -> Result<(), No>
-        requires class { class ≤ 10 }
-        requires none { ¬ HasSlot (held_of self.old) class }
-        ensures ok { OnOk result (Stocks (held_of self.old) class (held_of self.new)) }
-        ensures full { result ≡ Err No.Full → IsSpent (held_of self.old) }
-        ensures memory { result ≡ Err No.Memory → (demand (held_of self.old) < self.old.pages) }
-        ensures few { IfErr result (λ why. (why ≡ No.Full) ⊎ (why ≡ No.Memory)) }
-        ensures same { OnErr result (held_of self.new ≡ held_of self.old) }
-    {
-        if self.table.is_full() {
-            return Err(No::Full);
-        }
-        let Ok(page) = self.table.draw() else {
-            return Err(No::Memory);
-        };
-        self.table.rows[page as usize] = Row {
-            role: Role::Slots(class),
-            filled: 0,
-            next: NONE,
-            newest: NONE,
-            count: 0,
-        };
-        self.classes[class as usize] = ClassSlots {
-            dead: NONE,
-            fresh: 1024 * page,
-            left: 1024 >> class,
-        };
-        self.ledger = Ledger::with(&self.ledger, &Change::Stocked { class });
-        Ok(())
-    }
-
-    /// Makes a unique block in a slot of the class, and gives its address.
-    fn fill(&mut self, class: u32) -> u32
-        requires class { class ≤ 10 }
-        requires some { HasSlot (held_of self.old) class }
-        ensures { Fills (held_of self.old) class result (held_of self.new) }
-    {
-        let (word, rest) = next_slot(self.classes[class as usize], &self.table.words, class);
-        self.classes[class as usize] = rest;
-        self.table.live[(word / 1024 * 1024 + ((word % 1024) >> class)) as usize] = true;
-        let address = address_at(word);
-        self.ledger = Ledger::with(
-            &self.ledger,
-            &Change::MadeUnique {
-                address,
-                words: size_of(class),
-            },
-        );
-        address
-    }
-
-    /// Makes a unique block of so many words.
-    fn alloc_unique(&mut self, words: u32) -> Result<u32, No>
-        requires least { 1 ≤ words }
-        requires most { words ≤ MOST_BLOCK_WORDS }
-        ensures { Responds true (held_of self.old) (Allocate UNIQUE words) (allocated result) (held_of self.new) }
-    {
-        let class = class_of(words);
-        if !self.has_slot(class) {
-            self.stock(class)?;
-        }
-        Ok(self.fill(class))
-    }
-}
-
-impl Store for PlainStore {
-    ghost use Rattle.std.specs.Prelude.{true};
-    ghost use Rattle.cyc_store.specs.Ledger.{held_of};
-
-    ghost held = { held_of };
-
-    const GROWS: bool = true;
-
-    ghost GROWS = { true };
-
-    fn open_lexical(&mut self) -> Result<(u32, u32), No> {
         if self.table.is_full() {
             return Err(No::Full);
         }
@@ -309,21 +177,10 @@ impl Store for PlainStore {
         Ok((handle, mark))
     }
 
-    fn close_to(&mut self, mark: u32) -> Result<(), BadMark> {
-        if self.lexicals.len() < mark as usize {
-            return Err(BadMark);
-        }
-        while (mark as usize) < self.lexicals.len() {
-            if let Some(handle) = self.lexicals.pop() {
-                let first = self.table.rows[(handle / 2) as usize];
-                self.table.give_back(first.newest, first.count);
-                self.ledger = Ledger::with(&self.ledger, &Change::Closed { handle });
-            }
-        }
-        Ok(())
-    }
-
-    fn open_dynamic(&mut self) -> Result<u32, No> {
+    /// Opens a dynamic region. Gives its handle, which nothing had.
+    pub fn open_dynamic(&mut self) -> Result<u32, No>
+        ensures { Responds true (held_of self.old) OpenDynamic (opened_dynamic result) (held_of self.new) }
+    {
         if self.table.is_full() {
             return Err(No::Full);
         }
@@ -342,12 +199,16 @@ impl Store for PlainStore {
         Ok(handle)
     }
 
-    fn close_dynamic(&mut self, handle: u32) -> Result<(), BadHandle> {
+    /// Closes the dynamic region with this handle.
+    pub fn close_dynamic(&mut self, handle: u32) -> Result<(), BadHandle>
+        ensures { Responds true (held_of self.old) (CloseDynamic handle) (done_unless services.BadHandle result) (held_of self.new) }
+    {
+        let count = self.table.rows.len();
         let page = handle / 2;
         if handle % 2 == 0 {
             return Err(BadHandle);
         }
-        if self.table.rows.len() <= page as usize {
+        if count <= page as usize {
             return Err(BadHandle);
         }
         let first = self.table.rows[page as usize];
@@ -359,52 +220,11 @@ impl Store for PlainStore {
         Ok(())
     }
 
-    fn alloc(&mut self, handle: u32, words: u32) -> Result<u32, No> {
-        if handle == UNIQUE {
-            if words == 0 || MOST_BLOCK_WORDS < words {
-                return Err(No::BadSize);
-            }
-            return self.alloc_unique(words);
-        }
-        let page = handle / 2;
-        if handle % 2 == 0 || self.table.rows.len() <= page as usize {
-            return Err(No::BadHandle);
-        }
-        match self.table.rows[page as usize].role {
-            Role::Rest | Role::Slots(_) => return Err(No::BadHandle),
-            Role::Heap | Role::Lexical | Role::Dynamic => {}
-        }
-        if words == 0 || MOST_BLOCK_WORDS < words {
-            return Err(No::BadSize);
-        }
-        self.alloc_in(page, words)
-    }
-
-    fn free(&mut self, address: u32) -> Result<(), NotABlock> {
-        if address % 4 != 0 || address < STORE_BASE {
-            return Err(NotABlock);
-        }
-        let word = (address - STORE_BASE) / 4;
-        let page = word / 1024;
-        if self.table.rows.len() <= page as usize {
-            return Err(NotABlock);
-        }
-        let Role::Slots(class) = self.table.rows[page as usize].role else {
-            return Err(NotABlock);
-        };
-        let number = (word % 1024) >> class;
-        let slot = (page * 1024 + number) as usize;
-        if number * size_of(class) != word % 1024 || !self.table.live[slot] {
-            return Err(NotABlock);
-        }
-        self.table.live[slot] = false;
-        self.table.words[word as usize] = self.classes[class as usize].dead;
-        self.classes[class as usize].dead = word;
-        self.ledger = Ledger::with(&self.ledger, &Change::Freed { address });
-        Ok(())
-    }
-
-    fn load(&self, address: u32) -> Option<u32> {
+    /// The word at an address, where it is that of a word of a live block.
+    pub fn load(&self, address: u32) -> Option<u32>
+        ensures { result ≡ word_at (held_of self.now) address }
+    {
+        let count = self.table.words.len();
         if address < STORE_BASE {
             return None;
         }
@@ -412,26 +232,13 @@ impl Store for PlainStore {
             return None;
         }
         let word = ((address - STORE_BASE) / 4) as usize;
-        if self.table.words.len() <= word {
+        if count <= word {
             return None;
         }
         if self.is_live(word) {
             Some(self.table.words[word])
         } else {
             None
-        }
-    }
-
-    fn save(&mut self, address: u32, word: u32) -> bool {
-        if address % 4 != 0 || address < STORE_BASE {
-            return false;
-        }
-        let at = ((address - STORE_BASE) / 4) as usize;
-        if at < self.table.words.len() && self.is_live(at) {
-            self.table.words[at] = word;
-            true
-        } else {
-            false
         }
     }
 }

@@ -5,7 +5,7 @@ use Rattle.cyc_store.specs.State.{StoreState}
 use Rattle.cyc_store.specs.Kept.{handle_of_page, IsKept}
 use Rattle.cyc_store.proofs.Responses.{lexical-full, lexical-none}
 use Rattle.cyc_store.proofs.KeptServices.{not-true, kept-full, kept-unchanged, held-unchanged, kept-some, kept-lexicals_few, lexical-kept, lexical-serves}
-use Rattle.cyc_store.proofs.plain.PlainStoreStore.open_lexical.Goals as goal
+use Rattle.cyc_store.proofs.plain.PlainStore.open_lexical.Goals as goal
 
 pub returns-then-is_full : goal.returns-then-is_full
 returns-then-is_full c =

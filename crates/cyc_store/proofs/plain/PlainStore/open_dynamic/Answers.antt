@@ -5,7 +5,7 @@ use Rattle.cyc_store.specs.State.{StoreState}
 use Rattle.cyc_store.specs.Kept.{handle_of_page}
 use Rattle.cyc_store.proofs.Responses.{dynamic-full, dynamic-none}
 use Rattle.cyc_store.proofs.KeptServices.{not-true, kept-full, kept-unchanged, held-unchanged, kept-some, dynamic-kept, dynamic-serves}
-use Rattle.cyc_store.proofs.plain.PlainStoreStore.open_dynamic.Goals as goal
+use Rattle.cyc_store.proofs.plain.PlainStore.open_dynamic.Goals as goal
 
 pub returns-then-is_full : goal.returns-then-is_full
 returns-then-is_full c =
