@@ -160,7 +160,7 @@ module _ (t : PageTable) (lexicals : List ℕ) (classes : List ClassSlots) (b : 
           (length t.rows.items, took.rest, took.first)
         where
           less : (n m : ℕ) → (m ≤ n → ⊥) → n < m
-          less n m not = elim (cases_lt n m) [ | inl is ↦ is | inr over ↦ absurd (not over) ]
+          less n m not = elim (cases_lt n m) [ inl is ↦ is | inr over ↦ absurd (not over) ]
 
   pub kept-few : length t.rows.items ≤ MOST_PAGES
   kept-few = within (length t.rows.items) t.most k.tied.few k.tied.most

@@ -22,7 +22,9 @@ pub enum Change {
         words: u32,
     },
     /// A page was cut into slots of a class.
-    Stocked { class: u32 },
+    Stocked {
+        class: u32,
+    },
     /// A unique block was made.
     MadeUnique {
         address: u32,
