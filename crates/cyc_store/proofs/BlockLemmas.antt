@@ -28,7 +28,7 @@ homes-made s h b = elim (cases_eq h UNIQUE) [
 ]
 
 -- no live block of a region has the address of a new one
-address-fresh_in : (s : StoreState) (h : ℕ) (r : Home) (b : Block) → IsSound s → lookup handle_of (homes s) h ≡ Some r → IsPlaced s.pages b → IsApart (homes s) b
+pub address-fresh_in : (s : StoreState) (h : ℕ) (r : Home) (b : Block) → IsSound s → lookup handle_of (homes s) h ≡ Some r → IsPlaced s.pages b → IsApart (homes s) b
     → lookup address_of r.blocks b.address ≡ None
 address-fresh_in s h r b sound there placed apart = elim (cases_option (lookup address_of r.blocks b.address)) [
   | inl none ↦ none

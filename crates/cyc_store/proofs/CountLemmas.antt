@@ -3,7 +3,7 @@ use Rattle.std.proofs.Common.{◌≡◌, ℕ, zero, suc, ◌+◌, ◌-◌, ◌*�
 use Rattle.std.specs.Prelude.{nat_le, slice_index}
 use Rattle.std.proofs.Math.Nat.{div-mul-le_self, pow-le-pow_right, le-max_left, le-max_right}
 use Rattle.std.proofs.lemmas.Nat.{le-div, pow_pos}
-use Rattle.std.proofs.lemmas.Bool.{cases_eq, cond_both, leb-true}
+use Rattle.std.proofs.lemmas.Bool.{cases_eq, cond_both, cond-true, cond-false, leb-true, le-leb, lt-leb}
 use Rattle.cyc_words.specs.Demand.{page_words, greatest_class, class_from, class_of, blocks_in_page, pages_for, region_pages, demand_of}
 use Rattle.cyc_store.specs.State.{Block, Sort, Home, empty_home, sizes_of, sizes_in, live_in, raised}
 use Rattle.cyc_store.specs.Soundness.{AreEnough}
@@ -50,10 +50,10 @@ pages_for-more class m n bound more = below (blocks_in_page class) (blocks-some 
 
 -- ---- how many blocks are of a class
 
-live-here : (c : ℕ) (b : Block) (bs : List Block) → class_of b.size ≡ c → live_in c (b ∷ bs) ≡ suc (live_in c bs)
+pub live-here : (c : ℕ) (b : Block) (bs : List Block) → class_of b.size ≡ c → live_in c (b ∷ bs) ≡ suc (live_in c bs)
 live-here c b bs same = when_equal (class_of b.size) c (suc (live_in c bs)) (live_in c bs) same
 
-live-there : (c : ℕ) (b : Block) (bs : List Block) → (class_of b.size ≡ c → ⊥) → live_in c (b ∷ bs) ≡ live_in c bs
+pub live-there : (c : ℕ) (b : Block) (bs : List Block) → (class_of b.size ≡ c → ⊥) → live_in c (b ∷ bs) ≡ live_in c bs
 live-there c b bs other = when_other (class_of b.size) c (suc (live_in c bs)) (live_in c bs) other
 
 pub live_in-append_same : (c : ℕ) (bs : List Block) (b : Block) → class_of b.size ≡ c → live_in c (bs ++ b ∷ []) ≡ suc (live_in c bs)
@@ -157,3 +157,14 @@ demand-part (is_kept {x = r} {xs = qs} {ys = rs} part) classes = let rest : dema
 pub sizes-opened : (rs : List Home) (g h : ℕ) (sort : Sort) → sizes_in (rs ++ empty_home g sort ∷ []) ≡ sizes_in (rs ++ empty_home h sort ∷ [])
 sizes-opened [] g h sort = refl
 sizes-opened (r ∷ rs) g h sort = ap (λ l. sizes_of r.blocks ∷ l) (sizes-opened rs g h sort)
+
+-- ---- a class is sought from the least on
+
+pub class_from-here : (left class size : ℕ) → 0 < left → size ≤ 2 ^ class → class_from left class size ≡ class
+class_from-here zero class size some fits = absurd (omega (arith, some))
+class_from-here (suc left) class size some fits = cond-true (nat_le size (2 ^ class)) class (class_from left (suc class) size) (le-leb size (2 ^ class) fits)
+
+pub class_from-next : (left class less next size : ℕ) → left ≡ suc less → next ≡ suc class → 2 ^ class < size → class_from left class size ≡ class_from less next size
+class_from-next left class less next size one_less one_more past =
+    ap (λ n. class_from n class size) one_less
+    ∙ (cond-false (nat_le size (2 ^ class)) class (class_from less (suc class) size) (lt-leb size (2 ^ class) past) ∙ ap (λ n. class_from less n size) (sym one_more))

@@ -96,7 +96,7 @@ module _ (h : ℕ) (x : ℕ) where
 -- ---- in all regions
 
 -- a block that has an address is in a region with a handle
-holder-named : (rs : List Home) (x : ℕ) (k : Holder) → holder rs x ≡ Some k → lookup handle_of rs k.handle ≡ None → ⊥
+pub holder-named : (rs : List Home) (x : ℕ) (k : Holder) → holder rs x ≡ Some k → lookup handle_of rs k.handle ≡ None → ⊥
 holder-named [] x k found none = let e : None ≡ Some k = found in cc
 holder-named (r ∷ rs) x k found none =
     let (away, rest) = lookup-none handle_of r rs k.handle none in

@@ -84,6 +84,13 @@ module _ {A : Type 0} (key : A → ℕ) where
       let (away, rest) = lookup-none a xs n none in
       lookup-there a (xs ++ y ∷ []) n away ∙ lookup-append_new xs y n rest same
 
+  pub lookup-append_other : (xs : List A) (y : A) (n : ℕ) → (key y ≡ n → ⊥) → lookup key (xs ++ y ∷ []) n ≡ lookup key xs n
+  lookup-append_other [] y n other = lookup-there y [] n other
+  lookup-append_other (a ∷ xs) y n other = elim (cases_eq (key a) n) [
+    | inl same ↦ lookup-here a (xs ++ y ∷ []) n same ∙ sym (lookup-here a xs n same)
+    | inr away ↦ lookup-there a (xs ++ y ∷ []) n away ∙ (lookup-append_other xs y n other ∙ sym (lookup-there a xs n away))
+  ]
+
   pub AreDistinct-append : (xs : List A) (y : A) → AreDistinct key xs → lookup key xs (key y) ≡ None → AreDistinct key (xs ++ y ∷ [])
   AreDistinct-append [] y distinct none = (refl, tt)
   AreDistinct-append (a ∷ xs) y distinct none =
@@ -139,6 +146,18 @@ module _ {A : Type 0} (key : A → ℕ) where
   lookup-without (x ∷ xs) n = elim (cases_eq (key x) n) [
     | inl same ↦ ap (λ l. lookup key l n) (without-here x xs n same) ∙ lookup-without xs n
     | inr other ↦ ap (λ l. lookup key l n) (without-there x xs n other) ∙ (lookup-there x (without key xs n) n other ∙ lookup-without xs n)
+  ]
+
+  pub lookup-without_other : (xs : List A) (n m : ℕ) → (m ≡ n → ⊥) → lookup key (without key xs n) m ≡ lookup key xs m
+  lookup-without_other [] n m other = refl
+  lookup-without_other (x ∷ xs) n m other = elim (cases_eq (key x) n) [
+    | inl same ↦
+        ap (λ l. lookup key l m) (without-here x xs n same)
+        ∙ (lookup-without_other xs n m other ∙ sym (lookup-there x xs m (λ e. other (sym e ∙ same))))
+    | inr away ↦ ap (λ l. lookup key l m) (without-there x xs n away) ∙ elim (cases_eq (key x) m) [
+      | inl here ↦ lookup-here x (without key xs n) m here ∙ sym (lookup-here x xs m here)
+      | inr there ↦ lookup-there x (without key xs n) m there ∙ (lookup-without_other xs n m other ∙ sym (lookup-there x xs m there))
+    ]
   ]
 
   -- ---- changed

@@ -10,7 +10,7 @@ use Rattle.cyc_store.specs.Services.{IsPlaced, IsApart}
 use Rattle.cyc_store.specs.declared.range.TheConstants.{STORE_BASE, PAGE_WORDS}
 use Rattle.cyc_store.proofs.LookupLemmas.{when_equal, when_other, cases_option, not_both, same_some, IsPart, is_empty, is_left, is_kept, lookup-none}
 use Rattle.cyc_store.proofs.HolderLemmas.{in-here, in-there, or_else-cases}
-use Rattle.cyc_store.proofs.PageModel.{page_start, LiesIn, Pages, AreFilled, IsLaid, AreLaidIn, AreLaid, filled_to, drawn, owner_without, given_back, Mark, next_mark, mark_from}
+use Rattle.cyc_store.specs.Pages.{page_start, LiesIn, Pages, AreFilled, IsLaid, AreLaidIn, AreLaid, filled_to, drawn, owner_without, given_back, Mark, next_mark, mark_from}
 
 -- ---- where a block is
 
@@ -39,7 +39,7 @@ holder_in-laid pages h (b ∷ bs) x k laid found = elim (cases_Bool (covers b x)
   | inr not ↦ holder_in-laid pages h bs x k laid.1 (sym (in-there h x b bs not) ∙ found)
 ]
 
-holder-laid : (pages : Pages) (rs : List Home) (x : ℕ) (k : Holder) → AreLaid pages rs → holder rs x ≡ Some k
+pub holder-laid : (pages : Pages) (rs : List Home) (x : ℕ) (k : Holder) → AreLaid pages rs → holder rs x ≡ Some k
     → IsLaid pages k.handle k.block × (covers k.block x ≡ true)
 holder-laid pages [] x k laid found = absurd (let e : None ≡ Some k = found in cc)
 holder-laid pages (r ∷ rs) x k laid found = elim (or_else-cases (holder_in r.handle r.blocks x) (holder rs x) k found) [
@@ -99,7 +99,7 @@ stays-in : (pages others : Pages) (h : ℕ) (bs : List Block) → ((b : Block) �
 stays-in pages others h [] stays laid = tt
 stays-in pages others h (b ∷ bs) stays laid = (stays b laid.0, stays-in pages others h bs stays laid.1)
 
-stays-all : (pages others : Pages) (rs : List Home) → ((h : ℕ) (b : Block) → IsLaid pages h b → IsLaid others h b) → AreLaid pages rs → AreLaid others rs
+pub stays-all : (pages others : Pages) (rs : List Home) → ((h : ℕ) (b : Block) → IsLaid pages h b → IsLaid others h b) → AreLaid pages rs → AreLaid others rs
 stays-all pages others [] stays laid = tt
 stays-all pages others (r ∷ rs) stays laid =
     (stays-in pages others r.handle r.blocks (stays r.handle) laid.0, stays-all pages others rs stays laid.1)
@@ -167,7 +167,7 @@ laid-opened pages rs page handle sort free laid =
     (stays-all pages (drawn pages page handle) rs (drawn-stays pages page handle free) laid)
     (tt, tt)
 
-laid-last : (pages : Pages) (h : ℕ) (bs : List Block) (b : Block) → AreLaidIn pages h bs → IsLaid pages h b → AreLaidIn pages h (bs ++ b ∷ [])
+pub laid-last : (pages : Pages) (h : ℕ) (bs : List Block) (b : Block) → AreLaidIn pages h bs → IsLaid pages h b → AreLaidIn pages h (bs ++ b ∷ [])
 laid-last pages h [] b laid new = (new, tt)
 laid-last pages h (a ∷ bs) b laid new = (laid.0, laid-last pages h bs b laid.1 new)
 

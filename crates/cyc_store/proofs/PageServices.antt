@@ -12,41 +12,8 @@ use Rattle.cyc_store.specs.State.{put, Block, Home, handle_of, StoreState, homes
 use Rattle.cyc_store.specs.Services.{IsPlaced, IsApart}
 use Rattle.cyc_store.specs.declared.range.TheConstants.{PAGE_WORDS}
 use Rattle.cyc_store.proofs.LookupLemmas.{when_equal, when_other, same_some, lookup-here, lookup-there}
-use Rattle.cyc_store.proofs.PageModel.{page_start, LiesIn, Pages, AreFilled, AreLaid, drawn, Mark, next_mark, mark_from}
+use Rattle.cyc_store.specs.Pages.{page_start, LiesIn, Pages, AreFilled, AreLaid, drawn, Mark, next_mark, mark_from, mark_of, HasNewest, HasChain, IsFree, IsPaged}
 use Rattle.cyc_store.proofs.PageLemmas.{laid-apart, lies-placed, laid-drawn, mark-pages, mark-append}
-
--- the pages and the fill mark of a region
-abbrev pub mark_of : Home → Mark
-mark_of r = mark_from (record { pages = 1; filled = 0 }) (sizes_of r.blocks)
-
--- A region's newest page, which it owns, and which is filled as far as its blocks say.
-pub record HasNewest (pages : Pages) (r : Home) : Type 0 where
-  pub page : ℕ
-  pub owned : pages.owner page ≡ Some r.handle
-  pub mark : pages.filled page ≡ (mark_of r).filled
-
--- All pages of a region, the newest and those before it.
-pub record HasChain (pages : Pages) (r : Home) : Type 0 where
-  pub newest : HasNewest pages r
-  pub older : List ℕ
-  pub owned : AllByRecursion (λ (p : ℕ). pages.owner p ≡ Some r.handle) older
-  pub apart : IsDistinct (newest.page ∷ older)
-  pub many : suc (length older) ≡ (mark_of r).pages
-
--- a page that may be drawn
-pub record IsFree (count : ℕ) (pages : Pages) (page : ℕ) : Type 0 where
-  pub owner : pages.owner page ≡ None
-  pub below : page < count
-
--- The blocks of a store are laid out in pages, and the pages that are free are those that demand does not count.
-pub record IsPaged (s : StoreState) (pages : Pages) (free : List ℕ) : Type 0 where
-  pub laid : AreLaid pages (homes s)
-  pub filled : AreFilled pages
-  pub below : (page h : ℕ) → pages.owner page ≡ Some h → page < s.pages
-  pub unowned : AllByRecursion (IsFree s.pages pages) free
-  pub apart : IsDistinct free
-  pub count : length free + demand s ≡ s.pages
-  pub chains : (h : ℕ) (r : Home) → lookup handle_of s.regions h ≡ Some r → HasChain pages r
 
 -- ---- demand after one block more
 

@@ -10,8 +10,8 @@ use Rattle.cyc_store.specs.Soundness.{IsSound}
 use Rattle.cyc_store.specs.declared.range.TheConstants.{PAGE_WORDS, MOST_BLOCK_WORDS, UNIQUE}
 use Rattle.cyc_store.proofs.LookupLemmas.{when_other, lookup-there}
 use Rattle.cyc_store.proofs.ServiceLemmas.{made-in, then-none, some-there, fits}
-use Rattle.cyc_store.proofs.PageModel.{page_start, Pages, filled_to, drawn}
-use Rattle.cyc_store.proofs.PageServices.{mark_of, HasChain, IsPaged, stays-placed, drawn-placed, full-without}
+use Rattle.cyc_store.specs.Pages.{page_start, Pages, filled_to, drawn, mark_of, HasChain, IsPaged}
+use Rattle.cyc_store.proofs.PageServices.{stays-placed, drawn-placed, full-without}
 use Rattle.cyc_store.proofs.PagedRegions.{block_in_page, paged-stays, paged-draws}
 
 -- some pages lay the store out

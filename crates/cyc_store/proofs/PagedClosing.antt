@@ -9,31 +9,31 @@ use Rattle.cyc_store.specs.State.{Uniques, Home, handle_of, StoreState, sizes_of
 use Rattle.cyc_store.specs.Soundness.{IsSound}
 use Rattle.cyc_store.specs.declared.range.TheConstants.{UNIQUE}
 use Rattle.cyc_store.proofs.LookupLemmas.{when_equal, when_other, same_some, not_both, is_kept, lookup-here, lookup-there, lookup-none, lookup-key, lookup-part, lookup-without, IsPart-without}
-use Rattle.cyc_store.proofs.PageModel.{Pages, owner_without, given_back}
+use Rattle.cyc_store.specs.Pages.{Pages, owner_without, given_back, HasChain, IsFree, IsPaged}
 use Rattle.cyc_store.proofs.PageLemmas.{laid-part, laid-closed}
-use Rattle.cyc_store.proofs.PageServices.{HasChain, IsFree, IsPaged, pages-mark}
+use Rattle.cyc_store.proofs.PageServices.{pages-mark}
 
 -- ---- owners
 
-owner-kept : (gone g : ℕ) (o : Option ℕ) → owner_without gone o ≡ Some g → o ≡ Some g
+pub owner-kept : (gone g : ℕ) (o : Option ℕ) → owner_without gone o ≡ Some g → o ≡ Some g
 owner-kept gone g None e = e
 owner-kept gone g (Some n) e = elim (cases_eq n gone) [
   | inl same ↦ absurd (not_both (when_equal n gone None (Some n) same) e)
   | inr other ↦ sym (when_other n gone None (Some n) other) ∙ e
 ]
 
-owner-stays : (gone g : ℕ) (o : Option ℕ) → (g ≡ gone → ⊥) → o ≡ Some g → owner_without gone o ≡ Some g
+pub owner-stays : (gone g : ℕ) (o : Option ℕ) → (g ≡ gone → ⊥) → o ≡ Some g → owner_without gone o ≡ Some g
 owner-stays gone g o other is = ap (owner_without gone) is ∙ when_other g gone None (Some g) other
 
 owner-goes : (gone : ℕ) (o : Option ℕ) → o ≡ Some gone → owner_without gone o ≡ None
 owner-goes gone o is = ap (owner_without gone) is ∙ when_equal gone gone None (Some gone) refl
 
-owned-stays : (pages : Pages) (gone g : ℕ) → (g ≡ gone → ⊥) → (older : List ℕ) → AllByRecursion (λ (p : ℕ). pages.owner p ≡ Some g) older
+pub owned-stays : (pages : Pages) (gone g : ℕ) → (g ≡ gone → ⊥) → (older : List ℕ) → AllByRecursion (λ (p : ℕ). pages.owner p ≡ Some g) older
     → AllByRecursion (λ (p : ℕ). (given_back pages gone).owner p ≡ Some g) older
 owned-stays pages gone g other [] all = tt
 owned-stays pages gone g other (p ∷ older) all = (owner-stays gone g (pages.owner p) other all.0, owned-stays pages gone g other older all.1)
 
-chain-stays : (pages : Pages) (gone : ℕ) (q : Home) → (q.handle ≡ gone → ⊥) → HasChain pages q → HasChain (given_back pages gone) q
+abbrev pub chain-stays : (pages : Pages) (gone : ℕ) (q : Home) → (q.handle ≡ gone → ⊥) → HasChain pages q → HasChain (given_back pages gone) q
 chain-stays pages gone q other chain = record {
   newest = record {
     page = chain.newest.page;
@@ -57,7 +57,7 @@ chain-free count pages gone below [] (p ∷ free) owned all =
 chain-free count pages gone below (p ∷ chain) free owned all =
     (record { owner = owner-goes gone (pages.owner p) owned.0; below = below p gone owned.0 }, chain-free count pages gone below chain free owned.1 all)
 
-owned-apart : (count : ℕ) (pages : Pages) (p g : ℕ) → pages.owner p ≡ Some g → (free : List ℕ) → AllByRecursion (IsFree count pages) free
+pub owned-apart : (count : ℕ) (pages : Pages) (p g : ℕ) → pages.owner p ≡ Some g → (free : List ℕ) → AllByRecursion (IsFree count pages) free
     → AllByRecursion (λ (y : ℕ). p ≢ y) free
 owned-apart count pages p g owned [] all = tt
 owned-apart count pages p g owned (y ∷ free) all = (λ e. not_both all.0.owner (ap pages.owner (sym e) ∙ owned), owned-apart count pages p g owned free all.1)

@@ -5,9 +5,8 @@ use Rattle.cyc_words.specs.Demand.{region_pages, demand_of, total}
 use Rattle.cyc_store.specs.State.{Sort, Home, handle_of, empty_home, StoreState, homes, sizes_of, sizes_in, demand, opened}
 use Rattle.cyc_store.specs.declared.range.TheConstants.{PAGE_WORDS}
 use Rattle.cyc_store.proofs.LookupLemmas.{when_equal, when_other, lookup-append_cases}
-use Rattle.cyc_store.proofs.PageModel.{Pages, drawn}
+use Rattle.cyc_store.specs.Pages.{Pages, drawn, HasChain, IsPaged}
 use Rattle.cyc_store.proofs.PageLemmas.{laid-opened}
-use Rattle.cyc_store.proofs.PageServices.{HasChain, IsPaged}
 use Rattle.cyc_store.proofs.PagedRegions.{frees-rest, least, still-filled, still-chained}
 
 empty-more : (n : ℕ) → 1 + n ≡ suc n
@@ -16,7 +15,7 @@ empty-more n = omega arith
 more-behind : (q x y : ℕ) → x ≡ suc y → q + x ≡ suc (q + y)
 more-behind q x y e = omega (arith, e)
 
-demand-more : (rs : List Home) (h : ℕ) (sort : Sort) (classes : List ℕ)
+pub demand-more : (rs : List Home) (h : ℕ) (sort : Sort) (classes : List ℕ)
     → demand_of (sizes_in (rs ++ empty_home h sort ∷ [])) classes ≡ suc (demand_of (sizes_in rs) classes)
 demand-more [] h sort classes = empty-more (total classes)
 demand-more (r ∷ rs) h sort classes =

@@ -6,15 +6,15 @@ use Rattle.cyc_store.specs.Lookup.{lookup, changed}
 use Rattle.cyc_store.specs.State.{Block, Uniques, Home, handle_of, StoreState, homes, demand, with_block, made_in}
 use Rattle.cyc_store.specs.declared.range.TheConstants.{PAGE_WORDS, UNIQUE}
 use Rattle.cyc_store.proofs.LookupLemmas.{when_equal, when_other, same_some, not_both, lookup-key, lookup-changed_same, lookup-changed_other}
-use Rattle.cyc_store.proofs.PageModel.{page_start, Pages, AreFilled, AreLaid, filled_to, drawn, Mark}
+use Rattle.cyc_store.specs.Pages.{page_start, Pages, AreFilled, AreLaid, filled_to, drawn, Mark, mark_of, HasNewest, HasChain, IsFree, IsPaged}
 use Rattle.cyc_store.proofs.PageLemmas.{laid-made, laid-drawn}
-use Rattle.cyc_store.proofs.PageServices.{mark_of, mark-made, mark-stays, mark-goes, HasNewest, HasChain, IsFree, IsPaged, demand-stays, demand-grows}
+use Rattle.cyc_store.proofs.PageServices.{mark-made, mark-stays, mark-goes, demand-stays, demand-grows}
 
 -- the block of so many words that begins at a word of a page
 abbrev pub block_in_page : (page word size : ℕ) → Block
 block_in_page page word size = record { address = page_start page + 4 * word; size = size }
 
-frees-stay : (count : ℕ) (pages : Pages) (page words : ℕ) (free : List ℕ) → AllByRecursion (IsFree count pages) free
+pub frees-stay : (count : ℕ) (pages : Pages) (page words : ℕ) (free : List ℕ) → AllByRecursion (IsFree count pages) free
     → AllByRecursion (IsFree count (filled_to pages page words)) free
 frees-stay count pages page words [] all = tt
 frees-stay count pages page words (p ∷ free) all = (record { owner = all.0.owner; below = all.0.below }, frees-stay count pages page words free all.1)
@@ -50,7 +50,7 @@ homes-made_in s h b other = when_other UNIQUE h
     (λ e. other (sym e))
 
 -- where the fill mark of another region's page moves, a chain stays
-chain-filled : (pages : Pages) (page words h : ℕ) (q : Home) → pages.owner page ≡ Some h → (q.handle ≡ h → ⊥) → HasChain pages q → HasChain (filled_to pages page words) q
+abbrev pub chain-filled : (pages : Pages) (page words h : ℕ) (q : Home) → pages.owner page ≡ Some h → (q.handle ≡ h → ⊥) → HasChain pages q → HasChain (filled_to pages page words) q
 chain-filled pages page words h q owned other chain = record {
   newest = record {
     page = chain.newest.page;
@@ -83,7 +83,7 @@ chains-made pages rs h page words r b named owned new others g q found = elim (c
 ]
 
 -- a free page is no region's newest, so all of these stay where it is drawn
-pub still-newest : (pages : Pages) (page h : ℕ) → pages.owner page ≡ None → (q : Home) → HasNewest pages q → HasNewest (drawn pages page h) q
+abbrev pub still-newest : (pages : Pages) (page h : ℕ) → pages.owner page ≡ None → (q : Home) → HasNewest pages q → HasNewest (drawn pages page h) q
 still-newest pages page h free q newest = record {
   page = newest.page;
   owned = when_other newest.page page (Some h) (pages.owner newest.page) other ∙ newest.owned;
@@ -93,20 +93,19 @@ still-newest pages page h free q newest = record {
     other : newest.page ≡ page → ⊥
     other e = not_both free (ap pages.owner (sym e) ∙ newest.owned)
 
-owned-drawn : (pages : Pages) (page h g : ℕ) → pages.owner page ≡ None → (older : List ℕ) → AllByRecursion (λ (p : ℕ). pages.owner p ≡ Some g) older
+pub owned-drawn : (pages : Pages) (page h g : ℕ) → pages.owner page ≡ None → (older : List ℕ) → AllByRecursion (λ (p : ℕ). pages.owner p ≡ Some g) older
     → AllByRecursion (λ (p : ℕ). (drawn pages page h).owner p ≡ Some g) older
 owned-drawn pages page h g free [] all = tt
 owned-drawn pages page h g free (p ∷ older) all =
     (when_other p page (Some h) (pages.owner p) (λ e. not_both free (ap pages.owner (sym e) ∙ all.0)) ∙ all.0, owned-drawn pages page h g free older all.1)
 
 -- a free page is in no chain
-free-apart : (pages : Pages) (page g : ℕ) → pages.owner page ≡ None → (older : List ℕ) → AllByRecursion (λ (p : ℕ). pages.owner p ≡ Some g) older
+pub free-apart : (pages : Pages) (page g : ℕ) → pages.owner page ≡ None → (older : List ℕ) → AllByRecursion (λ (p : ℕ). pages.owner p ≡ Some g) older
     → AllByRecursion (λ (p : ℕ). page ≢ p) older
 free-apart pages page g free [] all = tt
 free-apart pages page g free (p ∷ older) all = (λ e. not_both free (ap pages.owner e ∙ all.0), free-apart pages page g free older all.1)
 
-pub still-chained : (pages : Pages) (page h : ℕ) → pages.owner page ≡ None → (q : Home) → HasChain pages q → HasChain (drawn pages page h) q
-unfolding still-newest
+abbrev pub still-chained : (pages : Pages) (page h : ℕ) → pages.owner page ≡ None → (q : Home) → HasChain pages q → HasChain (drawn pages page h) q
 still-chained pages page h free q chain = record {
   newest = still-newest pages page h free q chain.newest;
   older = chain.older;

@@ -3,18 +3,13 @@ use Rattle.std.proofs.Common.{◌≡◌, ◌≢◌, ℕ, zero, suc, ◌+◌, ◌
 use Rattle.std.specs.List.{AllByRecursion}
 use Rattle.cyc_words.specs.Simulation.{IsDistinct}
 use Rattle.cyc_store.specs.State.{Memory, Sort, Heap, StoreState, start, demand, opened}
+use Rattle.cyc_store.specs.Kept.{numbers_from}
 use Rattle.cyc_store.specs.declared.range.TheConstants.{HEAP, PAGE_WORDS}
-use Rattle.cyc_store.proofs.PageModel.{Pages, drawn}
-use Rattle.cyc_store.proofs.PageServices.{IsFree, IsPaged}
+use Rattle.cyc_store.specs.Pages.{Pages, drawn, IsFree, IsPaged}
 use Rattle.cyc_store.proofs.PagedAllocation.{ArePages}
 use Rattle.cyc_store.proofs.PagedOpening.{paged-opened, full-opening}
 
--- so many numbers, one after another
-abbrev numbers_from : (first count : ℕ) → List ℕ
-numbers_from first zero = []
-numbers_from first (suc count) = first ∷ numbers_from (suc first) count
-
-abbrev all_free : Pages
+abbrev pub all_free : Pages
 all_free = record { owner = λ (page : ℕ). None; filled = λ (page : ℕ). 0 }
 
 -- a store before its heap is opened
@@ -53,7 +48,7 @@ are-many : (first count : ℕ) → length (numbers_from first count) ≡ count
 are-many first zero = refl
 are-many first (suc count) = ap suc (are-many (suc first) count)
 
-bare-paged : (count : ℕ) (memory : Memory) → IsPaged (bare count memory) all_free (numbers_from 0 count)
+pub bare-paged : (count : ℕ) (memory : Memory) → IsPaged (bare count memory) all_free (numbers_from 0 count)
 bare-paged count memory = record {
   laid = (tt, tt);
   filled = λ page. least PAGE_WORDS;

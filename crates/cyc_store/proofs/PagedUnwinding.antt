@@ -9,7 +9,7 @@ use Rattle.cyc_store.specs.declared.range.TheConstants.{UNIQUE}
 use Rattle.cyc_store.proofs.LookupLemmas.{when_equal, when_other, not_both, IsPart, is_empty, is_left, is_kept, lookup-here, lookup-there, IsPart-without}
 use Rattle.cyc_store.proofs.HolderLemmas.{IsPart-down_to}
 use Rattle.cyc_store.proofs.ServiceLemmas.{closed-sound}
-use Rattle.cyc_store.proofs.PageModel.{given_back}
+use Rattle.cyc_store.specs.Pages.{given_back}
 use Rattle.cyc_store.proofs.PagedAllocation.{ArePages}
 use Rattle.cyc_store.proofs.PagedClosing.{without-none, paged-closed}
 

@@ -82,14 +82,14 @@ demand-served s (Free f) c d = refl
 
 -- ---- a new store
 
-none-sound : (pages : ℕ) → AreSound pages []
+pub none-sound : (pages : ℕ) → AreSound pages []
 none-sound pages = record {
   handles = tt;
   apart = λ h f x b at inside. absurd (let e : None ≡ Some b = at in cc);
   placed = λ h f b at. absurd (let e : None ≡ Some b = at in cc);
 }
 
-no-pages : (c : ℕ) → c ≤ greatest_class → pages_for c 0 ≡ 0
+pub no-pages : (c : ℕ) → c ≤ greatest_class → pages_for c 0 ≡ 0
 no-pages c bound = below (blocks_in_page c) (blocks-some c bound)
   where
     below : (k : ℕ) → 0 < k → (0 + (k - 1)) / k ≡ 0

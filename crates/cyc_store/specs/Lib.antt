@@ -1,6 +1,11 @@
 pub mod Answers
+pub mod Kept
+pub mod Ledger
 pub mod Lookup
+pub mod Pages
 pub mod Run
 pub mod Services
+pub mod Slots
 pub mod Soundness
 pub mod State
+pub mod Table

@@ -6,8 +6,11 @@
 #![tactic(auto)]
 
 mod answer;
+mod change;
 pub mod laws;
+mod ledger;
 mod range;
+mod row;
 mod store;
 
 pub use answer::{BadHandle, BadMark, No, NotABlock};

@@ -1,7 +1,10 @@
 -- The page model: blocks are laid out page by page. A page is free or has an owner, the handle of a region; its words are
 -- filled from the first on, up to its fill mark. Nothing here says how pages and marks are kept.
-use Rattle.std.specs.Prelude.{◌≡◌, ℕ, ◌+◌, ◌*◌, ◌<◌, ◌≤◌, ◌==◌, suc, nat_le, if◌then◌else◌, List, [], ◌∷◌, Option, Some, None}
-use Rattle.cyc_store.specs.State.{Block, Home, put}
+use Rattle.std.specs.Prelude.{◌≡◌, ℕ, ◌+◌, ◌*◌, ◌<◌, ◌≤◌, ◌==◌, suc, nat_le, if◌then◌else◌, List, [], ◌∷◌, length, Option, Some, None}
+use Rattle.std.specs.List.{AllByRecursion}
+use Rattle.cyc_words.specs.Simulation.{IsDistinct}
+use Rattle.cyc_store.specs.Lookup.{lookup}
+use Rattle.cyc_store.specs.State.{put, Block, Home, handle_of, StoreState, homes, sizes_of, demand}
 use Rattle.cyc_store.specs.declared.range.TheConstants.{STORE_BASE, PAGE_WORDS}
 
 -- the address of a page's first word
@@ -75,3 +78,36 @@ next_mark m size =
 abbrev pub mark_from : Mark → List ℕ → Mark
 mark_from m [] = m
 mark_from m (size ∷ sizes) = mark_from (next_mark m size) sizes
+
+-- the pages and the fill mark of a region
+abbrev pub mark_of : Home → Mark
+mark_of r = mark_from (record { pages = 1; filled = 0 }) (sizes_of r.blocks)
+
+-- A region's newest page, which it owns, and which is filled as far as its blocks say.
+pub record HasNewest (pages : Pages) (r : Home) : Type 0 where
+  pub page : ℕ
+  pub owned : pages.owner page ≡ Some r.handle
+  pub mark : pages.filled page ≡ (mark_of r).filled
+
+-- All pages of a region, the newest and those before it.
+pub record HasChain (pages : Pages) (r : Home) : Type 0 where
+  pub newest : HasNewest pages r
+  pub older : List ℕ
+  pub owned : AllByRecursion (λ (p : ℕ). pages.owner p ≡ Some r.handle) older
+  pub apart : IsDistinct (newest.page ∷ older)
+  pub many : suc (length older) ≡ (mark_of r).pages
+
+-- a page that may be drawn
+pub record IsFree (count : ℕ) (pages : Pages) (page : ℕ) : Type 0 where
+  pub owner : pages.owner page ≡ None
+  pub below : page < count
+
+-- The blocks of a store are laid out in pages, and the pages that are free are those that demand does not count.
+pub record IsPaged (s : StoreState) (pages : Pages) (free : List ℕ) : Type 0 where
+  pub laid : AreLaid pages (homes s)
+  pub filled : AreFilled pages
+  pub below : (page h : ℕ) → pages.owner page ≡ Some h → page < s.pages
+  pub unowned : AllByRecursion (IsFree s.pages pages) free
+  pub apart : IsDistinct free
+  pub count : length free + demand s ≡ s.pages
+  pub chains : (h : ℕ) (r : Home) → lookup handle_of s.regions h ≡ Some r → HasChain pages r

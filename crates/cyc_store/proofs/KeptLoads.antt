@@ -1,0 +1,79 @@
+-- What is read of a store on a table of pages.
+use Rattle.std.proofs.Common.{◌≡◌, ℕ, ◌+◌, ◌-◌, ◌*◌, ◌/◌, ◌%◌, ◌<◌, ◌≤◌, Bool, true, false, List, length, Option, None, Some, refl, sym, ap, subst, ◌∙◌, inl, inr, arith}
+use Rattle.std.specs.Prelude.{◌==◌, ◌&&◌, ◌⊎◌, nat_le, if◌then◌else◌, is_some, slice_index}
+use Rattle.std.proofs.lemmas.Bool.{cases_eq, cond-true, le-leb, eq-eqb}
+use Rattle.cyc_store.specs.State.{StoreState, homes, covers, Holder, holder, word_in, word_at}
+use Rattle.cyc_store.specs.Ledger.{Blocks, memory_of, store_of}
+use Rattle.cyc_store.specs.Pages.{IsLaid}
+use Rattle.cyc_store.specs.Kept.{IsKept}
+use Rattle.cyc_store.specs.declared.row.PageTable.{PageTable}
+use Rattle.cyc_store.specs.declared.row.ClassSlots.{ClassSlots}
+use Rattle.cyc_store.specs.declared.range.TheConstants.{STORE_BASE}
+use Rattle.cyc_store.proofs.LookupLemmas.{when_equal, when_other, cases_option}
+use Rattle.cyc_store.proofs.ServiceLemmas.{some-there}
+use Rattle.cyc_store.proofs.PageLemmas.{covers_bounds, holder-laid}
+
+-- ---- words at addresses
+
+pub odd-word : (s : StoreState) (x : ℕ) → (x % 4 ≡ 0 → ⊥) → word_at s x ≡ None
+odd-word s x odd = when_other (x % 4) 0 (word_in (holder (homes s) x) s.memory x) None odd
+
+pub dead-word : (s : StoreState) (x : ℕ) → holder (homes s) x ≡ None → word_at s x ≡ None
+dead-word s x none = elim (cases_eq (x % 4) 0) [
+  | inl even ↦ when_equal (x % 4) 0 (word_in (holder (homes s) x) s.memory x) None even ∙ ap (λ o. word_in o s.memory x) none
+  | inr odd ↦ odd-word s x odd
+]
+
+pub none-held : (o : Option Holder) → is_some o ≡ false → o ≡ None
+none-held None e = refl
+none-held (Some k) e = absurd (let f : true ≡ false = e in cc)
+
+pub live-word : (s : StoreState) (x : ℕ) → x % 4 ≡ 0 → is_some (holder (homes s) x) ≡ true → word_at s x ≡ Some (s.memory x)
+live-word s x even live =
+    let (k, held) = some-there (holder (homes s) x) live in
+    when_equal (x % 4) 0 (word_in (holder (homes s) x) s.memory x) None even ∙ ap (λ o. word_in o s.memory x) held
+
+pub memory-word : (words : List ℕ) (x : ℕ) → x % 4 ≡ 0 → 536870912 ≤ x → memory_of words x ≡ slice_index words ((x - 536870912) / 4)
+memory-word words x even low = cond-true ((x % 4 == 0) && nat_le 536870912 x) (slice_index words ((x - 536870912) / 4)) 0
+    (ap (λ a. a && nat_le 536870912 x) (eq-eqb (x % 4) 0 even) ∙ le-leb 536870912 x low)
+
+-- the address of a word that is aligned, by the word's number
+pub word-place : (x : ℕ) → x % 4 ≡ 0 → 536870912 ≤ x → 536870912 + 4 * ((x - 536870912) / 4) ≡ x
+word-place x even low = omega (arith, even, low)
+
+-- ---- nothing is live outside the pages that are in use
+
+module _ (t : PageTable) (lexicals : List ℕ) (classes : List ClassSlots) (b : Blocks) (k : IsKept t lexicals classes b) where
+  abbrev s : StoreState
+  s = store_of t.most t.words.items b
+
+  outside : (x : ℕ) → ((h : Holder) → holder (homes s) x ≡ Some h → (536870912 ≤ x) → (x < 536870912 + 4 * length t.words.items) → ⊥) → holder (homes s) x ≡ None
+  outside x never = elim (cases_option (holder (homes s) x)) [
+    | inl none ↦ none
+    | inr (h, held) ↦
+        let (old, also) = holder-laid k.layout.pages (homes s) x h k.laid.paged.laid held in
+        let (low, high) = covers_bounds h.block x also in
+        let most : k.layout.pages.filled old.page ≤ 1024 = k.laid.paged.filled old.page in
+        let bound : old.lies.word + h.block.size ≤ k.layout.pages.filled old.page = old.lies.before in
+        let there : old.page < length t.rows.items = k.tied.drawn old.page h.handle old.owned in
+        absurd (never h held (above old.page old.lies.word h.block.address x old.lies.at low)
+        (below old.page old.lies.word h.block.size h.block.address x (length t.rows.items) (length t.words.items) old.lies.at high (omega (arith, bound, most)) there k.whole.words))
+  ]
+    where
+      above : (p w a x : ℕ) → a ≡ 536870912 + 4 * (1024 * p) + 4 * w → a ≤ x → 536870912 ≤ x
+      above p w a x is low = omega (arith, is, low)
+
+      below : (p w n a x m l : ℕ) → a ≡ 536870912 + 4 * (1024 * p) + 4 * w → x < a + 4 * n → w + n ≤ 1024 → p < m → l ≡ 1024 * m → x < 536870912 + 4 * l
+      below p w n a x m l is high fits less whole = omega (arith, is, high, fits, less, whole)
+
+  pub load-below : (x : ℕ) → x < 536870912 → word_at s x ≡ None
+  load-below x less = dead-word s x (outside x (λ h held low high. clash x less low))
+    where
+      clash : (x : ℕ) → x < 536870912 → 536870912 ≤ x → ⊥
+      clash x less low = omega (arith, less, low)
+
+  pub load-past : (x : ℕ) → length t.words.items ≤ (x - 536870912) / 4 → word_at s x ≡ None
+  load-past x past = dead-word s x (outside x (λ h held low high. clash x (length t.words.items) past low high))
+    where
+      clash : (x l : ℕ) → l ≤ (x - 536870912) / 4 → 536870912 ≤ x → x < 536870912 + 4 * l → ⊥
+      clash x l past low high = omega (arith, past, low, high)

@@ -1,0 +1,135 @@
+-- A table with no page in use keeps a store with no region.
+use Rattle.std.proofs.Common.{◌≡◌, ℕ, zero, suc, ◌+◌, ◌-◌, ◌*◌, ◌%◌, ◌<◌, ◌≤◌, Bool, true, false, List, [], ◌∷◌, length, None, Some, refl, sym, ap, subst, ◌∙◌, arith}
+use Rattle.std.specs.Prelude.{◌==◌, ◌&&◌, nat_le, if◌then◌else◌, slice_index, slice_index_or}
+use Rattle.cyc_words.specs.Demand.{greatest_class}
+use Rattle.cyc_store.specs.State.{AreWords, Uniques, empty_home}
+use Rattle.cyc_store.specs.Soundness.{IsSound}
+use Rattle.cyc_store.specs.Ledger.{Blocks, memory_of, store_of}
+use Rattle.cyc_store.specs.Slots.{Layout, IsLaidOut}
+use Rattle.cyc_store.specs.Table.{row_at}
+use Rattle.cyc_store.specs.Kept.{numbers_from, IsStocked, IsTied, IsKept, table_of, no_slots}
+use Rattle.cyc_store.specs.declared.row.PageTable.{PageTable}
+use Rattle.cyc_store.specs.declared.row.TheConstants.{NONE}
+use Rattle.cyc_store.specs.declared.row.ClassSlots.{ClassSlots}
+use Rattle.cyc_store.specs.declared.range.TheConstants.{UNIQUE}
+use Rattle.cyc_store.proofs.HolderLemmas.{AreSound-opened}
+use Rattle.cyc_store.proofs.ServiceLemmas.{none-sound, no-pages}
+use Rattle.cyc_store.proofs.PagedStart.{all_free, bare-paged}
+
+abbrev pub no_regions : Blocks
+no_regions = record { regions = []; unique = []; classes = 0 ∷ 0 ∷ 0 ∷ 0 ∷ 0 ∷ 0 ∷ 0 ∷ 0 ∷ 0 ∷ 0 ∷ 0 ∷ [] }
+
+abbrev pub new_slots : ClassSlots
+new_slots = record { dead = NONE; fresh = 0; left = 0 }
+
+abbrev pub all_new : List ClassSlots
+all_new = new_slots ∷ new_slots ∷ new_slots ∷ new_slots ∷ new_slots ∷ new_slots ∷ new_slots ∷ new_slots ∷ new_slots ∷ new_slots ∷ new_slots ∷ []
+
+slots-new : (c : ℕ) → c ≤ greatest_class → slice_index_or all_new c no_slots ≡ new_slots
+slots-new zero bound = refl
+slots-new (suc zero) bound = refl
+slots-new (suc (suc zero)) bound = refl
+slots-new (suc (suc (suc zero))) bound = refl
+slots-new (suc (suc (suc (suc zero)))) bound = refl
+slots-new (suc (suc (suc (suc (suc zero))))) bound = refl
+slots-new (suc (suc (suc (suc (suc (suc zero)))))) bound = refl
+slots-new (suc (suc (suc (suc (suc (suc (suc zero))))))) bound = refl
+slots-new (suc (suc (suc (suc (suc (suc (suc (suc zero)))))))) bound = refl
+slots-new (suc (suc (suc (suc (suc (suc (suc (suc (suc zero))))))))) bound = refl
+slots-new (suc (suc (suc (suc (suc (suc (suc (suc (suc (suc zero)))))))))) bound = refl
+slots-new (suc (suc (suc (suc (suc (suc (suc (suc (suc (suc (suc c))))))))))) bound = absurd (omega (arith, bound))
+
+none-of : (c : ℕ) → c ≤ greatest_class → slice_index no_regions.classes c ≡ 0
+none-of zero bound = refl
+none-of (suc zero) bound = refl
+none-of (suc (suc zero)) bound = refl
+none-of (suc (suc (suc zero))) bound = refl
+none-of (suc (suc (suc (suc zero)))) bound = refl
+none-of (suc (suc (suc (suc (suc zero))))) bound = refl
+none-of (suc (suc (suc (suc (suc (suc zero)))))) bound = refl
+none-of (suc (suc (suc (suc (suc (suc (suc zero))))))) bound = refl
+none-of (suc (suc (suc (suc (suc (suc (suc (suc zero)))))))) bound = refl
+none-of (suc (suc (suc (suc (suc (suc (suc (suc (suc zero))))))))) bound = refl
+none-of (suc (suc (suc (suc (suc (suc (suc (suc (suc (suc zero)))))))))) bound = refl
+none-of (suc (suc (suc (suc (suc (suc (suc (suc (suc (suc (suc c))))))))))) bound = absurd (omega (arith, bound))
+
+no-words : AreWords (memory_of [])
+no-words address = either ((address % 4 == 0) && nat_le 536870912 address)
+  where
+    either : (b : Bool) → (if b then 0 else 0) < 4294967296
+    either true = omega arith
+    either false = omega arith
+
+abbrev first_layout : (most : ℕ) → Layout
+first_layout most = record { pages = all_free; free = numbers_from 0 most; class = λ (page : ℕ). 0; dead = λ (class : ℕ). [] }
+
+least : (n : ℕ) → 0 ≤ n
+least n = omega arith
+
+first-sound : (most : ℕ) → IsSound (store_of most [] no_regions)
+first-sound most = record {
+  regions = AreSound-opened [] UNIQUE Uniques (none-sound most) refl;
+  uniques = tt;
+  words = no-words;
+  classes = refl;
+  enough = λ c bound. few c _ _ (no-pages c bound);
+  demand = least most;
+}
+  where
+    few : (c m n : ℕ) → m ≡ 0 → m ≤ n
+    few c m n none = omega (arith, none)
+
+first-laid : (most : ℕ) → IsLaidOut (store_of most [] no_regions) (first_layout most)
+first-laid most = record {
+  sound = first-sound most;
+  paged = bare-paged most (memory_of []);
+  covered = λ page word h owned other below. absurd (let e : None ≡ Some h = owned in cc);
+  slots = record {
+    bound = λ page owned. absurd (let e : None ≡ Some UNIQUE = owned in cc);
+    whole = λ page owned. absurd (let e : None ≡ Some UNIQUE = owned in cc);
+    live = λ first b there. absurd (let e : None ≡ Some b = there in cc);
+    dead = λ c bound. tt;
+    apart = λ c bound. tt;
+    count = λ c bound. none (slice_index no_regions.classes c) _ (none-of c bound);
+  };
+}
+  where
+    none : (n m : ℕ) → n ≡ 0 → 0 + 0 ≡ n * m
+    none n m e = sym (ap (λ k. k * m) e ∙ zeroes m)
+      where
+        zeroes : (k : ℕ) → 0 * k ≡ 0 + 0
+        zeroes k = omega arith
+
+-- a table that nothing was drawn from
+pub first-kept : (t : PageTable) → t.most ≤ 65536 → t.words.items ≡ [] → t.live.items ≡ [] → t.rows.items ≡ [] → t.free ≡ NONE → IsKept t [] all_new no_regions
+first-kept t most words live rows free = record {
+  whole = record {
+    words = ap length words ∙ (none ∙ ap (λ rs. 1024 * length rs) (sym rows));
+    live = ap length live ∙ (none ∙ ap (λ rs. 1024 * length rs) (sym rows));
+  };
+  eleven = refl;
+  layout = first_layout t.most;
+  laid = subst (λ ws. IsLaidOut (store_of t.most ws no_regions) (first_layout t.most)) (sym words) (first-laid t.most);
+  tied = record {
+    most = most;
+    few = subst (λ rs. length rs ≤ t.most) (sym rows) (least t.most);
+    drawn = λ page h owned. absurd (let e : None ≡ Some h = owned in cc);
+    rows = λ page. record { marks = ap (λ rs. (row_at rs page).filled) rows; plays = ap (λ rs. (row_at rs page).role) rows };
+    given = [];
+    free = ap (numbers_from 0) (whole t.most) ∙ ap (λ n. numbers_from n (t.most - n)) (sym (ap length rows));
+    linked = free;
+    within = tt;
+    homes = λ page h owned other. absurd (let e : None ≡ Some h = owned in cc);
+    roots = λ h r found. absurd (let e : None ≡ Some r = found in cc);
+    newest = refl;
+    stock = λ c bound. subst (λ s. IsStocked (λ i. slice_index t.words.items i) s c []) (sym (slots-new c bound)) (record { chain = []; all = refl; linked = refl });
+    marked = λ page number owned inside. absurd (let e : None ≡ Some UNIQUE = owned in cc);
+    unmarked = λ page number other small. ap (λ ms. slice_index_or ms (1024 * page + number) false) live;
+  };
+}
+  where
+    none : 0 ≡ 1024 * 0
+    none = omega arith
+
+    whole : (n : ℕ) → n ≡ n - 0
+    whole n = omega arith

@@ -1,0 +1,50 @@
+-- The blocks of a store as data, beside the words of its pages: what a store that stands on an array of words holds.
+use Rattle.std.specs.Prelude.{ℕ, ◌+◌, ◌-◌, ◌*◌, ◌/◌, ◌%◌, ◌==◌, ◌&&◌, nat_le, if◌then◌else◌, suc, List, [], ◌∷◌, slice_index, set}
+use Rattle.cyc_store.specs.Lookup.{without}
+use Rattle.cyc_store.specs.State.{Memory, Block, address_of, Lexical, Dynamic, Home, handle_of, StoreState, start, opened, made_in, made_unique}
+use Rattle.cyc_store.specs.declared.change.Change.{Change}
+use Rattle.cyc_store.specs.declared.change.Change.TheVariants.{OpenedLexical, OpenedDynamic, Closed, Made, Stocked, MadeUnique, Freed}
+use Rattle.cyc_store.specs.declared.range.TheConstants.{STORE_BASE}
+
+-- the open regions, the live unique blocks, and the pages of each class
+pub record Blocks : Type 0 where
+  pub regions : List Home
+  pub unique : List Block
+  pub classes : List ℕ
+
+-- the word at each address, where the words of pages stand one after another
+abbrev pub memory_of : (words : List ℕ) → Memory
+memory_of words = λ (address : ℕ).
+    if (address % 4 == 0) && nat_le STORE_BASE address then slice_index words ((address - STORE_BASE) / 4) else 0
+
+abbrev pub store_of : (pages : ℕ) → (words : List ℕ) → Blocks → StoreState
+store_of pages words b = record { pages = pages; regions = b.regions; unique = b.unique; classes = b.classes; memory = memory_of words }
+
+abbrev pub blocks_of : StoreState → Blocks
+blocks_of s = record { regions = s.regions; unique = s.unique; classes = s.classes }
+
+-- a store with these blocks, whatever its words
+abbrev pub plain_store : Blocks → StoreState
+plain_store b = store_of 0 [] b
+
+abbrev pub no_blocks : Blocks
+no_blocks = blocks_of (start 0 (memory_of []))
+
+-- what a service does to the blocks
+abbrev pub after : Blocks → Change → Blocks
+after b (OpenedLexical handle) = blocks_of (opened (plain_store b) handle Lexical)
+after b (OpenedDynamic handle) = blocks_of (opened (plain_store b) handle Dynamic)
+after b (Closed handle) = record b { regions = without handle_of b.regions handle }
+after b (Made handle address words) = blocks_of (made_in (plain_store b) handle (record { address = address; size = words }))
+after b (Stocked class) = record b { classes = set b.classes class (suc (slice_index b.classes class)) }
+after b (MadeUnique address words) = blocks_of (made_unique (plain_store b) (record { address = address; size = words }))
+after b (Freed address) = record b { unique = without address_of b.unique address }
+
+-- what contracts see of a store on an array of words: how many pages it has, the words of those that were used, and its blocks
+pub record Stored : Type 0 where
+  pub pages : ℕ
+  pub words : List ℕ
+  pub blocks : Blocks
+
+abbrev pub held_of : Stored → StoreState
+held_of s = store_of s.pages s.words s.blocks

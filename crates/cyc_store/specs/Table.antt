@@ -1,0 +1,53 @@
+-- The table of the pages of a store: what it reads at a page, and what the calls on it do.
+use Rattle.std.specs.Prelude.{◌≡◌, ℕ, zero, suc, ◌+◌, ◌*◌, ◌<◌, ◌≤◌, ◌⊎◌, Bool, false, List, length, slice_index, slice_index_or, set}
+use Rattle.cyc_store.specs.declared.row.PageTable.{PageTable}
+use Rattle.cyc_store.specs.declared.row.Row.{Row}
+use Rattle.cyc_store.specs.declared.row.Role.TheVariants.{Rest}
+use Rattle.cyc_store.specs.declared.row.TheConstants.{NONE}
+use Rattle.cyc_store.specs.declared.range.TheConstants.{PAGE_WORDS}
+
+-- the row of a page that nothing is in, before a free page
+abbrev pub free_row : (next : ℕ) → Row
+free_row next = record { role = Rest; filled = 0; next = next; newest = NONE; count = 0 }
+
+abbrev pub row_at : List Row → (page : ℕ) → Row
+row_at rows page = slice_index_or rows page (free_row NONE)
+
+-- the words and the slots of all pages are there
+pub record IsWhole (t : PageTable) : Type 0 where
+  pub words : length t.words.items ≡ PAGE_WORDS * length t.rows.items
+  pub live : length t.live.items ≡ PAGE_WORDS * length t.rows.items
+
+-- all that the table says
+pub record IsSame (old new : PageTable) : Type 0 where
+  pub most : new.most ≡ old.most
+  pub words : new.words.items ≡ old.words.items
+  pub live : new.live.items ≡ old.live.items
+  pub rows : new.rows.items ≡ old.rows.items
+  pub free : new.free ≡ old.free
+
+-- A page is taken: the first free one, or else one behind all others. What lies behind all of them reads as if it were there.
+pub record Draws (old new : PageTable) (page : ℕ) : Type 0 where
+  pub most : new.most ≡ old.most
+  pub whole : IsWhole new
+  pub words : (word : ℕ) → slice_index new.words.items word ≡ slice_index old.words.items word
+  pub live : (slot : ℕ) → slice_index_or new.live.items slot false ≡ slice_index_or old.live.items slot false
+  pub rows : (other : ℕ) → row_at new.rows.items other ≡ row_at old.rows.items other
+  pub count : length old.rows.items ≤ length new.rows.items
+  pub from : ((old.free < length old.rows.items) × (page ≡ old.free) × (new.free ≡ (row_at old.rows.items page).next) × (length new.rows.items ≡ length old.rows.items))
+      ⊎ ((length old.rows.items ≤ old.free) × (page ≡ length old.rows.items) × (new.free ≡ old.free) × (length new.rows.items ≡ suc (length old.rows.items)))
+
+-- ---- a chain of pages is freed, one after another
+
+abbrev pub given_rows : List Row → (page count free : ℕ) → List Row
+given_rows rows page zero free = rows
+given_rows rows page (suc count) free = given_rows (set rows page (free_row free)) (row_at rows page).next count page
+
+abbrev pub given_free : List Row → (page count free : ℕ) → ℕ
+given_free rows page zero free = free
+given_free rows page (suc count) free = given_free (set rows page (free_row free)) (row_at rows page).next count page
+
+-- all pages of it are there
+abbrev pub AreThere : List Row → (page count free : ℕ) → Type 0
+AreThere rows page zero free = Unit {0}
+AreThere rows page (suc count) free = (page < length rows) × AreThere (set rows page (free_row free)) (row_at rows page).next count page

@@ -1,0 +1,148 @@
+//! The table of the pages of a store.
+
+ghost use Rattle.std.specs.Prelude.{◌≡◌, [], ◌≤◌, IfOk, OnErr, length, IsTrue, ◌↔◌};
+
+use super::range::PAGE_WORDS;
+use std::alloc::{AllocError, Global};
+
+/// What a page is used for.
+#[derive(Clone, Copy)]
+pub enum Role {
+    /// It is free, or one of the later pages of a region.
+    Rest,
+    /// The first page of the heap.
+    Heap,
+    /// The first page of a lexical region.
+    Lexical,
+    /// The first page of a dynamic region.
+    Dynamic,
+    /// A page of unique blocks of one class, the exponent of their words.
+    Slots(u32),
+}
+
+/// A row of the table.
+#[derive(Clone, Copy)]
+pub struct Row {
+    pub role: Role,
+    /// Of a region's page, how many of its words are filled.
+    pub filled: u32,
+    /// The page behind it in its chain: an older one of its region, or a free one.
+    pub next: u32,
+    /// Of a region's first page, the region's newest page.
+    pub newest: u32,
+    /// Of a region's first page, how many pages the region has.
+    pub count: u32,
+}
+
+/// The slots of one class that no block is in.
+#[derive(Clone, Copy)]
+pub struct ClassSlots {
+    /// The first of those that a block was in. Each has the next one in its first word.
+    pub dead: u32,
+    /// The first of those behind it in its page that no block was in yet, and how many these are.
+    pub fresh: u32,
+    pub left: u32,
+}
+
+/// No page, and no slot.
+pub const NONE: u32 = 0xffff_ffff;
+
+/// The row of a page that nothing is in.
+pub const BLANK: Row = Row {
+    role: Role::Rest,
+    filled: 0,
+    next: NONE,
+    newest: NONE,
+    count: 0,
+};
+
+/// The pages that were ever used, with their words, one page after another.
+#[derive(Drop)]
+pub struct PageTable {
+    /// How many pages there may be.
+    pub most: u32,
+    pub words: Vec<u32>,
+    /// Which slots of unique blocks are live: one for each word of all pages, by the number of the slot in its page.
+    pub live: Vec<bool>,
+    pub rows: Vec<Row>,
+    /// The first page of the chain of free ones.
+    pub free: u32,
+}
+
+impl PageTable {
+    ghost use Rattle.cyc_store.specs.Table.{IsWhole, IsSame, Draws, given_rows, given_free, AreThere};
+
+    /// A table of no pages.
+    pub(crate) fn new(alloc: Global, most: u32) -> PageTable
+        ensures most { result.most ≡ most }
+        ensures words { result.words.items ≡ [] }
+        ensures live { result.live.items ≡ [] }
+        ensures rows { result.rows.items ≡ [] }
+        ensures free { result.free ≡ NONE }
+    {
+        PageTable {
+            most,
+            words: Vec::new(alloc),
+            live: Vec::new(alloc),
+            rows: Vec::new(alloc),
+            free: NONE,
+        }
+    }
+
+    /// Whether every page is in use.
+    pub(crate) fn is_full(&self) -> bool
+        ensures { IsTrue result ↔ ((length self.now.rows.items ≤ self.now.free) × (self.now.most ≤ length self.now.rows.items)) }
+    {
+        self.rows.len() <= self.free as usize && self.most as usize <= self.rows.len()
+    }
+
+    /// Takes a page that is free, or one more.
+    pub(crate) fn draw(&mut self) -> Result<u32, AllocError>
+        requires few { length self.old.rows.items ≤ 65536 }
+        requires whole { IsWhole self.old }
+        ensures draws { IfOk result (λ page. Draws self.old self.new page) }
+        ensures same { OnErr result (IsSame self.old self.new) }
+    {
+        if (self.free as usize) < self.rows.len() {
+            let page = self.free;
+            self.free = self.rows[page as usize].next;
+            return Ok(page);
+        }
+        let page = self.rows.len();
+        self.words.reserve(PAGE_WORDS as usize)?;
+        self.live.reserve(PAGE_WORDS as usize)?;
+        self.rows.reserve(1)?;
+        self.words.resize((page + 1) * PAGE_WORDS as usize, 0)?;
+        self.live.resize((page + 1) * PAGE_WORDS as usize, false)?;
+        if self.rows.push(BLANK).is_err() {
+            return Err(AllocError);
+        }
+        Ok(page as u32)
+    }
+
+    /// Frees a chain of so many pages.
+    pub(crate) fn give_back(&mut self, newest: u32, count: u32)
+        requires { AreThere self.old.rows.items newest count self.old.free }
+        ensures rows { self.new.rows.items ≡ given_rows self.old.rows.items newest count self.old.free }
+        ensures free { self.new.free ≡ given_free self.old.rows.items newest count self.old.free }
+        ensures words { self.new.words.items ≡ self.old.words.items }
+        ensures live { self.new.live.items ≡ self.old.live.items }
+        ensures most { self.new.most ≡ self.old.most }
+    {
+        let mut page = newest;
+        let mut left = count;
+        while left > 0 {
+            let next = self.rows[page as usize].next;
+            self.rows[page as usize] = Row {
+                role: Role::Rest,
+                filled: 0,
+                next: self.free,
+                newest: NONE,
+                count: 0,
+            };
+            self.free = page;
+            page = next;
+            left -= 1;
+        }
+    }
+}
