@@ -193,7 +193,11 @@ fn int_value() -> ValueType
 fn result_if(has_result: bool) -> ValueType
     ensures { view_value_type result ≡ types.result_type (result_if has_result) }
 {
-    if has_result { int_value() } else { ValueType::Void }
+    if has_result {
+        int_value()
+    } else {
+        ValueType::Void
+    }
 }
 
 fn call_of(callee: Callee, arguments: Vec<Converted>, has_result: bool) -> typed::Expr

@@ -45,7 +45,6 @@ converted_few (Convert from to a) = let f = kind_few from in let t = kind_few to
 
 -- ---- expressions
 
-
 converted_token : (c : Converted) → 1 ≤ converted_weight c
 converted_token (Convert from to a) = some_token a
 

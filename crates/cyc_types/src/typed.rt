@@ -95,9 +95,7 @@ pub enum ValueType {
     Void,
     /// It is the null pointer, of whatever type is wanted.
     Null,
-    Value {
-        of_type: Ty,
-    },
+    Value { of_type: Ty },
 }
 
 /// A variable.
