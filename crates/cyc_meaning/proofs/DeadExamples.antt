@@ -1,16 +1,15 @@
 -- Worked examples of dead accesses, and of trees that fit nothing: the checker refuses all of their texts. Each is proved by
 -- computation.
-use Rattle.std.proofs.Common.{◌≡◌, ℕ, List, [], ◌∷◌, Some, None, pos, negsuc, refl}
-use Rattle.cyc_words.specs.Ending.{Returned, Uncaught, Full}
+use Rattle.std.proofs.Common.{◌≡◌, ℕ, List, [], ◌∷◌, None, pos, refl}
+use Rattle.cyc_words.specs.Ending.{Returned}
 use Rattle.cyc_types.specs.declared.region.Region.TheVariants.{Heap}
 use Rattle.cyc_types.specs.declared.typed.Kind.TheVariants as kinds
-use Rattle.cyc_types.specs.declared.typed.Operator.TheVariants as operators
 use Rattle.cyc_types.specs.declared.typed.PointerOperator.TheVariants as pointers
-use Rattle.cyc_types.specs.Types.{Ty, Int, Void, Value, Handle, Key}
+use Rattle.cyc_types.specs.Types.{Int, Handle, Key}
 use Rattle.cyc_types.specs.TypedTrees.{Expression, Number, NullPointer, Counter, Load, AddressOf, FreeUnique, FreeKey, AsUnique, OnHeap, ByHandle, Placement, Swap, CellSide, Execute, Declare, DeclareRegion, OpenRegion, DeclareKey, Program}
 use Rattle.cyc_types.specs.TypedTrees as typed
 use Rattle.cyc_meaning.specs.State.{HasEnded, IsDead, IsWrong}
-use Rattle.cyc_meaning.proofs.ExampleTrees.{here, int, local, two, assign, print, execute, return, declare, block, program, end, long_end, star, at, fat, own, own_star, convert, null_as, variable, move, peek, target, element, put, set, new, array, apply, define, side}
+use Rattle.cyc_meaning.proofs.ExampleTrees.{here, local, execute, return, declare, block, program, end, long_end, star, at, fat, own, convert, null_as, variable, move, peek, target, put, set, new, array, apply, define, side}
 
 -- ---- unique objects
 

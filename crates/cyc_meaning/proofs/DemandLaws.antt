@@ -1,5 +1,5 @@
 -- What each kind of step makes of the demand.
-use Rattle.std.proofs.Common.{◌≡◌, ℕ, zero, suc, ◌+◌, Bool, true, false, List, [], ◌∷◌, ◌++◌, set, Option, Some, None, refl, sym, ap, ◌∙◌, arith}
+use Rattle.std.proofs.Common.{◌≡◌, ℕ, zero, suc, ◌+◌, Bool, true, false, List, [], ◌∷◌, ◌++◌, set, Some, None, refl, ap, arith}
 use Rattle.std.specs.Prelude.{if◌then◌else◌, slice_get}
 use Rattle.cyc_words.specs.Demand.{total, region_pages, demand_of}
 use Rattle.cyc_meaning.specs.Values.{block_size}

@@ -17,7 +17,6 @@ use Rattle.cyc_meaning.specs.Run.{run, limited_run}
 
 -- ---- ints
 
-
 abbrev pub here : Place
 here = record { line = 1; column = 1 }
 

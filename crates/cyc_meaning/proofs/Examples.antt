@@ -2,20 +2,17 @@
 use Rattle.std.proofs.Common.{◌≡◌, ℕ, List, [], ◌∷◌, Some, None, pos, negsuc, refl}
 use Rattle.cyc_words.specs.Word.{slt_of, sar_of, div_of, rem_of}
 use Rattle.cyc_words.specs.Ending.{Returned, Uncaught, Full}
-use Rattle.cyc_syntax.specs.Symbols.{Place}
-use Rattle.cyc_types.specs.declared.typed.Kind.TheVariants as kinds
 use Rattle.cyc_types.specs.declared.typed.Callee.TheVariants as callees
 use Rattle.cyc_types.specs.declared.typed.UnaryOperator.TheVariants as unary
-use Rattle.cyc_types.specs.declared.typed.Operator.{Operator}
 use Rattle.cyc_types.specs.declared.typed.Operator.TheVariants as operators
 use Rattle.cyc_types.specs.declared.typed.LogicalOperator.TheVariants as logical
-use Rattle.cyc_types.specs.Types.{Ty, Int, Void, Value}
+use Rattle.cyc_types.specs.Types.{Int, Void}
 use Rattle.cyc_types.specs.TypedTrees.{Expression, Number, Copy, Call, Unary, Binary, Assign, Converted, Convert, Arguments, NoArguments, MoreArguments, Operations, NoOperations, ThenCompute, ThenTest, Statement, Block, Empty, Evaluate, If, While, Return, Break, Continue, Items, NoItems, MoreItems, Execute, Declare, Word, GlobalVariable, Function, Program}
 use Rattle.cyc_types.specs.TypedTrees as typed
 use Rattle.std.specs.Prelude.{suc, if◌then◌else◌}
 use Rattle.cyc_meaning.specs.State.{Region, State, Running, Ended, Dead, Wrong, Status, GoesOn, HasEnded, IsDead, IsWrong, output_of, input_of, status_of, depth, demand}
-use Rattle.cyc_meaning.specs.Run.{start, run, limited_run}
-use Rattle.cyc_meaning.proofs.ExampleTrees.{here, int, local, global, two, both, either, assign, assign_global, print, read_byte, arguments, call, items, execute, return, declare, block, while, function, program_with, program, end, printed, long_end, long_printed, limited_end, limited_printed, end_on, printed_on}
+use Rattle.cyc_meaning.specs.Run.{start, run}
+use Rattle.cyc_meaning.proofs.ExampleTrees.{int, local, global, two, both, either, assign, assign_global, print, read_byte, arguments, call, execute, return, declare, block, while, function, program_with, program, end, printed, long_end, long_printed, limited_end, limited_printed, end_on, printed_on}
 
 -- what a program does that returns the value of one expression
 abbrev value : Expression → Status

@@ -1,15 +1,14 @@
 -- Worked examples of exceptions, each proved by computation. What each gives is said by the language's rules.
-use Rattle.std.proofs.Common.{◌≡◌, ℕ, List, [], ◌∷◌, Some, None, pos, negsuc, refl}
+use Rattle.std.proofs.Common.{◌≡◌, [], ◌∷◌, Some, None, pos, refl}
 use Rattle.cyc_words.specs.Word.{div_of, rem_of}
 use Rattle.cyc_words.specs.Ending.{Returned, Uncaught, Full}
-use Rattle.cyc_types.specs.declared.typed.Kind.TheVariants as kinds
 use Rattle.cyc_types.specs.declared.typed.UnaryOperator.TheVariants as unary
 use Rattle.cyc_types.specs.declared.typed.Operator.TheVariants as operators
-use Rattle.cyc_types.specs.Types.{Ty, Int}
+use Rattle.cyc_types.specs.Types.{Int}
 use Rattle.cyc_types.specs.TypedTrees.{Expression, Number, Counter, Unary, If, Evaluate, Block, Empty, Throw, Case, OnHeap, NoClauses, Items, Execute, Function, Program}
 use Rattle.cyc_types.specs.TypedTrees as typed
 use Rattle.cyc_meaning.specs.State.{HasEnded}
-use Rattle.cyc_meaning.proofs.ExampleTrees.{int, local, two, assign, print, call, items, execute, return, declare, block, while, function, program, program_with, end, printed, long_end, long_printed, limited_end, end_within, printed_within, fat, convert, array, define, when, try_to, case, otherwise, throw}
+use Rattle.cyc_meaning.proofs.ExampleTrees.{int, local, two, assign, print, call, items, execute, return, declare, block, while, function, program, program_with, end, printed, long_end, long_printed, end_within, printed_within, fat, convert, array, define, when, try_to, case, otherwise, throw}
 
 -- int m = -2147483647 - 1; int d = -1; int z = 0; if (m / d == m) putchar(65); if (m % d == 0) putchar(66);
 -- try putchar(1 / z); catch { case &Div_zero: putchar(67); } return 0;

@@ -1,14 +1,12 @@
 -- Worked examples of needs and frame counts, each proved by computation; the sums stand beside them.
-use Rattle.std.proofs.Common.{◌≡◌, ℕ, zero, suc, ◌+◌, List, [], ◌∷◌, Some, None, refl}
+use Rattle.std.proofs.Common.{◌≡◌, ℕ, zero, suc, List, [], ◌∷◌, None, refl}
 use Rattle.cyc_types.specs.declared.region.Region.TheVariants.{Heap}
-use Rattle.cyc_types.specs.declared.typed.Kind.TheVariants as kinds
-use Rattle.cyc_types.specs.declared.typed.Operator.TheVariants as operators
 use Rattle.cyc_types.specs.declared.typed.PointerOperator.TheVariants as pointers
-use Rattle.cyc_types.specs.Types.{Ty, Int, Handle, Key, Void}
+use Rattle.cyc_types.specs.Types.{Ty, Int, Handle, Key}
 use Rattle.cyc_types.specs.TypedTrees.{Expression, Number, NullPointer, Counter, Load, AddressOf, AddressOfCell, NumberOfElements, FreeKey, New, OnHeap, AsUnique, ByHandle, Array, CellSide, Swap, Evaluate, Throw, NoClauses, DeclareRegion, OpenRegion, Function}
 use Rattle.cyc_types.specs.TypedTrees as typed
 use Rattle.cyc_meaning.specs.FrameCount.{expression_need, statement_need, frame_count}
-use Rattle.cyc_meaning.proofs.ExampleTrees.{here, int, local, two, assign, call, execute, return, function, procedure, star, at, fat, own, convert, null_as, variable, move, target, element, put, set, new, array, apply, side, try_to, case}
+use Rattle.cyc_meaning.proofs.ExampleTrees.{here, local, assign, procedure, at, fat, own, convert, variable, move, target, element, put, set, new, array, apply, side, try_to, case}
 
 -- ---- expressions
 

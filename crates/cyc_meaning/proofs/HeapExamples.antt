@@ -1,19 +1,19 @@
 -- Worked examples of heap objects and pointers, each proved by computation. What each gives is said by the language's rules.
-use Rattle.std.proofs.Common.{◌≡◌, ℕ, List, [], ◌∷◌, Some, None, pos, negsuc, refl}
-use Rattle.cyc_words.specs.Ending.{Returned, Uncaught, Full}
+use Rattle.std.proofs.Common.{◌≡◌, [], ◌∷◌, pos, refl}
+use Rattle.cyc_words.specs.Ending.{Returned, Uncaught}
 use Rattle.cyc_types.specs.declared.typed.Kind.TheVariants as kinds
 use Rattle.cyc_types.specs.declared.typed.UnaryOperator.TheVariants as unary
 use Rattle.cyc_types.specs.declared.typed.Operator.TheVariants as operators
 use Rattle.cyc_types.specs.declared.typed.PointerOperator.TheVariants as pointers
-use Rattle.cyc_types.specs.Types.{Ty, Int, Pointer, Handle, Key, Struct, Void, Value}
+use Rattle.cyc_types.specs.Types.{Ty, Int, Pointer, Struct, Value}
 use Rattle.cyc_syntax.specs.declared.tree.PointerKind.TheVariants as marks
 use Rattle.cyc_types.specs.declared.region.Region.TheVariants.{Heap}
 use Rattle.cyc_types.specs.TypedTrees.{Expression, Number, NullPointer, Counter, Load, AddressOf, AddressOfCell, NumberOfElements, Unary, New, Member, OnHeap, Fields, Array, Convert, MoreArguments, NoArguments, StructType, Program, NoClauses}
 use Rattle.cyc_types.specs.TypedTrees as typed
-use Rattle.cyc_meaning.specs.Values.{Value as Datum, Int as Word, Fat}
+use Rattle.cyc_meaning.specs.Values.{Int as Word}
 use Rattle.cyc_meaning.specs.State.{InRegion, HasEnded, IsWrong, Running, Beginning, Throwing, no_locals, first_world}
 use Rattle.cyc_meaning.specs.Allocation.{makes_array}
-use Rattle.cyc_meaning.proofs.ExampleTrees.{here, int, local, two, assign, print, execute, return, declare, program, end, long_end, long_printed, printed, star, at, fat, convert, null_as, variable, target, element, apply, put, set, new, array, define, try_to, case}
+use Rattle.cyc_meaning.proofs.ExampleTrees.{here, int, local, two, print, execute, return, declare, program, end, long_end, long_printed, printed, star, at, fat, convert, null_as, variable, target, element, apply, put, new, array, define, try_to, case}
 
 -- ---- `new` and places
 

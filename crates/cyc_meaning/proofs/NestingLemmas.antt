@@ -1,9 +1,9 @@
 -- Regions of blocks and lexical regions nest: what opening, closing, calling and returning make of that, and making objects.
-use Rattle.std.proofs.Common.{◌≡◌, ℕ, zero, suc, ◌+◌, ◌≤◌, Bool, true, false, List, [], ◌∷◌, ◌++◌, set, length, Option, Some, None, refl, sym, ap, subst, ◌∙◌, arith, length-append}
+use Rattle.std.proofs.Common.{◌≡◌, ℕ, zero, suc, ◌≤◌, Bool, true, false, List, [], ◌∷◌, ◌++◌, set, length, Option, Some, None, refl, sym, ap, subst, ◌∙◌, arith, length-append}
 use Rattle.std.specs.Prelude.{◌≢◌, if◌then◌else◌, slice_get}
 use Rattle.std.proofs.lemmas.List.{length-set}
 use Rattle.cyc_meaning.specs.Values.{Cell, block_size}
-use Rattle.cyc_meaning.specs.State.{Sort, Heap, Globals, Stack, Lexical, Dynamic, Region, World, Access, Found, Closed, Missing, found_region, region_at, globals_number, new_region, stack_region, opened, opened_as, closed, Environment, no_locals, Entry, Needs, NeedsPlace, Discard, Rest, Join, Loop, CloseRegion, CloseLexical, EndLoan, Handler, Caller, Main}
+use Rattle.cyc_meaning.specs.State.{Sort, Stack, Lexical, Dynamic, Region, World, Found, Closed, Missing, found_region, region_at, globals_number, new_region, stack_region, opened, opened_as, closed, Environment, no_locals, Entry, CloseRegion, CloseLexical, Caller}
 use Rattle.cyc_meaning.specs.Parts.{inside, region_end}
 use Rattle.cyc_meaning.specs.Objects.{made_in}
 use Rattle.cyc_meaning.specs.Nesting.{ends_of, IsScoped, IsFound, AreOpen, AreBelow, IsHome, IsNested}

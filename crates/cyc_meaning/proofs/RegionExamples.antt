@@ -1,15 +1,14 @@
 -- Worked examples of regions and keys, each proved by computation. What each gives is said by the language's rules.
-use Rattle.std.proofs.Common.{◌≡◌, ℕ, List, [], ◌∷◌, Some, None, pos, negsuc, refl}
-use Rattle.cyc_words.specs.Ending.{Returned, Uncaught, Full}
-use Rattle.cyc_types.specs.declared.region.Region.TheVariants.{Heap, Variable}
-use Rattle.cyc_types.specs.declared.typed.Kind.TheVariants as kinds
+use Rattle.std.proofs.Common.{◌≡◌, ℕ, List, [], ◌∷◌, Some, pos, refl}
+use Rattle.cyc_words.specs.Ending.{Returned, Full}
+use Rattle.cyc_types.specs.declared.region.Region.TheVariants.{Heap}
 use Rattle.cyc_types.specs.declared.typed.Operator.TheVariants as operators
 use Rattle.cyc_types.specs.declared.typed.PointerOperator.TheVariants as pointers
-use Rattle.cyc_types.specs.Types.{Ty, Int, Handle, Key}
+use Rattle.cyc_types.specs.Types.{Int, Handle, Key}
 use Rattle.cyc_types.specs.TypedTrees.{Expression, Number, NullPointer, HeapRegion, Load, FreeKey, If, Throw, Empty, Evaluate, Block, Case, NoClauses, ByHandle, Placement, Execute, DeclareRegion, OpenRegion, DeclareKey, Function, Program}
 use Rattle.cyc_types.specs.TypedTrees as typed
 use Rattle.cyc_meaning.specs.State.{HasEnded}
-use Rattle.cyc_meaning.proofs.ExampleTrees.{here, int, local, two, assign, print, call, items, execute, return, declare, block, while, function, program, program_with, end, long_end, long_printed, end_within, star, at, convert, null_as, variable, move, target, put, set, new, apply, define, try_to, case, otherwise}
+use Rattle.cyc_meaning.proofs.ExampleTrees.{here, local, two, assign, print, call, items, execute, return, declare, block, function, program, program_with, end, long_end, long_printed, end_within, star, at, convert, null_as, variable, move, target, put, set, new, apply, define, try_to, otherwise}
 
 abbrev handle : ℕ → Expression
 handle number = variable number (Handle Heap)

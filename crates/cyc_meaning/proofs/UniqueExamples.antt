@@ -1,17 +1,16 @@
 -- Worked examples of unique pointers, swaps and aliases, each proved by computation. What each gives is said by the language's rules.
-use Rattle.std.proofs.Common.{◌≡◌, ℕ, List, [], ◌∷◌, Some, None, pos, negsuc, refl}
-use Rattle.cyc_words.specs.Ending.{Returned, Uncaught, Full}
+use Rattle.std.proofs.Common.{◌≡◌, ℕ, [], ◌∷◌, Some, None, pos, refl}
+use Rattle.cyc_words.specs.Ending.{Returned}
 use Rattle.cyc_types.specs.declared.typed.Kind.TheVariants as kinds
 use Rattle.cyc_types.specs.declared.typed.Operator.TheVariants as operators
-use Rattle.cyc_types.specs.declared.typed.PointerOperator.TheVariants as pointers
-use Rattle.cyc_types.specs.Types.{Ty, Int, Void}
+use Rattle.cyc_types.specs.Types.{Int, Void}
 use Rattle.cyc_types.specs.TypedTrees.{Expression, Number, NullPointer, Counter, Load, FreeUnique, NumberOfElements, Assign, AsUnique, OnHeap, Swap, VariableSide, CellSide, Null, Execute, DeclareAlias, Function, Program}
 use Rattle.cyc_types.specs.TypedTrees as typed
 use Rattle.std.specs.Prelude.{Option, slice_get}
 use Rattle.cyc_meaning.specs.State.{HasEnded, Object, World, Running, Proceeding, no_locals, first_world, demand}
 use Rattle.cyc_meaning.specs.Objects.{made_unique, freed}
 use Rattle.cyc_meaning.specs.Allocation.{blanks}
-use Rattle.cyc_meaning.proofs.ExampleTrees.{here, int, local, two, assign, print, items, execute, return, declare, block, while, function, procedure, program, program_with, end, long_end, printed, end_within, printed_within, star, at, fat, own_star, own, own_fat, convert, null_as, variable, move, peek, target, element, put, set, new, array, apply, define, side, call_void}
+use Rattle.cyc_meaning.proofs.ExampleTrees.{here, local, two, print, execute, return, declare, block, procedure, program, program_with, end, long_end, printed, star, at, fat, own_star, own, own_fat, convert, null_as, variable, move, peek, target, element, put, new, array, define, side, call_void}
 
 -- void eat(int @`U p){ ufree(p); }
 abbrev eat : Function

@@ -1,9 +1,9 @@
 -- Laws of the world: numbers are never used again.
-use Rattle.std.proofs.Common.{◌≡◌, ℕ, zero, suc, Bool, true, false, List, [], ◌∷◌, ◌++◌, set, Option, Some, None, refl, sym, ap, subst, ◌∙◌}
+use Rattle.std.proofs.Common.{◌≡◌, ℕ, zero, suc, Bool, true, false, List, [], ◌∷◌, set, Option, Some, None, refl, sym, ap, subst, ◌∙◌}
 use Rattle.std.specs.Prelude.{if◌then◌else◌, slice_get}
 use Rattle.cyc_types.specs.TypedTrees.{Program}
 use Rattle.cyc_meaning.specs.Values.{Cell}
-use Rattle.cyc_meaning.specs.State.{Region, Owner, InRegion, Unique, Object, World, Access, Found, Closed, Missing, region_at, Located, located, is_live, cell_in, cell_at, new_region, variable, State, Running, Ended, Dead, Wrong}
+use Rattle.cyc_meaning.specs.State.{Region, Owner, InRegion, Unique, Object, World, Found, Closed, Missing, Located, located, is_live, cell_in, cell_at, new_region, variable, State, Running, Ended, Dead, Wrong}
 use Rattle.cyc_meaning.specs.Step.{step, stepped}
 use Rattle.cyc_meaning.specs.Effects.{Changes, Keeps, Opens, Closes, Makes, MakesIn, MakesUnique, Frees, Writes, Prints, Reads, OwnerStays, RegionStays, ObjectStays, WorldStays, StaysIn}
 use Rattle.cyc_meaning.specs.Run.{steps}

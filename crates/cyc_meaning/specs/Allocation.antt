@@ -1,7 +1,7 @@
 -- New objects: `new` and `rnew`. An initial value is evaluated before its block is made; of an array the length is, then the block is
 -- made, and then its elements are evaluated. Making an object is one step and leaves its cells blank; each value is then one write.
 -- (`new` and `rnew` are Cyclone's, Grossman et al. 2002; the order, and how long an array may be, are this project's own choice.)
-use Rattle.std.specs.Prelude.{ℕ, zero, suc, ◌*◌, ◌==◌, true, nat_le, if◌then◌else◌, List, [], ◌∷◌, map, reverse, length, Option, Some, None}
+use Rattle.std.specs.Prelude.{ℕ, zero, suc, ◌*◌, ◌==◌, true, nat_le, if◌then◌else◌, List, [], ◌∷◌, map, reverse, length, Some}
 use Rattle.cyc_types.specs.declared.typed.Kind.{Kind}
 use Rattle.cyc_types.specs.declared.typed.Kind.TheVariants as kinds
 use Rattle.cyc_types.specs.TypedTrees.{Expression, Placement, OnHeap, AsUnique, ByHandle, Initial, Plain, Fields, Array, Convert, Arguments, NoArguments, MoreArguments}

@@ -3,7 +3,7 @@
 use Rattle.std.specs.Prelude.{◌≡◌, ℕ, suc, ◌+◌, ◌%◌, Bool, true, false, if◌then◌else◌, List, [], ◌∷◌, ◌++◌, drop, Option, Some, slice_get}
 use Rattle.cyc_types.specs.declared.typed.Kind.{Kind}
 use Rattle.cyc_types.specs.declared.typed.Callee.TheVariants as callees
-use Rattle.cyc_meaning.specs.Values.{Value, Int, Operand, Cell, kinds_of, block_size}
+use Rattle.cyc_meaning.specs.Values.{Value, Int, Cell, kinds_of, block_size}
 use Rattle.cyc_meaning.specs.State.{Sort, Region, Owner, InRegion, Unique, Object, World, Found, region_at, Located, cell_at, new_region, opened_as, closed, variable, made, written, State, Running, Ended, Dead, Wrong, Entry, Caller, Main, Focus, Calling, Proceeding, Returning, Throwing, has_pages, counted, calls_in}
 use Rattle.cyc_words.specs.Demand.{total, region_pages, demand_of}
 use Rattle.cyc_meaning.specs.Objects.{made_in, made_unique, freed}

@@ -5,8 +5,8 @@
 use Rattle.std.specs.Prelude.{ℕ, ◌==◌, if◌then◌else◌, List, ◌∷◌, Option, Some, None}
 use Rattle.cyc_types.specs.declared.typed.Kind.TheVariants as kinds
 use Rattle.cyc_types.specs.TypedTrees.{Expression, Statement, Items, Clauses, NoClauses, Default, Case}
-use Rattle.cyc_meaning.specs.Values.{Value, Int, Operand}
-use Rattle.cyc_meaning.specs.State.{World, opened, Environment, ThrowWith, Entry, Needs, Rest, Handler, Focus, Evaluating, Executing, Proceeding, Naming, Throwing, Catching, State, Running}
+use Rattle.cyc_meaning.specs.Values.{Value, Int}
+use Rattle.cyc_meaning.specs.State.{World, opened, Environment, ThrowWith, Entry, Needs, Rest, Handler, Evaluating, Executing, Proceeding, Naming, Throwing, Catching, State, Running}
 use Rattle.cyc_meaning.specs.Parts.{wrong, inside, region_end}
 
 -- ---- throwing

@@ -1,10 +1,9 @@
 -- Regions of blocks and lexical regions end in the opposite order of that in which they were opened: what holds of every state, by its
 -- control stack (Grossman et al. 2002). Dynamic regions are closed by programs, whenever they like, and are none of these.
 use Rattle.std.specs.Prelude.{◌≡◌, ℕ, ◌<◌, Bool, true, false, List, [], ◌∷◌, length, slice_get}
-use Rattle.cyc_types.specs.declared.typed.PointerOperator.{PointerOperator}
 use Rattle.cyc_types.specs.declared.typed.PointerOperator.TheVariants as pointers
-use Rattle.cyc_types.specs.TypedTrees.{Arguments, NoArguments, Expression, Copy, Move, Peek, New, Placement, OnHeap, Initial, Fields, Items, MoreItems, Item, OpenRegion, DeclareAlias}
-use Rattle.cyc_meaning.specs.State.{Sort, Heap, Globals, Stack, Lexical, Dynamic, Region, World, Access, Found, Closed, Missing, found_region, globals_number, Environment, Awaiting, ApplyPointer, Store, StoreCell, FreeObject, CloseByKey, PlaceBy, MakePlain, MakeFields, FillElement, OpenBy, AwaitingPlace, LoadFrom, Entry, Needs, NeedsPlace, Rest, CloseRegion, CloseLexical, Handler, Caller, Focus, Evaluating, Given, GivenPlace, Proceeding, Writing, Beginning, Swapping, State, Running, Ended, Dead, Wrong}
+use Rattle.cyc_types.specs.TypedTrees.{NoArguments, Expression, Copy, Move, Peek, New, Fields, Items, MoreItems, OpenRegion, DeclareAlias}
+use Rattle.cyc_meaning.specs.State.{Sort, Dynamic, Region, World, Access, Found, Closed, Missing, found_region, globals_number, Environment, Awaiting, ApplyPointer, Store, StoreCell, FreeObject, CloseByKey, PlaceBy, MakePlain, MakeFields, FillElement, OpenBy, LoadFrom, Entry, Needs, NeedsPlace, Rest, CloseRegion, CloseLexical, Handler, Caller, Focus, Evaluating, Given, GivenPlace, Proceeding, Writing, Beginning, Swapping, State, Running, Ended, Dead, Wrong}
 
 -- the regions that will end, innermost first, and that of the globals, which never does
 abbrev pub ends_of : List Entry → List ℕ

@@ -2,7 +2,7 @@
 -- Manual, 1.0; how blocks and classes are counted is this project's own choice.)
 use Rattle.std.specs.Prelude.{ℕ, suc, ◌==◌, ◌&&◌, Bool, true, false, max, if◌then◌else◌, List, [], ◌∷◌, ◌++◌, Option, Some, None, get_or, slice_get, set}
 use Rattle.cyc_words.specs.Demand.{class_of, pages_for}
-use Rattle.cyc_meaning.specs.Values.{Value, Int, Null, Thin, Fat, Handle, Key, Cell, block_size}
+use Rattle.cyc_meaning.specs.Values.{Value, Null, Thin, Cell, block_size}
 use Rattle.cyc_meaning.specs.State.{Region, Owner, InRegion, Unique, Object, World, Access, Found, Closed, Missing, region_at, is_live, made}
 
 -- ---- objects that are there

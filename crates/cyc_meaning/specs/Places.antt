@@ -1,13 +1,13 @@
 -- Places that a pointer leads to: `*e`, `e->f` and `e[i]`. A place's checks are made when it is evaluated: on the left of `=` before the
 -- right side is, and under `&` too (this project's own choice).
-use Rattle.std.specs.Prelude.{ℕ, ◌==◌, ◌&&◌, if◌then◌else◌, List, [], ◌∷◌, map, Option, Some, None, slice_get}
+use Rattle.std.specs.Prelude.{ℕ, ◌==◌, ◌&&◌, if◌then◌else◌, List, ◌∷◌, map, Option, Some, None, slice_get}
 use Rattle.cyc_types.specs.declared.typed.Kind.{Kind}
 use Rattle.cyc_types.specs.declared.typed.Kind.TheVariants as kinds
 use Rattle.cyc_types.specs.declared.typed.PointerOperator.TheVariants as operators
 use Rattle.cyc_types.specs.TypedTrees.{Expression, Dereference, Target, Member, Element, peeked, Convert, StructType, Program}
-use Rattle.cyc_meaning.specs.Values.{Value, Null, Thin, Fat, Operand, kind_of, kinds_of, is_kind, are_kinds}
+use Rattle.cyc_meaning.specs.Values.{Value, Thin, Operand, kind_of, kinds_of, is_kind, are_kinds}
 use Rattle.cyc_meaning.specs.Pointers.{pointer_result, Reach, At, Stops, Nowhere, followed}
-use Rattle.cyc_meaning.specs.State.{Object, World, cell_at, Environment, ConvertTo, StoreCell, Follow, FollowMember, Index, Advance, AwaitingPlace, LoadFrom, TakeAddress, StoreTo, SwapLeft, SwapRight, Entry, Needs, NeedsPlace, Focus, Evaluating, GivenPlace, Throwing, State, Running}
+use Rattle.cyc_meaning.specs.State.{Object, World, cell_at, Environment, ConvertTo, StoreCell, Follow, FollowMember, Index, Advance, AwaitingPlace, LoadFrom, TakeAddress, StoreTo, SwapLeft, SwapRight, Entry, Needs, NeedsPlace, Evaluating, GivenPlace, Throwing, State, Running}
 use Rattle.cyc_meaning.specs.Parts.{wrong, gives, computed, loaded}
 use Rattle.cyc_meaning.specs.Swaps.{finds_right, both_places}
 

@@ -6,8 +6,8 @@ use Rattle.cyc_types.specs.declared.typed.Kind.{Kind}
 use Rattle.cyc_types.specs.declared.typed.Kind.TheVariants as kinds
 use Rattle.cyc_types.specs.declared.typed.PointerOperator.{PointerOperator}
 use Rattle.cyc_types.specs.declared.typed.PointerOperator.TheVariants as operators
-use Rattle.cyc_meaning.specs.Values.{Value, Int, Null, Thin, Fat, Handle, Key, is_kind, is_thin}
-use Rattle.cyc_meaning.specs.Operators.{Result, Gives, Raises, Misfits, null_exception, array_bounds, truth}
+use Rattle.cyc_meaning.specs.Values.{Value, Int, Null, Thin, Fat, is_kind, is_thin}
+use Rattle.cyc_meaning.specs.Operators.{Result, Gives, Misfits, null_exception, array_bounds, truth}
 
 -- ---- arithmetic
 

@@ -7,7 +7,6 @@ use Rattle.cyc_types.specs.declared.typed.Kind.TheVariants as kinds
 use Rattle.cyc_types.specs.TypedTrees.{Items}
 use Rattle.cyc_meaning.specs.Values.{Value, Null, Thin, Fat, Handle, Key, Operand}
 use Rattle.cyc_meaning.specs.State.{Sort, Lexical, Dynamic, Region, Owner, InRegion, Unique, Object, World, Access, Found, Closed, Missing, region_at, opened_as, closed, Environment, OpenBy, AliasOf, Entry, Needs, Rest, CloseLexical, EndLoan, Focus, Proceeding, Naming, State, Running}
-use Rattle.cyc_meaning.specs.State as state
 use Rattle.cyc_meaning.specs.Objects.{freed}
 use Rattle.cyc_meaning.specs.Parts.{dead, wrong, loaded_from, declared}
 

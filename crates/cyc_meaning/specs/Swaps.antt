@@ -2,9 +2,9 @@
 -- project's own choice.)
 use Rattle.std.specs.Prelude.{ℕ, List, [], ◌∷◌, Option, Some, None, if◌then◌else◌}
 use Rattle.cyc_types.specs.declared.typed.Kind.{Kind}
-use Rattle.cyc_types.specs.TypedTrees.{Dereference, type_of_place, peeked, Side, VariableSide, CellSide}
+use Rattle.cyc_types.specs.TypedTrees.{type_of_place, peeked, Side, VariableSide, CellSide}
 use Rattle.cyc_meaning.specs.Values.{Value, Thin, Operand, kind_of, is_kind}
-use Rattle.cyc_meaning.specs.State.{World, Access, Found, Closed, Missing, Located, cell_at, Environment, SwapLeft, SwapRight, Entry, NeedsPlace, Write, Focus, Locating, Writing, Swapping, State, Running}
+use Rattle.cyc_meaning.specs.State.{World, Access, Found, Closed, Missing, Located, cell_at, Environment, SwapLeft, SwapRight, Entry, NeedsPlace, Locating, Writing, Swapping, State, Running}
 use Rattle.cyc_meaning.specs.Parts.{dead, wrong, object_of}
 
 -- both places are found
