@@ -7,6 +7,7 @@ use Rattle.cyc_isa.specs.declared.instr.ExceptionOp.TheVariants.{Syscall}
 use Rattle.cyc_isa.specs.declared.instr.ImmediateOp.TheVariants as immediates
 use Rattle.cyc_isa.specs.declared.instr.BranchOp.TheVariants.{Equal, NotEqual}
 use Rattle.cyc_select.specs.Labelled.{Labelled}
+use Rattle.cyc_select.specs.declared.code.Condition.TheVariants as conditions
 use Rattle.cyc_select.specs.declared.code.Line.TheVariants as lines
 use Rattle.cyc_machine.specs.declared.event.End.TheVariants.{Returned}
 use Rattle.cyc_machine.specs.Run.{end_of}
@@ -21,12 +22,12 @@ abbrev counting : Labelled
 counting = record {
   lines =
       lines.Ordinary (Immediate immediates.AddUnsigned (register_of 8) (register_of 0) 3)
-      ∷ lines.Branch Equal (register_of 8) (register_of 0) 4
+      ∷ lines.Branch (conditions.Registers Equal (register_of 8) (register_of 0)) 4
       ∷ lines.Call 5
       ∷ lines.Jump 1
       ∷ lines.Return
       ∷ lines.Ordinary (Immediate immediates.AddUnsigned (register_of 8) (register_of 8) 65535)
-      ∷ lines.Branch NotEqual (register_of 8) (register_of 0) 4
+      ∷ lines.Branch (conditions.Registers NotEqual (register_of 8) (register_of 0)) 4
       ∷ lines.Return
       ∷ [];
   globals = [];
@@ -50,7 +51,7 @@ summing = record {
   lines =
       lines.Ordinary (Immediate immediates.AddUnsigned (register_of 4) (register_of 0) 0)
       ∷ lines.Ordinary (Immediate immediates.AddUnsigned (register_of 8) (register_of 0) 3)
-      ∷ lines.Branch Equal (register_of 8) (register_of 0) 6
+      ∷ lines.Branch (conditions.Registers Equal (register_of 8) (register_of 0)) 6
       ∷ lines.Call 8
       ∷ lines.Ordinary (Immediate immediates.AddUnsigned (register_of 8) (register_of 8) 65535)
       ∷ lines.Jump 2

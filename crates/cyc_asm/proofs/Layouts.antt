@@ -24,14 +24,14 @@ line_there code number below = (_, slice_get-get_or code number lines.Return bel
 -- a line is as wide as it may be, or less
 pub width_of-most : (code : List Line) (number : ℕ) (line : Line) → width_of code number line ≤ words_of line
 width_of-most code number (lines.Ordinary i) = omega arith
-width_of-most code number (lines.Branch op left right label) = elim (is_near code number label) as (λ b. cond b 2 4 ≤ 4) [ true ↦ omega arith | false ↦ omega arith ]
+width_of-most code number (lines.Branch condition label) = elim (is_near code number label) as (λ b. cond b 2 4 ≤ 4) [ true ↦ omega arith | false ↦ omega arith ]
 width_of-most code number (lines.Jump label) = omega arith
 width_of-most code number (lines.Call label) = omega arith
 width_of-most code number lines.Return = omega arith
 
 pub width_of-some : (code : List Line) (number : ℕ) (line : Line) → 0 < width_of code number line
 width_of-some code number (lines.Ordinary i) = omega arith
-width_of-some code number (lines.Branch op left right label) = elim (is_near code number label) as (λ b. 0 < cond b 2 4) [ true ↦ omega arith | false ↦ omega arith ]
+width_of-some code number (lines.Branch condition label) = elim (is_near code number label) as (λ b. 0 < cond b 2 4) [ true ↦ omega arith | false ↦ omega arith ]
 width_of-some code number (lines.Jump label) = omega arith
 width_of-some code number (lines.Call label) = omega arith
 width_of-some code number lines.Return = omega arith

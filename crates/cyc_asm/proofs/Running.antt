@@ -2,6 +2,7 @@
 use Rattle.std.proofs.Common.{◌≡◌, ℕ, ◌*◌, List, [], replicate, refl, sym, ap, subst, arith, false}
 use Rattle.std.specs.Prelude.{slice_set}
 use Rattle.std.proofs.lemmas.List.{length-replicate}
+use Rattle.cyc_machine.specs.declared.constants.TheConstants.{ARGUMENT, STACK_POINTER}
 use Rattle.cyc_words.specs.Ending.{Ending}
 use Rattle.cyc_words.specs.Word.{add_of}
 use Rattle.cyc_machine.specs.declared.event.End.{End}
@@ -42,7 +43,7 @@ lawful = record {
 -- the configuration in which the labelled machine starts
 abbrev started : Labelled → (calls : ℕ) → (input : List ℕ) → Configuration
 started code calls input = record {
-  registers = slice_set (slice_set (replicate 32 0) 4 calls) 29 stack_end;
+  registers = slice_set (slice_set (replicate 32 0) ARGUMENT calls) STACK_POINTER stack_end;
   high = 0;
   low = 0;
   globals = labelled.globals_of code.globals;

@@ -11,30 +11,35 @@ use Rattle.cyc_isa.specs.Decoding.{jump_index_of}
 use Rattle.cyc_isa.specs.Effect.{branch_target, jump_target}
 use Rattle.cyc_isa.specs.declared.operand.Register.{Register}
 use Rattle.cyc_isa.specs.declared.instr.Instr.{Instr}
-use Rattle.cyc_isa.specs.declared.instr.Instr.TheVariants.{Branch, Jump, JumpRegister}
-use Rattle.cyc_isa.specs.declared.instr.BranchOp.{BranchOp}
+use Rattle.cyc_isa.specs.declared.instr.Instr.TheVariants.{Jump, JumpRegister}
 use Rattle.cyc_isa.specs.declared.instr.JumpOp.{JumpOp}
 use Rattle.cyc_isa.specs.declared.instr.JumpOp.TheVariants.{Plain, AndLink}
 use Rattle.cyc_machine.specs.declared.constants.TheConstants.{TEXT_WORDS}
 use Rattle.cyc_machine.specs.State.{text_base, text_end, text_at, word_number}
+use Rattle.cyc_select.specs.declared.code.Condition.{Condition}
+use Rattle.cyc_select.specs.declared.code.Condition.TheVariants as conditions
 use Rattle.cyc_select.specs.declared.code.Line.{Line}
 use Rattle.cyc_select.specs.declared.code.Line.TheVariants as lines
 use Rattle.cyc_select.specs.Labelled.{Labelled, IsFormed, IsFormedLine}
 use Rattle.cyc_asm.specs.declared.constants.TheConstants.{ROUND_OFFSET, FIRST_INDEX}
 use Rattle.cyc_asm.specs.Layout.{Fits, is_near, width_of, width_in, position, addresses_of}
-use Rattle.cyc_asm.specs.Text.{text_of, IsAt, nothing, return_register, inverse_of, IsJumpAt, StandsBranch, Stands, stretch, IsTextOf}
+use Rattle.cyc_asm.specs.Text.{text_of, IsAt, nothing, return_register, branch_of, inverse_of, IsJumpAt, StandsBranch, Stands, stretch, IsTextOf}
 use Rattle.cyc_asm.specs.Words.{offset_of, words_of_branch, words_of_line, words_in, words_before, assembled}
 use Rattle.cyc_asm.proofs.Layouts.{position-suc, position-most, position-less, addresses_fit, near_below, near_above, own_words}
 
 -- ---- how many words there are
 
-length-words_of_branch : (b : Bool) (code : List Line) (number : ℕ) (op : BranchOp) (left right : Register) (label : ℕ) → length (words_of_branch b code number op left right label) ≡ cond b 2 4
-length-words_of_branch true code number op left right label = refl
-length-words_of_branch false code number op left right label = refl
+branch_encodable : (condition : Condition) (offset : ℕ) → offset < 2 ^ 16 → IsEncodable (branch_of condition offset)
+branch_encodable (conditions.Registers op left right) offset fits = fits
+branch_encodable (conditions.Sign op source) offset fits = fits
+
+length-words_of_branch : (b : Bool) (code : List Line) (number : ℕ) (condition : Condition) (label : ℕ) → length (words_of_branch b code number condition label) ≡ cond b 2 4
+length-words_of_branch true code number condition label = refl
+length-words_of_branch false code number condition label = refl
 
 pub length-words_of_line : (code : List Line) (number : ℕ) (line : Line) → length (words_of_line code number line) ≡ width_of code number line
 length-words_of_line code number (lines.Ordinary i) = refl
-length-words_of_line code number (lines.Branch op left right label) = length-words_of_branch (is_near code number label) code number op left right label
+length-words_of_line code number (lines.Branch condition label) = length-words_of_branch (is_near code number label) code number condition label
 length-words_of_line code number (lines.Jump label) = refl
 length-words_of_line code number (lines.Call label) = refl
 length-words_of_line code number lines.Return = refl
@@ -193,23 +198,23 @@ module _ (code : Labelled) (formed : IsFormed code) (fits : Fits code.lines) whe
       slot = is_there (j + 1) nothing (address + 4) (omega (arith, is)) (omega arith) second;
     }
 
-    branch_there : (b : Bool) (op : BranchOp) (left right : Register) (label : ℕ) → label < length code.lines → is_near code.lines number label ≡ b
-        → words_of_line code.lines number line ≡ words_of_branch b code.lines number op left right label → width_of code.lines number line ≡ cond b 2 4
-        → StandsBranch b words (addresses_of code) number op left right label
-    branch_there true op left right label is_label near same wide = (
+    branch_there : (b : Bool) (condition : Condition) (label : ℕ) → label < length code.lines → is_near code.lines number label ≡ b
+        → words_of_line code.lines number line ≡ words_of_branch b code.lines number condition label → width_of code.lines number line ≡ cond b 2 4
+        → StandsBranch b words (addresses_of code) number condition label
+    branch_there true condition label is_label near same wide = (
       record {
         offset = offset_of (position code.lines number) (position code.lines label);
-        branch = is_there 0 (Branch op left right (offset_of (position code.lines number) (position code.lines label))) (at number) (omega arith) (offset_of-half _ _ (are_near_at code.lines number label fits below is_label near))
+        branch = is_there 0 (branch_of condition (offset_of (position code.lines number) (position code.lines label))) (at number) (omega arith) (branch_encodable condition _ (offset_of-half _ _ (are_near_at code.lines number label fits below is_label near)))
             (ap (λ ws. slice_get ws 0) same);
         target = offset_of-target (position code.lines number) (position code.lines label) (are_near_at code.lines number label fits below is_label near);
         slot = is_there 1 nothing (at number + 4) (omega arith) (omega arith) (ap (λ ws. slice_get ws 1) same);
       },
       (let n = next in omega (arith, n, wide)),
     )
-    branch_there false op left right label is_label far same wide = (
+    branch_there false condition label is_label far same wide = (
       record {
         offset = ROUND_OFFSET;
-        branch = is_there 0 (Branch (inverse_of op) left right ROUND_OFFSET) (at number) (omega arith) (omega arith) (ap (λ ws. slice_get ws 0) same);
+        branch = is_there 0 (branch_of (inverse_of condition) ROUND_OFFSET) (at number) (omega arith) (branch_encodable (inverse_of condition) ROUND_OFFSET (omega arith)) (ap (λ ws. slice_get ws 0) same);
         target = round_target (position code.lines number) (low number (let b = below in omega (arith, b))) ∙ (let n = next in omega (arith, n, wide));
         slot = is_there 1 nothing (at number + 4) (omega arith) (omega arith) (ap (λ ws. slice_get ws 1) same);
       },
@@ -222,9 +227,9 @@ module _ (code : Labelled) (formed : IsFormed code) (fits : Fits code.lines) whe
     is_there number (lines.Ordinary i) found 0 i (at number) (omega arith) (line_formed number (lines.Ordinary i) found).1 refl,
     (let n = next number (lines.Ordinary i) found in omega (arith, n)),
   )
-  stands number (lines.Branch op left right label) found =
-      branch_there number (lines.Branch op left right label) found (is_near code.lines number label) op left right label
-      (line_formed number (lines.Branch op left right label) found) refl refl refl
+  stands number (lines.Branch condition label) found =
+      branch_there number (lines.Branch condition label) found (is_near code.lines number label) condition label
+      (line_formed number (lines.Branch condition label) found) refl refl refl
   stands number (lines.Jump label) found = (
     jump_there number (lines.Jump label) found 0 Plain label (at number) (line_formed number (lines.Jump label) found) (omega arith)
         (let i = inside number (lines.Jump label) found in omega (arith, i)) refl refl,

@@ -1,16 +1,20 @@
 -- Each step of the labelled machine is matched by steps of the machine that runs the words.
-use Rattle.std.proofs.Common.{◌≡◌, ◌≢◌, ℕ, zero, suc, ◌+◌, ◌*◌, ◌%◌, ◌≤◌, ◌<◌, List, [], ◌∷◌, length, Bool, true, false, cond, not, nat_eq, eq-eqb, Option, None, Some, refl, sym, ap, subst, ◌∙◌, arith, inl, inr}
+use Rattle.std.proofs.Common.{◌≡◌, ◌≢◌, ℕ, zero, suc, ℤ, pos, ◌+◌, ◌*◌, ◌%◌, ◌≤◌, ◌<◌, List, [], ◌∷◌, length, Bool, true, false, cond, not, nat_eq, eq-eqb, Option, None, Some, refl, sym, ap, subst, ◌∙◌, arith, inl, inr}
+use Rattle.std.specs.Prelude.{int_le, int_lt}
+use Rattle.std.proofs.lemmas.Int.{ints}
+use Rattle.cyc_machine.specs.declared.constants.TheConstants.{RETURN_ADDRESS}
+use Rattle.cyc_words.specs.Word.{signed}
 use Rattle.std.specs.Prelude.{◌⊎◌, slice_get, slice_set}
 use Rattle.std.proofs.lemmas.Bool.{eqb-true, cases_lt}
 use Rattle.std.proofs.lemmas.Option.{slice_get_within}
 use Rattle.cyc_words.specs.Ending.{Ending}
 use Rattle.cyc_words.specs.Word.{add_of}
-use Rattle.cyc_isa.specs.Effect.{branch_taken, branch_target, jump_target, return_address}
+use Rattle.cyc_isa.specs.Effect.{branch_target, jump_target, return_address}
 use Rattle.cyc_isa.specs.declared.operand.Register.{Register}
 use Rattle.cyc_isa.specs.declared.instr.Instr.{Instr}
-use Rattle.cyc_isa.specs.declared.instr.Instr.TheVariants.{Branch, Jump, JumpRegister}
-use Rattle.cyc_isa.specs.declared.instr.BranchOp.{BranchOp}
+use Rattle.cyc_isa.specs.declared.instr.Instr.TheVariants.{Jump, JumpRegister}
 use Rattle.cyc_isa.specs.declared.instr.BranchOp.TheVariants.{Equal, NotEqual}
+use Rattle.cyc_isa.specs.declared.instr.BranchZeroOp.TheVariants as signs
 use Rattle.cyc_isa.specs.declared.instr.JumpOp.TheVariants.{Plain, AndLink}
 use Rattle.cyc_machine.specs.declared.event.Cause.{Cause}
 use Rattle.cyc_machine.specs.declared.event.End.{End}
@@ -27,13 +31,15 @@ use Rattle.cyc_machine.proofs.ShapeLaws.{Goes-shape}
 use Rattle.cyc_words.specs.Simulation.{Machine, Running, Ended, Failed, Matching, IsOnTheWay, IsMatchedStep, IsStepped, Steps, Comes}
 use Rattle.cyc_words.proofs.Simulation.{running_ended}
 use Rattle.cyc_words.proofs.Matching.{by_one, way_before}
+use Rattle.cyc_select.specs.declared.code.Condition.{Condition}
+use Rattle.cyc_select.specs.declared.code.Condition.TheVariants as conditions
 use Rattle.cyc_select.specs.declared.code.Line.{Line}
 use Rattle.cyc_select.specs.declared.code.Line.TheVariants as lines
 use Rattle.cyc_select.specs.Labelled.{Labelled, is_ordinary}
 use Rattle.cyc_select.specs.Machine as labelled
-use Rattle.cyc_select.specs.Machine.{Configuration, machine_of, world_of, from_world, word_in, linked, core_of}
+use Rattle.cyc_select.specs.Machine.{Configuration, machine_of, world_of, from_world, word_in, holds_of, linked, core_of}
 use Rattle.cyc_asm.specs.Layout.{is_near}
-use Rattle.cyc_asm.specs.Text.{IsAt, IsTextOf, Stands, StandsBranch, own, nothing, inverse_of, return_register}
+use Rattle.cyc_asm.specs.Text.{IsAt, IsTextOf, Stands, StandsBranch, own, nothing, branch_of, inverse_of, return_register}
 use Rattle.cyc_machine.specs.WorldMachine.{world_machine, status_in, status_at}
 use Rattle.cyc_asm.proofs.Fetching.{world_at, fetches, through}
 use Rattle.cyc_asm.proofs.Ordinary.{Shown, same_cause, performed}
@@ -64,10 +70,21 @@ find addresses address (suc count) = elim (find addresses address count) [
   ] refl
 ]
 
+not_above : (x y : ℤ) → int_lt y x ≡ not (int_le x y)
+not_above x y = grind (arith, ints)
+
+not_below : (x y : ℤ) → int_le x y ≡ not (int_lt y x)
+not_below x y = grind (arith, ints)
+
 -- a branch's inverse is taken where the branch is not
-taken-inverse : (op : BranchOp) (left right : ℕ) → branch_taken (inverse_of op) left right ≡ not (branch_taken op left right)
-taken-inverse Equal left right = refl
-taken-inverse NotEqual left right = sym (not-not (nat_eq left right))
+-- (`words` has the word of each register)
+holds-inverse : (words : ℕ → ℕ) (condition : Condition) → holds_of words (inverse_of condition) ≡ not (holds_of words condition)
+holds-inverse words (conditions.Registers Equal left right) = refl
+holds-inverse words (conditions.Registers NotEqual left right) = sym (not-not (nat_eq (words left.number) (words right.number)))
+holds-inverse words (conditions.Sign signs.LessOrEqual source) = not_above (signed (words source.number)) (pos 0)
+holds-inverse words (conditions.Sign signs.Greater source) = not_below (signed (words source.number)) (pos 0)
+holds-inverse words (conditions.Sign signs.Less source) = not_below (pos 0) (signed (words source.number))
+holds-inverse words (conditions.Sign signs.GreaterOrEqual source) = not_above (pos 0) (signed (words source.number))
 
 module _ (code : Labelled) (addresses : ℕ → ℕ) (words : List ℕ) (text : IsTextOf code addresses words) where
   abbrev pub above : Machine
@@ -190,40 +207,46 @@ module _ (code : Labelled) (addresses : ℕ → ℕ) (words : List ℕ) (text : 
         let back : return_address here ≡ addresses (c.line + 1) = sum ∙ sym next ∙ ap addresses (sym same) in
         by_jump (lines.Call label) found fine 2 (record (linked addresses c) { line = label }) (jump_target here jumps.index.index) (Jump AndLink jumps.index) jumps.jump jumps.slot (omega (arith, next)) (omega arith)
         refl refl small
-        (ap (λ (address : ℕ). Does events.Ran (world_at words (record c { registers = slice_set c.registers 31 address }) (here + 4) (jump_target here jumps.index.index) true).machine) back)
+        (ap (λ (address : ℕ). Does events.Ran (world_at words (record c { registers = slice_set c.registers RETURN_ADDRESS address }) (here + 4) (jump_target here jumps.index.index) true).machine) back)
         refl jumps.target
 
     return : (found : slice_get code.lines c.line ≡ Some lines.Return) → ((next : labelled.State) → May lines.Return next → labelled.status_of next ≡ Failed → ⊥)
         → Stands code words addresses c.line lines.Return → Stepped (placed c)
-    return found fine (at, slot, next) = elim (find addresses (word_in c 31) (length code.lines)) [
+    return found fine (at, slot, next) = elim (find addresses (word_in c RETURN_ADDRESS) (length code.lines)) [
       | inl there ↦
           let (line, below, is) = there in
-          by_jump lines.Return found fine 2 (record c { line = line }) (word_in c 31) (JumpRegister return_register) at slot (omega (arith, next)) (omega arith)
+          by_jump lines.Return found fine 2 (record c { line = line }) (word_in c RETURN_ADDRESS) (JumpRegister return_register) at slot (omega (arith, next)) (omega arith)
           refl refl small refl (inl (line, below, is, refl)) (sym is)
       | inr none ↦ absurd (fine (labelled.Stopped c.output c.input) (inr (none, refl)) refl)
     ]
 
-    near : (op : BranchOp) (left right : Register) (label : ℕ) (found : slice_get code.lines c.line ≡ Some (lines.Branch op left right label))
-        → ((next : labelled.State) → May (lines.Branch op left right label) next → labelled.status_of next ≡ Failed → ⊥)
-        → StandsBranch true words addresses c.line op left right label → Stepped (placed c)
-    near op left right label found fine (branches, next) =
-        let line : Line = lines.Branch op left right label in
-        let taken : Bool = branch_taken op (word_in c left.number) (word_in c right.number) in
+    -- a branch leaves its slot to be executed, and then goes where it is taken to
+    branches_to : (condition : Condition) (offset : ℕ) → executes (world_at words c here (here + 4) false).machine (branch_of condition offset)
+        ≡ Does events.Ran (world_at words c (here + 4) (cond (holds_of (word_in c) condition) (branch_target here offset) (add_of (here + 4) 4)) true).machine
+    branches_to (conditions.Registers op left right) offset = refl
+    branches_to (conditions.Sign op source) offset = refl
+
+    near : (condition : Condition) (label : ℕ) (found : slice_get code.lines c.line ≡ Some (lines.Branch condition label))
+        → ((next : labelled.State) → May (lines.Branch condition label) next → labelled.status_of next ≡ Failed → ⊥)
+        → StandsBranch true words addresses c.line condition label → Stepped (placed c)
+    near condition label found fine (branches, next) =
+        let line : Line = lines.Branch condition label in
+        let taken : Bool = holds_of (word_in c) condition in
         by_jump line found fine 2 (record c { line = cond taken label (c.line + 1) }) (cond taken (branch_target here branches.offset) (add_of (here + 4) 4))
-        (Branch op left right branches.offset) branches.branch branches.slot (omega (arith, next)) (omega arith)
-        refl refl small refl refl
+        (branch_of condition branches.offset) branches.branch branches.slot (omega (arith, next)) (omega arith)
+        refl refl small (branches_to condition branches.offset) refl
         (lands line found fine taken (branch_target here branches.offset) label (add_of (here + 4) 4) (c.line + 1) branches.target (over_slot line found fine next))
 
-    far : (op : BranchOp) (left right : Register) (label : ℕ) (found : slice_get code.lines c.line ≡ Some (lines.Branch op left right label))
-        → ((next : labelled.State) → May (lines.Branch op left right label) next → labelled.status_of next ≡ Failed → ⊥)
-        → StandsBranch false words addresses c.line op left right label → Stepped (placed c)
-    far op left right label found fine (branches, jumps, next) =
-        let line : Line = lines.Branch op left right label in
+    far : (condition : Condition) (label : ℕ) (found : slice_get code.lines c.line ≡ Some (lines.Branch condition label))
+        → ((next : labelled.State) → May (lines.Branch condition label) next → labelled.status_of next ≡ Failed → ⊥)
+        → StandsBranch false words addresses c.line condition label → Stepped (placed c)
+    far condition label found fine (branches, jumps, next) =
+        let line : Line = lines.Branch condition label in
         let inside = low line found fine in
-        let taken : Bool = branch_taken op (word_in c left.number) (word_in c right.number) in
-        let round : Instr = Branch (inverse_of op) left right branches.offset in
-        let inverse = taken-inverse op (word_in c left.number) (word_in c right.number) in
-        elim (branch_taken op (word_in c left.number) (word_in c right.number)) as (λ b. branch_taken op (word_in c left.number) (word_in c right.number) ≡ b → Stepped (placed c)) [
+        let taken : Bool = holds_of (word_in c) condition in
+        let round : Instr = branch_of (inverse_of condition) branches.offset in
+        let inverse = holds-inverse (word_in c) condition in
+        elim (holds_of (word_in c) condition) as (λ b. holds_of (word_in c) condition ≡ b → Stepped (placed c)) [
           | true ↦ λ is_taken.
               let c' : Configuration = record c { line = label } in
               let places : List ℕ = here ∷ (here + 4) ∷ (here + 8) ∷ (here + 8 + 4) ∷ [] in
@@ -245,7 +268,7 @@ module _ (code : Labelled) (addresses : ℕ → ℕ) (words : List ℕ) (text : 
                   ),
                 );
                 comes = through words c c here (here + 8) round branches.branch branches.slot aligned refl refl
-                    (ap (λ b. Does events.Ran (world_at words c (here + 4) (cond b (branch_target here branches.offset) (add_of (here + 4) 4)) true).machine) (inverse ∙ ap not is_taken)
+                    (branches_to (inverse_of condition) branches.offset ∙ ap (λ b. Does events.Ran (world_at words c (here + 4) (cond b (branch_target here branches.offset) (add_of (here + 4) 4)) true).machine) (inverse ∙ ap not is_taken)
                     ∙ ap (λ (n : ℕ). Does events.Ran (world_at words c (here + 4) n true).machine) first_behind)
                     Way (Goal places) ((here + 8) ∷ (here + 8 + 4) ∷ [])
                     (on_the_way line found fine _ refl refl) (on_the_way line found fine _ refl refl)
@@ -258,7 +281,7 @@ module _ (code : Labelled) (addresses : ℕ → ℕ) (words : List ℕ) (text : 
               let same : c.line + 1 ≡ suc c.line = omega arith in
               by_jump line found fine 4 (record c { line = c.line + 1 }) (branch_target here branches.offset) round branches.branch branches.slot (omega (arith, next)) (omega arith)
               refl refl small
-              (ap (λ b. Does events.Ran (world_at words c (here + 4) (cond b (branch_target here branches.offset) (add_of (here + 4) 4)) true).machine) (inverse ∙ ap not not_taken))
+              (branches_to (inverse_of condition) branches.offset ∙ ap (λ b. Does events.Ran (world_at words c (here + 4) (cond b (branch_target here branches.offset) (add_of (here + 4) 4)) true).machine) (inverse ∙ ap not not_taken))
               (ap (λ b. labelled.Running (record c { line = cond b label (c.line + 1) })) (sym not_taken))
               (branches.target ∙ ap addresses (sym same))
         ] refl
@@ -338,16 +361,16 @@ module _ (code : Labelled) (addresses : ℕ → ℕ) (words : List ℕ) (text : 
 
     -- ---- any line
 
-    branch : (b : Bool) (op : BranchOp) (left right : Register) (label : ℕ) (found : slice_get code.lines c.line ≡ Some (lines.Branch op left right label))
-        → ((next : labelled.State) → May (lines.Branch op left right label) next → labelled.status_of next ≡ Failed → ⊥)
-        → StandsBranch b words addresses c.line op left right label → Stepped (placed c)
-    branch true op left right label found fine stands = near op left right label found fine stands
-    branch false op left right label found fine stands = far op left right label found fine stands
+    branch : (b : Bool) (condition : Condition) (label : ℕ) (found : slice_get code.lines c.line ≡ Some (lines.Branch condition label))
+        → ((next : labelled.State) → May (lines.Branch condition label) next → labelled.status_of next ≡ Failed → ⊥)
+        → StandsBranch b words addresses c.line condition label → Stepped (placed c)
+    branch true condition label found fine stands = near condition label found fine stands
+    branch false condition label found fine stands = far condition label found fine stands
 
     by_line : (line : Line) → slice_get code.lines c.line ≡ Some line → ((next : labelled.State) → May line next → labelled.status_of next ≡ Failed → ⊥)
         → Stands code words addresses c.line line → Stepped (placed c)
     by_line (lines.Ordinary i) found fine stands = ordinary i (is_ordinary i) refl found fine stands
-    by_line (lines.Branch op left right label) found fine stands = branch (is_near code.lines c.line label) op left right label found fine stands
+    by_line (lines.Branch condition label) found fine stands = branch (is_near code.lines c.line label) condition label found fine stands
     by_line (lines.Jump label) found fine stands = jump label found fine stands
     by_line (lines.Call label) found fine stands = call label found fine stands
     by_line lines.Return found fine stands = return found fine stands

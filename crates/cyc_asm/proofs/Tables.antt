@@ -6,8 +6,8 @@ use Rattle.std.proofs.lemmas.Bool.{cases_lt}
 use Rattle.std.proofs.lemmas.List.FromFn.{length-map-range_with_len, get_or-map-range_with_len, map-range_with_len_more}
 use Rattle.std.proofs.lemmas.Option.{slice_get-get_or}
 use Rattle.cyc_isa.specs.declared.operand.Register.{Register}
-use Rattle.cyc_isa.specs.declared.instr.BranchOp.{BranchOp}
 use Rattle.cyc_machine.specs.declared.constants.TheConstants.{TEXT_WORDS}
+use Rattle.cyc_select.specs.declared.code.Condition.{Condition}
 use Rattle.cyc_select.specs.declared.code.Line.{Line}
 use Rattle.cyc_select.specs.declared.code.Line.TheVariants as lines
 use Rattle.cyc_select.specs.Labelled.{IsFormedLine, words_of}
@@ -97,16 +97,16 @@ near_here code most number label near b is below is_label by_table known =
     ∙ ap (λ (n : ℕ). nat_le n (get_or most number 0 + MAX_REACH) && nat_le (get_or most number 0) (n + MAX_REACH)) (sym there)
     ∙ sym by_table ∙ known
 
-pub width_of_branch : (code : List Line) (number : ℕ) (d : Line) (op : BranchOp) (left right : Register) (label : ℕ) (b : Bool) → number < length code
-    → get_or code number d ≡ lines.Branch op left right label → is_near code number label ≡ b → width_at code number ≡ cond b 2 4
-width_of_branch code number d op left right label b below here near =
-    width_here code number d (lines.Branch op left right label) below here ∙ ap (λ b. cond b 2 4) near
+pub width_of_branch : (code : List Line) (number : ℕ) (d : Line) (condition : Condition) (label : ℕ) (b : Bool) → number < length code
+    → get_or code number d ≡ lines.Branch condition label → is_near code number label ≡ b → width_at code number ≡ cond b 2 4
+width_of_branch code number d condition label b below here near =
+    width_here code number d (lines.Branch condition label) below here ∙ ap (λ b. cond b 2 4) near
 
-pub words_of_branch_here : (code : List Line) (number : ℕ) (d : Line) (op : BranchOp) (left right : Register) (label : ℕ) (b : Bool) → number < length code
-    → get_or code number d ≡ lines.Branch op left right label → is_near code number label ≡ b
-    → words_in code number (slice_get code number) ≡ words_of_branch b code number op left right label
-words_of_branch_here code number d op left right label b below here near =
-    words_here code number d (lines.Branch op left right label) below here ∙ ap (λ b. words_of_branch b code number op left right label) near
+pub words_of_branch_here : (code : List Line) (number : ℕ) (d : Line) (condition : Condition) (label : ℕ) (b : Bool) → number < length code
+    → get_or code number d ≡ lines.Branch condition label → is_near code number label ≡ b
+    → words_in code number (slice_get code number) ≡ words_of_branch b code number condition label
+words_of_branch_here code number d condition label b below here near =
+    words_here code number d (lines.Branch condition label) below here ∙ ap (λ b. words_of_branch b code number condition label) near
 
 -- a near branch and its label, from the table
 pub reach_here : (code : List Line) (positions : List ℕ) (number label : ℕ) → Fits code → positions ≡ position_of_each code → number < length code → label < length code
@@ -122,12 +122,12 @@ reach_here code positions number label fits is below is_label near =
     ]
 
 -- the words of a near branch, from the table
-pub offset_words_here : (code : List Line) (positions : List ℕ) (number : ℕ) (d : Line) (op : BranchOp) (left right : Register) (label offset : ℕ) → positions ≡ position_of_each code
-    → number < length code → label < length code → get_or code number d ≡ lines.Branch op left right label → is_near code number label ≡ true
+pub offset_words_here : (code : List Line) (positions : List ℕ) (number : ℕ) (d : Line) (condition : Condition) (label offset : ℕ) → positions ≡ position_of_each code
+    → number < length code → label < length code → get_or code number d ≡ lines.Branch condition label → is_near code number label ≡ true
     → offset ≡ offset_of (get_or positions number 0) (get_or positions label 0)
-    → branch_words op left right offset ≡ words_in code number (slice_get code number)
-offset_words_here code positions number d op left right label offset is below is_label here near by_table =
-    ap (branch_words op left right) (
+    → branch_words condition offset ≡ words_in code number (slice_get code number)
+offset_words_here code positions number d condition label offset is below is_label here near by_table =
+    ap (branch_words condition) (
     by_table ∙ ap (λ (n : ℕ). offset_of n (get_or positions label 0)) (position_at code positions number is below)
     ∙ ap (λ (n : ℕ). offset_of (position code number) n) (position_at code positions label is is_label))
-    ∙ sym (words_of_branch_here code number d op left right label true below here near)
+    ∙ sym (words_of_branch_here code number d condition label true below here near)

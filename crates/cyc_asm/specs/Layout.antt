@@ -24,7 +24,7 @@ is_near code from to =
 -- How many words a line takes. A branch and a jump have a delay slot; a branch that is not near goes round a jump.
 abbrev pub width_of : List Line → (number : ℕ) → Line → ℕ
 width_of code number (lines.Ordinary instruction) = 1
-width_of code number (lines.Branch op left right label) = if is_near code number label then 2 else 4
+width_of code number (lines.Branch condition label) = if is_near code number label then 2 else 4
 width_of code number (lines.Jump label) = 2
 width_of code number (lines.Call label) = 2
 width_of code number lines.Return = 2

@@ -9,15 +9,17 @@ use Rattle.cyc_isa.specs.Effect.{branch_target, jump_target}
 use Rattle.cyc_isa.specs.declared.operand.Register.{Register}
 use Rattle.cyc_isa.specs.declared.operand.JumpIndex.{JumpIndex}
 use Rattle.cyc_isa.specs.declared.instr.Instr.{Instr}
-use Rattle.cyc_isa.specs.declared.instr.Instr.TheVariants.{Branch, Jump, JumpRegister, Shift}
-use Rattle.cyc_isa.specs.declared.instr.BranchOp.{BranchOp}
+use Rattle.cyc_isa.specs.declared.instr.Instr.TheVariants.{Branch, BranchZero, Jump, JumpRegister, Shift}
 use Rattle.cyc_isa.specs.declared.instr.BranchOp.TheVariants.{Equal, NotEqual}
+use Rattle.cyc_isa.specs.declared.instr.BranchZeroOp.TheVariants as signs
 use Rattle.cyc_isa.specs.declared.instr.JumpOp.{JumpOp}
 use Rattle.cyc_isa.specs.declared.instr.JumpOp.TheVariants.{Plain, AndLink}
 use Rattle.cyc_isa.specs.declared.instr.ShiftOp.TheVariants.{Left}
 use Rattle.cyc_machine.specs.declared.constants.TheConstants.{RETURN_ADDRESS}
 use Rattle.cyc_machine.specs.State.{text_base, text_end, text_at}
 use Rattle.cyc_select.specs.Labelled.{Labelled, AreAddresses, all_words}
+use Rattle.cyc_select.specs.declared.code.Condition.{Condition}
+use Rattle.cyc_select.specs.declared.code.Condition.TheVariants as conditions
 use Rattle.cyc_select.specs.declared.code.Line.{Line}
 use Rattle.cyc_select.specs.declared.code.Line.TheVariants as lines
 use Rattle.cyc_asm.specs.Layout.{is_near}
@@ -39,15 +41,24 @@ nothing = Shift Left (register_of 0) (register_of 0) (shift_amount_of 0)
 abbrev pub return_register : Register
 return_register = register_of RETURN_ADDRESS
 
--- the branch that is taken where the other is not
-abbrev pub inverse_of : BranchOp → BranchOp
-inverse_of Equal = NotEqual
-inverse_of NotEqual = Equal
+-- the branch on a condition
+abbrev pub branch_of : Condition → (offset : ℕ) → Instr
+branch_of (conditions.Registers op left right) offset = Branch op left right offset
+branch_of (conditions.Sign op source) offset = BranchZero op source offset
+
+-- the condition that holds where the other does not
+abbrev pub inverse_of : Condition → Condition
+inverse_of (conditions.Registers Equal left right) = conditions.Registers NotEqual left right
+inverse_of (conditions.Registers NotEqual left right) = conditions.Registers Equal left right
+inverse_of (conditions.Sign signs.LessOrEqual source) = conditions.Sign signs.Greater source
+inverse_of (conditions.Sign signs.Greater source) = conditions.Sign signs.LessOrEqual source
+inverse_of (conditions.Sign signs.Less source) = conditions.Sign signs.GreaterOrEqual source
+inverse_of (conditions.Sign signs.GreaterOrEqual source) = conditions.Sign signs.Less source
 
 -- a branch from one address to another, with its delay slot
-pub record IsBranchAt (words : List ℕ) (op : BranchOp) (left right : Register) (from to : ℕ) : Type 0 where
+pub record IsBranchAt (words : List ℕ) (condition : Condition) (from to : ℕ) : Type 0 where
   pub offset : ℕ
-  pub branch : IsAt words from (Branch op left right offset)
+  pub branch : IsAt words from (branch_of condition offset)
   pub target : branch_target from offset ≡ to
   pub slot : IsAt words (from + 4) nothing
 
@@ -60,20 +71,20 @@ pub record IsJumpAt (words : List ℕ) (op : JumpOp) (from to : ℕ) : Type 0 wh
 
 -- A line stands in the text, from its address up to the next line's. A branch that is not near is its inverse, which goes
 -- round a jump.
-abbrev pub StandsBranch : Bool → List ℕ → (ℕ → ℕ) → (number : ℕ) → BranchOp → (left right : Register) → (label : ℕ) → Type 0
-StandsBranch true words addresses number op left right label =
-    IsBranchAt words op left right (addresses number) (addresses label)
+abbrev pub StandsBranch : Bool → List ℕ → (ℕ → ℕ) → (number : ℕ) → Condition → (label : ℕ) → Type 0
+StandsBranch true words addresses number condition label =
+    IsBranchAt words condition (addresses number) (addresses label)
     × (addresses (suc number) ≡ addresses number + 8)
-StandsBranch false words addresses number op left right label =
-    IsBranchAt words (inverse_of op) left right (addresses number) (addresses (suc number))
+StandsBranch false words addresses number condition label =
+    IsBranchAt words (inverse_of condition) (addresses number) (addresses (suc number))
     × IsJumpAt words Plain (addresses number + 8) (addresses label)
     × (addresses (suc number) ≡ addresses number + 16)
 
 abbrev pub Stands : Labelled → List ℕ → (ℕ → ℕ) → (number : ℕ) → Line → Type 0
 Stands code words addresses number (lines.Ordinary instruction) =
     IsAt words (addresses number) instruction × (addresses (suc number) ≡ addresses number + 4)
-Stands code words addresses number (lines.Branch op left right label) =
-    StandsBranch (is_near code.lines number label) words addresses number op left right label
+Stands code words addresses number (lines.Branch condition label) =
+    StandsBranch (is_near code.lines number label) words addresses number condition label
 Stands code words addresses number (lines.Jump label) =
     IsJumpAt words Plain (addresses number) (addresses label) × (addresses (suc number) ≡ addresses number + 8)
 Stands code words addresses number (lines.Call label) =

@@ -4,26 +4,56 @@ ghost use Rattle.std.specs.Prelude.{◌≡◌, ◌∷◌, [], ◌++◌, ◌+◌,
 ghost use Rattle.cyc_isa.specs.Encoding.{word_of};
 ghost use Rattle.cyc_select.specs.Labelled.{IsFormedLine};
 ghost use Rattle.cyc_asm.specs.Layout.{Fits, most_of_each, position_of_each};
-ghost use Rattle.cyc_asm.specs.Text.{inverse_of};
+ghost use Rattle.cyc_asm.specs.Text.{branch_of, inverse_of};
 ghost use Rattle.cyc_asm.specs.Words.{offset_of, jump_words, words_before, words_in};
 
 use crate::constants::{FIRST_INDEX, MAX_REACH, ROUND_OFFSET};
 use crate::layout::is_near;
-use cyc_isa::{BranchOp, Instr, JumpIndex, JumpOp, Register, encode};
+use cyc_isa::{BranchOp, BranchZeroOp, Instr, JumpIndex, JumpOp, Register, encode};
 use cyc_machine::constants::{RETURN_ADDRESS, TEXT_WORDS};
-use cyc_select::Line;
+use cyc_select::{Condition, Line};
 use std::alloc::{AllocError, Global};
 
 /// The word of an empty delay slot, which does nothing.
 const EMPTY_SLOT: u32 = 0;
 
-/// The branch that is taken where this one is not.
-fn inverse(op: BranchOp) -> BranchOp
-    ensures { result ≡ inverse_of op }
+/// The condition that holds where this one does not.
+fn inverse(condition: Condition) -> Condition
+    ensures { result ≡ inverse_of condition }
 {
-    match op {
-        BranchOp::Equal => BranchOp::NotEqual,
-        BranchOp::NotEqual => BranchOp::Equal,
+    match condition {
+        Condition::Registers { op, left, right } => Condition::Registers {
+            op: match op {
+                BranchOp::Equal => BranchOp::NotEqual,
+                BranchOp::NotEqual => BranchOp::Equal,
+            },
+            left,
+            right,
+        },
+        Condition::Sign { op, source } => Condition::Sign {
+            op: match op {
+                BranchZeroOp::LessOrEqual => BranchZeroOp::Greater,
+                BranchZeroOp::Greater => BranchZeroOp::LessOrEqual,
+                BranchZeroOp::Less => BranchZeroOp::GreaterOrEqual,
+                BranchZeroOp::GreaterOrEqual => BranchZeroOp::Less,
+            },
+            source,
+        },
+    }
+}
+
+/// The branch on a condition.
+fn branch(condition: Condition, offset: u16) -> Instr
+    ensures { result ≡ branch_of condition offset }
+{
+    match condition {
+        Condition::Registers { op, left, right } => Instr::Branch {
+            op,
+            left,
+            right,
+            offset,
+        },
+        Condition::Sign { op, source } => Instr::BranchZero { op, source, offset },
     }
 }
 
@@ -79,34 +109,12 @@ fn push_line(
             words.push(encode(instruction))?;
             Ok(())
         }
-        Line::Branch {
-            op,
-            left,
-            right,
-            label,
-        } => {
+        Line::Branch { condition, label } => {
             if is_near(most[number], most[label]) {
                 let offset = offset(positions[number], positions[label]);
-                return push_with_slot(
-                    words,
-                    Instr::Branch {
-                        op,
-                        left,
-                        right,
-                        offset,
-                    },
-                );
+                return push_with_slot(words, branch(condition, offset));
             }
-            let op = inverse(op);
-            push_with_slot(
-                words,
-                Instr::Branch {
-                    op,
-                    left,
-                    right,
-                    offset: ROUND_OFFSET,
-                },
-            )?;
+            push_with_slot(words, branch(inverse(condition), ROUND_OFFSET))?;
             push_jump(words, JumpOp::Plain, positions[label])
         }
         Line::Jump { label } => push_jump(words, JumpOp::Plain, positions[label]),

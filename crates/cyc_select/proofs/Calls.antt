@@ -2,6 +2,8 @@
 use Rattle.std.proofs.Common.{◌≡◌, ◌≢◌, ℕ, zero, suc, ◌+◌, ◌-◌, ◌*◌, ◌%◌, ◌<◌, ◌≤◌, Bool, false, not, List, [], ◌∷◌, ◌++◌, length, Some, slice_get, refl, sym, ap, subst, ◌∙◌, arith, inl, inr}
 use Rattle.std.specs.Prelude.{◌==◌, if◌then◌else◌, nat_le}
 use Rattle.std.proofs.lemmas.Bool.{cases_eq, cases_lt, eq-eqb, ne_eqb, and_right, lt-leb}
+use Rattle.cyc_select.specs.declared.constants.TheConstants.{CALLS, FRAME}
+use Rattle.cyc_machine.specs.declared.constants.TheConstants.{RETURN_ADDRESS}
 use Rattle.cyc_words.specs.Ending.{Full}
 use Rattle.cyc_words.specs.Word.{add_of, sign_extended}
 use Rattle.cyc_isa.specs.declared.instr.Instr.{Instr}
@@ -19,6 +21,7 @@ use Rattle.cyc_plain.proofs.SlotLaws.{put-same, copied-inside, copied-above}
 use Rattle.cyc_frame.specs.Layout.{AreFrames, frame_at, slot_word}
 use Rattle.cyc_frame.specs.declared.frame.Frame.{Frame}
 use Rattle.cyc_select.specs.declared.code.Line.{Line}
+use Rattle.cyc_select.specs.declared.code.Condition.TheVariants as conditions
 use Rattle.cyc_select.specs.declared.code.Line.TheVariants as lines
 use Rattle.cyc_select.specs.Labelled.{Labelled, IsFormed, AreAddresses}
 use Rattle.cyc_select.specs.Machine as labelled
@@ -46,7 +49,7 @@ length-copies caller callee source slot (suc count) =
 module _ (program : Program) (well : IsWellFormed program) (frames : List Frame) (fit : AreFrames program frames) (code : Labelled) (formed : IsFormed code) (addresses : ℕ → ℕ) (pages calls : ℕ) (few : calls ≤ 4096)
     (lie : AreAddresses code addresses) (c : Configuration) (run : labelled.Configuration) (r w : Words) (base : ℕ)
     (now : At program well frames fit code formed addresses pages calls few (instruction_line program c.active.function c.active.next) c.output c.input r w run)
-    (s : Standing program frames addresses pages calls c r w base (r 31) (suc (length c.frames)) c.active.slots)
+    (s : Standing program frames addresses pages calls c r w base (r RETURN_ADDRESS) (suc (length c.frames)) c.active.slots)
     (callee arguments count result : ℕ) (at_i : instruction_at program (states.place_of (states.Running c)) ≡ Some (plain.Call callee arguments count result))
     (in_range : IsCallInRange program (routine_at program c.active.function) callee arguments count result)
     (inside : behind_line program c.active.function c.active.next callee arguments count result < length code.lines)
@@ -67,7 +70,7 @@ module _ (program : Program) (well : IsWellFormed program) (frames : List Frame)
   AtLine line q m d = At program well frames fit code formed addresses pages calls few line c.output c.input q m d
 
   abbrev entry : List Instr
-  entry = store 31 (4 * mine.return_address) ∷ add_immediate 30 30 (minus 1) ∷ push_frame its ∷ []
+  entry = store RETURN_ADDRESS (4 * mine.return_address) ∷ add_immediate CALLS CALLS (minus 1) ∷ push_frame its ∷ []
 
   abbrev passed : List Instr
   passed = copies mine its arguments 0 count
@@ -79,10 +82,10 @@ module _ (program : Program) (well : IsWellFormed program) (frames : List Frame)
   at_full : Stands code (here + 1) (ordinary (small 2 11 ∷ syscall ∷ []))
   at_full =
       stands_front code (here + 1) (ordinary (small 2 11 ∷ syscall ∷ [])) (ordinary entry ++ (ordinary passed ++ call_line))
-      (stands_back code here (lines.Branch branch.NotEqual (register_of 30) (register_of 0) (here + 3) ∷ []) (ordinary (small 2 11 ∷ syscall ∷ entry) ++ (ordinary passed ++ call_line)) stands)
+      (stands_back code here (lines.Branch (conditions.Registers branch.NotEqual (register_of CALLS) (register_of 0)) (here + 3) ∷ []) (ordinary (small 2 11 ∷ syscall ∷ entry) ++ (ordinary passed ++ call_line)) stands)
 
   at_entry : Stands code (here + 3) (ordinary entry ++ (ordinary passed ++ call_line))
-  at_entry = stands_back code here (lines.Branch branch.NotEqual (register_of 30) (register_of 0) (here + 3) ∷ ordinary (small 2 11 ∷ syscall ∷ [])) (ordinary entry ++ (ordinary passed ++ call_line)) stands
+  at_entry = stands_back code here (lines.Branch (conditions.Registers branch.NotEqual (register_of CALLS) (register_of 0)) (here + 3) ∷ ordinary (small 2 11 ∷ syscall ∷ [])) (ordinary entry ++ (ordinary passed ++ call_line)) stands
 
   at_passed : Stands code (here + 3 + 3) (ordinary passed ++ call_line)
   at_passed = stands_back code (here + 3) (ordinary entry) (ordinary passed ++ call_line) at_entry
@@ -94,7 +97,7 @@ module _ (program : Program) (well : IsWellFormed program) (frames : List Frame)
 
   -- ---- no room
 
-  full_step : r 30 ≡ 0 → Reached program well frames fit code formed addresses pages calls few c (Ended Full c.output c.input)
+  full_step : r CALLS ≡ 0 → Reached program well frames fit code formed addresses pages calls few c (Ended Full c.output c.input)
   full_step none =
       let choice_of : states.State = performed program zeros c (plain.Call callee arguments count result) in
       let deep : nat_le (suc (suc (length c.frames))) calls ≡ false = lt-leb (suc (suc (length c.frames))) calls (omega (arith, s.left, none)) in
@@ -105,7 +108,7 @@ module _ (program : Program) (well : IsWellFormed program) (frames : List Frame)
         refl,
       )
 
-  full_goes : (d : labelled.Configuration) → r 30 ≡ 0 → AtLine (here + 1) r w d → Goes 0 (suc here) (here + (7 + 2 * count)) (Running d)
+  full_goes : (d : labelled.Configuration) → r CALLS ≡ 0 → AtLine (here + 1) r w d → Goes 0 (suc here) (here + (7 + 2 * count)) (Running d)
   full_goes d none later =
       walk_few code formed addresses globals_length (words_per_call * calls) 0 (1 + 1) (suc here) (here + (7 + 2 * count)) c.output _ (Running d) (omega arith)
       (walk_block code formed addresses globals_length (words_per_call * calls) (small 2 11 ∷ []) 1 (here + 1) (suc here) (here + (7 + 2 * count)) c.output c.input _ r w d later (at_full.0, tt) (refl, tt) (omega arith)
@@ -127,13 +130,13 @@ module _ (program : Program) (well : IsWellFormed program) (frames : List Frame)
 
   here_lies : (base + 4 * mine.words ≤ stack_end) × (stack_end ≤ base + 1024 * suc (length c.frames)) × (base % 4 ≡ 0)
   here_lies =
-      let l = lies program well frames fit addresses pages calls few c r w base (r 31) (suc (length c.frames)) c.active.slots s in
+      let l = lies program well frames fit addresses pages calls few c r w base (r RETURN_ADDRESS) (suc (length c.frames)) c.active.slots s in
       (l.below_end, l.above_low, l.aligned)
 
   low_is : low + 4 * its.words ≡ base
   low_is = omega (arith, room, here_lies.1, s.deep)
 
-  module _ (left_some : 0 < r 30) where
+  module _ (left_some : 0 < r CALLS) where
     deeper : suc (suc (length c.frames)) ≤ calls
     deeper = omega (arith, s.left, left_some)
 
@@ -143,27 +146,27 @@ module _ (program : Program) (well : IsWellFormed program) (frames : List Frame)
     abbrev w1 : Words
     w1 = after_w entry r w
 
-    entered_left : r1 30 ≡ r 30 - 1
-    entered_left = take_small (r 30) 1 (omega (arith, s.left)) (omega arith) (omega arith) (omega (arith, left_some))
+    entered_left : r1 CALLS ≡ r CALLS - 1
+    entered_left = take_small (r CALLS) 1 (omega (arith, s.left)) (omega arith) (omega arith) (omega (arith, left_some))
 
-    entered_base : r1 29 ≡ low
+    entered_base : r1 FRAME ≡ low
     entered_base =
         ap (λ (x : ℕ). add_of x (sign_extended (minus (4 * its.words)))) s.base_is
         ∙ take_small base (4 * its.words) (omega (arith, here_lies.0)) (omega (arith, some)) (omega (arith, room)) (omega (arith, low_is, room, here_lies.1, s.deep))
 
-    saved : w1 ≡ put w (base + 4 * mine.return_address) (r 31)
-    saved = ap (λ (a : ℕ). put w a (r 31)) (return_address program well frames fit addresses pages calls few c r w base (r 31) (suc (length c.frames)) c.active.slots s)
+    saved : w1 ≡ put w (base + 4 * mine.return_address) (r RETURN_ADDRESS)
+    saved = ap (λ (a : ℕ). put w a (r RETURN_ADDRESS)) (return_address program well frames fit addresses pages calls few c r w base (r RETURN_ADDRESS) (suc (length c.frames)) c.active.slots s)
 
     -- the caller stands as before, with its return address in its frame
-    s1 : Standing program frames addresses pages calls c r w1 base (r 31) (suc (length c.frames)) c.active.slots
-    s1 = subst (λ (x : Words). Standing program frames addresses pages calls c r x base (r 31) (suc (length c.frames)) c.active.slots) (sym saved)
-        (standing_return program well frames fit addresses pages calls few c r w base (r 31) (suc (length c.frames)) c.active.slots s (r 31))
+    s1 : Standing program frames addresses pages calls c r w1 base (r RETURN_ADDRESS) (suc (length c.frames)) c.active.slots
+    s1 = subst (λ (x : Words). Standing program frames addresses pages calls c r x base (r RETURN_ADDRESS) (suc (length c.frames)) c.active.slots) (sym saved)
+        (standing_return program well frames fit addresses pages calls few c r w base (r RETURN_ADDRESS) (suc (length c.frames)) c.active.slots s (r RETURN_ADDRESS))
 
     callee_cell : (word : ℕ) → word < its.words → IsCell globals_length (words_per_call * calls) (low + 4 * word)
     callee_cell word below = inr ((omega (arith, low_is, here_lies.2)), (omega (arith, low_is, here_lies.1, deeper, room)), (omega (arith, low_is, here_lies.0, below)))
 
     caller_cell : (slot : ℕ) → slot < (routine_at program c.active.function).slots → IsCell globals_length (words_per_call * calls) (base + slot_offset mine slot)
-    caller_cell slot below = word_cell program well frames fit addresses pages calls few c r w base (r 31) (suc (length c.frames)) c.active.slots s (slot_word mine slot) ((fit.each c.active.function s.known).inside slot below)
+    caller_cell slot below = word_cell program well frames fit addresses pages calls few c r w base (r RETURN_ADDRESS) (suc (length c.frames)) c.active.slots s (slot_word mine slot) ((fit.each c.active.function s.known).inside slot below)
 
     copied_now : Copied globals_length (words_per_call * calls) mine its low base arguments 0 count r1 w1
     copied_now =
@@ -182,7 +185,7 @@ module _ (program : Program) (well : IsWellFormed program) (frames : List Frame)
     w2 = after_w passed r1 w1
 
     abbrev r3 : Words
-    r3 = put r2 31 (addresses (here + 3 + 3 + length passed + 1))
+    r3 = put r2 RETURN_ADDRESS (addresses (here + 3 + 3 + length passed + 1))
 
     -- what is in the new slots before they are written
     abbrev choice : Choice
@@ -200,11 +203,11 @@ module _ (program : Program) (well : IsWellFormed program) (frames : List Frame)
     above_kept : (a : ℕ) → base ≤ a → w2 a ≡ w1 a
     above_kept a over = copied_now.outside a (inr over)
 
-    own_chain : Chain program frames addresses w2 base (r 31) c.active.function c.frames
-    own_chain = chain_kept program frames fit addresses w1 w2 base (r 31) c.active.function c.frames (λ a over. above_kept a (omega (arith, over))) s1.chain
+    own_chain : Chain program frames addresses w2 base (r RETURN_ADDRESS) c.active.function c.frames
+    own_chain = chain_kept program frames fit addresses w1 w2 base (r RETURN_ADDRESS) c.active.function c.frames (λ a over. above_kept a (omega (arith, over))) s1.chain
 
-    saved_is : w2 (base + 4 * mine.return_address) ≡ r 31
-    saved_is = above_kept (base + 4 * mine.return_address) (omega arith) ∙ (ap (λ (m : Words). m (base + 4 * mine.return_address)) saved ∙ put-same w (base + 4 * mine.return_address) (r 31))
+    saved_is : w2 (base + 4 * mine.return_address) ≡ r RETURN_ADDRESS
+    saved_is = above_kept (base + 4 * mine.return_address) (omega arith) ∙ (ap (λ (m : Words). m (base + 4 * mine.return_address)) saved ∙ put-same w (base + 4 * mine.return_address) (r RETURN_ADDRESS))
 
     new_holds : Holds program frames callee low w2 (copied c.active.slots arguments count choice.contents 0)
     new_holds slot below = elim (cases_lt slot count) [
@@ -217,7 +220,7 @@ module _ (program : Program) (well : IsWellFormed program) (frames : List Frame)
       | inr new ↦ sym (copied-above c.active.slots choice.contents arguments count 0 slot (omega (arith, new)))
     ]
 
-    new_chain : Chain program frames addresses w2 low (r3 31) callee (record { caller = (advanced c).active; result = result } ∷ c.frames)
+    new_chain : Chain program frames addresses w2 low (r3 RETURN_ADDRESS) callee (record { caller = (advanced c).active; result = result } ∷ c.frames)
     new_chain = (
       arguments,
       count,
@@ -232,12 +235,12 @@ module _ (program : Program) (well : IsWellFormed program) (frames : List Frame)
           (subst (λ (x : ℕ). Chain program frames addresses w2 base x c.active.function c.frames) (sym saved_is) own_chain),
     )
 
-    entered_stands : Standing program frames addresses pages calls entered r3 w2 low (r3 31) (suc (suc (length c.frames))) (copied c.active.slots arguments count choice.contents 0)
+    entered_stands : Standing program frames addresses pages calls entered r3 w2 low (r3 RETURN_ADDRESS) (suc (suc (length c.frames))) (copied c.active.slots arguments count choice.contents 0)
     entered_stands = record {
       known = in_range.function_in_range;
-      base_is = copied_now.kept 29 (λ e. absurd (omega (arith, e))) ∙ entered_base;
+      base_is = copied_now.kept FRAME (λ e. absurd (omega (arith, e))) ∙ entered_base;
       zero_is = copied_now.kept 0 (λ e. absurd (omega (arith, e))) ∙ s.zero_is;
-      left = left_is (r3 30) (copied_now.kept 30 (λ e. absurd (omega (arith, e))) ∙ entered_left);
+      left = left_is (r3 CALLS) (copied_now.kept CALLS (λ e. absurd (omega (arith, e))) ∙ entered_left);
       deep = deeper;
       holds = new_holds;
       chain = new_chain;
@@ -246,7 +249,7 @@ module _ (program : Program) (well : IsWellFormed program) (frames : List Frame)
       paged = s.paged;
     }
       where
-        left_is : (n : ℕ) → n ≡ r 30 - 1 → n + suc (suc (length c.frames)) ≡ calls
+        left_is : (n : ℕ) → n ≡ r CALLS - 1 → n + suc (suc (length c.frames)) ≡ calls
         left_is n is = omega (arith, is, s.left, left_some)
 
     enters : (d : labelled.Configuration) → AtLine (function_line program callee) r3 w2 d → Reached program well frames fit code formed addresses pages calls few c (Running d)
@@ -269,7 +272,7 @@ module _ (program : Program) (well : IsWellFormed program) (frames : List Frame)
         walk_few code formed addresses globals_length (words_per_call * calls) 0 (3 + (length passed + 1)) (suc here) (here + (7 + 2 * count)) c.output _ (Running d) (omega arith)
         (walk_block code formed addresses globals_length (words_per_call * calls) entry (length passed + 1) (here + 3) (suc here) (here + (7 + 2 * count)) c.output c.input _ r w d later
         (stands_front code (here + 3) (ordinary entry) (ordinary passed ++ call_line) at_entry)
-        (return_cell program well frames fit addresses pages calls few c r w base (r 31) (suc (length c.frames)) c.active.slots s, (refl, (refl, tt))) (omega arith)
+        (return_cell program well frames fit addresses pages calls few c r w base (r RETURN_ADDRESS) (suc (length c.frames)) c.active.slots s, (refl, (refl, tt))) (omega arith)
         (λ e after.
         walk_block code formed addresses globals_length (words_per_call * calls) passed 1 (here + 3 + 3) (here + 3 + 3) (here + (7 + 2 * count)) c.output c.input _ r1 w1 e after
         (stands_front code (here + 3 + 3) (ordinary passed) call_line at_passed) copied_now.safe (omega arith)
@@ -281,15 +284,15 @@ module _ (program : Program) (well : IsWellFormed program) (frames : List Frame)
         (enters g called)))))
 
   pub call_goes : Goes 1 here (here + (7 + 2 * count)) (Running run)
-  call_goes = elim (cases_eq (r 30) 0) [
+  call_goes = elim (cases_eq (r CALLS) 0) [
     | inl none ↦
-        let stays : (if not (r 30 == r 0) then here + 3 else here + 1) ≡ here + 1 = ap (λ (b : Bool). if not b then here + 3 else here + 1) (eq-eqb (r 30) (r 0) (none ∙ sym s.zero_is)) in
-        walk_branch code formed addresses globals_length (words_per_call * calls) 0 here here (here + (7 + 2 * count)) c.output c.input _ r w run branch.NotEqual (register_of 30) (register_of 0) (here + 3) (here + 1) now stands.0 (omega arith) stays
+        let stays : (if not (r CALLS == r 0) then here + 3 else here + 1) ≡ here + 1 = ap (λ (b : Bool). if not b then here + 3 else here + 1) (eq-eqb (r CALLS) (r 0) (none ∙ sym s.zero_is)) in
+        walk_branch code formed addresses globals_length (words_per_call * calls) 0 here here (here + (7 + 2 * count)) c.output c.input _ r w run (conditions.Registers branch.NotEqual (register_of CALLS) (register_of 0)) (here + 3) (here + 1) now stands.0 (omega arith) stays
         (λ d later. full_goes d none later)
     | inr other ↦
-        let leaps : (if not (r 30 == r 0) then here + 3 else here + 1) ≡ here + 3 = ap (λ (b : Bool). if not b then here + 3 else here + 1) (ne_eqb (r 30) (r 0) (λ e. other (e ∙ s.zero_is))) in
-        walk_branch code formed addresses globals_length (words_per_call * calls) 0 here here (here + (7 + 2 * count)) c.output c.input _ r w run branch.NotEqual (register_of 30) (register_of 0) (here + 3) (here + 3) now stands.0 (omega arith) leaps
-        (λ d later. room_goes (positive (r 30) other) d later)
+        let leaps : (if not (r CALLS == r 0) then here + 3 else here + 1) ≡ here + 3 = ap (λ (b : Bool). if not b then here + 3 else here + 1) (ne_eqb (r CALLS) (r 0) (λ e. other (e ∙ s.zero_is))) in
+        walk_branch code formed addresses globals_length (words_per_call * calls) 0 here here (here + (7 + 2 * count)) c.output c.input _ r w run (conditions.Registers branch.NotEqual (register_of CALLS) (register_of 0)) (here + 3) (here + 3) now stands.0 (omega arith) leaps
+        (λ d later. room_goes (positive (r CALLS) other) d later)
   ]
     where
       positive : (n : ℕ) → n ≢ 0 → 0 < n

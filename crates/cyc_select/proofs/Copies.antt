@@ -1,6 +1,7 @@
 -- Arguments copied from a caller's frame to the frame below it.
 use Rattle.std.proofs.Common.{◌≡◌, ◌≢◌, ℕ, zero, suc, ◌+◌, ◌*◌, ◌^◌, ◌<◌, ◌≤◌, refl, sym, ap, subst, ◌∙◌, arith, inl, inr}
 use Rattle.std.specs.Prelude.{◌⊎◌}
+use Rattle.cyc_select.specs.declared.constants.TheConstants.{FIRST, FRAME}
 use Rattle.cyc_isa.specs.Effect.{memory_address}
 use Rattle.cyc_plain.specs.State.{Words, put}
 use Rattle.cyc_plain.proofs.SlotLaws.{put-same, put-other}
@@ -14,7 +15,7 @@ use Rattle.cyc_select.proofs.Walks.{after_r, after_w, AreSafe}
 -- what the copies do to registers and memory
 pub record Copied (globals stack : ℕ) (caller callee : Frame) (low base source slot count : ℕ) (q m : Words) : Type 0 where
   pub safe : AreSafe globals stack (copies caller callee source slot count) q m
-  pub kept : (n : ℕ) → n ≢ 8 → after_r (copies caller callee source slot count) q m n ≡ q n
+  pub kept : (n : ℕ) → n ≢ FIRST → after_r (copies caller callee source slot count) q m n ≡ q n
   pub outside : (a : ℕ) → a < low ⊎ base ≤ a → after_w (copies caller callee source slot count) q m a ≡ m a
   pub before : (j : ℕ) → j < slot → after_w (copies caller callee source slot count) q m (low + slot_offset callee j) ≡ m (low + slot_offset callee j)
   pub inside : (j : ℕ) → j < count → after_w (copies caller callee source slot count) q m (low + slot_offset callee (slot + j)) ≡ m (base + slot_offset caller (source + j))
@@ -27,18 +28,18 @@ module _ (globals stack : ℕ) (caller callee : Frame) (caller_slots callee_slot
     (apart : (a b : ℕ) → a < callee_slots → b < callee_slots → slot_word callee a ≡ slot_word callee b → a ≡ b)
     (caller_cell : (slot : ℕ) → slot < caller_slots → IsCell globals stack (base + slot_offset caller slot))
     (callee_cell : (slot : ℕ) → slot < callee_slots → IsCell globals stack (low + slot_offset callee slot)) where
-  from_caller : (q : Words) (slot : ℕ) → q 29 ≡ low → slot < caller_slots → memory_address (q 29) (4 * callee.words + slot_offset caller slot) ≡ base + slot_offset caller slot
+  from_caller : (q : Words) (slot : ℕ) → q FRAME ≡ low → slot < caller_slots → memory_address (q FRAME) (4 * callee.words + slot_offset caller slot) ≡ base + slot_offset caller slot
   from_caller q slot is_low below =
       ap (λ (x : ℕ). memory_address x (4 * callee.words + slot_offset caller slot)) is_low
       ∙ (address_at low (4 * callee.words + slot_offset caller slot) (omega (arith, small, caller_small, caller_inside slot below)) (omega (arith, above, word, caller_inside slot below))
       ∙ (let e : low + (4 * callee.words + slot_offset caller slot) ≡ base + slot_offset caller slot = omega (arith, above) in e))
 
-  to_callee : (q : Words) (slot : ℕ) → q 29 ≡ low → slot < callee_slots → memory_address (q 29) (slot_offset callee slot) ≡ low + slot_offset callee slot
+  to_callee : (q : Words) (slot : ℕ) → q FRAME ≡ low → slot < callee_slots → memory_address (q FRAME) (slot_offset callee slot) ≡ low + slot_offset callee slot
   to_callee q slot is_low below =
       ap (λ (x : ℕ). memory_address x (slot_offset callee slot)) is_low
       ∙ address_at low (slot_offset callee slot) (omega (arith, small, callee_inside slot below)) (omega (arith, above, word, callee_inside slot below))
 
-  pub copied_all : (source slot count : ℕ) (q m : Words) → q 29 ≡ low → source + count ≤ caller_slots → slot + count ≤ callee_slots → Copied globals stack caller callee low base source slot count q m
+  pub copied_all : (source slot count : ℕ) (q m : Words) → q FRAME ≡ low → source + count ≤ caller_slots → slot + count ≤ callee_slots → Copied globals stack caller callee low base source slot count q m
   copied_all source slot zero q m is_low source_fits slot_fits = record {
     safe = tt;
     kept = λ n other. refl;
@@ -49,21 +50,21 @@ module _ (globals stack : ℕ) (caller callee : Frame) (caller_slots callee_slot
   copied_all source slot (suc count) q m is_low source_fits slot_fits =
       let source_below : source < caller_slots = omega (arith, source_fits) in
       let slot_below : slot < callee_slots = omega (arith, slot_fits) in
-      let value : ℕ = m (memory_address (q 29) (4 * callee.words + slot_offset caller source)) in
-      let q1 : Words = put q 8 (m (memory_address (q 29) (4 * callee.words + slot_offset caller source))) in
-      let m1 : Words = put m (memory_address (q 29) (slot_offset callee slot)) (m (memory_address (q 29) (4 * callee.words + slot_offset caller source))) in
+      let value : ℕ = m (memory_address (q FRAME) (4 * callee.words + slot_offset caller source)) in
+      let q1 : Words = put q FIRST (m (memory_address (q FRAME) (4 * callee.words + slot_offset caller source))) in
+      let m1 : Words = put m (memory_address (q FRAME) (slot_offset callee slot)) (m (memory_address (q FRAME) (4 * callee.words + slot_offset caller source))) in
       let rest = copied_all (suc source) (suc slot) count q1 m1 is_low (omega (arith, source_fits)) (omega (arith, slot_fits)) in
       let to = to_callee q slot is_low slot_below in
       let from = from_caller q source is_low source_below in
       let m1_is : (a : ℕ) → m1 a ≡ put m (low + slot_offset callee slot) (m (base + slot_offset caller source)) a =
-      λ a. ap (λ (x : ℕ). put m x (m (memory_address (q 29) (4 * callee.words + slot_offset caller source))) a) to ∙ ap (λ (x : ℕ). put m (low + slot_offset callee slot) (m x) a) from in
+      λ a. ap (λ (x : ℕ). put m x (m (memory_address (q FRAME) (4 * callee.words + slot_offset caller source))) a) to ∙ ap (λ (x : ℕ). put m (low + slot_offset callee slot) (m x) a) from in
       let inside_callee = callee_inside slot slot_below in
       record {
         safe = (
           (refl, subst (IsCell globals stack) (sym from) (caller_cell source source_below)),
           (subst (IsCell globals stack) (sym to) (callee_cell slot slot_below), rest.safe),
         );
-        kept = λ n other. rest.kept n other ∙ put-other q 8 n value other;
+        kept = λ n other. rest.kept n other ∙ put-other q FIRST n value other;
         outside = λ a where_to. rest.outside a where_to ∙ (m1_is a ∙ put-other m (low + slot_offset callee slot) a (m (base + slot_offset caller source)) (out_of slot inside_callee a where_to));
         before = λ j below.
             rest.before j (omega (arith, below))

@@ -61,6 +61,7 @@ plan_small plan = omega (arith, computed_small plan, outcome_small plan.outcome)
 
 pub test_small : (test : Test) → test_count test ≤ 6
 test_small (tests.Operands op left right) = omega (arith, operand_small left, operand_small right)
+test_small (tests.Sign op operand) = omega (arith, operand_small operand)
 test_small (tests.Computed plan) = computed_small plan
 
 operator_either : (b : Bool) (divided planned : ℕ) → divided ≤ 11 → planned ≤ 8 → (if b then divided else planned) ≤ 11
@@ -124,6 +125,7 @@ length_plan frame plan destination =
 
 pub length_test : (frame : Frame) (test : Test) → length (test_code frame test) ≡ test_count test
 length_test frame (tests.Operands op left right) = length_operands frame left right
+length_test frame (tests.Sign op operand) = length_operand frame FIRST operand
 length_test frame (tests.Computed plan) = length_operation_of frame plan
 
 pub length_divided : (frame : Frame) (left right : Operand) → length (divided_code frame left right) ≡ load_count left + load_count right + 1

@@ -1,5 +1,6 @@
 -- Lines that are made piece by piece.
 use Rattle.std.proofs.Common.{◌≡◌, ℕ, suc, ◌+◌, ◌-◌, ◌*◌, ◌<◌, List, [], ◌∷◌, ◌++◌, sym, ap, ◌∙◌, append_assoc, arith}
+use Rattle.cyc_select.specs.declared.constants.TheConstants.{FIRST}
 use Rattle.cyc_frame.specs.declared.frame.Frame.{Frame}
 use Rattle.cyc_select.specs.declared.code.Line.{Line}
 use Rattle.cyc_select.specs.Selection.{load, store_slot, slot_offset, copies, ordinary}
@@ -16,11 +17,11 @@ in_four {A} old a b c d first second third new one two three four =
 
 -- one argument more is copied
 pub copied : (caller callee : Frame) (source slot count : ℕ) (all old new : List Line) → slot < count
-    → new ≡ old ++ ordinary (load 8 (4 * callee.words + slot_offset caller (source + slot)) ∷ store_slot callee 8 slot ∷ [])
+    → new ≡ old ++ ordinary (load FIRST (4 * callee.words + slot_offset caller (source + slot)) ∷ store_slot callee FIRST slot ∷ [])
     → old ++ ordinary (copies caller callee (source + slot) slot (count - slot)) ≡ all
     → new ++ ordinary (copies caller callee (source + (slot + 1)) (slot + 1) (count - (slot + 1))) ≡ all
 copied caller callee source slot count all old new below is before =
-    let one = ordinary (load 8 (4 * callee.words + slot_offset caller (source + slot)) ∷ store_slot callee 8 slot ∷ []) in
+    let one = ordinary (load FIRST (4 * callee.words + slot_offset caller (source + slot)) ∷ store_slot callee FIRST slot ∷ []) in
     let left : count - slot ≡ suc (count - (slot + 1)) = omega arith in
     let next : suc (source + slot) ≡ source + (slot + 1) = omega arith in
     let slots : suc slot ≡ slot + 1 = omega arith in

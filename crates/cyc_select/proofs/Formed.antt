@@ -28,6 +28,7 @@ use Rattle.cyc_frame.specs.Layout.{AreFrames, frame_at, slot_word}
 use Rattle.cyc_frame.specs.declared.frame.Frame.{Frame}
 use Rattle.cyc_select.specs.declared.constants.TheConstants.{FIRST, SECOND, THIRD, ZERO, START_LINES}
 use Rattle.cyc_select.specs.declared.code.Line.{Line}
+use Rattle.cyc_select.specs.declared.code.Condition.TheVariants as conditions
 use Rattle.cyc_select.specs.declared.code.Line.TheVariants as lines
 use Rattle.cyc_select.specs.declared.plan.Operation.{Operation}
 use Rattle.cyc_select.specs.declared.plan.Operation.TheVariants as operations
@@ -273,10 +274,12 @@ module _ (program : Program) (well : IsWellFormed program) (words : HasWords pro
 
     test_formed : (test : Test) → AllOfTest IsThere zero_there IsPlanThere (λ op left right outcome l r. (l, r, tt)) (λ op left half outcome fits l. (l, zero_there, fits)) test → Formed (ordinary (test_code frame test))
     test_formed (tests.Operands op left right) (l, r) = operands_formed left right l r
+    test_formed (tests.Sign op operand) o = operand_formed FIRST operand o
     test_formed (tests.Computed plan) there = operation_of_formed plan there
 
     branch_formed : (test : Test) (label : ℕ) → label < length (select_of program frames).lines → IsFormedLine (length (select_of program frames).lines) (branch_line test label)
     branch_formed (tests.Operands op left right) label below = below
+    branch_formed (tests.Sign op operand) label below = below
     branch_formed (tests.Computed plan) label below = below
 
     divide_formed : (which : MoveFromOp) (destination : ℕ) (left right : Operand) (n : ℕ) → destination < slots → IsThere left → IsThere right → n + (load_count left + load_count right + 7) ≤ length (select_of program frames).lines
@@ -284,7 +287,7 @@ module _ (program : Program) (well : IsWellFormed program) (words : HasWords pro
     divide_formed which destination left right n below l r long =
         let loads = formed_append (load_code frame FIRST left) (load_code frame SECOND right) (load_formed FIRST left l) (load_formed SECOND right r) in
         all_front (IsFormedLine (length (select_of program frames).lines)) (ordinary (divided_code frame left right))
-        (lines.Branch branch.NotEqual (register_of SECOND) (register_of THIRD) (n + (load_count left + load_count right) + 4) ∷ quotient_code frame which destination)
+        (lines.Branch (conditions.Registers branch.NotEqual (register_of SECOND) (register_of THIRD)) (n + (load_count left + load_count right) + 4) ∷ quotient_code frame which destination)
         (formed_append (loads_code frame left right) (add_immediate THIRD ZERO (minus 1) ∷ []) loads ((refl, (omega arith)), tt))
         ((omega (arith, long)), ((refl, tt), ((refl, (omega arith)), ((refl, tt), ((refl, tt), ((refl, slot_fits destination below), tt))))))
 

@@ -30,6 +30,7 @@ module _ (frame : Frame) where
 
   test_either : (test : Test) → AllOfTest (IsFound frame) tt (IsPlanFound frame) (λ op left right outcome l r. (l, r)) (λ op left half outcome fits l. (l, tt)) test → IsTestFound frame test
   test_either (tests.Operands op left right) found = found
+  test_either (tests.Sign op operand) found = found
   test_either (tests.Computed plan) found = found
 
   pub test_found : (comparison : Comparison) (left right : Operand) → IsFound frame left → IsFound frame right → IsTestFound frame (test_of comparison left right)

@@ -43,7 +43,7 @@ ordinary_grows false c i new is = subst (Grows c) (sym is) (IsPrefix-refl c.outp
 
 executes_grows : (code : Labelled) (addresses : ℕ → ℕ) (c : Configuration) (line : Line) (new : State) → Executes code addresses c line new → Grows c new
 executes_grows code addresses c (lines.Ordinary i) new does = ordinary_grows (is_ordinary i) c i new does
-executes_grows code addresses c (lines.Branch op left right label) new is = subst (Grows c) (sym is) (IsPrefix-refl c.output)
+executes_grows code addresses c (lines.Branch condition label) new is = subst (Grows c) (sym is) (IsPrefix-refl c.output)
 executes_grows code addresses c (lines.Jump label) new is = subst (Grows c) (sym is) (IsPrefix-refl c.output)
 executes_grows code addresses c (lines.Call label) new is = subst (Grows c) (sym is) (IsPrefix-refl c.output)
 executes_grows code addresses c lines.Return new (inl (line, below, lies, is)) = subst (Grows c) (sym is) (IsPrefix-refl c.output)

@@ -3,6 +3,8 @@ use Rattle.std.proofs.Common.{◌≡◌, ℕ, suc, ◌+◌, ◌*◌, ◌<◌, �
 use Rattle.std.specs.Prelude.{◌⊎◌, slice_index}
 use Rattle.std.specs.List.{AllByRecursion}
 use Rattle.std.proofs.lemmas.Bool.{and_from, le-leb}
+use Rattle.cyc_select.specs.declared.constants.TheConstants.{CALLS, FRAME}
+use Rattle.cyc_machine.specs.declared.constants.TheConstants.{RETURN_ADDRESS}
 use Rattle.cyc_words.specs.Word.{IsWord}
 use Rattle.cyc_isa.specs.Effect.{memory_address}
 use Rattle.cyc_machine.specs.State.{globals_length, words_per_call}
@@ -40,7 +42,7 @@ module _ (program : Program) (well : IsWellFormed program) (frames : List Frame)
     pub base : ℕ
     pub is : t ≡ Running run
     pub now : At (instruction_line program c.active.function c.active.next) c.output c.input r w run
-    pub standing : Standing program frames addresses pages calls c r w base (r 31) (suc (length c.frames)) c.active.slots
+    pub standing : Standing program frames addresses pages calls c r w base (r RETURN_ADDRESS) (suc (length c.frames)) c.active.slots
 
   -- The lines behind a call are next, before the instruction's own, and what the call returned is in registers.
   pub record Back (c : Configuration) (t : State) : Type 0 where
@@ -85,25 +87,25 @@ module _ (program : Program) (well : IsWellFormed program) (frames : List Frame)
       (next, (choice, allowed, sym (limited-within pages calls (states.Running c) (step program choice (states.Running c)) keeps_step ∙ is)), matches)
 
   module _ (c : Configuration) (i : Instruction) (at : instruction_at program (states.place_of (states.Running c)) ≡ Some i) (r w : Words) (base : ℕ)
-      (s : Standing program frames addresses pages calls c r w base (r 31) (suc (length c.frames)) c.active.slots) where
+      (s : Standing program frames addresses pages calls c r w base (r RETURN_ADDRESS) (suc (length c.frames)) c.active.slots) where
     -- An instruction that gives a word to a slot, and perhaps reads.
     pub reached_gives : (destination word : ℕ) (input : List ℕ) (line : ℕ) (run : labelled.Configuration) (r' w' : Words)
         → destination < (routine_at program c.active.function).slots
         → performed program zeros c i ≡ gives (record c { input = input }) destination word
         → AllByRecursion IsWord input
         → line ≡ instruction_line program c.active.function c.active.next + count_of program c.active.function i
-        → r' 0 ≡ r 0 → r' 29 ≡ r 29 → r' 30 ≡ r 30 → r' 31 ≡ r 31
-        → w' ≡ put w (memory_address (r 29) (slot_offset (frame_at frames c.active.function) destination)) word
+        → r' 0 ≡ r 0 → r' FRAME ≡ r FRAME → r' CALLS ≡ r CALLS → r' RETURN_ADDRESS ≡ r RETURN_ADDRESS
+        → w' ≡ put w (memory_address (r FRAME) (slot_offset (frame_at frames c.active.function) destination)) word
         → At line c.output input r' w' run → Reached c (Running run)
     reached_gives destination word input line run r' w' below does fine line_is zero_same base_same left_same back_same written now =
         let d : Configuration = record c { active = record c.active { next = c.active.next + 1; slots = put c.active.slots destination word }; input = input } in
-        let address = slot_address program well frames fit addresses pages calls few c r w base (r 31) (suc (length c.frames)) c.active.slots s destination below in
-        let put_slot = standing_slot program well frames fit addresses pages calls few c r w base (r 31) (suc (length c.frames)) c.active.slots s destination word below in
-        let in_w' : Standing program frames addresses pages calls c r w' base (r 31) (suc (length c.frames)) (put c.active.slots destination word) =
-        subst (λ (x : Words). Standing program frames addresses pages calls c r x base (r 31) (suc (length c.frames)) (put c.active.slots destination word))
+        let address = slot_address program well frames fit addresses pages calls few c r w base (r RETURN_ADDRESS) (suc (length c.frames)) c.active.slots s destination below in
+        let put_slot = standing_slot program well frames fit addresses pages calls few c r w base (r RETURN_ADDRESS) (suc (length c.frames)) c.active.slots s destination word below in
+        let in_w' : Standing program frames addresses pages calls c r w' base (r RETURN_ADDRESS) (suc (length c.frames)) (put c.active.slots destination word) =
+        subst (λ (x : Words). Standing program frames addresses pages calls c r x base (r RETURN_ADDRESS) (suc (length c.frames)) (put c.active.slots destination word))
         (sym (written ∙ ap (λ (a : ℕ). put w a word) address)) put_slot in
-        let in_r' = standing_registers program well frames fit addresses pages calls few c r w' base (r 31) (suc (length c.frames)) (put c.active.slots destination word) in_w' r' zero_same base_same left_same in
-        let there = standing_at program well frames fit addresses pages calls few c r' w' base (r 31) (suc (length c.frames)) (put c.active.slots destination word) in_r' d refl refl refl refl fine in
+        let in_r' = standing_registers program well frames fit addresses pages calls few c r w' base (r RETURN_ADDRESS) (suc (length c.frames)) (put c.active.slots destination word) in_w' r' zero_same base_same left_same in
+        let there = standing_at program well frames fit addresses pages calls few c r' w' base (r RETURN_ADDRESS) (suc (length c.frames)) (put c.active.slots destination word) in_r' d refl refl refl refl fine in
         let with_back = subst (λ (b : ℕ). Standing program frames addresses pages calls d r' w' base b (suc (length c.frames)) (put c.active.slots destination word)) (sym back_same) there in
         let line_same : line ≡ instruction_line program c.active.function (c.active.next + 1) = line_is ∙ sym (line_next program c.active.function c.active.next i at) in
         reached c zeros i (states.Running d) (Running run) zeros_allowed at does (within d s.paged s.deep)
@@ -122,16 +124,16 @@ module _ (program : Program) (well : IsWellFormed program) (frames : List Frame)
         → d.active.function ≡ c.active.function → d.active.slots ≡ c.active.slots → d.frames ≡ c.frames → d.globals ≡ c.globals → d.store ≡ c.store → d.input ≡ c.input
         → performed program zeros c i ≡ states.Running d
         → line ≡ instruction_line program d.active.function d.active.next
-        → r' 0 ≡ r 0 → r' 29 ≡ r 29 → r' 30 ≡ r 30 → r' 31 ≡ r 31 → w' ≡ w
+        → r' 0 ≡ r 0 → r' FRAME ≡ r FRAME → r' CALLS ≡ r CALLS → r' RETURN_ADDRESS ≡ r RETURN_ADDRESS → w' ≡ w
         → At line d.output d.input r' w' run → Reached c (Running run)
     reached_at d line run r' w' function_same slots_same frames_same globals_same store_same input_same does line_is zero_same base_same left_same back_same unchanged now =
-        let in_r' = standing_registers program well frames fit addresses pages calls few c r w base (r 31) (suc (length c.frames)) c.active.slots s r' zero_same base_same left_same in
+        let in_r' = standing_registers program well frames fit addresses pages calls few c r w base (r RETURN_ADDRESS) (suc (length c.frames)) c.active.slots s r' zero_same base_same left_same in
         let fine : AllByRecursion IsWord d.input = subst (λ (l : List ℕ). AllByRecursion IsWord l) (sym input_same) s.input in
-        let there = standing_at program well frames fit addresses pages calls few c r' w base (r 31) (suc (length c.frames)) c.active.slots in_r' d function_same frames_same globals_same store_same fine in
-        let with_slots = subst (λ (x : Words). Standing program frames addresses pages calls d r' w base (r 31) (suc (length c.frames)) x) (sym slots_same) there in
+        let there = standing_at program well frames fit addresses pages calls few c r' w base (r RETURN_ADDRESS) (suc (length c.frames)) c.active.slots in_r' d function_same frames_same globals_same store_same fine in
+        let with_slots = subst (λ (x : Words). Standing program frames addresses pages calls d r' w base (r RETURN_ADDRESS) (suc (length c.frames)) x) (sym slots_same) there in
         let with_back = subst (λ (b : ℕ). Standing program frames addresses pages calls d r' w base b (suc (length c.frames)) d.active.slots) (sym back_same) with_slots in
-        let with_depth = subst (λ (fs : List states.Frame). Standing program frames addresses pages calls d r' w base (r' 31) (suc (length fs)) d.active.slots) (sym frames_same) with_back in
-        let with_memory = subst (λ (x : Words). Standing program frames addresses pages calls d r' x base (r' 31) (suc (length d.frames)) d.active.slots) (sym unchanged) with_depth in
+        let with_depth = subst (λ (fs : List states.Frame). Standing program frames addresses pages calls d r' w base (r' RETURN_ADDRESS) (suc (length fs)) d.active.slots) (sym frames_same) with_back in
+        let with_memory = subst (λ (x : Words). Standing program frames addresses pages calls d r' x base (r' RETURN_ADDRESS) (suc (length d.frames)) d.active.slots) (sym unchanged) with_depth in
         reached c zeros i (states.Running d) (Running run) zeros_allowed at does
         (within d with_memory.paged with_memory.deep)
         (inl (record {

@@ -7,7 +7,9 @@ use Rattle.std.proofs.lemmas.Nat.{and_comm, or_comm, xor_comm}
 use Rattle.std.proofs.lemmas.Int.{ints}
 use Rattle.cyc_words.specs.Word.{IsWord, signed, unsigned, sign_extended, floor_div, add_of, sub_of, sar_of, slt_of, sltu_of}
 use Rattle.cyc_words.proofs.WordLemmas.{slt_of_cases, sltu_of_cases}
-use Rattle.cyc_isa.specs.Effect.{immediate_result, arithmetic_result, shift_result, high_result, low_result, branch_taken}
+use Rattle.cyc_isa.specs.Effect.{immediate_result, arithmetic_result, shift_result, high_result, low_result, branch_taken, branch_zero_taken}
+use Rattle.cyc_isa.specs.declared.instr.BranchZeroOp.{BranchZeroOp}
+use Rattle.cyc_isa.specs.declared.instr.BranchZeroOp.TheVariants as signs
 use Rattle.cyc_isa.specs.declared.instr.MoveFromOp.{MoveFromOp}
 use Rattle.cyc_isa.specs.declared.instr.MoveFromOp.TheVariants.{High, Low}
 use Rattle.cyc_isa.specs.declared.instr.MultiplyDivideOp.{MultiplyDivideOp}
@@ -37,7 +39,7 @@ use Rattle.cyc_select.specs.declared.plan.Plan.{Plan}
 use Rattle.cyc_select.specs.declared.plan.Test.{Test}
 use Rattle.cyc_select.specs.declared.plan.Test.TheVariants as tests
 use Rattle.cyc_select.specs.Numbers.{signed_half, negated_half, next_half, low_half, is_zero_word, is_plain_divisor, shift_amount}
-use Rattle.cyc_select.specs.Plans.{arithmetic_plan, immediate_plan, immediate_or, shift_by, multiply_divide_plan, mirrored, zero_plan, differs_plan, equal_plan, less_plan, less_unsigned_plan, at_most_plan, compared_plan, is_mirrored, comparison_plan, unary_plan, sum_plan, difference_plan, bits_plan, operator_plan, is_swapped, binary_plan, test_of}
+use Rattle.cyc_select.specs.Plans.{arithmetic_plan, immediate_plan, immediate_or, shift_by, multiply_divide_plan, mirrored, zero_plan, differs_plan, equal_plan, less_plan, less_unsigned_plan, at_most_plan, compared_plan, is_mirrored, comparison_plan, unary_plan, sum_plan, difference_plan, bits_plan, operator_plan, is_swapped, binary_plan, sign_of, sign_or, order_test, test_of}
 use Rattle.cyc_select.specs.Selection.{branch_on, is_tested}
 use Rattle.cyc_select.proofs.Halves.{signed_is, negated_is, next_is, next_not_greatest, low_is, zero_is, amount_is, signed_fits, negated_fits, next_fits, low_fits, next_signed}
 use Rattle.cyc_select.proofs.Operations.{zero_test, not_zero_test, difference_zero, low_product}
@@ -297,6 +299,7 @@ unary_word slots operand fits unary.Not = comparison_word slots operand (operand
 -- whether the branch of a test is taken
 abbrev pub test_taken : Words → Test → Bool
 test_taken slots (tests.Operands op left right) = branch_taken op (operand_word slots left) (operand_word slots right)
+test_taken slots (tests.Sign op operand) = branch_zero_taken op (operand_word slots operand)
 test_taken slots (tests.Computed plan) = branch_taken (branch_on plan.outcome) (operation_word slots plan) 0
 
 truth_injective : (s t : Bool) → truth s ≡ truth t → s ≡ t
@@ -322,15 +325,36 @@ module _ (slots : Words) (left right : Operand) (left_fits : IsWord (operand_wor
       branches_on plan.outcome (operation_word slots plan) (compares comparison (operand_word slots left) (operand_word slots right))
       (comparison_word slots left right left_fits right_fits comparison)
 
+  sign_taken : (comparison : Comparison) (op : BranchZeroOp) → sign_of comparison ≡ Some op → operand_word slots right ≡ 0 → branch_zero_taken op (operand_word slots left) ≡ compares comparison (operand_word slots left) (operand_word slots right)
+  sign_taken comparison op is zero = by_sign comparison op is ∙ ap (compares comparison (operand_word slots left)) (sym zero)
+    where
+      same_op : (given op : BranchZeroOp) → Some given ≡ Some op → op ≡ given
+      same_op given op is = cc
+
+      by_sign : (comparison : Comparison) (op : BranchZeroOp) → sign_of comparison ≡ Some op → branch_zero_taken op (operand_word slots left) ≡ compares comparison (operand_word slots left) 0
+      by_sign comparisons.Less op is = ap (λ (o : BranchZeroOp). branch_zero_taken o (operand_word slots left)) (same_op signs.Less op is)
+      by_sign comparisons.LessOrEqual op is = ap (λ (o : BranchZeroOp). branch_zero_taken o (operand_word slots left)) (same_op signs.LessOrEqual op is)
+      by_sign comparisons.Greater op is = ap (λ (o : BranchZeroOp). branch_zero_taken o (operand_word slots left)) (same_op signs.Greater op is)
+      by_sign comparisons.GreaterOrEqual op is = ap (λ (o : BranchZeroOp). branch_zero_taken o (operand_word slots left)) (same_op signs.GreaterOrEqual op is)
+      by_sign comparison op is = absurd (let e : None ≡ Some op = is in cc)
+
+  order_taken : (comparison : Comparison) → test_taken slots (order_test comparison left right) ≡ compares comparison (operand_word slots left) (operand_word slots right)
+  order_taken comparison = go (is_zero_word right) refl
+    where
+      with_sign : (o : Option BranchZeroOp) → sign_of comparison ≡ o → operand_word slots right ≡ 0 → test_taken slots (sign_or o left (tests.Computed (comparison_plan comparison left right))) ≡ compares comparison (operand_word slots left) (operand_word slots right)
+      with_sign (Some op) is zero = sign_taken comparison op is zero
+      with_sign None is zero = computed_taken comparison
+
+      go : (b : Bool) → is_zero_word right ≡ b
+          → test_taken slots (if b then sign_or (sign_of comparison) left (tests.Computed (comparison_plan comparison left right)) else tests.Computed (comparison_plan comparison left right))
+          ≡ compares comparison (operand_word slots left) (operand_word slots right)
+      go true is = with_sign (sign_of comparison) refl (zero_is slots right is)
+      go false is = computed_taken comparison
+
   pub test_goes : (comparison : Comparison) → test_taken slots (test_of comparison left right) ≡ compares comparison (operand_word slots left) (operand_word slots right)
   test_goes comparisons.Equal = refl
   test_goes comparisons.NotEqual = refl
-  test_goes comparisons.Less = computed_taken comparisons.Less
-  test_goes comparisons.LessOrEqual = computed_taken comparisons.LessOrEqual
-  test_goes comparisons.Greater = computed_taken comparisons.Greater
-  test_goes comparisons.GreaterOrEqual = computed_taken comparisons.GreaterOrEqual
-  test_goes comparisons.LessUnsigned = computed_taken comparisons.LessUnsigned
-  test_goes comparisons.GreaterOrEqualUnsigned = computed_taken comparisons.GreaterOrEqualUnsigned
+  test_goes comparison = order_taken comparison
 
 -- ---- what holds of all plans
 
@@ -393,12 +417,27 @@ module _ (P : Operand → Type 0) (zero : P (operands.Word 0)) (Q : Plan → Typ
   -- what a test is made of
   abbrev pub AllOfTest : Test → Type 0
   AllOfTest (tests.Operands op left right) = P left × P right
+  AllOfTest (tests.Sign op operand) = P operand
   AllOfTest (tests.Computed plan) = Q plan
+
+  all_sign : (o : Option BranchZeroOp) (operand : Operand) (other : Test) → P operand → AllOfTest other → AllOfTest (sign_or o operand other)
+  all_sign (Some op) operand other o all = o
+  all_sign None operand other o all = all
+
+  all_order : (comparison : Comparison) (left right : Operand) → P left → P right → AllOfTest (order_test comparison left right)
+  all_order comparison left right l r = go (is_zero_word right)
+    where
+      computed : AllOfTest (tests.Computed (comparison_plan comparison left right))
+      computed = all_comparison comparison left right l r
+
+      go : (b : Bool) → AllOfTest (if b then sign_or (sign_of comparison) left (tests.Computed (comparison_plan comparison left right)) else tests.Computed (comparison_plan comparison left right))
+      go true = all_sign (sign_of comparison) left (tests.Computed (comparison_plan comparison left right)) l computed
+      go false = computed
 
   pub all_test : (comparison : Comparison) (left right : Operand) → P left → P right → AllOfTest (test_of comparison left right)
   all_test comparisons.Equal left right l r = (l, r)
   all_test comparisons.NotEqual left right l r = (l, r)
-  all_test comparison left right l r = all_comparison comparison left right l r
+  all_test comparison left right l r = all_order comparison left right l r
 
   -- A division has a plan where its divisor is plain.
   module _ (of_shift : (op : ShiftOp) (left right : Operand) → P left → P right → Q (shift_by None op left right))

@@ -2,6 +2,8 @@
 use Rattle.std.proofs.Common.{◌≡◌, ◌≢◌, ℕ, zero, suc, ◌+◌, ◌-◌, ◌*◌, ◌%◌, ◌<◌, ◌≤◌, Bool, true, false, not, List, [], ◌∷◌, ◌++◌, length, Some, slice_get, refl, sym, ap, subst, ◌∙◌, arith, inl, inr}
 use Rattle.std.specs.Prelude.{◌==◌, if◌then◌else◌}
 use Rattle.std.proofs.lemmas.Bool.{cases_eq, cases_lt, cases_Bool, eq-eqb, ne_eqb}
+use Rattle.cyc_select.specs.declared.constants.TheConstants.{CALLS, FRAME}
+use Rattle.cyc_machine.specs.declared.constants.TheConstants.{RETURN_ADDRESS}
 use Rattle.cyc_words.specs.Ending.{Returned}
 use Rattle.cyc_words.specs.Word.{signed, add_of, sign_extended}
 use Rattle.cyc_isa.specs.Effect.{memory_address}
@@ -20,6 +22,7 @@ use Rattle.cyc_plain.proofs.SlotLaws.{put-same, put-other, copied-inside, copied
 use Rattle.cyc_frame.specs.Layout.{AreFrames, frame_at}
 use Rattle.cyc_frame.specs.declared.frame.Frame.{Frame}
 use Rattle.cyc_select.specs.declared.code.Line.{Line}
+use Rattle.cyc_select.specs.declared.code.Condition.TheVariants as conditions
 use Rattle.cyc_select.specs.declared.code.Line.TheVariants as lines
 use Rattle.cyc_select.specs.Labelled.{Labelled, IsFormed, AreAddresses}
 use Rattle.cyc_select.specs.Machine as labelled
@@ -49,17 +52,17 @@ length_loaded frame value (suc (suc (suc (suc count)))) few = absurd (omega (ari
 record AreLoaded (globals stack : ℕ) (frame : Frame) (value count : ℕ) (r w slots : Words) : Type 0 where
   pub safe : AreSafe globals stack (loaded frame value count) r w
   pub zero_same : after_r (loaded frame value count) r w 0 ≡ r 0
-  pub base_moved : after_r (loaded frame value count) r w 29 ≡ add_of (r 29) (sign_extended (4 * frame.words))
-  pub left_same : after_r (loaded frame value count) r w 30 ≡ r 30
-  pub back_same : after_r (loaded frame value count) r w 31 ≡ r 31
+  pub base_moved : after_r (loaded frame value count) r w FRAME ≡ add_of (r FRAME) (sign_extended (4 * frame.words))
+  pub left_same : after_r (loaded frame value count) r w CALLS ≡ r CALLS
+  pub back_same : after_r (loaded frame value count) r w RETURN_ADDRESS ≡ r RETURN_ADDRESS
   pub unchanged : after_w (loaded frame value count) r w ≡ w
   pub returned : (k : ℕ) → k < count → after_r (loaded frame value count) r w (result_register k) ≡ slots (value + k)
 
 module _ (globals stack : ℕ) (frame : Frame) (r w slots : Words) (value number : ℕ)
-    (cell : (slot : ℕ) → slot < number → IsCell globals stack (memory_address (r 29) (slot_offset frame slot)))
-    (word_is : (slot : ℕ) → slot < number → w (memory_address (r 29) (slot_offset frame slot)) ≡ slots slot) where
+    (cell : (slot : ℕ) → slot < number → IsCell globals stack (memory_address (r FRAME) (slot_offset frame slot)))
+    (word_is : (slot : ℕ) → slot < number → w (memory_address (r FRAME) (slot_offset frame slot)) ≡ slots slot) where
   abbrev word : ℕ → ℕ
-  word slot = w (memory_address (r 29) (slot_offset frame slot))
+  word slot = w (memory_address (r FRAME) (slot_offset frame slot))
 
   first_is : value < number → word value ≡ slots (value + 0)
   first_is below = word_is value below ∙ ap slots (let e : value ≡ value + 0 = omega arith in e)
@@ -127,7 +130,7 @@ module _ (globals stack : ℕ) (frame : Frame) (r w slots : Words) (value number
 module _ (program : Program) (well : IsWellFormed program) (frames : List Frame) (fit : AreFrames program frames) (code : Labelled) (formed : IsFormed code) (addresses : ℕ → ℕ) (pages calls : ℕ) (few : calls ≤ 4096)
     (lie : AreAddresses code addresses) (c : Configuration) (run : labelled.Configuration) (r w : Words) (base : ℕ)
     (now : At program well frames fit code formed addresses pages calls few (instruction_line program c.active.function c.active.next) c.output c.input r w run)
-    (s : Standing program frames addresses pages calls c r w base (r 31) (suc (length c.frames)) c.active.slots)
+    (s : Standing program frames addresses pages calls c r w base (r RETURN_ADDRESS) (suc (length c.frames)) c.active.slots)
     (value : ℕ) (at_i : instruction_at program (states.place_of (states.Running c)) ≡ Some (plain.Return value))
     (in_range : HasSlots (routine_at program c.active.function) value (routine_at program c.active.function).results)
     (inside : (function index callee arguments count result : ℕ) → instruction_at program (record { function = function; index = index }) ≡ Some (plain.Call callee arguments count result)
@@ -151,11 +154,11 @@ module _ (program : Program) (well : IsWellFormed program) (frames : List Frame)
   abbrev AtLine : ℕ → (q m : Words) → labelled.Configuration → Type 0
   AtLine line q m d = At program well frames fit code formed addresses pages calls few line c.output c.input q m d
 
-  cell : (slot : ℕ) → slot < (routine_at program c.active.function).slots → IsCell globals_length (words_per_call * calls) (memory_address (r 29) (slot_offset frame slot))
-  cell slot below = slot_cell program well frames fit addresses pages calls few c r w base (r 31) (suc (length c.frames)) c.active.slots s slot below
+  cell : (slot : ℕ) → slot < (routine_at program c.active.function).slots → IsCell globals_length (words_per_call * calls) (memory_address (r FRAME) (slot_offset frame slot))
+  cell slot below = slot_cell program well frames fit addresses pages calls few c r w base (r RETURN_ADDRESS) (suc (length c.frames)) c.active.slots s slot below
 
-  word_is : (slot : ℕ) → slot < (routine_at program c.active.function).slots → w (memory_address (r 29) (slot_offset frame slot)) ≡ c.active.slots slot
-  word_is slot below = slot_word_is program well frames fit addresses pages calls few c r w base (r 31) (suc (length c.frames)) c.active.slots s slot below
+  word_is : (slot : ℕ) → slot < (routine_at program c.active.function).slots → w (memory_address (r FRAME) (slot_offset frame slot)) ≡ c.active.slots slot
+  word_is slot below = slot_word_is program well frames fit addresses pages calls few c r w base (r RETURN_ADDRESS) (suc (length c.frames)) c.active.slots s slot below
 
   -- ---- the end of the run
 
@@ -180,13 +183,13 @@ module _ (program : Program) (well : IsWellFormed program) (frames : List Frame)
   -- ---- back to a caller
 
   back_goes : (line hi : ℕ) (d : labelled.Configuration) (f : states.Frame) (waiting : List states.Frame) → c.frames ≡ f ∷ waiting
-      → Chain program frames addresses w base (r 31) c.active.function (f ∷ waiting)
+      → Chain program frames addresses w base (r RETURN_ADDRESS) c.active.function (f ∷ waiting)
       → Stands code line (ordinary (loaded frame value results) ++ lines.Return ∷ []) → line + length (ordinary (loaded frame value results)) + 1 ≤ hi → AtLine line r w d → Goes 1 line hi (Running d)
   back_goes line hi d f waiting under (arguments, count, index, known, at, next, is_back, holds, chain) stands_here far later =
       let size : ℕ = length (loaded frame value results) in
       let same_size = length_ordinary (loaded frame value results) in
       let own = fit.each c.active.function s.known in
-      let l = lies program well frames fit addresses pages calls few c r w base (r 31) (suc (length c.frames)) c.active.slots s in
+      let l = lies program well frames fit addresses pages calls few c r w base (r RETURN_ADDRESS) (suc (length c.frames)) c.active.slots s in
       let routine = well.functions c.active.function no_routine s.known in
       let load = are_loaded globals_length (words_per_call * calls) frame r w c.active.slots value (routine_at program c.active.function).slots cell word_is results routine.results in_range in
       let q : Words = after_r (loaded frame value results) r w in
@@ -196,11 +199,11 @@ module _ (program : Program) (well : IsWellFormed program) (frames : List Frame)
         frames = waiting;
       } in
       let is_returned : performed program zeros c (plain.Return value) ≡ states.Running next_state = ap (returns c value results) under in
-      let base_is : after_r (loaded frame value results) r w 29 ≡ above =
+      let base_is : after_r (loaded frame value results) r w FRAME ≡ above =
       load.base_moved ∙ (ap (λ (x : ℕ). add_of x (sign_extended (4 * frame.words))) s.base_is
       ∙ add_small base (4 * frame.words) (omega (arith, own.within, own.small)) (omega (arith, l.below_end))) in
       let deep : suc (suc (length waiting)) ≤ calls = subst (λ (fs : List states.Frame). suc (length fs) ≤ calls) under s.deep in
-      let left : r 30 + suc (suc (length waiting)) ≡ calls = subst (λ (fs : List states.Frame). r 30 + suc (length fs) ≡ calls) under s.left in
+      let left : r CALLS + suc (suc (length waiting)) ≡ calls = subst (λ (fs : List states.Frame). r CALLS + suc (length fs) ≡ calls) under s.left in
       let there : Standing program frames addresses pages calls next_state (after_r (loaded frame value results) r w) w above (w (above + 4 * (frame_at frames f.caller.function).return_address)) (suc (suc (length waiting))) f.caller.slots = record {
         known = known;
         base_is = base_is;
@@ -257,27 +260,27 @@ module _ (program : Program) (well : IsWellFormed program) (frames : List Frame)
   abbrev tail : List Line
   tail = ordinary (loaded frame value results) ++ lines.Return ∷ []
 
-  plain_goes : (c.active.function == program.main) ≡ false → Stands code here tail → (fs : List states.Frame) → c.frames ≡ fs → Chain program frames addresses w base (r 31) c.active.function fs → Goes 1 here (here + (0 + results + 2)) (Running run)
+  plain_goes : (c.active.function == program.main) ≡ false → Stands code here tail → (fs : List states.Frame) → c.frames ≡ fs → Chain program frames addresses w base (r RETURN_ADDRESS) c.active.function fs → Goes 1 here (here + (0 + results + 2)) (Running run)
   plain_goes other stands_here [] under (last, is_back, is_main) = absurd (let e : false ≡ true = sym other ∙ eq-eqb c.active.function program.main is_main in cc)
   plain_goes other stands_here (f ∷ waiting) under chain =
       back_goes here (here + (0 + results + 2)) run f waiting under chain stands_here (omega (arith, loaded_length)) now
 
-  main_goes : (c.active.function == program.main) ≡ true → Stands code here (ending_code true frame here value ++ tail) → (fs : List states.Frame) → c.frames ≡ fs → Chain program frames addresses w base (r 31) c.active.function fs → Goes 1 here (here + (4 + results + 2)) (Running run)
+  main_goes : (c.active.function == program.main) ≡ true → Stands code here (ending_code true frame here value ++ tail) → (fs : List states.Frame) → c.frames ≡ fs → Chain program frames addresses w base (r RETURN_ADDRESS) c.active.function fs → Goes 1 here (here + (4 + results + 2)) (Running run)
   main_goes main stands_here [] under (last, is_back, is_main) =
-      let stays : (if not (r 31 == r 0) then here + 4 else here + 1) ≡ here + 1 = ap (λ (b : Bool). if not b then here + 4 else here + 1) (eq-eqb (r 31) (r 0) (is_back ∙ sym s.zero_is)) in
+      let stays : (if not (r RETURN_ADDRESS == r 0) then here + 4 else here + 1) ≡ here + 1 = ap (λ (b : Bool). if not b then here + 4 else here + 1) (eq-eqb (r RETURN_ADDRESS) (r 0) (is_back ∙ sym s.zero_is)) in
       let one : results ≡ 1 = ap (λ (f : ℕ). (routine_at program f).results) is_main ∙ well.main_results in
-      walk_branch code formed addresses globals_length (words_per_call * calls) 0 here here (here + (4 + results + 2)) c.output c.input _ r w run branch.NotEqual (register_of 31) (register_of 0) (here + 4) (here + 1) now stands_here.0 (omega arith) stays
+      walk_branch code formed addresses globals_length (words_per_call * calls) 0 here here (here + (4 + results + 2)) c.output c.input _ r w run (conditions.Registers branch.NotEqual (register_of RETURN_ADDRESS) (register_of 0)) (here + 4) (here + 1) now stands_here.0 (omega arith) stays
       (λ d later.
       ends_goes (here + (4 + results + 2)) d (omega arith) under (omega (arith, one, in_range))
       (stands_front code (here + 1) (ordinary (load_slot frame 4 value ∷ small 2 3 ∷ syscall ∷ [])) tail
-      (stands_back code here (lines.Branch branch.NotEqual (register_of 31) (register_of 0) (here + 4) ∷ []) (ordinary (load_slot frame 4 value ∷ small 2 3 ∷ syscall ∷ []) ++ tail) stands_here))
+      (stands_back code here (lines.Branch (conditions.Registers branch.NotEqual (register_of RETURN_ADDRESS) (register_of 0)) (here + 4) ∷ []) (ordinary (load_slot frame 4 value ∷ small 2 3 ∷ syscall ∷ []) ++ tail) stands_here))
       later)
   main_goes main stands_here (f ∷ waiting) under (arguments, count, index, known, at, next, is_back, holds, chain) =
       let line : ℕ = behind_line program f.caller.function index c.active.function arguments count f.result in
       let high = lie.from (behind_line program f.caller.function index c.active.function arguments count f.result) (inside f.caller.function index c.active.function arguments count f.result at) in
-      let other : r 31 ≢ r 0 = λ e. absurd (omega (arith, e, s.zero_is, is_back, high)) in
-      let leaps : (if not (r 31 == r 0) then here + 4 else here + 1) ≡ here + 4 = ap (λ (b : Bool). if not b then here + 4 else here + 1) (ne_eqb (r 31) (r 0) other) in
-      walk_branch code formed addresses globals_length (words_per_call * calls) 0 here here (here + (4 + results + 2)) c.output c.input _ r w run branch.NotEqual (register_of 31) (register_of 0) (here + 4) (here + 4) now stands_here.0 (omega arith) leaps
+      let other : r RETURN_ADDRESS ≢ r 0 = λ e. absurd (omega (arith, e, s.zero_is, is_back, high)) in
+      let leaps : (if not (r RETURN_ADDRESS == r 0) then here + 4 else here + 1) ≡ here + 4 = ap (λ (b : Bool). if not b then here + 4 else here + 1) (ne_eqb (r RETURN_ADDRESS) (r 0) other) in
+      walk_branch code formed addresses globals_length (words_per_call * calls) 0 here here (here + (4 + results + 2)) c.output c.input _ r w run (conditions.Registers branch.NotEqual (register_of RETURN_ADDRESS) (register_of 0)) (here + 4) (here + 4) now stands_here.0 (omega arith) leaps
       (λ d later.
       walk_from code formed addresses globals_length (words_per_call * calls) 0 (suc here) (here + 4) (here + (4 + results + 2)) c.output _ (Running d) (omega arith)
       (walk_few code formed addresses globals_length (words_per_call * calls) 0 1 (here + 4) (here + (4 + results + 2)) c.output _ (Running d) (omega arith)
@@ -381,7 +384,7 @@ module _ (program : Program) (well : IsWellFormed program) (frames : List Frame)
   are_stored slot k (source ∷ sources) m is_slot fits (one, others) s =
       let below : slot < (routine_at program c.active.function).slots = omega (arith, is_slot, fits) in
       let there = slot_address program well frames fit addresses pages calls few c q m base back depth (copied values first k waiting result) s slot below in
-      let m1 : Words = put m (memory_address (q 29) (slot_offset (frame_at frames c.active.function) slot)) (q (source % 32)) in
+      let m1 : Words = put m (memory_address (q FRAME) (slot_offset (frame_at frames c.active.function) slot)) (q (source % 32)) in
       let put_one = standing_slot program well frames fit addresses pages calls few c q m base back depth (copied values first k waiting result) s slot (q (source % 32)) below in
       let in_m1 : StandsWith m1 (put (copied values first k waiting result) slot (q (source % 32))) =
       subst (λ (a : ℕ). StandsWith (put m a (q (source % 32))) (put (copied values first k waiting result) slot (q (source % 32)))) (sym there) put_one in
@@ -420,7 +423,7 @@ module _ (program : Program) (well : IsWellFormed program) (frames : List Frame)
   own_frame = frame_at frames c.active.function
 
   abbrev first_two : List Instr
-  first_two = load 31 (4 * own_frame.return_address) ∷ add_immediate 30 30 1 ∷ []
+  first_two = load RETURN_ADDRESS (4 * own_frame.return_address) ∷ add_immediate CALLS CALLS 1 ∷ []
 
   abbrev kept_words : List Instr
   kept_words = store_all own_frame b.result (result_registers (routine_at program b.callee).results)
@@ -431,13 +434,13 @@ module _ (program : Program) (well : IsWellFormed program) (frames : List Frame)
   abbrev restored : Words
   restored = after_r first_two b.r b.w
 
-  back_is : restored 31 ≡ saved
+  back_is : restored RETURN_ADDRESS ≡ saved
   back_is = ap b.w (return_address program well frames fit addresses pages calls few c b.r b.w b.base saved (suc (suc (length c.frames))) b.waiting b.standing)
 
-  left_is : restored 30 ≡ b.r 30 + 1
-  left_is = add_small (b.r 30) 1 (omega arith) (omega (arith, b.standing.left))
+  left_is : restored CALLS ≡ b.r CALLS + 1
+  left_is = add_small (b.r CALLS) 1 (omega arith) (omega (arith, b.standing.left))
 
-  small_register : (k : ℕ) → result_register k < 30
+  small_register : (k : ℕ) → result_register k < CALLS
   small_register zero = omega arith
   small_register (suc zero) = omega arith
   small_register (suc (suc zero)) = omega arith
@@ -445,15 +448,15 @@ module _ (program : Program) (well : IsWellFormed program) (frames : List Frame)
 
   register_kept : (k : ℕ) → restored (result_register k) ≡ b.r (result_register k)
   register_kept k =
-      put-other (put b.r 31 _) 30 (result_register k) _ (λ e. absurd (omega (arith, e, small_register k)))
-      ∙ put-other b.r 31 (result_register k) _ (λ e. absurd (omega (arith, e, small_register k)))
+      put-other (put b.r RETURN_ADDRESS _) CALLS (result_register k) _ (λ e. absurd (omega (arith, e, small_register k)))
+      ∙ put-other b.r RETURN_ADDRESS (result_register k) _ (λ e. absurd (omega (arith, e, small_register k)))
 
   restored_stands : Standing program frames addresses pages calls c restored b.w b.base saved (suc (length c.frames)) b.waiting
   restored_stands = record {
     known = b.standing.known;
     base_is = b.standing.base_is;
     zero_is = b.standing.zero_is;
-    left = one_less (restored 30) left_is;
+    left = one_less (restored CALLS) left_is;
     deep = b.standing.deep;
     holds = b.standing.holds;
     chain = b.standing.chain;
@@ -462,7 +465,7 @@ module _ (program : Program) (well : IsWellFormed program) (frames : List Frame)
     paged = b.standing.paged;
   }
     where
-      one_less : (n : ℕ) → n ≡ b.r 30 + 1 → n + suc (length c.frames) ≡ calls
+      one_less : (n : ℕ) → n ≡ b.r CALLS + 1 → n + suc (length c.frames) ≡ calls
       one_less n is = omega (arith, is, b.standing.left)
 
   length_kept : length (first_two ++ kept_words) ≡ 2 + (routine_at program b.callee).results

@@ -3,6 +3,7 @@ use Rattle.std.proofs.Common.{◌≡◌, ◌≢◌, ℕ, zero, suc, ◌+◌, ◌
 use Rattle.std.specs.Prelude.{if◌then◌else◌}
 use Rattle.std.specs.List.{range_with_len}
 use Rattle.std.proofs.lemmas.Bool.{cases_lt, eq-eqb, ne_eqb}
+use Rattle.cyc_machine.specs.declared.constants.TheConstants.{RETURN_ADDRESS}
 use Rattle.cyc_words.specs.Ending.{Ending}
 use Rattle.std.proofs.lemmas.List.{get_or_past}
 use Rattle.cyc_words.specs.Word.{IsWord, sub_of}
@@ -135,7 +136,7 @@ module _ (program : Program) (well : IsWellFormed program) (words : HasWords pro
 
   module _ (c : Configuration) (never : Never c) (run : labelled.Configuration) (r w : Words) (base : ℕ)
       (now : At program well frames fit code formed addresses pages calls few (instruction_line program c.active.function c.active.next) c.output c.input r w run)
-      (s : Standing program frames addresses pages calls c r w base (r 31) (suc (length c.frames)) c.active.slots) where
+      (s : Standing program frames addresses pages calls c r w base (r RETURN_ADDRESS) (suc (length c.frames)) c.active.slots) where
     abbrev here : ℕ
     here = instruction_line program c.active.function c.active.next
 

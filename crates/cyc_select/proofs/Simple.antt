@@ -5,9 +5,8 @@ use Rattle.std.specs.List.{AllByRecursion}
 use Rattle.std.proofs.lemmas.Bool.{cases_eq, eq-eqb, ne_eqb}
 use Rattle.cyc_words.specs.Ending.{Ending, Uncaught}
 use Rattle.cyc_words.specs.Word.{IsWord, signed, add_of, sub_of, sign_extended}
-use Rattle.cyc_isa.specs.Effect.{branch_taken, load_upper_result, memory_address}
+use Rattle.cyc_isa.specs.Effect.{branch_taken, branch_zero_taken, load_upper_result, memory_address}
 use Rattle.cyc_isa.specs.declared.instr.Instr.{Instr}
-use Rattle.cyc_isa.specs.declared.instr.BranchOp.{BranchOp}
 use Rattle.cyc_isa.specs.declared.instr.BranchOp.TheVariants as branch
 use Rattle.cyc_isa.specs.declared.instr.MoveFromOp.{MoveFromOp}
 use Rattle.cyc_isa.specs.declared.instr.MoveFromOp.TheVariants.{High, Low}
@@ -34,17 +33,19 @@ use Rattle.cyc_plain.proofs.SlotLaws.{put-other}
 use Rattle.cyc_plain.proofs.RunLaws.{zeros, over_within, zeros_allowed}
 use Rattle.cyc_frame.specs.Layout.{AreFrames, frame_at}
 use Rattle.cyc_frame.specs.declared.frame.Frame.{Frame}
-use Rattle.cyc_machine.specs.declared.constants.TheConstants.{ARGUMENT, END_UNCAUGHT, PUT_BYTE, SECOND_ARGUMENT, SERVICE}
+use Rattle.cyc_machine.specs.declared.constants.TheConstants.{ARGUMENT, END_UNCAUGHT, PUT_BYTE, SECOND_ARGUMENT, SERVICE, RETURN_ADDRESS}
 use Rattle.cyc_select.specs.declared.code.Line.{Line}
+use Rattle.cyc_select.specs.declared.code.Condition.{Condition}
+use Rattle.cyc_select.specs.declared.code.Condition.TheVariants as conditions
 use Rattle.cyc_select.specs.declared.code.Line.TheVariants as lines
-use Rattle.cyc_select.specs.declared.constants.TheConstants.{FIRST, SECOND, THIRD, ZERO}
+use Rattle.cyc_select.specs.declared.constants.TheConstants.{FIRST, SECOND, THIRD, ZERO, CALLS, FRAME}
 use Rattle.cyc_select.specs.declared.plan.Plan.{Plan}
 use Rattle.cyc_select.specs.declared.plan.Test.{Test}
 use Rattle.cyc_select.specs.declared.plan.Test.TheVariants as tests
 use Rattle.cyc_select.specs.Plans.{unary_plan, binary_plan, test_of}
 use Rattle.cyc_select.specs.Labelled.{Labelled, IsFormed}
 use Rattle.cyc_select.specs.Machine as labelled
-use Rattle.cyc_select.specs.Machine.{State, Running, Ended}
+use Rattle.cyc_select.specs.Machine.{State, Running, Ended, holds_of}
 use Rattle.cyc_select.specs.Numbers.{is_zero_word}
 use Rattle.cyc_select.specs.Selection.{store_slot, slot_offset, small, arithmetic_of, ordinary, syscall, upper_of_global, at_global, word_code, load_code, operand_code, operand_register, operands_code, operation_of, computed_code, plan_code, branch_on, branch_code, divided_code, divide_code, word_count, load_count, operand_count, plan_count, test_count, is_tested, body, body_count, count_of, instruction_line}
 use Rattle.cyc_select.proofs.Blocks.{Keeps, puts_keeps, after_both, safe_append}
@@ -65,7 +66,7 @@ module _ (program : Program) (well : IsWellFormed program) (frames : List Frame)
     (c : Configuration)
     (run : labelled.Configuration) (r w : Words) (base : ℕ)
     (now : At program well frames fit code formed addresses pages calls few (instruction_line program c.active.function c.active.next) c.output c.input r w run)
-    (s : Standing program frames addresses pages calls c r w base (r 31) (suc (length c.frames)) c.active.slots) where
+    (s : Standing program frames addresses pages calls c r w base (r RETURN_ADDRESS) (suc (length c.frames)) c.active.slots) where
   abbrev here : ℕ
   here = instruction_line program c.active.function c.active.next
 
@@ -81,14 +82,14 @@ module _ (program : Program) (well : IsWellFormed program) (frames : List Frame)
   abbrev Goes : (least lo hi : ℕ) → State → Type 0
   Goes least lo hi t = Walk code formed addresses globals_length (words_per_call * calls) least lo hi c.output (Reached program well frames fit code formed addresses pages calls few c) t
 
-  cell : (slot : ℕ) → slot < slots → IsCell globals_length (words_per_call * calls) (memory_address (r 29) (slot_offset frame slot))
-  cell slot below = slot_cell program well frames fit addresses pages calls few c r w base (r 31) (suc (length c.frames)) c.active.slots s slot below
+  cell : (slot : ℕ) → slot < slots → IsCell globals_length (words_per_call * calls) (memory_address (r FRAME) (slot_offset frame slot))
+  cell slot below = slot_cell program well frames fit addresses pages calls few c r w base (r RETURN_ADDRESS) (suc (length c.frames)) c.active.slots s slot below
 
   abbrev word_at : ℕ → ℕ
-  word_at slot = w (memory_address (r 29) (slot_offset frame slot))
+  word_at slot = w (memory_address (r FRAME) (slot_offset frame slot))
 
-  word_is : (slot : ℕ) → slot < slots → w (memory_address (r 29) (slot_offset frame slot)) ≡ c.active.slots slot
-  word_is slot below = slot_word_is program well frames fit addresses pages calls few c r w base (r 31) (suc (length c.frames)) c.active.slots s slot below
+  word_is : (slot : ℕ) → slot < slots → w (memory_address (r FRAME) (slot_offset frame slot)) ≡ c.active.slots slot
+  word_is slot below = slot_word_is program well frames fit addresses pages calls few c r w base (r RETURN_ADDRESS) (suc (length c.frames)) c.active.slots s slot below
 
   -- ---- operands
 
@@ -99,14 +100,14 @@ module _ (program : Program) (well : IsWellFormed program) (frames : List Frame)
   IsThere o = IsOperand (routine_at program c.active.function) o × IsOfWord o
 
   abbrev Held : Operand → Type 0
-  Held o = IsHeld globals_length (words_per_call * calls) frame (r 29) w c.active.slots o
+  Held o = IsHeld globals_length (words_per_call * calls) frame (r FRAME) w c.active.slots o
 
   held : (o : Operand) → IsThere o → Held o
   held (operands.Slot number) (below, fits) = (cell number below, word_is number below)
   held (operands.Word word) (below, fits) = fits
 
   is_word : (o : Operand) → IsThere o → IsWord (word_of o)
-  is_word (operands.Slot number) (below, fits) = subst IsWord (word_is number below) (now.w_words (memory_address (r 29) (slot_offset frame number)))
+  is_word (operands.Slot number) (below, fits) = subst IsWord (word_is number below) (now.w_words (memory_address (r FRAME) (slot_offset frame number)))
   is_word (operands.Word word) (below, fits) = fits
 
   abbrev KeepsHere : List Instr → Type 0
@@ -123,11 +124,11 @@ module _ (program : Program) (well : IsWellFormed program) (frames : List Frame)
       let store : List Instr = store_slot frame register destination ∷ [] in
       let all : List Instr = is ++ store in
       let enough : length (is ++ store) ≡ count = omega (arith, length-append is store, long) in
-      let written : after_w (is ++ store) r w ≡ put w (memory_address (r 29) (slot_offset frame destination)) word =
+      let written : after_w (is ++ store) r w ≡ put w (memory_address (r FRAME) (slot_offset frame destination)) word =
       after_w-append is store r w
-      ∙ (ap (λ (x : Words). put x (memory_address (after_r is r w 29) (slot_offset frame destination)) (after_r is r w (register % 32))) keeps.memory
+      ∙ (ap (λ (x : Words). put x (memory_address (after_r is r w FRAME) (slot_offset frame destination)) (after_r is r w (register % 32))) keeps.memory
       ∙ (ap (λ (x : ℕ). put w (memory_address x (slot_offset frame destination)) (after_r is r w (register % 32))) keeps.base
-      ∙ ap (put w (memory_address (r 29) (slot_offset frame destination))) result)) in
+      ∙ ap (put w (memory_address (r FRAME) (slot_offset frame destination))) result)) in
       let safe = safe_append globals_length (words_per_call * calls) is store r w keeps.safe
       (subst (λ (x : ℕ). IsCell globals_length (words_per_call * calls) (memory_address x (slot_offset frame destination))) (sym keeps.base) (cell destination below), tt) in
       let same : (n : ℕ) → after_r (is ++ store) r w n ≡ after_r is r w n = after_both globals_length (words_per_call * calls) is store r w in
@@ -136,7 +137,7 @@ module _ (program : Program) (well : IsWellFormed program) (frames : List Frame)
       (λ d later.
       walk_end code formed addresses globals_length (words_per_call * calls) (here + length all) (here + count) c.output _ (Running d) (omega (arith, enough))
       (reached_gives program well frames fit code formed addresses pages calls few c i at_i r w base s destination word c.input (here + length all) d (after_r all r w) (after_w all r w)
-      below does s.input (omega (arith, enough, counted)) (same 0 ∙ keeps.zero) (same 29 ∙ keeps.base) (same 30 ∙ keeps.left) (same 31 ∙ keeps.back) written later)))
+      below does s.input (omega (arith, enough, counted)) (same 0 ∙ keeps.zero) (same FRAME ∙ keeps.base) (same CALLS ∙ keeps.left) (same RETURN_ADDRESS ∙ keeps.back) written later)))
 
   -- ---- values
 
@@ -149,7 +150,7 @@ module _ (program : Program) (well : IsWellFormed program) (frames : List Frame)
       → Stands code here (body program frames c.active.function here (plain.Move destination source)) → Goes 1 here (here + body_count program c.active.function (plain.Move destination source)) (Running run)
   move_goes destination source at_i below there stands =
       let is : List Instr = operand_code frame FIRST source in
-      let puts = operand_puts globals_length (words_per_call * calls) frame (r 29) w c.active.slots r w s.zero_is refl refl FIRST refl source (held source there) in
+      let puts = operand_puts globals_length (words_per_call * calls) frame (r FRAME) w c.active.slots r w s.zero_is refl refl FIRST refl source (held source there) in
       gives_by (plain.Move destination source) at_i is (operand_register FIRST source) destination (word_of source) (operand_count source + 1)
       (puts_keeps globals_length (words_per_call * calls) is r w FIRST _ _ (first_scratch globals_length (words_per_call * calls)) puts) puts.result
       below refl (omega (arith, length_operand frame FIRST source)) (omega arith) stands
@@ -159,7 +160,7 @@ module _ (program : Program) (well : IsWellFormed program) (frames : List Frame)
       → plan_word c.active.slots plan ≡ word → destination < slots → performed program zeros c i ≡ gives c destination word → count_of program c.active.function i ≡ plan_count plan
       → Stands code here (ordinary (plan_code frame plan destination)) → Goes 1 here (here + plan_count plan) (Running run)
   plan_goes i at_i plan destination word (l, t, fine) is below does counted stands =
-      let leaves = plan_leaves globals_length (words_per_call * calls) frame (r 29) w c.active.slots r w s.zero_is refl refl plan l t fine in
+      let leaves = plan_leaves globals_length (words_per_call * calls) frame (r FRAME) w c.active.slots r w s.zero_is refl refl plan l t fine in
       gives_by i at_i (computed_code frame plan) FIRST destination word (plan_count plan) leaves.keeps (leaves.result ∙ is)
       below does (omega (arith, length_computed frame plan)) counted stands
 
@@ -201,7 +202,7 @@ module _ (program : Program) (well : IsWellFormed program) (frames : List Frame)
   -- ---- division
 
   abbrev into : ℕ → ℕ → Words
-  into destination word = put w (memory_address (r 29) (slot_offset frame destination)) word
+  into destination word = put w (memory_address (r FRAME) (slot_offset frame destination)) word
 
   -- what is read after a division
   abbrev result_of : MoveFromOp → ℕ → ℕ → ℕ
@@ -209,19 +210,19 @@ module _ (program : Program) (well : IsWellFormed program) (frames : List Frame)
 
   abbrev divides : MoveFromOp → (destination : ℕ) → List Instr
   divides which destination =
-      machine.MultiplyDivide Divide (register_of 8) (register_of 9) ∷ machine.MoveFrom which (register_of 8) ∷ store_slot frame 8 destination ∷ []
+      machine.MultiplyDivide Divide (register_of FIRST) (register_of SECOND) ∷ machine.MoveFrom which (register_of FIRST) ∷ store_slot frame FIRST destination ∷ []
 
-  divides_kept : (which : MoveFromOp) (destination : ℕ) (q : Words) (n : ℕ) → n < 32 → n ≢ 8 → after_r (divides which destination) q w n ≡ q n
+  divides_kept : (which : MoveFromOp) (destination : ℕ) (q : Words) (n : ℕ) → n < 32 → n ≢ FIRST → after_r (divides which destination) q w n ≡ q n
   divides_kept Low destination q n below other =
-      put-other (put (put q 32 _) 33 _) 8 n _ other ∙ (put-other (put q 32 _) 33 n _ (λ e. absurd (omega (arith, e, below))) ∙ put-other q 32 n _ (λ e. absurd (omega (arith, e, below))))
+      put-other (put (put q 32 _) 33 _) FIRST n _ other ∙ (put-other (put q 32 _) 33 n _ (λ e. absurd (omega (arith, e, below))) ∙ put-other q 32 n _ (λ e. absurd (omega (arith, e, below))))
   divides_kept High destination q n below other =
-      put-other (put (put q 32 _) 33 _) 8 n _ other ∙ (put-other (put q 32 _) 33 n _ (λ e. absurd (omega (arith, e, below))) ∙ put-other q 32 n _ (λ e. absurd (omega (arith, e, below))))
+      put-other (put (put q 32 _) 33 _) FIRST n _ other ∙ (put-other (put q 32 _) 33 n _ (λ e. absurd (omega (arith, e, below))) ∙ put-other q 32 n _ (λ e. absurd (omega (arith, e, below))))
 
-  divides_written : (which : MoveFromOp) (destination : ℕ) (q : Words) → after_w (divides which destination) q w ≡ put w (memory_address (q 29) (slot_offset frame destination)) (result_of which (q 8) (q 9))
+  divides_written : (which : MoveFromOp) (destination : ℕ) (q : Words) → after_w (divides which destination) q w ≡ put w (memory_address (q FRAME) (slot_offset frame destination)) (result_of which (q FIRST) (q SECOND))
   divides_written Low destination q = refl
   divides_written High destination q = refl
 
-  divides_safe : (which : MoveFromOp) (destination : ℕ) (q : Words) → q 9 ≢ 0 → (q 8 ≡ 2 ^ 31 → q 9 ≡ 2 ^ 32 - 1 → ⊥) → IsCell globals_length (words_per_call * calls) (memory_address (q 29) (slot_offset frame destination)) → Safe (divides which destination) q w
+  divides_safe : (which : MoveFromOp) (destination : ℕ) (q : Words) → q SECOND ≢ 0 → (q FIRST ≡ 2 ^ 31 → q SECOND ≡ 2 ^ 32 - 1 → ⊥) → IsCell globals_length (words_per_call * calls) (memory_address (q FRAME) (slot_offset frame destination)) → Safe (divides which destination) q w
   divides_safe Low destination q nonzero least fine = ((nonzero, least), (refl, (fine, tt)))
   divides_safe High destination q nonzero least fine = ((nonzero, least), (refl, (fine, tt)))
 
@@ -234,8 +235,8 @@ module _ (program : Program) (well : IsWellFormed program) (frames : List Frame)
     loads = load_count left + load_count right
 
     divided : (q : Words) (d : labelled.Configuration) → At program well frames fit code formed addresses pages calls few (here + loads + 4) c.output c.input q w d → Stands code (here + loads + 4) (ordinary (divides which destination))
-        → q 0 ≡ r 0 → q 29 ≡ r 29 → q 30 ≡ r 30 → q 31 ≡ r 31 → q 9 ≢ 0 → (q 8 ≡ 2 ^ 31 → q 9 ≡ 2 ^ 32 - 1 → ⊥)
-        → result_of which (q 8) (q 9) ≡ result_of which (word_of left) (word_of right)
+        → q 0 ≡ r 0 → q FRAME ≡ r FRAME → q CALLS ≡ r CALLS → q RETURN_ADDRESS ≡ r RETURN_ADDRESS → q SECOND ≢ 0 → (q FIRST ≡ 2 ^ 31 → q SECOND ≡ 2 ^ 32 - 1 → ⊥)
+        → result_of which (q FIRST) (q SECOND) ≡ result_of which (word_of left) (word_of right)
         → Goes 0 (here + loads + 4) (here + (loads + 7)) (Running d)
     divided q d now_d stands zero_same base_same left_same back_same divisor least result =
         walk_few code formed addresses globals_length (words_per_call * calls) 0 (3 + 0) (here + loads + 4) (here + (loads + 7)) c.output _ (Running d) (omega arith)
@@ -247,10 +248,10 @@ module _ (program : Program) (well : IsWellFormed program) (frames : List Frame)
         (reached_gives program well frames fit code formed addresses pages calls few c (plain.Binary operator destination left right) at_i r w base s destination (result_of which (word_of left) (word_of right)) c.input (here + loads + 4 + 3) e (after_r (divides which destination) q w) (after_w (divides which destination) q w)
         below does s.input (omega (arith, counted))
         (divides_kept which destination q 0 (omega arith) (λ x. absurd (omega (arith, x))) ∙ zero_same)
-        (divides_kept which destination q 29 (omega arith) (λ x. absurd (omega (arith, x))) ∙ base_same)
-        (divides_kept which destination q 30 (omega arith) (λ x. absurd (omega (arith, x))) ∙ left_same)
-        (divides_kept which destination q 31 (omega arith) (λ x. absurd (omega (arith, x))) ∙ back_same)
-        (divides_written which destination q ∙ (ap (λ (x : ℕ). put w (memory_address x (slot_offset frame destination)) (result_of which (q 8) (q 9))) base_same ∙ ap (into destination) result))
+        (divides_kept which destination q FRAME (omega arith) (λ x. absurd (omega (arith, x))) ∙ base_same)
+        (divides_kept which destination q CALLS (omega arith) (λ x. absurd (omega (arith, x))) ∙ left_same)
+        (divides_kept which destination q RETURN_ADDRESS (omega arith) (λ x. absurd (omega (arith, x))) ∙ back_same)
+        (divides_written which destination q ∙ (ap (λ (x : ℕ). put w (memory_address x (slot_offset frame destination)) (result_of which (q FIRST) (q SECOND))) base_same ∙ ap (into destination) result))
         later)))
 
     abbrev tested : List Instr
@@ -264,8 +265,8 @@ module _ (program : Program) (well : IsWellFormed program) (frames : List Frame)
 
     -- behind the operands, with the registers that they left
     module _ (q : Words) (d : labelled.Configuration) (later : At program well frames fit code formed addresses pages calls few (here + loads + 1) c.output c.input q w d)
-        (stands : Stands code (here + loads + 1) (lines.Branch branch.NotEqual (register_of SECOND) (register_of THIRD) (here + loads + 4) ∷ last))
-        (zero_same : q 0 ≡ r 0) (base_same : q 29 ≡ r 29) (left_same : q 30 ≡ r 30) (back_same : q 31 ≡ r 31)
+        (stands : Stands code (here + loads + 1) (lines.Branch (conditions.Registers branch.NotEqual (register_of SECOND) (register_of THIRD)) (here + loads + 4) ∷ last))
+        (zero_same : q 0 ≡ r 0) (base_same : q FRAME ≡ r FRAME) (left_same : q CALLS ≡ r CALLS) (back_same : q RETURN_ADDRESS ≡ r RETURN_ADDRESS)
         (dividend : q FIRST ≡ word_of left) (divisor : q SECOND ≡ word_of right) (third : q THIRD ≡ 2 ^ 32 - 1) where
       four : here + loads + 1 + 1 + 2 ≡ here + loads + 4
       four = omega arith
@@ -280,7 +281,7 @@ module _ (program : Program) (well : IsWellFormed program) (frames : List Frame)
       by_minus_one same =
           let stays : (if not (q SECOND == q THIRD) then here + loads + 4 else here + loads + 1 + 1) ≡ here + loads + 1 + 1 =
           ap (λ (b : Bool). if not b then here + loads + 4 else here + loads + 1 + 1) (eq-eqb (q SECOND) (q THIRD) (divisor ∙ (same ∙ sym third))) in
-          walk_branch code formed addresses globals_length (words_per_call * calls) 0 (here + loads + 1) (here + loads + 1) (here + (loads + 7)) c.output c.input _ q w d branch.NotEqual (register_of SECOND) (register_of THIRD) (here + loads + 4) (here + loads + 1 + 1) later stands.0 (omega arith) stays
+          walk_branch code formed addresses globals_length (words_per_call * calls) 0 (here + loads + 1) (here + loads + 1) (here + (loads + 7)) c.output c.input _ q w d (conditions.Registers branch.NotEqual (register_of SECOND) (register_of THIRD)) (here + loads + 4) (here + loads + 1 + 1) later stands.0 (omega arith) stays
           (λ e after.
           walk_few code formed addresses globals_length (words_per_call * calls) 0 (2 + 0) (suc (here + loads + 1)) (here + (loads + 7)) c.output _ (Running e) (omega arith)
           (walk_block code formed addresses globals_length (words_per_call * calls) changed 0 (here + loads + 1 + 1) (suc (here + loads + 1)) (here + (loads + 7)) c.output c.input _ q w e after
@@ -300,7 +301,7 @@ module _ (program : Program) (well : IsWellFormed program) (frames : List Frame)
       by_other other =
           let leaps : (if not (q SECOND == q THIRD) then here + loads + 4 else here + loads + 1 + 1) ≡ here + loads + 4 =
           ap (λ (b : Bool). if not b then here + loads + 4 else here + loads + 1 + 1) (ne_eqb (q SECOND) (q THIRD) (λ e. other (sym divisor ∙ (e ∙ third)))) in
-          walk_branch code formed addresses globals_length (words_per_call * calls) 0 (here + loads + 1) (here + loads + 1) (here + (loads + 7)) c.output c.input _ q w d branch.NotEqual (register_of SECOND) (register_of THIRD) (here + loads + 4) (here + loads + 4) later stands.0 (omega arith) leaps
+          walk_branch code formed addresses globals_length (words_per_call * calls) 0 (here + loads + 1) (here + loads + 1) (here + (loads + 7)) c.output c.input _ q w d (conditions.Registers branch.NotEqual (register_of SECOND) (register_of THIRD)) (here + loads + 4) (here + loads + 4) later stands.0 (omega arith) leaps
           (λ e after.
           walk_from code formed addresses globals_length (words_per_call * calls) 0 (suc (here + loads + 1)) (here + loads + 4) (here + (loads + 7)) c.output _ (Running e) (omega arith)
           (divided q e after last_stands zero_same base_same left_same back_same
@@ -315,15 +316,15 @@ module _ (program : Program) (well : IsWellFormed program) (frames : List Frame)
 
     pub divide_goes : Stands code here (divide_code frame here which destination left right) → Goes 1 here (here + (load_count left + load_count right + 7)) (Running run)
     divide_goes stands =
-        let put_all = divided_put globals_length (words_per_call * calls) frame (r 29) w c.active.slots r w s.zero_is refl refl left right (held left left_there) (held right right_there) in
+        let put_all = divided_put globals_length (words_per_call * calls) frame (r FRAME) w c.active.slots r w s.zero_is refl refl left right (held left left_there) (held right right_there) in
         let long : length tested ≡ loads + 1 = length_divided frame left right in
         let there : here + length tested ≡ here + loads + 1 = omega (arith, long) in
-        let behind = stands_back code here (ordinary tested) (lines.Branch branch.NotEqual (register_of SECOND) (register_of THIRD) (here + loads + 4) ∷ last) stands in
-        let behind_here : Stands code (here + loads + 1) (lines.Branch branch.NotEqual (register_of SECOND) (register_of THIRD) (here + loads + 4) ∷ last) =
-        subst (λ (n : ℕ). Stands code n (lines.Branch branch.NotEqual (register_of SECOND) (register_of THIRD) (here + loads + 4) ∷ last)) (ap (λ (n : ℕ). here + n) (length_ordinary tested) ∙ there) behind in
+        let behind = stands_back code here (ordinary tested) (lines.Branch (conditions.Registers branch.NotEqual (register_of SECOND) (register_of THIRD)) (here + loads + 4) ∷ last) stands in
+        let behind_here : Stands code (here + loads + 1) (lines.Branch (conditions.Registers branch.NotEqual (register_of SECOND) (register_of THIRD)) (here + loads + 4) ∷ last) =
+        subst (λ (n : ℕ). Stands code n (lines.Branch (conditions.Registers branch.NotEqual (register_of SECOND) (register_of THIRD)) (here + loads + 4) ∷ last)) (ap (λ (n : ℕ). here + n) (length_ordinary tested) ∙ there) behind in
         walk_few code formed addresses globals_length (words_per_call * calls) 1 (length tested + 1) here (here + (loads + 7)) c.output _ (Running run) (omega arith)
         (walk_block code formed addresses globals_length (words_per_call * calls) tested 1 here here (here + (loads + 7)) c.output c.input _ r w run now
-        (stands_front code here (ordinary tested) (lines.Branch branch.NotEqual (register_of SECOND) (register_of THIRD) (here + loads + 4) ∷ last) stands)
+        (stands_front code here (ordinary tested) (lines.Branch (conditions.Registers branch.NotEqual (register_of SECOND) (register_of THIRD)) (here + loads + 4) ∷ last) stands)
         put_all.keeps.safe (omega arith)
         (λ d later.
         walk_from code formed addresses globals_length (words_per_call * calls) 1 (here + length tested) (here + loads + 1) (here + (loads + 7)) c.output _ (Running d) (omega (arith, there))
@@ -347,23 +348,23 @@ module _ (program : Program) (well : IsWellFormed program) (frames : List Frame)
   line_taken false target other line n same = same
 
   -- a block that leaves what is tested in two registers, and the branch
-  branch_by : (i : Instruction) → IsAt i → (is : List Instr) (op : BranchOp) (left right target count : ℕ) (taken : Bool) → KeepsHere is
-      → branch_taken op (after_r is r w (left % 32)) (after_r is r w (right % 32)) ≡ taken → performed program zeros c i ≡ states.Running (at c (if taken then target else c.active.next + 1))
+  branch_by : (i : Instruction) → IsAt i → (is : List Instr) (condition : Condition) (target count : ℕ) (taken : Bool) → KeepsHere is
+      → holds_of (after_r is r w) condition ≡ taken → performed program zeros c i ≡ states.Running (at c (if taken then target else c.active.next + 1))
       → length is + 1 ≡ count → count_of program c.active.function i ≡ count
-      → Stands code here (ordinary is ++ lines.Branch op (register_of left) (register_of right) (instruction_line program c.active.function target) ∷ []) → Goes 1 here (here + count) (Running run)
-  branch_by i at_i is op left right target count taken keeps takes does long counted stands =
+      → Stands code here (ordinary is ++ lines.Branch condition (instruction_line program c.active.function target) ∷ []) → Goes 1 here (here + count) (Running run)
+  branch_by i at_i is condition target count taken keeps takes does long counted stands =
       let line : ℕ → ℕ = instruction_line program c.active.function in
-      let last : Line = lines.Branch op (register_of left) (register_of right) (line target) in
+      let last : Line = lines.Branch condition (line target) in
       let behind = stands_back code here (ordinary is) (last ∷ []) stands in
       let here_is : here + length (ordinary is) ≡ here + length is = ap (λ (n : ℕ). here + n) (length_ordinary is) in
       let last_stands : slice_get code.lines (here + length is) ≡ Some last = subst (λ (n : ℕ). slice_get code.lines n ≡ Some last) here_is behind.0 in
       let next : here + length is + 1 ≡ line (c.active.next + 1) = omega (arith, line_next program c.active.function c.active.next i at_i, counted, long) in
-      let there : (if branch_taken op (after_r is r w (left % 32)) (after_r is r w (right % 32)) then line target else here + length is + 1) ≡ line (if taken then target else c.active.next + 1) =
+      let there : (if holds_of (after_r is r w) condition then line target else here + length is + 1) ≡ line (if taken then target else c.active.next + 1) =
       ap (λ (b : Bool). if b then line target else here + length is + 1) takes ∙ line_taken taken target (c.active.next + 1) line (here + length is + 1) next in
       walk_few code formed addresses globals_length (words_per_call * calls) 1 (length is + 1) here (here + count) c.output _ (Running run) (omega arith)
       (walk_block code formed addresses globals_length (words_per_call * calls) is 1 here here (here + count) c.output c.input _ r w run now (stands_front code here (ordinary is) (last ∷ []) stands) keeps.safe (omega arith)
       (λ d later.
-      walk_branch code formed addresses globals_length (words_per_call * calls) 0 (here + length is) (here + length is) (here + count) c.output c.input _ (after_r is r w) (after_w is r w) d op (register_of left) (register_of right) (line target) (line (if taken then target else c.active.next + 1)) later last_stands (omega arith) there
+      walk_branch code formed addresses globals_length (words_per_call * calls) 0 (here + length is) (here + length is) (here + count) c.output c.input _ (after_r is r w) (after_w is r w) d condition (line target) (line (if taken then target else c.active.next + 1)) later last_stands (omega arith) there
       (λ e after.
       walk_end code formed addresses globals_length (words_per_call * calls) (suc (here + length is)) (here + count) c.output _ (Running e) (omega (arith, long))
       (reached_at program well frames fit code formed addresses pages calls few c i at_i r w base s (at c (if taken then target else c.active.next + 1)) (line (if taken then target else c.active.next + 1)) e (after_r is r w) (after_w is r w)
@@ -379,13 +380,19 @@ module _ (program : Program) (well : IsWellFormed program) (frames : List Frame)
       → performed program zeros c i ≡ states.Running (at c (if taken then target else c.active.next + 1)) → count_of program c.active.function i ≡ test_count test + 1
       → Stands code here (branch_code frame test (instruction_line program c.active.function target)) → Goes 1 here (here + (test_count test + 1)) (Running run)
   test_goes_by i at_i (tests.Operands op left right) target taken (l, t) is does counted stands =
-      let loaded = operands_put globals_length (words_per_call * calls) frame (r 29) w c.active.slots r w s.zero_is refl refl left right l t in
-      branch_by i at_i (operands_code frame left right) op (operand_register FIRST left) (operand_register SECOND right) target (test_count (tests.Operands op left right) + 1) taken loaded.keeps
+      let loaded = operands_put globals_length (words_per_call * calls) frame (r FRAME) w c.active.slots r w s.zero_is refl refl left right l t in
+      branch_by i at_i (operands_code frame left right) (conditions.Registers op (register_of (operand_register FIRST left)) (register_of (operand_register SECOND right))) target (test_count (tests.Operands op left right) + 1) taken loaded.keeps
       (ap (λ (x : ℕ). branch_taken op x (after_r (operands_code frame left right) r w (operand_register SECOND right % 32))) loaded.left_is ∙ (ap (branch_taken op (word_of left)) loaded.right_is ∙ is))
       does (omega (arith, length_test frame (tests.Operands op left right))) counted stands
+  test_goes_by i at_i (tests.Sign op operand) target taken o is does counted stands =
+      let puts = operand_puts globals_length (words_per_call * calls) frame (r FRAME) w c.active.slots r w s.zero_is refl refl FIRST refl operand o in
+      branch_by i at_i (operand_code frame FIRST operand) (conditions.Sign op (register_of (operand_register FIRST operand))) target (test_count (tests.Sign op operand) + 1) taken
+      (puts_keeps globals_length (words_per_call * calls) (operand_code frame FIRST operand) r w FIRST _ _ (first_scratch globals_length (words_per_call * calls)) puts)
+      (ap (branch_zero_taken op) puts.result ∙ is)
+      does (omega (arith, length_test frame (tests.Sign op operand))) counted stands
   test_goes_by i at_i (tests.Computed plan) target taken (l, t, fine) is does counted stands =
-      let leaves = operation_leaves globals_length (words_per_call * calls) frame (r 29) w c.active.slots r w s.zero_is refl refl plan l t fine in
-      branch_by i at_i (operation_of frame plan) (branch_on plan.outcome) FIRST ZERO target (test_count (tests.Computed plan) + 1) taken leaves.keeps
+      let leaves = operation_leaves globals_length (words_per_call * calls) frame (r FRAME) w c.active.slots r w s.zero_is refl refl plan l t fine in
+      branch_by i at_i (operation_of frame plan) (conditions.Registers (branch_on plan.outcome) (register_of FIRST) (register_of ZERO)) target (test_count (tests.Computed plan) + 1) taken leaves.keeps
       (ap (λ (x : ℕ). branch_taken (branch_on plan.outcome) x (after_r (operation_of frame plan) r w ZERO)) leaves.result
       ∙ (ap (branch_taken (branch_on plan.outcome) (operation_word c.active.slots plan)) (leaves.keeps.zero ∙ s.zero_is) ∙ is))
       does (omega (arith, length_test frame (tests.Computed plan))) counted stands
@@ -425,7 +432,7 @@ module _ (program : Program) (well : IsWellFormed program) (frames : List Frame)
   write_goes source at_i there stands =
       let is : List Instr = load_code frame ARGUMENT source in
       let last : List Instr = small SERVICE PUT_BYTE ∷ syscall ∷ [] in
-      let puts = load_puts globals_length (words_per_call * calls) frame (r 29) w c.active.slots r w s.zero_is refl refl ARGUMENT refl source (held source there) in
+      let puts = load_puts globals_length (words_per_call * calls) frame (r FRAME) w c.active.slots r w s.zero_is refl refl ARGUMENT refl source (held source there) in
       let keeps = puts_keeps globals_length (words_per_call * calls) is r w ARGUMENT _ _ (argument_scratch globals_length (words_per_call * calls)) puts in
       let behind = stands_behind code here is last stands in
       let long : length is ≡ load_count source = length_load frame ARGUMENT source in
@@ -453,7 +460,7 @@ module _ (program : Program) (well : IsWellFormed program) (frames : List Frame)
   global_stands : (global : ℕ) → global < length program.globals → IsCell globals_length (words_per_call * calls) (memory_address (load_upper_result ((data_base + 4 * global + 2 ^ 15) / 2 ^ 16)) ((data_base + 4 * global) % 2 ^ 16))
   global_stands global below =
       subst (IsCell globals_length (words_per_call * calls)) (sym (global_memory global below))
-      (global_cell program well frames fit addresses pages calls few c r w base (r 31) (suc (length c.frames)) c.active.slots s global below)
+      (global_cell program well frames fit addresses pages calls few c r w base (r RETURN_ADDRESS) (suc (length c.frames)) c.active.slots s global below)
 
   pub load_global_goes : (destination global : ℕ) → IsAt (plain.LoadGlobal destination global) → destination < slots → global < length program.globals
       → Stands code here (body program frames c.active.function here (plain.LoadGlobal destination global)) → Goes 1 here (here + 3) (Running run)
@@ -472,7 +479,7 @@ module _ (program : Program) (well : IsWellFormed program) (frames : List Frame)
       let is : List Instr = operand_code frame FIRST source in
       let last : List Instr = upper_of_global global ∷ at_global StoreWord (operand_register FIRST source) global ∷ [] in
       let upper : ℕ = load_upper_result ((data_base + 4 * global + 2 ^ 15) / 2 ^ 16) in
-      let puts = operand_puts globals_length (words_per_call * calls) frame (r 29) w c.active.slots r w s.zero_is refl refl FIRST refl source (held source there) in
+      let puts = operand_puts globals_length (words_per_call * calls) frame (r FRAME) w c.active.slots r w s.zero_is refl refl FIRST refl source (held source there) in
       let keeps = puts_keeps globals_length (words_per_call * calls) is r w FIRST _ _ (first_scratch globals_length (words_per_call * calls)) puts in
       let long : length is ≡ operand_count source = length_operand frame FIRST source in
       let q : Words = put (after_r is r w) SECOND (load_upper_result ((data_base + 4 * global + 2 ^ 15) / 2 ^ 16)) in
@@ -483,12 +490,12 @@ module _ (program : Program) (well : IsWellFormed program) (frames : List Frame)
       let written : v ≡ put w (data_base + 4 * global) (word_of source) =
       ap (λ (x : Words). put x (memory_address upper ((data_base + 4 * global) % 2 ^ 16)) (q (operand_register FIRST source % 32))) keeps.memory
       ∙ (ap (λ (a : ℕ). put w a (q (operand_register FIRST source % 32))) (global_memory global global_below) ∙ ap (put w (data_base + 4 * global)) stored) in
-      let one = standing_global program well frames fit addresses pages calls few c r w base (r 31) (suc (length c.frames)) c.active.slots s global (word_of source) global_below in
+      let one = standing_global program well frames fit addresses pages calls few c r w base (r RETURN_ADDRESS) (suc (length c.frames)) c.active.slots s global (word_of source) global_below in
       let c' : Configuration = record c { globals = put c.globals global (word_of source) } in
-      let two = standing_registers program well frames fit addresses pages calls few c' r (put w (data_base + 4 * global) (word_of source)) base (r 31) (suc (length c.frames)) c.active.slots one q keeps.zero keeps.base keeps.left in
-      let three = standing_at program well frames fit addresses pages calls few c' q (put w (data_base + 4 * global) (word_of source)) base (r 31) (suc (length c.frames)) c.active.slots two d refl refl refl refl s.input in
+      let two = standing_registers program well frames fit addresses pages calls few c' r (put w (data_base + 4 * global) (word_of source)) base (r RETURN_ADDRESS) (suc (length c.frames)) c.active.slots one q keeps.zero keeps.base keeps.left in
+      let three = standing_at program well frames fit addresses pages calls few c' q (put w (data_base + 4 * global) (word_of source)) base (r RETURN_ADDRESS) (suc (length c.frames)) c.active.slots two d refl refl refl refl s.input in
       let with_back = subst (λ (b : ℕ). Standing program frames addresses pages calls d q (put w (data_base + 4 * global) (word_of source)) base b (suc (length c.frames)) c.active.slots) (sym keeps.back) three in
-      let four = subst (λ (x : Words). Standing program frames addresses pages calls d q x base (q 31) (suc (length c.frames)) c.active.slots) (sym written) with_back in
+      let four = subst (λ (x : Words). Standing program frames addresses pages calls d q x base (q RETURN_ADDRESS) (suc (length c.frames)) c.active.slots) (sym written) with_back in
       let line : here + length is + 2 ≡ instruction_line program c.active.function (c.active.next + 1) = omega (arith, line_next program c.active.function c.active.next (plain.StoreGlobal global source) at_i, long) in
       walk_few code formed addresses globals_length (words_per_call * calls) 1 (length is + (2 + 0)) here (here + (operand_count source + 2)) c.output _ (Running run) (omega arith)
       (walk_block code formed addresses globals_length (words_per_call * calls) is (2 + 0) here here (here + (operand_count source + 2)) c.output c.input _ r w run now (stands_first code here is last stands) keeps.safe (omega arith)
@@ -518,7 +525,7 @@ module _ (program : Program) (well : IsWellFormed program) (frames : List Frame)
       let last : List Instr = small SERVICE END_UNCAUGHT ∷ syscall ∷ [] in
       let first = word_puts globals_length (words_per_call * calls) r w ARGUMENT tag s.zero_is refl fits in
       let keeps = puts_keeps globals_length (words_per_call * calls) is r w ARGUMENT _ _ (argument_scratch globals_length (words_per_call * calls)) first in
-      let second = load_puts globals_length (words_per_call * calls) frame (r 29) w c.active.slots (after_r is r w) (after_w is r w) (keeps.zero ∙ s.zero_is) keeps.base keeps.memory SECOND_ARGUMENT refl value (held value there) in
+      let second = load_puts globals_length (words_per_call * calls) frame (r FRAME) w c.active.slots (after_r is r w) (after_w is r w) (keeps.zero ∙ s.zero_is) keeps.base keeps.memory SECOND_ARGUMENT refl value (held value there) in
       let q : Words = after_r js (after_r is r w) (after_w is r w) in
       let zero : q 0 ≡ 0 = second.others ZERO (omega arith) (λ e. absurd (omega (arith, e))) ∙ (keeps.zero ∙ s.zero_is) in
       let service : add_of (q 0) (sign_extended 4) ≡ 4 = ap (λ (x : ℕ). add_of x (sign_extended 4)) (zero ∙ sym s.zero_is) ∙ small_is 4 (omega arith) in

@@ -11,13 +11,14 @@ use Rattle.cyc_plain.specs.declared.instruction.BinaryOperator.{BinaryOperator}
 use Rattle.cyc_plain.specs.declared.instruction.Operand.{Operand}
 use Rattle.cyc_isa.specs.declared.instr.MemoryOp.TheVariants.{StoreWord}
 use Rattle.cyc_isa.specs.declared.instr.MoveFromOp.{MoveFromOp}
-use Rattle.cyc_machine.specs.declared.constants.TheConstants.{ARGUMENT, END_UNCAUGHT, PUT_BYTE, SECOND_ARGUMENT, SERVICE}
+use Rattle.cyc_machine.specs.declared.constants.TheConstants.{ARGUMENT, END_UNCAUGHT, PUT_BYTE, SECOND_ARGUMENT, SERVICE, RETURN_ADDRESS}
 use Rattle.cyc_plain.specs.Program.{Routine, Program, routine_at, instruction_size, size}
 use Rattle.cyc_frame.specs.Layout.{frame_at}
 use Rattle.cyc_frame.specs.declared.frame.Frame.{Frame}
 use Rattle.cyc_select.specs.declared.code.Line.{Line}
+use Rattle.cyc_select.specs.declared.code.Condition.TheVariants as conditions
 use Rattle.cyc_select.specs.declared.code.Line.TheVariants as lines
-use Rattle.cyc_select.specs.declared.constants.TheConstants.{FIRST, SECOND, THIRD}
+use Rattle.cyc_select.specs.declared.constants.TheConstants.{FIRST, SECOND, THIRD, CALLS}
 use Rattle.cyc_select.specs.declared.plan.Plan.{Plan}
 use Rattle.cyc_select.specs.declared.plan.Test.{Test}
 use Rattle.cyc_select.specs.declared.plan.Test.TheVariants as tests
@@ -46,7 +47,7 @@ words_range code a (l ∷ ls) (first, rest) =
 module _ (program : Program) (frames : List Frame) (few_results : (function : ℕ) → (routine_at program function).results ≤ 3) where
   divide_words : (frame : Frame) (here : ℕ) (which : MoveFromOp) (destination : ℕ) (left right : Operand) → all_words (divide_code frame here which destination left right) ≤ 14
   divide_words frame here which destination left right =
-      let behind : List Line = lines.Branch branch.NotEqual (register_of SECOND) (register_of THIRD) (here + (load_count left + load_count right) + 4) ∷ quotient_code frame which destination in
+      let behind : List Line = lines.Branch (conditions.Registers branch.NotEqual (register_of SECOND) (register_of THIRD)) (here + (load_count left + load_count right) + 4) ∷ quotient_code frame which destination in
       omega (arith, sum_by-append words_of (ordinary (divided_code frame left right)) behind, words_ordinary (divided_code frame left right), length_divided frame left right, load_small left, load_small right)
 
   plan_words : (frame : Frame) (plan : Plan) (destination : ℕ) → all_words (ordinary (plan_code frame plan destination)) ≤ 8
@@ -63,6 +64,7 @@ module _ (program : Program) (frames : List Frame) (few_results : (function : �
 
   branch_words : (test : Test) (label : ℕ) → words_of (branch_line test label) ≤ 4
   branch_words (tests.Operands op left right) label = omega arith
+  branch_words (tests.Sign op operand) label = omega arith
   branch_words (tests.Computed plan) label = omega arith
 
   test_words : (frame : Frame) (test : Test) (label : ℕ) → all_words (branch_code frame test label) ≤ 10
@@ -81,12 +83,12 @@ module _ (program : Program) (frames : List Frame) (few_results : (function : �
   body_words function here (plain.Jump target) = omega arith
   body_words function here (plain.Branch comparison left right target) = omega (arith, test_words (frame_at frames function) (test_of comparison left right) (instruction_line program function target))
   body_words function here (plain.Call callee arguments count result) =
-      let first : List Line = lines.Branch branch.NotEqual (register_of 30) (register_of 0) (here + 3) ∷ ordinary (small 2 11 ∷ syscall ∷ store 31 (4 * (frame_at frames function).return_address) ∷ add_immediate 30 30 (minus 1) ∷ push_frame (frame_at frames callee) ∷ []) in
+      let first : List Line = lines.Branch (conditions.Registers branch.NotEqual (register_of CALLS) (register_of 0)) (here + 3) ∷ ordinary (small 2 11 ∷ syscall ∷ store RETURN_ADDRESS (4 * (frame_at frames function).return_address) ∷ add_immediate CALLS CALLS (minus 1) ∷ push_frame (frame_at frames callee) ∷ []) in
       let passed = words_ordinary (copies (frame_at frames function) (frame_at frames callee) arguments 0 count) in
       let long = length-copies (frame_at frames function) (frame_at frames callee) arguments 0 count in
-      let a = sum_by-append words_of (lines.Branch branch.NotEqual (register_of 30) (register_of 0) (here + 3) ∷ ordinary (small 2 11 ∷ syscall ∷ store 31 (4 * (frame_at frames function).return_address) ∷ add_immediate 30 30 (minus 1) ∷ push_frame (frame_at frames callee) ∷ [])) (ordinary (copies (frame_at frames function) (frame_at frames callee) arguments 0 count) ++ lines.Call (function_line program callee) ∷ []) in
+      let a = sum_by-append words_of (lines.Branch (conditions.Registers branch.NotEqual (register_of CALLS) (register_of 0)) (here + 3) ∷ ordinary (small 2 11 ∷ syscall ∷ store RETURN_ADDRESS (4 * (frame_at frames function).return_address) ∷ add_immediate CALLS CALLS (minus 1) ∷ push_frame (frame_at frames callee) ∷ [])) (ordinary (copies (frame_at frames function) (frame_at frames callee) arguments 0 count) ++ lines.Call (function_line program callee) ∷ []) in
       let b = sum_by-append words_of (ordinary (copies (frame_at frames function) (frame_at frames callee) arguments 0 count)) (lines.Call (function_line program callee) ∷ []) in
-      let kept = words_ordinary (load 31 (4 * (frame_at frames function).return_address) ∷ add_immediate 30 30 1 ∷ store_all (frame_at frames function) result (result_registers (routine_at program callee).results)) in
+      let kept = words_ordinary (load RETURN_ADDRESS (4 * (frame_at frames function).return_address) ∷ add_immediate CALLS CALLS 1 ∷ store_all (frame_at frames function) result (result_registers (routine_at program callee).results)) in
       let stores = length_stores (frame_at frames function) result (result_registers (routine_at program callee).results) in
       let registers = length_registers (routine_at program callee).results (few_results callee) in
       omega (arith, passed, long, a, b, kept, stores, registers, few_results callee)

@@ -2,6 +2,7 @@
 -- end of the stack on, each with its slots and, where it waits, its return address.
 use Rattle.std.proofs.Common.{◌≡◌, ◌≢◌, ℕ, suc, ◌+◌, ◌*◌, ◌%◌, ◌<◌, ◌≤◌, List, [], ◌∷◌, length, Some, sym, ap, subst, ◌∙◌, arith, inl, inr}
 use Rattle.std.specs.List.{AllByRecursion}
+use Rattle.cyc_select.specs.declared.constants.TheConstants.{CALLS, FRAME}
 use Rattle.cyc_words.specs.Word.{IsWord}
 use Rattle.cyc_isa.specs.Effect.{memory_address}
 use Rattle.cyc_machine.specs.State.{data_base, stack_end, globals_length, words_per_call}
@@ -84,9 +85,9 @@ module _ (program : Program) (frames : List Frame) (fit : AreFrames program fram
 -- a call under way, with these slots
 pub record Standing (program : Program) (frames : List Frame) (addresses : ℕ → ℕ) (pages calls : ℕ) (c : Configuration) (r w : Words) (base back depth : ℕ) (slots : Words) : Type 0 where
   pub known : c.active.function < length program.functions
-  pub base_is : r 29 ≡ base
+  pub base_is : r FRAME ≡ base
   pub zero_is : r 0 ≡ 0
-  pub left : r 30 + depth ≡ calls
+  pub left : r CALLS + depth ≡ calls
   pub deep : suc (length c.frames) ≤ calls
   pub holds : Holds program frames c.active.function base w slots
   pub chain : Chain program frames addresses w base back c.active.function c.frames
@@ -106,7 +107,7 @@ module _ (program : Program) (well : IsWellFormed program) (frames : List Frame)
     lies = chain_lies program frames fit addresses w base back c.active.function c.frames s.known s.chain
 
     -- a word of the frame
-    pub word_address : (word : ℕ) → word < (frame_at frames c.active.function).words → memory_address (r 29) (4 * word) ≡ base + 4 * word
+    pub word_address : (word : ℕ) → word < (frame_at frames c.active.function).words → memory_address (r FRAME) (4 * word) ≡ base + 4 * word
     word_address word inside =
         let frame = fit.each c.active.function s.known in
         ap (λ (x : ℕ). memory_address x (4 * word)) s.base_is
@@ -116,20 +117,20 @@ module _ (program : Program) (well : IsWellFormed program) (frames : List Frame)
     word_cell word inside =
         inr ((omega (arith, lies.aligned)), (omega (arith, lies.above_low, s.deep)), (omega (arith, inside, lies.below_end)))
 
-    pub slot_address : (slot : ℕ) → slot < (routine_at program c.active.function).slots → memory_address (r 29) (slot_offset (frame_at frames c.active.function) slot) ≡ base + slot_offset (frame_at frames c.active.function) slot
+    pub slot_address : (slot : ℕ) → slot < (routine_at program c.active.function).slots → memory_address (r FRAME) (slot_offset (frame_at frames c.active.function) slot) ≡ base + slot_offset (frame_at frames c.active.function) slot
     slot_address slot below = word_address (slot_word (frame_at frames c.active.function) slot) ((fit.each c.active.function s.known).inside slot below)
 
-    pub slot_cell : (slot : ℕ) → slot < (routine_at program c.active.function).slots → IsCell data_words stack_words (memory_address (r 29) (slot_offset (frame_at frames c.active.function) slot))
+    pub slot_cell : (slot : ℕ) → slot < (routine_at program c.active.function).slots → IsCell data_words stack_words (memory_address (r FRAME) (slot_offset (frame_at frames c.active.function) slot))
     slot_cell slot below =
         subst (IsCell data_words stack_words) (sym (slot_address slot below)) (word_cell (slot_word (frame_at frames c.active.function) slot) ((fit.each c.active.function s.known).inside slot below))
 
-    pub slot_word_is : (slot : ℕ) → slot < (routine_at program c.active.function).slots → w (memory_address (r 29) (slot_offset (frame_at frames c.active.function) slot)) ≡ slots slot
+    pub slot_word_is : (slot : ℕ) → slot < (routine_at program c.active.function).slots → w (memory_address (r FRAME) (slot_offset (frame_at frames c.active.function) slot)) ≡ slots slot
     slot_word_is slot below = ap w (slot_address slot below) ∙ s.holds slot below
 
-    pub return_address : memory_address (r 29) (4 * (frame_at frames c.active.function).return_address) ≡ base + 4 * (frame_at frames c.active.function).return_address
+    pub return_address : memory_address (r FRAME) (4 * (frame_at frames c.active.function).return_address) ≡ base + 4 * (frame_at frames c.active.function).return_address
     return_address = word_address (frame_at frames c.active.function).return_address (fit.each c.active.function s.known).return_inside
 
-    pub return_cell : IsCell data_words stack_words (memory_address (r 29) (4 * (frame_at frames c.active.function).return_address))
+    pub return_cell : IsCell data_words stack_words (memory_address (r FRAME) (4 * (frame_at frames c.active.function).return_address))
     return_cell = subst (IsCell data_words stack_words) (sym return_address) (word_cell (frame_at frames c.active.function).return_address (fit.each c.active.function s.known).return_inside)
 
     -- the word of a global
@@ -139,7 +140,7 @@ module _ (program : Program) (well : IsWellFormed program) (frames : List Frame)
     -- ---- changes
 
     -- other registers
-    pub standing_registers : (r' : Words) → r' 0 ≡ r 0 → r' 29 ≡ r 29 → r' 30 ≡ r 30 → Standing program frames addresses pages calls c r' w base back depth slots
+    pub standing_registers : (r' : Words) → r' 0 ≡ r 0 → r' FRAME ≡ r FRAME → r' CALLS ≡ r CALLS → Standing program frames addresses pages calls c r' w base back depth slots
     standing_registers r' zero_same base_same left_same = record {
       known = s.known;
       base_is = base_same ∙ s.base_is;

@@ -4,6 +4,8 @@ use Rattle.std.specs.Prelude.{All, slice_index, slice_set, slice_index_or, unwra
 use Rattle.std.specs.List.{AllByRecursion, range_with_len}
 use Rattle.std.proofs.lemmas.Bool.{cases_lt, cases_eq}
 use Rattle.std.proofs.lemmas.List.{get_or-set_same, get_or-set_other, get_or_append_left, get_or-append_right, get_or-replicate, get_or_past, length-replicate}
+use Rattle.cyc_select.specs.declared.constants.TheConstants.{CALLS, FRAME}
+use Rattle.cyc_machine.specs.declared.constants.TheConstants.{RETURN_ADDRESS}
 use Rattle.cyc_words.specs.Word.{IsWord}
 use Rattle.cyc_isa.specs.declared.instr.Instr.{Instr}
 use Rattle.cyc_machine.specs.Bounds.{AreAllowed}
@@ -116,7 +118,7 @@ module _ (program : Program) (well : IsWellFormed program) (words : HasWords pro
 
   abbrev run : labelled.Configuration
   run = record {
-    registers = slice_set (slice_set (replicate 32 0) 4 calls) 29 stack_end;
+    registers = slice_set (slice_set (replicate 32 0) 4 calls) FRAME stack_end;
     high = 0;
     low = 0;
     globals = globals_of code.globals;
@@ -156,14 +158,14 @@ module _ (program : Program) (well : IsWellFormed program) (words : HasWords pro
   words_w : AreWords w
   words_w a = is_word_at (place_of (memory_of run) a)
 
-  listed : (n : ℕ) → IsWord (slice_index (slice_set (slice_set (replicate 32 0) 4 calls) 29 stack_end) n)
+  listed : (n : ℕ) → IsWord (slice_index (slice_set (slice_set (replicate 32 0) 4 calls) FRAME stack_end) n)
   listed =
-      set_words (slice_set (replicate 32 0) 4 calls) 29 stack_end
+      set_words (slice_set (replicate 32 0) 4 calls) FRAME stack_end
       (set_words (replicate 32 0) 4 calls (λ n. subst IsWord (sym (zeros_are 32 n)) (let e : 0 < 2 ^ 32 = omega arith in e)) (omega (arith, few)) (omega arith))
       (omega arith) (omega arith)
 
   words_r : AreWords r
-  words_r n = zero_or (n == 0) (slice_index (slice_set (slice_set (replicate 32 0) 4 calls) 29 stack_end) n) (listed n)
+  words_r n = zero_or (n == 0) (slice_index (slice_set (slice_set (replicate 32 0) 4 calls) FRAME stack_end) n) (listed n)
 
   view : View globals_length (words_per_call * calls) run r w
   view = record {
@@ -199,7 +201,7 @@ module _ (program : Program) (well : IsWellFormed program) (words : HasWords pro
   frame = frame_at frames program.main
 
   abbrev first : List Instr
-  first = add_immediate 30 4 (minus 1) ∷ push_frame frame ∷ []
+  first = add_immediate CALLS 4 (minus 1) ∷ push_frame frame ∷ []
 
   abbrev q : Words
   q = after_r first r w
@@ -207,10 +209,10 @@ module _ (program : Program) (well : IsWellFormed program) (words : HasWords pro
   abbrev base : ℕ
   base = stack_end - 4 * frame.words
 
-  left_is : q 30 ≡ calls - 1
+  left_is : q CALLS ≡ calls - 1
   left_is = take_small calls 1 (omega (arith, few)) (omega arith) (omega arith) allowed.enough_calls
 
-  base_is : q 29 ≡ base
+  base_is : q FRAME ≡ base
   base_is =
       let own = fit.each program.main well.main in
       take_small stack_end (4 * frame.words) (omega arith) (omega (arith, own.return_inside)) (omega (arith, own.within, own.small)) (omega (arith, own.within, own.small))
@@ -225,12 +227,12 @@ module _ (program : Program) (well : IsWellFormed program) (words : HasWords pro
     input = input;
   }
 
-  standing : Standing program frames addresses pages calls c q w base (q 31) 1 c.active.slots
+  standing : Standing program frames addresses pages calls c q w base (q RETURN_ADDRESS) 1 c.active.slots
   standing = record {
     known = well.main;
     base_is = base_is;
     zero_is = refl;
-    left = left_one (q 30) left_is;
+    left = left_one (q CALLS) left_is;
     deep = allowed.enough_calls;
     holds = λ slot below.
         let own = fit.each program.main well.main in

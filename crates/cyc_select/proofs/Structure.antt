@@ -19,6 +19,7 @@ use Rattle.cyc_frame.specs.Layout.{frame_at}
 use Rattle.cyc_frame.specs.declared.frame.Frame.{Frame}
 use Rattle.cyc_select.specs.declared.constants.TheConstants.{FIRST, SECOND, THIRD, START_LINES}
 use Rattle.cyc_select.specs.declared.code.Line.{Line}
+use Rattle.cyc_select.specs.declared.code.Condition.TheVariants as conditions
 use Rattle.cyc_select.specs.declared.code.Line.TheVariants as lines
 use Rattle.cyc_select.specs.declared.plan.Plan.{Plan}
 use Rattle.cyc_select.specs.Labelled.{Labelled}
@@ -40,7 +41,7 @@ module _ (program : Program) (frames : List Frame) (few_results : (function : �
 
   length_divide : (frame : Frame) (here : ℕ) (which : MoveFromOp) (destination : ℕ) (left right : Operand) → length (divide_code frame here which destination left right) ≡ load_count left + load_count right + 7
   length_divide frame here which destination left right =
-      let behind : List Line = lines.Branch branch.NotEqual (register_of SECOND) (register_of THIRD) (here + (load_count left + load_count right) + 4) ∷ quotient_code frame which destination in
+      let behind : List Line = lines.Branch (conditions.Registers branch.NotEqual (register_of SECOND) (register_of THIRD)) (here + (load_count left + load_count right) + 4) ∷ quotient_code frame which destination in
       omega (arith, length-append (ordinary (divided_code frame left right)) behind, length_ordinary (divided_code frame left right), length_divided frame left right)
 
   length_planned : (frame : Frame) (plan : Plan) (destination : ℕ) → length (ordinary (plan_code frame plan destination)) ≡ plan_count plan

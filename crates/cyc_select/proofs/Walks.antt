@@ -3,13 +3,12 @@ use Rattle.std.proofs.Common.{◌≡◌, ◌≢◌, ℕ, suc, ◌+◌, ◌-◌, 
 use Rattle.std.specs.Prelude.{if◌then◌else◌, Contains}
 use Rattle.std.specs.List.{AllByRecursion, range_with_len}
 use Rattle.std.proofs.lemmas.List.FromFn.{get_or-range_with_len, length-range_with_len}
-use Rattle.cyc_isa.specs.Effect.{branch_taken, memory_address, high_result}
+use Rattle.cyc_machine.specs.declared.constants.TheConstants.{RETURN_ADDRESS}
+use Rattle.cyc_isa.specs.Effect.{branch_taken, branch_zero_taken, memory_address, high_result}
 use Rattle.cyc_isa.specs.declared.instr.Instr.{Instr}
 use Rattle.cyc_isa.specs.declared.instr.Instr.TheVariants.{Immediate, LoadUpper, Memory, Branch, BranchZero, Jump, Shift, ShiftVariable, JumpRegister, JumpRegisterLink, Exception, MoveFrom, MultiplyDivide, Arithmetic}
 use Rattle.cyc_isa.specs.declared.instr.MemoryOp.TheVariants.{LoadWord, StoreWord}
 use Rattle.cyc_isa.specs.declared.instr.MoveFromOp.TheVariants.{High, Low}
-use Rattle.cyc_isa.specs.declared.instr.BranchOp.{BranchOp}
-use Rattle.cyc_isa.specs.declared.operand.Register.{Register}
 use Rattle.cyc_words.specs.Simulation as simulation
 use Rattle.cyc_words.specs.Simulation.{Machine, Comes, IsDistinct}
 use Rattle.cyc_plain.specs.State.{Words, AreWords, put}
@@ -18,13 +17,15 @@ use Rattle.cyc_plain.proofs.Placed.{holds_at}
 use Rattle.cyc_isa.specs.Encoding.{IsEncodable}
 use Rattle.cyc_isa.proofs.EffectLemmas.{IsWord-immediate_result, IsWord-load_upper_result, IsWord-arithmetic_result, IsWord-shift_result, IsWord-low_result, IsWord-high_result}
 use Rattle.std.proofs.lemmas.Bool.{cases_eq}
+use Rattle.cyc_select.specs.declared.code.Condition.{Condition}
+use Rattle.cyc_select.specs.declared.code.Condition.TheVariants as conditions
 use Rattle.cyc_select.specs.declared.code.Line.{Line}
 use Rattle.cyc_select.specs.declared.code.Line.TheVariants as lines
 use Rattle.cyc_select.specs.Labelled.{Labelled, IsFormed, IsFormedLine, is_ordinary, AreAddresses}
 use Rattle.cyc_words.specs.Ending.{Ending, Returned, Uncaught, Full}
 use Rattle.cyc_words.specs.Word.{IsWord, signed}
 use Rattle.cyc_isa.specs.Decoding.{trap_code_of}
-use Rattle.cyc_select.specs.Machine.{Configuration, State, Running, Ended, Step, Executes, ExecutesAt, Performs, PerformsOrdinary, machine, status_of, output_of, linked, at, word_in}
+use Rattle.cyc_select.specs.Machine.{Configuration, State, Running, Ended, Step, Executes, ExecutesAt, Performs, PerformsOrdinary, machine, status_of, output_of, linked, at, word_in, holds_of}
 use Rattle.cyc_select.specs.Selection.{ordinary, syscall}
 use Rattle.cyc_select.proofs.Views.{View, does_r, does_w, IsSafe, moved, view_at, view_seen, view_put}
 use Rattle.cyc_select.proofs.Effects.{performed, moved_view, byte_of, given_byte, gets_byte, printed_byte, puts_byte, ends_returned, ends_uncaught, ends_full}
@@ -263,19 +264,23 @@ module _ (code : Labelled) (formed : IsFormed code) (addresses : ℕ → ℕ) (g
   at_now : (k j : ℕ) (out input : List ℕ) (r w : Words) (c : Configuration) → Now k out input r w c → Now j out input r w (at c j)
   at_now k j out input r w c now = record { view = view_at globals stack c r w now.view j; r_words = now.r_words; w_words = now.w_words; at_line = refl; output = now.output; input = now.input }
 
-  pub walk_branch : (n k lo hi : ℕ) (out input : List ℕ) (Goal : State → Type 0) (r w : Words) (c : Configuration) (op : BranchOp) (left right : Register) (label target : ℕ)
-      → Now k out input r w c → slice_get code.lines k ≡ Some (lines.Branch op left right label) → lo ≤ k
-      → (if branch_taken op (r left.number) (r right.number) then label else k + 1) ≡ target
+  holds_now : (k : ℕ) (out input : List ℕ) (r w : Words) (c : Configuration) → Now k out input r w c → (condition : Condition) → holds_of (word_in c) condition ≡ holds_of r condition
+  holds_now k out input r w c now (conditions.Registers op left right) =
+      ap (λ (x : ℕ). branch_taken op x (word_in c right.number)) (now.view.reg left.number left.in_range) ∙ ap (branch_taken op (r left.number)) (now.view.reg right.number right.in_range)
+  holds_now k out input r w c now (conditions.Sign op source) = ap (branch_zero_taken op) (now.view.reg source.number source.in_range)
+
+  pub walk_branch : (n k lo hi : ℕ) (out input : List ℕ) (Goal : State → Type 0) (r w : Words) (c : Configuration) (condition : Condition) (label target : ℕ)
+      → Now k out input r w c → slice_get code.lines k ≡ Some (lines.Branch condition label) → lo ≤ k
+      → (if holds_of r condition then label else k + 1) ≡ target
       → ((d : Configuration) → Now target out input r w d → Walk n (suc k) hi out Goal (Running d))
       → Walk (suc n) lo hi out Goal (Running c)
-  walk_branch n k lo hi out input Goal r w c op left right label target now stands from goes_to rest =
-      let there : (if branch_taken op (word_in c left.number) (word_in c right.number) then label else c.line + 1) ≡ target =
-      ap (λ (x : ℕ). if branch_taken op x (word_in c right.number) then label else c.line + 1) (now.view.reg left.number left.in_range)
-      ∙ (ap (λ (x : ℕ). if branch_taken op (r left.number) x then label else c.line + 1) (now.view.reg right.number right.in_range)
-      ∙ (ap (λ (x : ℕ). if branch_taken op (r left.number) (r right.number) then label else x + 1) now.at_line ∙ goes_to)) in
+  walk_branch n k lo hi out input Goal r w c condition label target now stands from goes_to rest =
+      let there : (if holds_of (word_in c) condition then label else c.line + 1) ≡ target =
+      ap (λ (b : Bool). if b then label else c.line + 1) (holds_now k out input r w c now condition)
+      ∙ (ap (λ (x : ℕ). if holds_of r condition then label else x + 1) now.at_line ∙ goes_to) in
       walk_step n lo hi out Goal c (Running (at c target)) (omega (arith, from, now.at_line)) now.output
       (λ next step.
-      executes_line c (lines.Branch op left right label) next (stands_now k out input r w c (lines.Branch op left right label) now stands) step
+      executes_line c (lines.Branch condition label) next (stands_now k out input r w c (lines.Branch condition label) now stands) step
       ∙ ap (λ (x : ℕ). Running (at c x)) there)
       (walk_from n (suc c.line) (suc k) hi out Goal (Running (at c target)) (omega (arith, now.at_line)) (rest (at c target) (at_now k target out input r w c now)))
 
@@ -290,21 +295,21 @@ module _ (code : Labelled) (formed : IsFormed code) (addresses : ℕ → ℕ) (g
 
   pub walk_call : (n k lo hi : ℕ) (out input : List ℕ) (Goal : State → Type 0) (r w : Words) (c : Configuration) (label : ℕ)
       → Now k out input r w c → slice_get code.lines k ≡ Some (lines.Call label) → lo ≤ k → IsWord (addresses (k + 1))
-      → ((d : Configuration) → Now label out input (put r 31 (addresses (k + 1))) w d → Walk n (suc k) hi out Goal (Running d))
+      → ((d : Configuration) → Now label out input (put r RETURN_ADDRESS (addresses (k + 1))) w d → Walk n (suc k) hi out Goal (Running d))
       → Walk (suc n) lo hi out Goal (Running c)
   walk_call n k lo hi out input Goal r w c label now stands from word rest =
-      let view = view_put globals stack c r w now.view 31 (addresses (c.line + 1)) (addresses (k + 1)) label (omega arith) refl (ap (λ (x : ℕ). addresses (x + 1)) now.at_line) in
+      let view = view_put globals stack c r w now.view RETURN_ADDRESS (addresses (c.line + 1)) (addresses (k + 1)) label (omega arith) refl (ap (λ (x : ℕ). addresses (x + 1)) now.at_line) in
       walk_step n lo hi out Goal c (Running (at (linked addresses c) label)) (omega (arith, from, now.at_line)) now.output
       (λ next step. executes_line c (lines.Call label) next (stands_now k out input r w c (lines.Call label) now stands) step)
       (walk_from n (suc c.line) (suc k) hi out Goal (Running (at (linked addresses c) label)) (omega (arith, now.at_line))
-      (rest (at (linked addresses c) label) (record { view = view; r_words = put_words r 31 (addresses (k + 1)) now.r_words word; w_words = now.w_words; at_line = refl; output = now.output; input = now.input })))
+      (rest (at (linked addresses c) label) (record { view = view; r_words = put_words r RETURN_ADDRESS (addresses (k + 1)) now.r_words word; w_words = now.w_words; at_line = refl; output = now.output; input = now.input })))
 
   pub walk_return : (n k lo hi : ℕ) (out input : List ℕ) (Goal : State → Type 0) (r w : Words) (c : Configuration) (line : ℕ)
-      → AreAddresses code addresses → Now k out input r w c → slice_get code.lines k ≡ Some lines.Return → lo ≤ k → line < length code.lines → r 31 ≡ addresses line
+      → AreAddresses code addresses → Now k out input r w c → slice_get code.lines k ≡ Some lines.Return → lo ≤ k → line < length code.lines → r RETURN_ADDRESS ≡ addresses line
       → ((d : Configuration) → Now line out input r w d → Walk n (suc k) hi out Goal (Running d))
       → Walk (suc n) lo hi out Goal (Running c)
   walk_return n k lo hi out input Goal r w c line lie now stands from inside is_address rest =
-      let holds : word_in c 31 ≡ addresses line = now.view.reg 31 (omega arith) ∙ is_address in
+      let holds : word_in c RETURN_ADDRESS ≡ addresses line = now.view.reg RETURN_ADDRESS (omega arith) ∙ is_address in
       walk_step n lo hi out Goal c (Running (at c line)) (omega (arith, from, now.at_line)) now.output
       (λ next step. elim (executes_line c lines.Return next (stands_now k out input r w c lines.Return now stands) step) [
         | inl (other, below, lies, is) ↦ is ∙ ap (λ (x : ℕ). Running (at c x)) (lie.apart other line below inside (lies ∙ holds))

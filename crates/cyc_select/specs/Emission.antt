@@ -55,6 +55,7 @@ IsPlanFound frame plan = IsFound frame plan.left × IsFound frame plan.right
 
 abbrev pub IsTestFound : Frame → Test → Type 0
 IsTestFound frame (tests.Operands op left right) = IsFound frame left × IsFound frame right
+IsTestFound frame (tests.Sign op operand) = IsFound frame operand
 IsTestFound frame (tests.Computed plan) = IsPlanFound frame plan
 
 -- so many lines a program has at most

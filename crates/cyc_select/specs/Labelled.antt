@@ -30,7 +30,7 @@ is_ordinary instruction = true
 -- stands before a line of the code, and so it stands once.
 abbrev pub IsFormedLine : ℕ → Line → Type 0
 IsFormedLine count (lines.Ordinary instruction) = (is_ordinary instruction ≡ true) × IsEncodable instruction
-IsFormedLine count (lines.Branch op left right label) = label < count
+IsFormedLine count (lines.Branch condition label) = label < count
 IsFormedLine count (lines.Jump label) = label < count
 IsFormedLine count (lines.Call label) = label < count
 IsFormedLine count lines.Return = Unit {0}
@@ -42,7 +42,7 @@ IsFormed code = All (IsFormedLine (length code.lines)) code.lines
 -- a jump has a delay slot.
 abbrev pub words_of : Line → ℕ
 words_of (lines.Ordinary instruction) = 1
-words_of (lines.Branch op left right label) = 4
+words_of (lines.Branch condition label) = 4
 words_of (lines.Jump label) = 2
 words_of (lines.Call label) = 2
 words_of lines.Return = 2

@@ -3,7 +3,7 @@
 -- is the machine's own step.
 use Rattle.std.specs.Prelude.{◌≡◌, ◌≢◌, ℕ, ◌+◌, ◌-◌, ◌*◌, ◌<◌, ◌⊎◌, Bool, true, false, if◌then◌else◌, List, [], ◌++◌, length, replicate, Option, Some, None, slice_get, slice_set}
 use Rattle.cyc_words.specs.Ending.{Ending}
-use Rattle.cyc_isa.specs.Effect.{branch_taken}
+use Rattle.cyc_isa.specs.Effect.{branch_taken, branch_zero_taken}
 use Rattle.cyc_isa.specs.declared.instr.Instr.{Instr}
 use Rattle.cyc_machine.specs.declared.constants.TheConstants.{ARGUMENT, RETURN_ADDRESS, STACK_POINTER}
 use Rattle.cyc_machine.specs.State as machines
@@ -15,6 +15,8 @@ use Rattle.cyc_machine.specs.declared.phase.Phase.{Phase}
 use Rattle.cyc_machine.specs.declared.phase.Phase.TheVariants as phases
 use Rattle.cyc_words.specs.Simulation as simulation
 use Rattle.cyc_select.specs.Labelled.{Labelled, is_ordinary}
+use Rattle.cyc_select.specs.declared.code.Condition.{Condition}
+use Rattle.cyc_select.specs.declared.code.Condition.TheVariants as conditions
 use Rattle.cyc_select.specs.declared.code.Line.{Line}
 use Rattle.cyc_select.specs.declared.code.Line.TheVariants as lines
 
@@ -104,11 +106,16 @@ Returns code addresses c new =
     ((line : ℕ) × (line < length code.lines) × (addresses line ≡ word_in c RETURN_ADDRESS) × (new ≡ Running (at c line)))
     ⊎ (((line : ℕ) → line < length code.lines → addresses line ≢ word_in c RETURN_ADDRESS) × (new ≡ Stopped c.output c.input))
 
+-- a condition holds of these registers
+abbrev pub holds_of : (ℕ → ℕ) → Condition → Bool
+holds_of words (conditions.Registers op left right) = branch_taken op (words left.number) (words right.number)
+holds_of words (conditions.Sign op source) = branch_zero_taken op (words source.number)
+
 -- what a line does
 abbrev pub Executes : Labelled → (ℕ → ℕ) → Configuration → Line → State → Type 0
 Executes code addresses c (lines.Ordinary instruction) new = PerformsOrdinary (is_ordinary instruction) c instruction new
-Executes code addresses c (lines.Branch op left right label) new =
-    new ≡ Running (at c (if branch_taken op (word_in c left.number) (word_in c right.number) then label else c.line + 1))
+Executes code addresses c (lines.Branch condition label) new =
+    new ≡ Running (at c (if holds_of (word_in c) condition then label else c.line + 1))
 Executes code addresses c (lines.Jump label) new = new ≡ Running (at c label)
 Executes code addresses c (lines.Call label) new = new ≡ Running (at (linked addresses c) label)
 Executes code addresses c lines.Return new = Returns code addresses c new

@@ -6,6 +6,8 @@ use Rattle.cyc_isa.specs.declared.instr.ImmediateOp.TheVariants as immediate
 use Rattle.cyc_isa.specs.declared.instr.ArithmeticOp.{ArithmeticOp}
 use Rattle.cyc_isa.specs.declared.instr.ArithmeticOp.TheVariants as arithmetic
 use Rattle.cyc_isa.specs.declared.instr.BranchOp.TheVariants as branch
+use Rattle.cyc_isa.specs.declared.instr.BranchZeroOp.{BranchZeroOp}
+use Rattle.cyc_isa.specs.declared.instr.BranchZeroOp.TheVariants as signs
 use Rattle.cyc_isa.specs.declared.instr.MoveFromOp.{MoveFromOp}
 use Rattle.cyc_isa.specs.declared.instr.MoveFromOp.TheVariants.{High, Low}
 use Rattle.cyc_isa.specs.declared.instr.MultiplyDivideOp.{MultiplyDivideOp}
@@ -185,8 +187,27 @@ binary_plan operator left right =
 
 -- ---- tests
 
+-- the branch on a sign that is a comparison with 0, if there is one
+abbrev pub sign_of : Comparison → Option BranchZeroOp
+sign_of comparisons.Less = Some signs.Less
+sign_of comparisons.LessOrEqual = Some signs.LessOrEqual
+sign_of comparisons.Greater = Some signs.Greater
+sign_of comparisons.GreaterOrEqual = Some signs.GreaterOrEqual
+sign_of comparison = None
+
+-- a test for order: with 0 by the sign
+abbrev pub sign_or : Option BranchZeroOp → Operand → Test → Test
+sign_or (Some op) operand other = tests.Sign op operand
+sign_or None operand other = other
+
+abbrev pub order_test : Comparison → (left right : Operand) → Test
+order_test comparison left right =
+    if is_zero_word right
+    then sign_or (sign_of comparison) left (tests.Computed (comparison_plan comparison left right))
+    else tests.Computed (comparison_plan comparison left right)
+
 -- what a branch tests
 abbrev pub test_of : Comparison → (left right : Operand) → Test
 test_of comparisons.Equal left right = tests.Operands branch.Equal left right
 test_of comparisons.NotEqual left right = tests.Operands branch.NotEqual left right
-test_of comparison left right = tests.Computed (comparison_plan comparison left right)
+test_of comparison left right = order_test comparison left right

@@ -34,6 +34,7 @@ use Rattle.cyc_frame.specs.Layout.{slot_word, frame_at}
 use Rattle.cyc_frame.specs.declared.frame.Frame.{Frame}
 use Rattle.cyc_select.specs.declared.constants.TheConstants.{ZERO, FIRST_RESULT, SECOND_RESULT, THIRD_RESULT, FIRST, SECOND, THIRD, FRAME, CALLS, START_LINES}
 use Rattle.cyc_select.specs.declared.code.Line.{Line}
+use Rattle.cyc_select.specs.declared.code.Condition.TheVariants as conditions
 use Rattle.cyc_select.specs.declared.code.Line.TheVariants as lines
 use Rattle.cyc_select.specs.Labelled.{Labelled}
 use Rattle.cyc_select.specs.declared.plan.Operation.{Operation}
@@ -194,6 +195,7 @@ plan_code frame plan destination = computed_code frame plan ++ store_slot frame 
 -- before a branch, what it tests
 abbrev pub test_code : Frame → Test → List Instr
 test_code frame (tests.Operands op left right) = operands_code frame left right
+test_code frame (tests.Sign op operand) = operand_code frame FIRST operand
 test_code frame (tests.Computed plan) = operation_of frame plan
 
 -- where the outcome would be 1
@@ -204,9 +206,10 @@ branch_on outcomes.WhetherNotZero = branch.NotEqual
 
 abbrev pub branch_line : Test → (label : ℕ) → Line
 branch_line (tests.Operands op left right) label =
-    lines.Branch op (register_of (operand_register FIRST left)) (register_of (operand_register SECOND right)) label
+    lines.Branch (conditions.Registers op (register_of (operand_register FIRST left)) (register_of (operand_register SECOND right))) label
+branch_line (tests.Sign op operand) label = lines.Branch (conditions.Sign op (register_of (operand_register FIRST operand))) label
 branch_line (tests.Computed plan) label =
-    lines.Branch (branch_on plan.outcome) (register_of FIRST) (register_of ZERO) label
+    lines.Branch (conditions.Registers (branch_on plan.outcome) (register_of FIRST) (register_of ZERO)) label
 
 -- ---- how many lines
 
@@ -244,6 +247,7 @@ plan_count plan = count_of_operation plan + outcome_count plan.outcome + 1
 
 abbrev pub test_count : Test → ℕ
 test_count (tests.Operands op left right) = operand_count left + operand_count right
+test_count (tests.Sign op operand) = operand_count operand
 test_count (tests.Computed plan) = count_of_operation plan
 
 -- a division that has lines of its own, by a divisor that may be -1
@@ -286,7 +290,7 @@ divided_code frame left right = loads_code frame left right ++ add_immediate THI
 abbrev pub divide_code : Frame → (here : ℕ) → MoveFromOp → (destination : ℕ) → (left right : Operand) → List Line
 divide_code frame here which destination left right =
     ordinary (divided_code frame left right)
-    ++ lines.Branch branch.NotEqual (register_of SECOND) (register_of THIRD) (here + (load_count left + load_count right) + 4)
+    ++ lines.Branch (conditions.Registers branch.NotEqual (register_of SECOND) (register_of THIRD)) (here + (load_count left + load_count right) + 4)
     ∷ quotient_code frame which destination
 
 -- which result of a division is read
@@ -400,7 +404,7 @@ uncaught_code frame tag value =
 -- return address is kept, and the callee's frame is the current one.
 abbrev pub calling_code : (caller callee : Frame) → (here label arguments count : ℕ) → List Line
 calling_code caller callee here label arguments count =
-    lines.Branch branch.NotEqual (register_of CALLS) (register_of ZERO) (here + 3) ∷ []
+    lines.Branch (conditions.Registers branch.NotEqual (register_of CALLS) (register_of ZERO)) (here + 3) ∷ []
     ++ ordinary (
     small SERVICE END_FULL
     ∷ syscall
@@ -423,7 +427,7 @@ returned_code frame result results =
 abbrev pub ending_code : Bool → Frame → (here value : ℕ) → List Line
 ending_code is_main frame here value =
     if is_main
-    then lines.Branch branch.NotEqual (register_of RETURN_ADDRESS) (register_of ZERO) (here + 4) ∷ []
+    then lines.Branch (conditions.Registers branch.NotEqual (register_of RETURN_ADDRESS) (register_of ZERO)) (here + 4) ∷ []
     ++ ordinary (load_slot frame ARGUMENT value ∷ small SERVICE END_RETURNED ∷ syscall ∷ [])
     else []
 

@@ -1,11 +1,12 @@
 //! Lines that are being made.
 ghost use Rattle.std.specs.Prelude.{◌≡◌, [], ◌∷◌, OnOk};
 ghost use Rattle.cyc_isa.specs.Decoding.{register_of};
+ghost use Rattle.cyc_select.specs.declared.code.Condition.TheVariants as conditions;
 ghost use Rattle.cyc_select.specs.declared.code.Line.TheVariants as lines;
 ghost use Rattle.cyc_select.specs.Selection.{ordinary};
 ghost use Rattle.cyc_select.specs.Emission.{AddsLines};
 
-use crate::code::Line;
+use crate::code::{Condition, Line};
 use crate::instructions::register;
 use cyc_isa::{BranchOp, Instr};
 use std::alloc::{AllocError, Global};
@@ -41,14 +42,14 @@ impl Emitter {
         right: u8,
         label: usize,
     ) -> Result<(), AllocError>
-        ensures { AddsLines result self.old self.new (lines.Branch op (register_of left) (register_of right) label ∷ []) }
+        ensures { AddsLines result self.old self.new (lines.Branch (conditions.Registers op (register_of left) (register_of right)) label ∷ []) }
     {
-        self.line(Line::Branch {
+        let condition = Condition::Registers {
             op,
             left: register(left),
             right: register(right),
-            label,
-        })
+        };
+        self.line(Line::Branch { condition, label })
     }
 
     /// Lines of one instruction each.

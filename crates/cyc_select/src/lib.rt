@@ -15,5 +15,5 @@ mod plan;
 mod selection;
 mod tables;
 
-pub use code::{Code, Line};
+pub use code::{Code, Condition, Line};
 pub use selection::select;

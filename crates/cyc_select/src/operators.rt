@@ -3,7 +3,7 @@ ghost use Rattle.std.specs.Prelude.{◌≡◌, ◌+◌, ◌*◌, ◌<◌, ◌≤
 ghost use Rattle.cyc_select.specs.Selection.{load_slot, store_slot, small, syscall, arithmetic_of, immediate_of, shift_of, shift_by_of, multiply_divide_of, move_from_of, upper_of_global, at_global, operation_code, outcome_code, operands_code, operation_of, computed_code, plan_code, test_code, branch_on, branch_line, operation_count, outcome_count, count_of_operation, plan_count, test_count, ordinary, quotient_code, loads_code, divided_code, divide_code, is_tested, part_of, operator_code, move_code, branch_code, write_code, load_global, store_global, uncaught_code};
 ghost use Rattle.cyc_select.specs.Emission.{AddsLines, IsReached, IsFound, IsPlanFound, IsTestFound, most_lines};
 
-use crate::code::Line;
+use crate::code::{Condition, Line};
 use crate::constants::{FIRST, SECOND, THIRD, ZERO};
 use crate::emitter::Emitter;
 use crate::instructions::{
@@ -167,6 +167,7 @@ pub(crate) fn test_count(test: Test) -> usize
 {
     match test {
         Test::Operands { left, right, .. } => operand_count(left) + operand_count(right),
+        Test::Sign { operand, .. } => operand_count(operand),
         Test::Computed { plan } => count_of_operation(plan),
     }
 }
@@ -185,20 +186,23 @@ fn branch_on(outcome: Outcome) -> BranchOp
 fn branch_line(test: Test, label: usize) -> Line
     ensures { result ≡ branch_line test label }
 {
-    match test {
-        Test::Operands { op, left, right } => Line::Branch {
+    let condition = match test {
+        Test::Operands { op, left, right } => Condition::Registers {
             op,
             left: register(operand_register(FIRST, left)),
             right: register(operand_register(SECOND, right)),
-            label,
         },
-        Test::Computed { plan } => Line::Branch {
+        Test::Sign { op, operand } => Condition::Sign {
+            op,
+            source: register(operand_register(FIRST, operand)),
+        },
+        Test::Computed { plan } => Condition::Registers {
             op: branch_on(plan.outcome),
             left: register(FIRST),
             right: register(ZERO),
-            label,
         },
-    }
+    };
+    Line::Branch { condition, label }
 }
 
 /// Whether a division has lines of its own, since its divisor may be -1.
@@ -319,6 +323,7 @@ impl Emitter {
     {
         match test {
             Test::Operands { left, right, .. } => self.operands(frame, left, right),
+            Test::Sign { operand, .. } => self.operand(frame, FIRST, operand),
             Test::Computed { plan } => self.operation_of(frame, plan),
         }
     }

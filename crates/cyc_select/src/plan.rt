@@ -1,11 +1,13 @@
 //! How the machine computes what an operator or a comparison says: by which instructions, and of which operands.
 ghost use Rattle.std.specs.Prelude.{◌≡◌};
-ghost use Rattle.cyc_select.specs.Plans.{arithmetic_plan, immediate_plan, immediate_or, shift_plan, multiply_divide_plan, mirrored, zero_plan, equal_plan, less_plan, less_unsigned_plan, at_most_plan, compared_plan, is_mirrored, comparison_plan, unary_plan, sum_plan, difference_plan, bits_plan, operator_plan, is_swapped, binary_plan, test_of};
+ghost use Rattle.cyc_select.specs.Plans.{arithmetic_plan, immediate_plan, immediate_or, shift_plan, multiply_divide_plan, mirrored, zero_plan, equal_plan, less_plan, less_unsigned_plan, at_most_plan, compared_plan, is_mirrored, comparison_plan, unary_plan, sum_plan, difference_plan, bits_plan, operator_plan, is_swapped, binary_plan, sign_of, order_test, test_of};
 
 use crate::numbers::{
     is_word, is_zero_word, low_half, negated_half, next_half, shift_amount, signed_half,
 };
-use cyc_isa::{ArithmeticOp, BranchOp, ImmediateOp, MoveFromOp, MultiplyDivideOp, ShiftOp};
+use cyc_isa::{
+    ArithmeticOp, BranchOp, BranchZeroOp, ImmediateOp, MoveFromOp, MultiplyDivideOp, ShiftOp,
+};
 use cyc_plain::{BinaryOperator, Comparison, Operand, UnaryOperator};
 
 /// What makes a word of the words in two registers, or of that in the left one and a number.
@@ -63,6 +65,11 @@ pub(crate) enum Test {
         op: BranchOp,
         left: Operand,
         right: Operand,
+    },
+    /// The sign of an operand.
+    Sign {
+        op: BranchZeroOp,
+        operand: Operand,
     },
     /// Whether a word that is computed is not 0.
     Computed {
@@ -379,6 +386,33 @@ pub(crate) fn binary_plan(operator: BinaryOperator, left: Operand, right: Operan
     }
 }
 
+/// The branch on a sign that is a comparison with 0, if there is one.
+fn sign_of(comparison: Comparison) -> Option<BranchZeroOp>
+    ensures { result ≡ sign_of comparison }
+{
+    match comparison {
+        Comparison::Less => Some(BranchZeroOp::Less),
+        Comparison::LessOrEqual => Some(BranchZeroOp::LessOrEqual),
+        Comparison::Greater => Some(BranchZeroOp::Greater),
+        Comparison::GreaterOrEqual => Some(BranchZeroOp::GreaterOrEqual),
+        _ => None,
+    }
+}
+
+/// A test for order: with 0 by the sign.
+fn order_test(comparison: Comparison, left: Operand, right: Operand) -> Test
+    ensures { result ≡ order_test comparison left right }
+{
+    if is_zero_word(right) {
+        if let Some(op) = sign_of(comparison) {
+            return Test::Sign { op, operand: left };
+        }
+    }
+    Test::Computed {
+        plan: comparison_plan(comparison, left, right),
+    }
+}
+
 /// What a branch tests.
 pub(crate) fn test_of(comparison: Comparison, left: Operand, right: Operand) -> Test
     ensures { result ≡ test_of comparison left right }
@@ -394,8 +428,6 @@ pub(crate) fn test_of(comparison: Comparison, left: Operand, right: Operand) -> 
             left,
             right,
         },
-        _ => Test::Computed {
-            plan: comparison_plan(comparison, left, right),
-        },
+        _ => order_test(comparison, left, right),
     }
 }

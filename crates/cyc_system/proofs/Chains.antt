@@ -11,8 +11,7 @@ use Rattle.cyc_elf.specs.Layout.{layout}
 use Rattle.cyc_elf.specs.Reading.{reading}
 use Rattle.cyc_isa.specs.declared.operand.Register.{Register}
 use Rattle.cyc_isa.specs.declared.instr.Instr.{Instr}
-use Rattle.cyc_isa.specs.declared.instr.Instr.TheVariants.{Branch, Jump, JumpRegister}
-use Rattle.cyc_isa.specs.declared.instr.BranchOp.{BranchOp}
+use Rattle.cyc_isa.specs.declared.instr.Instr.TheVariants.{Jump, JumpRegister}
 use Rattle.cyc_isa.specs.declared.instr.JumpOp.TheVariants.{Plain, AndLink}
 use Rattle.cyc_isa.specs.Encoding.{word_of}
 use Rattle.cyc_machine.specs.Bounds.{Bounds}
@@ -29,10 +28,11 @@ use Rattle.cyc_lower.specs.Lowered.{IsLowered}
 use Rattle.cyc_meaning.specs.SourceMachine.{source_machine}
 use Rattle.cyc_select.specs.Labelled.{Labelled}
 use Rattle.cyc_select.specs.Selected.{IsCodeOf}
+use Rattle.cyc_select.specs.declared.code.Condition.{Condition}
 use Rattle.cyc_select.specs.declared.code.Line.{Line}
 use Rattle.cyc_select.specs.declared.code.Line.TheVariants as lines
 use Rattle.cyc_asm.specs.Layout.{is_near}
-use Rattle.cyc_asm.specs.Text.{text_of, IsAt, inverse_of, return_register, StandsBranch, Stands, IsTextOf}
+use Rattle.cyc_asm.specs.Text.{text_of, IsAt, branch_of, inverse_of, return_register, StandsBranch, Stands, IsTextOf}
 use Rattle.cyc_asm.specs.Machine as assembled
 use Rattle.cyc_asm.specs.Machine.{Runs}
 use Rattle.cyc_machine.specs.WorldMachine.{world_machine}
@@ -51,14 +51,14 @@ has_word : (words : List ℕ) (address : ℕ) (i : Instr) → IsAt words address
 has_word [] address i at = absurd (none-some (word_of i) (sym (no_text address) ∙ at.word))
 has_word (w ∷ words) address i at = omega arith
 
-branch_has_word : (near : Bool) (words : List ℕ) (addresses : ℕ → ℕ) (number : ℕ) (op : BranchOp) (left right : Register) (label : ℕ) → StandsBranch near words addresses number op left right label → 0 < length words
-branch_has_word true words addresses number op left right label (stands, next) = has_word words (addresses number) (Branch op left right stands.offset) stands.branch
-branch_has_word false words addresses number op left right label (stands, jump, next) = has_word words (addresses number) (Branch (inverse_of op) left right stands.offset) stands.branch
+branch_has_word : (near : Bool) (words : List ℕ) (addresses : ℕ → ℕ) (number : ℕ) (condition : Condition) (label : ℕ) → StandsBranch near words addresses number condition label → 0 < length words
+branch_has_word true words addresses number condition label (stands, next) = has_word words (addresses number) (branch_of condition stands.offset) stands.branch
+branch_has_word false words addresses number condition label (stands, jump, next) = has_word words (addresses number) (branch_of (inverse_of condition) stands.offset) stands.branch
 
 line_has_word : (code : Labelled) (words : List ℕ) (addresses : ℕ → ℕ) (number : ℕ) (line : Line) → Stands code words addresses number line → 0 < length words
 line_has_word code words addresses number (lines.Ordinary instruction) (at, next) = has_word words (addresses number) instruction at
-line_has_word code words addresses number (lines.Branch op left right label) stands =
-    branch_has_word (is_near code.lines number label) words addresses number op left right label stands
+line_has_word code words addresses number (lines.Branch condition label) stands =
+    branch_has_word (is_near code.lines number label) words addresses number condition label stands
 line_has_word code words addresses number (lines.Jump label) (stands, next) = has_word words (addresses number) (Jump Plain stands.index) stands.jump
 line_has_word code words addresses number (lines.Call label) (stands, next) = has_word words (addresses number) (Jump AndLink stands.index) stands.jump
 line_has_word code words addresses number lines.Return (at, slot, next) = has_word words (addresses number) (JumpRegister return_register) at

@@ -1,7 +1,9 @@
 use Rattle.std.proofs.Common.{◌≡◌, ℕ, List, [], ◌∷◌, ◌++◌, ◌∙◌, get_or, sym, ap, subst, arith, true, false, append_assoc}
 use Rattle.std.specs.Prelude.{OnOk}
-use Rattle.cyc_isa.specs.declared.instr.BranchOp.{BranchOp}
+use Rattle.cyc_select.specs.declared.code.Condition.{Condition}
+use Rattle.cyc_isa.specs.declared.instr.Instr.{Instr}
 use Rattle.cyc_isa.specs.declared.instr.JumpOp.TheVariants.{Plain, AndLink}
+use Rattle.cyc_isa.specs.Encoding.{word_of}
 use Rattle.cyc_asm.specs.declared.constants.TheConstants.{ROUND_OFFSET}
 use Rattle.cyc_asm.specs.Text.{inverse_of}
 use Rattle.cyc_asm.specs.Words.{jump_words, branch_words}
@@ -101,7 +103,8 @@ returns-then-is_near c =
     let label = formed_here c.args.lines.now c.args.number _ _ c.requires.formed c.requires.within c.in-Branch.is in
     let near = near_here c.args.lines.now c.args.most.now c.args.number c.in-Branch.label c.is_near.result true c.requires.most c.requires.within label c.is_near.ensures c.if-is_near.true in
     subst (λ (ws : List ℕ). OnOk c.push_with_slot.result (c.push_with_slot.new.words.items ≡ c.args.words.now.items ++ ws))
-    (offset_words_here c.args.lines.now c.args.positions.now c.args.number _ _ _ _ c.in-Branch.label c.offset-offset.result c.requires.positions c.requires.within label c.in-Branch.is near c.offset-offset.ensures)
+    (ap (λ (i : Instr). word_of i ∷ 0 ∷ []) c.branch-condition.ensures
+    ∙ offset_words_here c.args.lines.now c.args.positions.now c.args.number _ _ c.in-Branch.label c.offset-offset.result c.requires.positions c.requires.within label c.in-Branch.is near c.offset-offset.ensures)
     c.push_with_slot.ensures
 
 pub returns-in_ok-push_with_slot-in-Branch : goal.returns-in_ok-push_with_slot-in-Branch
@@ -111,8 +114,9 @@ returns-in_ok-push_with_slot-in-Branch c =
     let place = position_at c.args.lines.now c.args.positions.now c.in-Branch.label c.requires.positions label in
     subst (λ (ws : List ℕ). OnOk c.push_jump.result (c.push_jump.new.words.items ≡ ws))
     (ap (λ (ws : List ℕ). ws ++ jump_words Plain (get_or c.args.positions.now c.in-Branch.label 0)) c.in_ok-push_with_slot-in-Branch.ensures
-    ∙ append_assoc c.args.words.now.items (branch_words c.inverse-op.result c.in-Branch.left c.in-Branch.right ROUND_OFFSET) (jump_words Plain (get_or c.args.positions.now c.in-Branch.label 0))
-    ∙ ap (λ (op : BranchOp). c.args.words.now.items ++ (branch_words op c.in-Branch.left c.in-Branch.right ROUND_OFFSET ++ jump_words Plain (get_or c.args.positions.now c.in-Branch.label 0))) c.inverse-op.ensures
-    ∙ ap (λ (to : ℕ). c.args.words.now.items ++ (branch_words (inverse_of c.in-Branch.op) c.in-Branch.left c.in-Branch.right ROUND_OFFSET ++ jump_words Plain to)) place
-    ∙ ap (λ (ws : List ℕ). c.args.words.now.items ++ ws) (sym (words_of_branch_here c.args.lines.now c.args.number _ _ _ _ _ false c.requires.within c.in-Branch.is far)))
+    ∙ append_assoc c.args.words.now.items (word_of c.branch-inverse.result ∷ 0 ∷ []) (jump_words Plain (get_or c.args.positions.now c.in-Branch.label 0))
+    ∙ ap (λ (i : Instr). c.args.words.now.items ++ ((word_of i ∷ 0 ∷ []) ++ jump_words Plain (get_or c.args.positions.now c.in-Branch.label 0))) c.branch-inverse.ensures
+    ∙ ap (λ (condition : Condition). c.args.words.now.items ++ (branch_words condition ROUND_OFFSET ++ jump_words Plain (get_or c.args.positions.now c.in-Branch.label 0))) c.inverse.ensures
+    ∙ ap (λ (to : ℕ). c.args.words.now.items ++ (branch_words (inverse_of c.in-Branch.condition) ROUND_OFFSET ++ jump_words Plain to)) place
+    ∙ ap (λ (ws : List ℕ). c.args.words.now.items ++ ws) (sym (words_of_branch_here c.args.lines.now c.args.number _ _ _ false c.requires.within c.in-Branch.is far)))
     c.push_jump.ensures

@@ -25,14 +25,14 @@ pub returns-then-is_near : goal.returns-then-is_near
 returns-then-is_near c =
     let label = formed_here c.args.lines.now c.args.number _ _ c.requires.formed c.requires.within c.in-Branch.is in
     sym (
-    width_of_branch c.args.lines.now c.args.number _ _ _ _ _ true c.requires.within c.in-Branch.is
+    width_of_branch c.args.lines.now c.args.number _ _ _ true c.requires.within c.in-Branch.is
     (near_here c.args.lines.now c.args.most.now c.args.number c.in-Branch.label c.is_near.result true c.requires.most c.requires.within label c.is_near.ensures c.if-is_near.true))
 
 pub returns-else-is_near : goal.returns-else-is_near
 returns-else-is_near c =
     let label = formed_here c.args.lines.now c.args.number _ _ c.requires.formed c.requires.within c.in-Branch.is in
     sym (
-    width_of_branch c.args.lines.now c.args.number _ _ _ _ _ false c.requires.within c.in-Branch.is
+    width_of_branch c.args.lines.now c.args.number _ _ _ false c.requires.within c.in-Branch.is
     (near_here c.args.lines.now c.args.most.now c.args.number c.in-Branch.label c.is_near.result false c.requires.most c.requires.within label c.is_near.ensures c.if-is_near.false))
 
 pub returns-in-Jump : goal.returns-in-Jump
