@@ -4,12 +4,11 @@ use Rattle.cyc_types.specs.TypedTrees.{Expression, Number, Copy, Call, Unary, Bi
 use Rattle.cyc_types.specs.TypedTrees as typed
 use Rattle.cyc_meaning.specs.State.{Awaiting, Chain, Pass, Entry, Needs, Rest, Focus, Evaluating, Executing, Entering, Binding, State, Running}
 
--- An expression that begins with an instruction weighs nothing. One that begins with another weighs more than that and what
--- waits for it.
+-- An expression that is an operand may have no code. One that begins with another weighs more than that and what waits for it.
 abbrev mutual
   pub expression_weight : Expression → ℕ
-  expression_weight (Number n) = 0
-  expression_weight (Copy l t) = 0
+  expression_weight (Number n) = 1
+  expression_weight (Copy l t) = 1
   expression_weight (Call f cs t) = suc (arguments_weight cs)
   expression_weight (Unary o a) = suc (suc (expression_weight a))
   expression_weight (Binary a os t) = suc (suc (expression_weight a + operations_weight os))
