@@ -405,9 +405,14 @@ made_print items old code new i byte t done r left is =
       joined old (printed_code (arguments_of items) (length old) t) (λ p. instructions.WriteByte o ∷ []) code new made (is ∙ ap (λ (b : Operand). code ++ instructions.WriteByte b ∷ []) byte_is),
     )
 
--- a call whose value is dropped
-pub made_discarded_call : (value : Expr) (f : Callee) (v : Vec ConvertedCode Heap) (ty : Option TyCode) (items : List ConvertedCode) (old new : List Instruction) (t : ℕ) → value ≡ expr.Call f v ty → items ≡ v.items
-    → f ≡ callees.Putchar → new ≡ old ++ print_code (arguments_of items) (length old) t → new ≡ old ++ discarded_code (view_expression value) (length old) t
-made_discarded_call value f v ty items old new t is same putchar made =
-    made ∙ ap (λ (g : Callee). old ++ discarded_code (Call g (arguments_of items) (option_map view_ty ty)) (length old) t) (sym putchar)
+-- a call whose value is dropped, as the expression that it is
+discarded_alike : (f : Callee) (cs : Arguments) (ty other : Option Ty) (p t : ℕ) → discarded_code (Call f cs ty) p t ≡ discarded_code (Call f cs other) p t
+discarded_alike callees.Putchar cs ty other p t = refl
+discarded_alike callees.Getchar cs ty other p t = refl
+discarded_alike (callees.Function n) cs ty other p t = refl
+
+pub made_discarded : (value : Expr) (f : Callee) (v : Vec ConvertedCode Heap) (ty : Option TyCode) (items : List ConvertedCode) (old new : List Instruction) (t : ℕ) → value ≡ expr.Call f v ty → items ≡ v.items
+    → new ≡ old ++ discarded_code (Call f (arguments_of items) None) (length old) t → new ≡ old ++ discarded_code (view_expression value) (length old) t
+made_discarded value f v ty items old new t is same made =
+    made ∙ ap (λ (l : List Instruction). old ++ l) (discarded_alike f (arguments_of items) None (option_map view_ty ty) (length old) t)
     ∙ ap (λ (a : Expression). old ++ discarded_code a (length old) t) (sym (call_viewed value f v ty is items same))

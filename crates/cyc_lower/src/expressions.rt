@@ -356,6 +356,26 @@ impl Emitter {
         Ok(())
     }
 
+    /// A call whose value nobody wants.
+    fn discarded_call(
+        &mut self,
+        callee: Callee,
+        arguments: &[Converted],
+        free: usize,
+    ) -> Result<(), AllocError>
+        requires { free ≤ most_locals + length self.old.code.items }
+        ensures { Appends result self.old self.new (discarded_code (Call callee (arguments_of arguments.now) None) (length self.old.code.items) free) }
+    {
+        match callee {
+            Callee::Putchar => {
+                self.print(arguments, free)?;
+                Ok(())
+            }
+            Callee::Getchar => self.call(callee, arguments, free, free),
+            Callee::Function { .. } => self.call(callee, arguments, free, free),
+        }
+    }
+
     /// An expression whose value nobody wants.
     pub(crate) fn discarded(&mut self, value: &Expr, free: usize) -> Result<(), AllocError>
         requires { free ≤ most_locals + length self.old.code.items }
@@ -363,20 +383,16 @@ impl Emitter {
     {
         match value {
             Expr::Call {
-                callee: Callee::Putchar,
+                callee,
                 arguments,
                 ..
-            } => {
-                self.print(arguments, free)?;
-                Ok(())
-            }
+            } => self.discarded_call(*callee, arguments, free),
             Expr::Assign { target, value, .. } => {
                 self.assignment(*target, value, free)?;
                 Ok(())
             }
             Expr::Number { .. }
             | Expr::Copy { .. }
-            | Expr::Call { .. }
             | Expr::Unary { .. }
             | Expr::Binary { .. } => {
                 self.operand(value, free)?;
