@@ -339,11 +339,14 @@ module _ (source : Program) (pages calls : ℕ) (some_page : 1 ≤ pages) where
   chain_goes_on None u b os v l k e w c r d m s is_known (shared, facts, is, holds) (r_is, (there, at_b)) here lands =
       let g = c.active.function in
       let free = suc (top source g k) in
-      silently source pages calls some_page (Running (Given v) (Needs (Chain (ThenCompute u b os)) ∷ k) e w) (Running (Evaluating b) (Needs (Apply u v) ∷ Needs (Chain os) ∷ k) e w) (plain.Running c) refl
-      (shared, facts, as_operand r m
-      (subst (λ x. OperandBy (code_of source g) (bounds_at source g) x (ExpressionAt (code_of source g) (bounds_at source g) b (value_slot b free) free c.active.next m) (value_slot b free) r c.active.next m) (sym is_known) (r_is, at_b))
-      (subst (λ x. Is v (operand_word c.active.slots x)) there is, holds)
-      (d, s, subst (λ x. OperatorAt (code_of source g) (bounds_at source g) u d x r m s) there here, lands))
+      silently source pages calls some_page (Running (Given v) (Needs (Chain (ThenCompute u b os)) ∷ k) e w) (Running (Evaluating b) (Needs (Apply u v) ∷ Needs (Chain os) ∷ k) e w) (plain.Running c) refl (
+        shared,
+        facts,
+        as_operand r m
+            (subst (λ x. OperandBy (code_of source g) (bounds_at source g) x (ExpressionAt (code_of source g) (bounds_at source g) b (value_slot b free) free c.active.next m) (value_slot b free) r c.active.next m) (sym is_known) (r_is, at_b))
+            (subst (λ x. Is v (operand_word c.active.slots x)) there is, holds)
+            (d, s, subst (λ x. OperatorAt (code_of source g) (bounds_at source g) u d x r m s) there here, lands),
+      )
       (omega arith)
 
   chains : (os : Operations) (v : Value) (o : Operand) (k : List Entry) (e : Environment) (w : World) (c : Configuration) → Stands v o k e w c
@@ -534,8 +537,7 @@ module _ (source : Program) (pages calls : ℕ) (some_page : 1 ≤ pages) where
       let g = c.active.function in
       let slots = c.active.slots in
       silently source pages calls some_page (Running (Given v) (Needs (Initialise n kind) ∷ k) e w) (Running Proceeding k (with_local e n (length w.objects)) (made w (variable e.home kind (Some v)))) (plain.Running c)
-      (is_declared (region_at w e.home) Proceeding n kind (Some v) k e w well)
-      (
+      (is_declared (region_at w e.home) Proceeding n kind (Some v) k e w well) (
         shared,
         behind_statement loop
             (data_declared source g w.objects e (callers k) (put slots n old) slots c.globals c.frames n (variable e.home kind (Some v)) few

@@ -391,10 +391,7 @@ impl Emitter {
                 self.assignment(*target, value, free)?;
                 Ok(())
             }
-            Expr::Number { .. }
-            | Expr::Copy { .. }
-            | Expr::Unary { .. }
-            | Expr::Binary { .. } => {
+            Expr::Number { .. } | Expr::Copy { .. } | Expr::Unary { .. } | Expr::Binary { .. } => {
                 self.operand(value, free)?;
                 Ok(())
             }

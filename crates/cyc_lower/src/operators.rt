@@ -63,11 +63,7 @@ pub(crate) fn jump_if_nonzero(condition: Operand, target: usize) -> Instruction
 }
 
 /// The jump over an operand that `&&` or `||` leaves out where the value in this slot decides.
-pub(crate) fn test_jump(
-    operator: typed::LogicalOperator,
-    slot: usize,
-    target: usize,
-) -> Instruction
+pub(crate) fn test_jump(operator: typed::LogicalOperator, slot: usize, target: usize) -> Instruction
     ensures { result ≡ test_jump operator slot target }
 {
     let condition = Operand::Slot { number: slot };

@@ -45,8 +45,7 @@ call-returns-in_ok-arguments-in-Function t c =
 pub expression-operations-requires : goal.expression-operations-requires
 expression-operations-requires t c =
     let same = c.deref-in-Binary-2.ensures.value ∙ sym c.deref-in-Binary-3.ensures.value in
-    let room = room_behind (view_expression c.deref-in-Binary.result.now) (operations_of c.deref-in-Binary-2.result.now) c.args.self.now.code.items c.left.new.self.code.items c.args.slot c.args.free c.requires c.in_ok-left-in-Binary.ensures.1 in
-    (
+    let room = room_behind (view_expression c.deref-in-Binary.result.now) (operations_of c.deref-in-Binary-2.result.now) c.args.self.now.code.items c.left.new.self.code.items c.args.slot c.args.free c.requires c.in_ok-left-in-Binary.ensures.1 in (
       search (rules, types.the_lemmas, expressions.the_lemmas, get_or_read),
       (room.0, subst (λ (os : List Operation). HasRoom (operations_of os) c.args.free (length c.left.new.self.code.items)) same room.1),
     )
