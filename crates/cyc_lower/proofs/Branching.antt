@@ -12,11 +12,12 @@ use Rattle.cyc_types.specs.declared.typed.Item.TheVariants as item
 use Rattle.cyc_types.specs.TypedTrees.{Expression, Statement, Block, If}
 use Rattle.cyc_types.specs.TypedTreeView.{view_expression, view_statement, items_of}
 use Rattle.cyc_types.proofs.TypedTreeViewLemmas.{view_block}
+use Rattle.cyc_plain.specs.declared.instruction.Operand.{Operand}
 use Rattle.cyc_plain.specs.declared.instruction.Instruction.{Instruction}
 use Rattle.cyc_plain.specs.declared.instruction.Instruction.TheVariants as instructions
-use Rattle.cyc_lower.specs.Lowering.{jump_if_zero, expression_code, statement_code, items_code, break_target, continue_target}
+use Rattle.cyc_lower.specs.Lowering.{value_operand, jump_if_zero, condition_code, failing_jump, statement_code, items_code, break_target, continue_target}
 use Rattle.cyc_lower.specs.Emission.{item_code, loop_code}
-use Rattle.cyc_lower.proofs.Emitting.{Lowers, same_slot, written_back}
+use Rattle.cyc_lower.proofs.Emitting.{Lowers, written_back}
 
 -- ---- blocks
 
@@ -24,18 +25,21 @@ use Rattle.cyc_lower.proofs.Emitting.{Lowers, same_slot, written_back}
 pub no_shorter : (old more new : List Instruction) → new ≡ old ++ more → length old ≤ length new
 no_shorter old more new is = let e : length new ≡ length (old ++ more) = ap length is in omega (arith, e, length-append old more)
 
-abbrev pub all_items : ℕ → List ItemCode → (p d : ℕ) → List Instruction
-all_items head js p d = items_code (items_of js) p head d
+abbrev pub all_items : ℕ → List ItemCode → (p t : ℕ) → List Instruction
+all_items head js p t = items_code (items_of js) p head t
 
-abbrev pub one_item : ℕ → ItemCode → (p d : ℕ) → List Instruction
-one_item head j p d = item_code j p head d
+abbrev pub one_item : ℕ → ItemCode → List ItemCode → (p t : ℕ) → List Instruction
+one_item head j js p t = item_code j p head t
 
-one_item_more : (head : ℕ) (j : ItemCode) (js : List ItemCode) (p d : ℕ) → all_items head (j ∷ js) p d ≡ one_item head j p d ++ all_items head js (p + length (one_item head j p d)) d
-one_item_more head (item.Execute s) js p d = refl
-one_item_more head (item.Local n t v) js p d = refl
+abbrev pub next_item : ItemCode → List ItemCode → ℕ → ℕ
+next_item j js t = t
 
-pub items_lower : (head : ℕ) → Lowers (all_items head) (one_item head) same_slot
-items_lower head = record { none = λ p d. refl; more = one_item_more head }
+one_item_more : (head : ℕ) (j : ItemCode) (js : List ItemCode) (p t : ℕ) → all_items head (j ∷ js) p t ≡ one_item head j js p t ++ all_items head js (p + length (one_item head j js p t)) t
+one_item_more head (item.Execute s) js p t = refl
+one_item_more head (item.Local n ty v) js p t = refl
+
+pub items_lower : (head : ℕ) → Lowers (all_items head) (one_item head) next_item
+items_lower head = record { none = λ p t. refl; more = one_item_more head }
 
 module _ (value : Stmt) (region : ℕ) (v : Vec ItemCode Heap) (is : value ≡ stmt.Block region v) (items : List ItemCode) (same : items ≡ v.items) (old new : List Instruction) (head d : ℕ) where
   pub made_block : new ≡ old ++ items_code (items_of items) (length old) head d → new ≡ old ++ statement_code (view_statement value) (length old) head d
@@ -74,22 +78,25 @@ module _ (old condition : List Instruction) (x y : Instruction) (first second : 
       ∙ ap (λ (l : List Instruction). l ++ (over q ∷ (t ++ rest))) e0
       ∙ append_assoc old condition (over q ∷ (t ++ rest))
 
-module _ (value : Stmt) (e : Expr) (b b' : Box Stmt Heap) (is : value ≡ stmt.If e b b') (s t : Stmt) (at : s ≡ b.value) (at' : t ≡ b'.value) (head d : ℕ) (old : List Instruction) (x y : Instruction) (m0 m1 m2 m3 m4 m5 m6 : List Instruction) (p1 p2 : ℕ) where
-  pub made_if : m0 ≡ old ++ expression_code (view_expression e) (length old) d → p1 ≡ length m0 → m1 ≡ m0 ++ x ∷ [] → m2 ≡ m1 ++ statement_code (view_statement s) (length m1) head d → p2 ≡ length m2 → m3 ≡ m2 ++ y ∷ []
-      → m4 ≡ set m3 p1 (jump_if_zero d (length m3)) → m5 ≡ m4 ++ statement_code (view_statement t) (length m4) head d → m6 ≡ set m5 p2 (instructions.Jump (length m5))
+module _ (value : Stmt) (e : Expr) (b b' : Box Stmt Heap) (is : value ≡ stmt.If e b b') (s t : Stmt) (at : s ≡ b.value) (at' : t ≡ b'.value) (head d : ℕ) (o : Operand) (o_is : o ≡ value_operand (view_expression e) d) (old : List Instruction) (x y : Instruction) (m0 m1 m2 m3 m4 m5 m6 : List Instruction) (p1 p2 : ℕ) where
+  pub made_if : m0 ≡ old ++ condition_code (view_expression e) (length old) d → p1 ≡ length m0 → m1 ≡ m0 ++ x ∷ [] → m2 ≡ m1 ++ statement_code (view_statement s) (length m1) head d → p2 ≡ length m2 → m3 ≡ m2 ++ y ∷ []
+      → m4 ≡ set m3 p1 (jump_if_zero o (length m3)) → m5 ≡ m4 ++ statement_code (view_statement t) (length m4) head d → m6 ≡ set m5 p2 (instructions.Jump (length m5))
       → m6 ≡ old ++ statement_code (view_statement value) (length old) head d
   made_if e0 h1 e1 e2 h2 e3 e4 e5 e6 =
-      let condition = expression_code (view_expression e) (length old) d in
+      let condition = condition_code (view_expression e) (length old) d in
+      let jump : ℕ → Instruction = λ n. failing_jump (view_expression e) d n in
       let first : ℕ → List Instruction = λ p. statement_code (view_statement s) p head d in
       let second : ℕ → List Instruction = λ p. statement_code (view_statement t) p head d in
       let p = length old + length condition + 1 in
       let q = p + length (first p) + 1 in
       let tree : view_statement value ≡ If (view_expression e) (view_statement s) (view_statement t)
       = ap view_statement is ∙ ap (λ (z : Stmt). If (view_expression e) (view_statement z) (view_statement b'.value)) (sym at) ∙ ap (λ (z : Stmt). If (view_expression e) (view_statement s) (view_statement z)) (sym at') in
-      branched old condition x y first second (λ (n : ℕ). jump_if_zero d n) (λ (n : ℕ). instructions.Jump n) m0 m1 m2 m3 m4 m5 m6
-      e0 e1 e2 e3 (e4 ∙ ap (λ (n : ℕ). set m3 n (jump_if_zero d (length m3))) h1) e5 (e6 ∙ ap (λ (n : ℕ). set m5 n (instructions.Jump (length m5))) h2)
+      branched old condition x y first second jump (λ (n : ℕ). instructions.Jump n) m0 m1 m2 m3 m4 m5 m6
+      e0 e1 e2 e3
+      (e4 ∙ ap (λ (n : ℕ). set m3 n (jump_if_zero o (length m3))) h1 ∙ ap (λ (r : Operand). set m3 (length m0) (jump_if_zero r (length m3))) o_is)
+      e5 (e6 ∙ ap (λ (n : ℕ). set m5 n (instructions.Jump (length m5))) h2)
       p refl q refl
-      ∙ ap (λ (l : List Instruction). old ++ l) (sym (append_assoc condition (jump_if_zero d q ∷ first p) (instructions.Jump (q + length (second q)) ∷ second q)))
+      ∙ ap (λ (l : List Instruction). old ++ l) (sym (append_assoc condition (jump q ∷ first p) (instructions.Jump (q + length (second q)) ∷ second q)))
       ∙ ap (λ (z : Statement). old ++ statement_code z (length old) head d) (sym tree)
 
 -- ---- loops
@@ -125,23 +132,24 @@ module _ (old : List Instruction) (into x test back : Instruction) (first second
       ∙ ap (λ (l : List Instruction). l ++ (out (q + length (second q) + 1) ∷ whole)) e1
       ∙ append_assoc old (into ∷ []) (out (q + length (second q) + 1) ∷ whole)
 
-module _ (a : Expression) (s : Statement) (d : ℕ) (old : List Instruction) (x : Instruction) (m1 m2 m3 m4 m5 m6 m7 : List Instruction) (head leaving : ℕ) (here : head ≡ length old) where
-  pub made_loop : m1 ≡ old ++ instructions.Jump (continue_target head) ∷ [] → leaving ≡ length m1 → m2 ≡ m1 ++ x ∷ [] → m3 ≡ m2 ++ expression_code a (length m2) d → m4 ≡ m3 ++ jump_if_zero d leaving ∷ []
+module _ (a : Expression) (s : Statement) (d : ℕ) (o : Operand) (o_is : o ≡ value_operand a d) (old : List Instruction) (x : Instruction) (m1 m2 m3 m4 m5 m6 m7 : List Instruction) (head leaving : ℕ) (here : head ≡ length old) where
+  pub made_loop : m1 ≡ old ++ instructions.Jump (continue_target head) ∷ [] → leaving ≡ length m1 → m2 ≡ m1 ++ x ∷ [] → m3 ≡ m2 ++ condition_code a (length m2) d → m4 ≡ m3 ++ jump_if_zero o leaving ∷ []
       → m5 ≡ m4 ++ statement_code s (length m4) head d → m6 ≡ m5 ++ instructions.Jump (continue_target head) ∷ [] → m7 ≡ set m6 leaving (instructions.Jump (length m6))
       → m7 ≡ old ++ loop_code a s (length old) d
   made_loop e1 k e2 e3 e4 e5 e6 e7 =
       let begin = length old in
-      let first : ℕ → List Instruction = λ p. expression_code a p d in
+      let first : ℕ → List Instruction = λ p. condition_code a p d in
       let second : ℕ → List Instruction = λ p. statement_code s p begin d in
+      let test = failing_jump a d (break_target begin) in
       let p = begin + 2 in
       let q = p + length (first p) + 1 in
       let left : leaving ≡ begin + 1 = k ∙ ap length e1 ∙ length-append old (instructions.Jump (continue_target head) ∷ []) in
-      looped old (instructions.Jump (continue_target begin)) x (jump_if_zero d (break_target begin)) (instructions.Jump (continue_target begin)) first second (λ (n : ℕ). instructions.Jump n) m1 m2 m3 m4 m5 m6 m7
+      looped old (instructions.Jump (continue_target begin)) x test (instructions.Jump (continue_target begin)) first second (λ (n : ℕ). instructions.Jump n) m1 m2 m3 m4 m5 m6 m7
       (e1 ∙ ap (λ (n : ℕ). old ++ instructions.Jump (continue_target n) ∷ []) here) e2 e3
-      (e4 ∙ ap (λ (n : ℕ). m3 ++ jump_if_zero d n ∷ []) left)
+      (e4 ∙ ap (λ (n : ℕ). m3 ++ jump_if_zero o n ∷ []) left ∙ ap (λ (r : Operand). m3 ++ jump_if_zero r (break_target begin) ∷ []) o_is)
       (e5 ∙ ap (λ (n : ℕ). m4 ++ statement_code s (length m4) n d) here)
       (e6 ∙ ap (λ (n : ℕ). m5 ++ instructions.Jump (continue_target n) ∷ []) here)
       (e7 ∙ ap (λ (n : ℕ). set m6 n (instructions.Jump (length m6))) left)
       p refl q refl
       ∙ ap (λ (l : List Instruction). old ++ instructions.Jump (continue_target begin) ∷ instructions.Jump (q + length (second q) + 1) ∷ l)
-      (sym (append_assoc (first p) (jump_if_zero d (break_target begin) ∷ second q) (instructions.Jump (continue_target begin) ∷ [])))
+      (sym (append_assoc (first p) (test ∷ second q) (instructions.Jump (continue_target begin) ∷ [])))

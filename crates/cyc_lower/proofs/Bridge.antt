@@ -1,7 +1,8 @@
 -- The code of a construct stands where its list of instructions does.
 use Rattle.std.proofs.Common.{◌≡◌, ℕ, zero, suc, ◌+◌, ◌≤◌, ◌<◌, Bool, true, false, List, [], ◌∷◌, ◌++◌, length, map, Option, None, Some, slice_get, refl, sym, ap, subst, ◌∙◌, arith, length-append, append-nil}
 use Rattle.std.proofs.lemmas.Option.{same_Some, none-some, get_or_from_slice_get, slice_get-map}
-use Rattle.std.specs.Prelude.{option_map}
+use Rattle.std.specs.Prelude.{option_map, if◌then◌else◌}
+use Rattle.cyc_meaning.specs.Operators.{null_exception, division_by_zero}
 use Rattle.cyc_types.specs.declared.typed.Kind.{Kind}
 use Rattle.cyc_types.specs.declared.typed.Kind.TheVariants as kinds
 use Rattle.cyc_types.specs.declared.typed.Callee.{Callee}
@@ -12,12 +13,13 @@ use Rattle.cyc_types.specs.Types.{Ty}
 use Rattle.cyc_types.specs.TypedTrees.{Lvalue, Local, Global, Expression, Number, Copy, Call, Unary, Binary, Assign, Converted, Convert, Arguments, NoArguments, MoreArguments, Operations, NoOperations, ThenCompute, ThenTest, Statement, Block, Empty, Evaluate, If, While, Return, Break, Continue, Items, NoItems, MoreItems, Execute, Declare, Function, Program}
 use Rattle.cyc_types.specs.Scopes.{Signature}
 use Rattle.cyc_types.specs.Numbered.{Numbering, argument_count, IsWithin, IsNumbered, IsNumberedConverted, AreNumberedArguments, AreNumberedOperations, IsNumberedReturn, IsNumberedInitial, IsNumberedStatement, AreNumberedItems, numbering_of, signatures_of, AreNumberedFunctions, IsNumberedProgram}
+use Rattle.cyc_plain.specs.declared.instruction.Operand.{Operand}
 use Rattle.cyc_plain.specs.declared.instruction.Operand.TheVariants as operands
 use Rattle.cyc_plain.specs.declared.instruction.Instruction.{Instruction}
 use Rattle.cyc_plain.specs.declared.instruction.Instruction.TheVariants as instructions
 use Rattle.cyc_plain.specs.Program.{Routine, no_routine, routine_at}
-use Rattle.cyc_lower.specs.Lowering.{jump_if_zero, jump_if_nonzero, binary_operator, break_target, continue_target, conversion_code, operator_code, truth_code, load_code, store_code, call_code, test_code, expression_code, converted_code, arguments_code, operations_code, return_code, declaration_code, statement_code, items_code, function_code, first_temporary, results_of, lower_function, lower_program}
-use Rattle.cyc_lower.proofs.Stands.{At, HasAt, has_front, has_back, has_all, ConversionAt, OperatorAt, LoadAt, StoreAt, CallAt, ExpressionAt, ConvertedAt, ArgumentsAt, OperationsAt, ReturnAt, DeclarationAt, StatementAt, ItemsAt}
+use Rattle.cyc_lower.specs.Lowering.{slot_of, operand_of, operand_or, code_unless, slot_or, code_unless_slot, left_with, left_of, value_slot, next_slot, slot_with, left_slot, value_operand, converted_operand, printed_operand, jump_if_nonzero, check_code, conversion_code, divisor_code, checked_code, operator_code, truth_code, load_code, low_byte, test_code, is_in, copy_code, expression_code, arguments_code, converted_code, converted_operand_code, printed_code, initial_code, assignment_code, assigned_operand, operations_code, discarded_code, condition_code, failing_jump, break_target, continue_target, return_code, declaration_code, statement_code, items_code, function_code, first_temporary, results_of, lower_function, lower_program}
+use Rattle.cyc_lower.proofs.Stands.{At, HasAt, has_front, has_back, has_all, OperandBy, CheckAt, ConversionAt, DivisorAt, CheckedAt, OperatorAt, LoadAt, CopyBy, ExpressionAt, InitialAt, ConvertedAt, ConvertedOperandAt, PrintedAt, ArgumentsAt, OperationsAt, ValueAt, AssignmentAt, DiscardedAt, ReturnedAt, ReturnAt, DeclarationAt, StatementAt, ItemsAt}
 use Rattle.cyc_lower.proofs.Relation.{bounds_in, bounds_at}
 use Rattle.cyc_lower.proofs.Calls.{FunctionsStand}
 
@@ -26,94 +28,234 @@ cut : (p q : ℕ) (a b : List Instruction) → p + length (a ++ b) ≡ q → p +
 cut p q a b end = omega (arith, end, length-append a b)
 
 module _ (code : List Instruction) (b : Numbering) where
+  -- ---- operands
+
+  -- an operand without code, or code that stands here
+  operand_by : (known : Option Operand) (computed : Type 0) (x : List Instruction) (slot p q : ℕ) → p + length (code_unless known x) ≡ q → HasAt code p (code_unless known x)
+      → (p + length x ≡ q → HasAt code p x → computed) → OperandBy code b known computed slot (operand_or known slot) p q
+  operand_by (Some o) computed x slot p q end has stands = (refl, omega (arith, end))
+  operand_by None computed x slot p q end has stands = (refl, stands end has)
+
+  returned_by : (known : Option Operand) (computed : Type 0) (x : List Instruction) (slot p q : ℕ) → p + length (code_unless_slot known x) ≡ q → HasAt code p (code_unless_slot known x)
+      → (p + length x ≡ q → HasAt code p x → computed) → ReturnedAt code b known computed slot (slot_or known slot) p q
+  returned_by (Some (operands.Slot n)) computed x slot p q end has stands = (refl, omega (arith, end))
+  returned_by (Some (operands.Word n)) computed x slot p q end has stands = (refl, stands end has)
+  returned_by None computed x slot p q end has stands = (refl, stands end has)
+
+  -- a left operand is slot t where its right one has code
+  abbrev LeftBy : Option Operand → Type 0 → Type 0
+  LeftBy (Some o) in_slot = Unit {0}
+  LeftBy None in_slot = in_slot
+
+  right_by : (known : Option Operand) (in_slot computed : Type 0) (x : List Instruction) (slot p q : ℕ) → LeftBy known in_slot → p + length (code_unless known x) ≡ q → HasAt code p (code_unless known x)
+      → (p + length x ≡ q → HasAt code p x → computed) → OperandBy code b known (in_slot × computed) slot (operand_or known slot) p q
+  right_by (Some o) in_slot computed x slot p q left end has stands = (refl, omega (arith, end))
+  right_by None in_slot computed x slot p q left end has stands = (refl, (left, stands end has))
+
+  abbrev IsLeft : Operations → Operand → (d t : ℕ) → Type 0
+  IsLeft NoOperations l d t = l ≡ operands.Slot d
+  IsLeft (ThenCompute o a os) l d t = LeftBy (operand_of a) (l ≡ operands.Slot t)
+  IsLeft os l d t = l ≡ operands.Slot t
+
+  left_here : (known : Option Operand) (l : Operand) (t : ℕ) → l ≡ operands.Slot t → LeftBy known (l ≡ operands.Slot t)
+  left_here (Some o) l t is = tt
+  left_here None l t is = is
+
+  left_first : (known : Option Operand) (a : Expression) (t : ℕ) → LeftBy known (operand_or (left_with known (operand_of a)) (slot_with known a t) ≡ operands.Slot t)
+  left_first (Some o) a t = tt
+  left_first None a t = refl
+
+  next_left : (os : Operations) (d t : ℕ) → IsLeft os (operands.Slot (next_slot os d t)) d t
+  next_left NoOperations d t = refl
+  next_left (ThenCompute o a os) d t = left_here (operand_of a) (operands.Slot t) t refl
+  next_left os d t = refl
+
+  first_left : (a : Expression) (os : Operations) (d t : ℕ) → IsLeft os (operand_or (left_of a os) (left_slot a os d t)) d t
+  first_left a NoOperations d t = refl
+  first_left a (ThenCompute o c os) d t = left_first (operand_of c) a t
+  first_left a os d t = refl
+
   -- ---- expressions
 
-  conversion_stands : (to : Kind) (d p q : ℕ) → p + length (conversion_code to p d) ≡ q → HasAt code p (conversion_code to p d) → ConversionAt code b to d p q
-  conversion_stands kinds.NonNull d p q end (jump, (uncaught, none)) = (subst (λ t. At code p (jump_if_nonzero d t)) end jump, uncaught, end)
-  conversion_stands to d p q end has = omega (arith, end)
+  check_stands : (tag : ℕ) (o : Operand) (p q : ℕ) → p + 2 ≡ q → HasAt code p (check_code tag o p) → CheckAt code b tag o p q
+  check_stands tag o p q end (jump, (uncaught, none)) = (subst (λ t. At code p (jump_if_nonzero o t)) end jump, uncaught, end)
 
-  operator_stands : (o : Operator) (d p q : ℕ) → p + length (operator_code o p d) ≡ q → HasAt code p (operator_code o p d) → OperatorAt code b o d p q
-  operator_stands operators.Divide d p q end (jump, (uncaught, (here, none))) = (jump, uncaught, subst (λ t. At code t (instructions.Binary (binary_operator operators.Divide) d (operands.Slot d) (operands.Slot (suc d)))) (let e : p + 1 + 1 ≡ p + 2 = omega arith in e) here, omega (arith, end))
-  operator_stands operators.Remainder d p q end (jump, (uncaught, (here, none))) = (jump, uncaught, subst (λ t. At code t (instructions.Binary (binary_operator operators.Remainder) d (operands.Slot d) (operands.Slot (suc d)))) (let e : p + 1 + 1 ≡ p + 2 = omega arith in e) here, omega (arith, end))
-  operator_stands o d p q end (here, none) = (here, end)
+  conversion_stands : (to : Kind) (o : Operand) (p q : ℕ) → p + length (conversion_code to o p) ≡ q → HasAt code p (conversion_code to o p) → ConversionAt code b to o p q
+  conversion_stands kinds.NonNull o p q end has = check_stands null_exception o p q end has
+  conversion_stands to o p q end has = omega (arith, end)
+
+  divisor_stands : (o : Operand) (p q : ℕ) → p + length (divisor_code o p) ≡ q → HasAt code p (divisor_code o p) → DivisorAt code b o p q
+  divisor_stands (operands.Word (suc n)) p q end has = omega (arith, end)
+  divisor_stands (operands.Word zero) p q end has = check_stands division_by_zero (operands.Word zero) p q end has
+  divisor_stands (operands.Slot n) p q end has = check_stands division_by_zero (operands.Slot n) p q end has
+
+  checked_stands : (o : Operator) (l r : Operand) (d p q : ℕ) → p + length (checked_code o l r p d) ≡ q → HasAt code p (checked_code o l r p d) → CheckedAt code b o d l r p q
+  checked_stands o l r d p q end has =
+      let front = divisor_code r p in
+      let (here, none) = has_back code p front _ has in
+      (p + length front, divisor_stands r p (p + length front) refl (has_front code p front _ has), here, cut p q front _ end)
+
+  operator_stands : (o : Operator) (l r : Operand) (d p q : ℕ) → p + length (operator_code o l r p d) ≡ q → HasAt code p (operator_code o l r p d) → OperatorAt code b o d l r p q
+  operator_stands operators.Divide l r d p q end has = checked_stands operators.Divide l r d p q end has
+  operator_stands operators.Remainder l r d p q end has = checked_stands operators.Remainder l r d p q end has
+  operator_stands o l r d p q end (here, none) = (here, end)
 
   load_stands : (l : Lvalue) (d p q : ℕ) → IsWithin b l → p + length (load_code l d) ≡ q → HasAt code p (load_code l d) → LoadAt code b l d p q
   load_stands (Local w n) d p q few end (here, none) = (here, end)
   load_stands (Global n) d p q few end (here, none) = (few, here, end)
 
-  store_stands : (l : Lvalue) (d p q : ℕ) → IsWithin b l → p + length (store_code l d) ≡ q → HasAt code p (store_code l d) → StoreAt code b l d p q
-  store_stands (Local w n) d p q few end (here, none) = (here, end)
-  store_stands (Global n) d p q few end (here, none) = (few, here, end)
-
-  call_stands : (f : Callee) (n d p q : ℕ) → p + length (call_code f n d) ≡ q → HasAt code p (call_code f n d) → CallAt code b f n d p q
-  call_stands callees.Putchar n d p q end (write, (mask, (low, none))) = (write, mask, low, omega (arith, end))
-  call_stands callees.Getchar n d p q end (here, none) = (here, end)
-  call_stands (callees.Function g) n d p q end (here, none) = (here, end)
+  copy_by : (is : Bool) (o : Operand) (d p q : ℕ) → p + length (if is then [] else instructions.Move d o ∷ []) ≡ q → HasAt code p (if is then [] else instructions.Move d o ∷ []) → CopyBy code is o d p q
+  copy_by true o d p q end has = omega (arith, end)
+  copy_by false o d p q end (here, none) = (here, end)
 
   mutual
-    expression_stands : (a : Expression) (d p q : ℕ) → IsNumbered b a → p + length (expression_code a p d) ≡ q → HasAt code p (expression_code a p d) → ExpressionAt code b a d p q
-    expression_stands (Number n) d p q numbered end (here, none) = (here, end)
-    expression_stands (Copy l t) d p q numbered end has = load_stands l d p q numbered end has
-    expression_stands (Call f cs t) d p q (s, signature, many, same, numbered) end has =
-        let front = arguments_code cs p d in
-        let back = call_code f (argument_count cs) d in
-        (p + length front, arguments_stand cs d p (p + length front) numbered refl (has_front code p front back has), call_stands f (argument_count cs) d (p + length front) q (cut p q front back end) (has_back code p front back has))
-    expression_stands (Unary o a) d p q numbered end has =
-        let front = expression_code a p d in
+    expression_stands : (a : Expression) (d t p q : ℕ) → IsNumbered b a → p + length (expression_code a p d t) ≡ q → HasAt code p (expression_code a p d t) → ExpressionAt code b a d t p q
+    expression_stands (Number n) d t p q numbered end (here, none) = (here, end)
+    expression_stands (Copy l ty) d t p q numbered end has = load_stands l d p q numbered end has
+    expression_stands (Call callees.Putchar cs ty) d t p q (s, signature, many, same, numbered) end has =
+        let front = printed_code cs p t in
+        let (write, (low, none)) = has_back code p front _ has in
+        let single : argument_count cs ≡ 1 = many ∙ ap (λ (x : Signature). length x.parameters) signature in
+        let long = cut p q front (instructions.WriteByte (printed_operand cs (operands.Slot t) t) ∷ low_byte (printed_operand cs (operands.Slot t) t) d ∷ []) end in
+        (printed_operand cs (operands.Slot t) t, p + length front, printed_stands cs (operands.Slot t) t p (p + length front) single numbered refl (has_front code p front _ has), write, low, omega (arith, long))
+    expression_stands (Call callees.Getchar cs ty) d t p q (s, signature, many, same, numbered) end has =
+        let front = arguments_code cs p t in
         let (here, none) = has_back code p front _ has in
-        (p + length front, expression_stands a d p (p + length front) numbered refl (has_front code p front _ has), here, cut p q front _ end)
-    expression_stands (Binary a os t) d p q (numbered, rest) end has =
-        let front = expression_code a p d in
-        let back = operations_code os (p + length front) d in
-        (p + length front, expression_stands a d p (p + length front) numbered refl (has_front code p front back has), operations_stand os d (p + length front) q rest (cut p q front back end) (has_back code p front back has))
-    expression_stands (Assign l c t) d p q (few, numbered) end has =
-        let front = converted_code c p d in
-        let back = store_code l d in
-        (p + length front, converted_stands c d p (p + length front) numbered refl (has_front code p front back has), store_stands l d (p + length front) q few (cut p q front back end) (has_back code p front back has))
-    expression_stands a d p q numbered end has = absurd numbered
+        (p + length front, arguments_stand cs t p (p + length front) numbered refl (has_front code p front _ has), here, cut p q front _ end)
+    expression_stands (Call (callees.Function n) cs ty) d t p q (s, signature, many, same, numbered) end has =
+        let front = arguments_code cs p t in
+        let (here, none) = has_back code p front _ has in
+        (p + length front, arguments_stand cs t p (p + length front) numbered refl (has_front code p front _ has), here, cut p q front _ end)
+    expression_stands (Unary o a) d t p q numbered end has =
+        let inner = expression_code a p (value_slot a t) t in
+        let front = code_unless (operand_of a) inner in
+        let m = p + length front in
+        let (here, none) = has_back code p front _ has in
+        (value_operand a t, m, operand_by (operand_of a) _ inner (value_slot a t) p m refl (has_front code p front _ has) (λ e h. expression_stands a (value_slot a t) t p m numbered e h), here, cut p q front _ end)
+    expression_stands (Binary a os ty) d t p q (numbered, rest) end has =
+        let inner = expression_code a p (left_slot a os d t) t in
+        let front = code_unless (left_of a os) inner in
+        let m = p + length front in
+        let l = operand_or (left_of a os) (left_slot a os d t) in
+        let back = operations_code os m l d t in
+        (l, m, operand_by (left_of a os) _ inner (left_slot a os d t) p m refl (has_front code p front back has) (λ e h. expression_stands a (left_slot a os d t) t p m numbered e h), operations_stand os l d t m q rest (first_left a os d t) (cut p q front back end) (has_back code p front back has))
+    expression_stands (Assign (Local w n) c ty) d t p q (few, numbered) end has =
+        let o = operands.Slot (slot_of n) in
+        let front = initial_code c p (slot_of n) t in
+        let back = copy_code o d in
+        let m = p + length front in
+        (o, m, (refl, initial_stands c (slot_of n) t p m numbered refl (has_front code p front back has)), copy_by (is_in o d) o d m q (cut p q front back end) (has_back code p front back has))
+    expression_stands (Assign (Global n) c ty) d t p q (few, numbered) end has =
+        let o = converted_operand c t in
+        let front = converted_operand_code c p t in
+        let both = front ++ instructions.StoreGlobal n o ∷ [] in
+        let back = copy_code o d in
+        let m = p + length both in
+        let has_both = has_front code p both back has in
+        let (here, none) = has_back code p front _ has_both in
+        (o, m, (p + length front, converted_operand_stands c t p (p + length front) numbered refl (has_front code p front _ has_both), few, here, cut p m front _ refl), copy_by (is_in o d) o d m q (cut p q both back end) (has_back code p both back has))
+    expression_stands a d t p q numbered end has = absurd numbered
 
-    converted_stands : (c : Converted) (d p q : ℕ) → IsNumberedConverted b c → p + length (converted_code c p d) ≡ q → HasAt code p (converted_code c p d) → ConvertedAt code b c d p q
-    converted_stands (Convert from to a) d p q numbered end has =
-        let front = expression_code a p d in
-        let back = conversion_code to (p + length front) d in
-        (p + length front, expression_stands a d p (p + length front) numbered refl (has_front code p front back has), conversion_stands to d (p + length front) q (cut p q front back end) (has_back code p front back has))
+    initial_stands : (c : Converted) (d t p q : ℕ) → IsNumberedConverted b c → p + length (initial_code c p d t) ≡ q → HasAt code p (initial_code c p d t) → InitialAt code b c d t p q
+    initial_stands (Convert from kinds.NonNull a) d t p q numbered end has =
+        let inner = expression_code a p (value_slot a t) t in
+        let o = value_operand a t in
+        let front = code_unless (operand_of a) inner in
+        let m = p + length front in
+        let check = check_code null_exception o m in
+        let both = front ++ check in
+        let r = p + length both in
+        let has_both = has_front code p both _ has in
+        let (here, none) = has_back code p both _ has in
+        (o, m, r, operand_by (operand_of a) _ inner (value_slot a t) p m refl (has_front code p front check has_both) (λ e h. expression_stands a (value_slot a t) t p m numbered e h), check_stands null_exception o m r (cut p r front check refl) (has_back code p front check has_both), here, cut p q both _ end)
+    initial_stands (Convert from to a) d t p q numbered end has = expression_stands a d t p q numbered end has
 
-    arguments_stand : (cs : Arguments) (d p q : ℕ) → AreNumberedArguments b cs → p + length (arguments_code cs p d) ≡ q → HasAt code p (arguments_code cs p d) → ArgumentsAt code b cs d p q
-    arguments_stand NoArguments d p q numbered end has = omega (arith, end)
-    arguments_stand (MoreArguments c cs) d p q (numbered, rest) end has =
-        let front = converted_code c p d in
-        let back = arguments_code cs (p + length front) (suc d) in
-        (p + length front, converted_stands c d p (p + length front) numbered refl (has_front code p front back has), arguments_stand cs (suc d) (p + length front) q rest (cut p q front back end) (has_back code p front back has))
+    converted_stands : (c : Converted) (t p q : ℕ) → IsNumberedConverted b c → p + length (converted_code c p t) ≡ q → HasAt code p (converted_code c p t) → ConvertedAt code b c t p q
+    converted_stands (Convert from to a) t p q numbered end has =
+        let front = expression_code a p t t in
+        let back = conversion_code to (operands.Slot t) (p + length front) in
+        (p + length front, expression_stands a t t p (p + length front) numbered refl (has_front code p front back has), conversion_stands to (operands.Slot t) (p + length front) q (cut p q front back end) (has_back code p front back has))
 
-    operations_stand : (os : Operations) (d p q : ℕ) → AreNumberedOperations b os → p + length (operations_code os p d) ≡ q → HasAt code p (operations_code os p d) → OperationsAt code b os d p q
-    operations_stand NoOperations d p q numbered end has = omega (arith, end)
-    operations_stand (ThenCompute o a os) d p q (numbered, rest) end has =
-        let operand = expression_code a p (suc d) in
-        let operator = operator_code o (p + length operand) d in
-        let back = operations_code os (p + length (operand ++ operator)) d in
-        let front_has = has_front code p (operand ++ operator) back has in
-        let r = p + length (operand ++ operator) in (
-          p + length operand,
+    converted_operand_stands : (c : Converted) (t p q : ℕ) → IsNumberedConverted b c → p + length (converted_operand_code c p t) ≡ q → HasAt code p (converted_operand_code c p t) → ConvertedOperandAt code b c t (converted_operand c t) p q
+    converted_operand_stands (Convert from to a) t p q numbered end has =
+        let inner = expression_code a p (value_slot a t) t in
+        let front = code_unless (operand_of a) inner in
+        let m = p + length front in
+        let back = conversion_code to (value_operand a t) m in
+        (m, operand_by (operand_of a) _ inner (value_slot a t) p m refl (has_front code p front back has) (λ e h. expression_stands a (value_slot a t) t p m numbered e h), conversion_stands to (value_operand a t) m q (cut p q front back end) (has_back code p front back has))
+
+    printed_stands : (cs : Arguments) (o : Operand) (t p q : ℕ) → argument_count cs ≡ 1 → AreNumberedArguments b cs → p + length (printed_code cs p t) ≡ q → HasAt code p (printed_code cs p t) → PrintedAt code b cs t (printed_operand cs o t) p q
+    printed_stands NoArguments o t p q single numbered end has = absurd (omega (arith, single))
+    printed_stands (MoreArguments c NoArguments) o t p q single (numbered, rest) end has =
+        let front = converted_operand_code c p t in
+        converted_operand_stands c t p q numbered (omega (arith, cut p q front [] end)) (has_front code p front [] has)
+    printed_stands (MoreArguments c (MoreArguments c' cs)) o t p q single numbered end has = absurd (omega (arith, single))
+
+    arguments_stand : (cs : Arguments) (t p q : ℕ) → AreNumberedArguments b cs → p + length (arguments_code cs p t) ≡ q → HasAt code p (arguments_code cs p t) → ArgumentsAt code b cs t p q
+    arguments_stand NoArguments t p q numbered end has = omega (arith, end)
+    arguments_stand (MoreArguments c cs) t p q (numbered, rest) end has =
+        let front = converted_code c p t in
+        let back = arguments_code cs (p + length front) (suc t) in
+        (p + length front, converted_stands c t p (p + length front) numbered refl (has_front code p front back has), arguments_stand cs (suc t) (p + length front) q rest (cut p q front back end) (has_back code p front back has))
+
+    operations_stand : (os : Operations) (l : Operand) (d t p q : ℕ) → AreNumberedOperations b os → IsLeft os l d t → p + length (operations_code os p l d t) ≡ q → HasAt code p (operations_code os p l d t) → OperationsAt code b os l d t p q
+    operations_stand NoOperations l d t p q numbered left end has = (left, omega (arith, end))
+    operations_stand (ThenCompute o a os) l d t p q (numbered, rest) left end has =
+        let inner = expression_code a p (value_slot a (suc t)) (suc t) in
+        let operand = code_unless (operand_of a) inner in
+        let r = value_operand a (suc t) in
+        let next = next_slot os d t in
+        let m = p + length operand in
+        let operator = operator_code o l r m next in
+        let s = p + length (operand ++ operator) in
+        let back = operations_code os s (operands.Slot next) d t in
+        let front_has = has_front code p (operand ++ operator) back has in (
           r,
-          expression_stands a (suc d) p (p + length operand) numbered refl (has_front code p operand operator front_has),
-          operator_stands o d (p + length operand) r (cut p r operand operator refl) (has_back code p operand operator front_has),
-          operations_stand os d r q rest (cut p q (operand ++ operator) back end) (has_back code p (operand ++ operator) back has),
+          m,
+          s,
+          right_by (operand_of a) (l ≡ operands.Slot t) _ inner (value_slot a (suc t)) p m left refl (has_front code p operand operator front_has) (λ e h. expression_stands a (value_slot a (suc t)) (suc t) p m numbered e h),
+          operator_stands o l r next m s (cut p s operand operator refl) (has_back code p operand operator front_has),
+          operations_stand os (operands.Slot next) d t s q rest (next_left os d t) (cut p q (operand ++ operator) back end) (has_back code p (operand ++ operator) back has),
         )
-    operations_stand (ThenTest o a os) d p q (numbered, rest) end has =
-        let operand = expression_code a (p + 1) d in
-        let front = test_code o operand p d in
-        let back = operations_code os (p + length front) d in
+    operations_stand (ThenTest o a os) l d t p q (numbered, rest) left end has =
+        let operand = expression_code a (p + 1) t t in
+        let next = next_slot os d t in
+        let front = test_code o operand p next t in
+        let back = operations_code os (p + length front) (operands.Slot next) d t in
         let (jump, inner) = has_front code p front back has in
-        let (first, (second, none)) = has_back code (p + 1) operand (truth_code d) inner in
-        let long : length front ≡ 1 + (length operand + 2) = omega (arith, length-append operand (truth_code d)) in (
+        let (first, (second, none)) = has_back code (p + 1) operand (truth_code t next) inner in
+        let long : length front ≡ 1 + (length operand + 2) = omega (arith, length-append operand (truth_code t next)) in (
           p + 1 + length operand,
           p + length front,
+          left,
           jump,
-          expression_stands a d (p + 1) (p + 1 + length operand) numbered refl (has_front code (p + 1) operand (truth_code d) inner),
+          expression_stands a t t (p + 1) (p + 1 + length operand) numbered refl (has_front code (p + 1) operand (truth_code t next) inner),
           (first, second, omega (arith, long)),
-          operations_stand os d (p + length front) q rest (cut p q front back end) (has_back code p front back has),
+          operations_stand os (operands.Slot next) d t (p + length front) q rest (next_left os d t) (cut p q front back end) (has_back code p front back has),
         )
-    operations_stand os d p q numbered end has = absurd numbered
+    operations_stand os l d t p q numbered is end has = absurd numbered
+
+  assignment_stands : (l : Lvalue) (c : Converted) (t p q : ℕ) → IsWithin b l → IsNumberedConverted b c → p + length (assignment_code l c p t) ≡ q → HasAt code p (assignment_code l c p t) → AssignmentAt code b l c (assigned_operand l c t) t p q
+  assignment_stands (Local w n) c t p q few numbered end has = (refl, initial_stands c (slot_of n) t p q numbered end has)
+  assignment_stands (Global n) c t p q few numbered end has =
+      let front = converted_operand_code c p t in
+      let (here, none) = has_back code p front _ has in
+      (p + length front, converted_operand_stands c t p (p + length front) numbered refl (has_front code p front _ has), few, here, cut p q front _ end)
+
+  discarded_stands : (a : Expression) (t p q : ℕ) → IsNumbered b a → p + length (discarded_code a p t) ≡ q → HasAt code p (discarded_code a p t) → DiscardedAt code b a t p q
+  discarded_stands (Call callees.Putchar cs ty) t p q (s, signature, many, same, numbered) end has =
+      let front = printed_code cs p t in
+      let (write, none) = has_back code p front _ has in
+      let single : argument_count cs ≡ 1 = many ∙ ap (λ (x : Signature). length x.parameters) signature in
+      (printed_operand cs (operands.Slot t) t, p + length front, printed_stands cs (operands.Slot t) t p (p + length front) single numbered refl (has_front code p front _ has), write, cut p q front _ end)
+  discarded_stands (Assign l c ty) t p q (few, numbered) end has = (assigned_operand l c t, assignment_stands l c t p q few numbered end has)
+  discarded_stands a t p q numbered end has =
+      (operand_or (operand_of a) t, operand_by (operand_of a) _ (expression_code a p t t) t p q end has (λ e h. expression_stands a t t p q numbered e h))
+
+  -- an expression that is an operand
+  value_stands : (a : Expression) (t p q : ℕ) → IsNumbered b a → p + length (condition_code a p t) ≡ q → HasAt code p (condition_code a p t) → ValueAt code b a t (value_operand a t) p q
+  value_stands a t p q numbered end has =
+      operand_by (operand_of a) _ (expression_code a p (value_slot a t) t) (value_slot a t) p q end has (λ e h. expression_stands a (value_slot a t) t p q numbered e h)
 
   -- ---- statements
 
@@ -125,52 +267,64 @@ module _ (code : List Instruction) (b : Numbering) where
   returns_numbered None c numbered = absurd numbered
   returns_numbered (Some t) c numbered = numbered
 
-  return_stands : (v : Option Converted) (d p q : ℕ) → IsNumberedReturn b b.result v → p + length (return_code v p d) ≡ q → HasAt code p (return_code v p d) → ReturnAt code b v d p
-  return_stands None d p q numbered end (here, none) = here
-  return_stands (Some c) d p q numbered end has =
-      let front = converted_code c p d in
-      let (here, none) = has_back code p front _ has in
-      (p + length front, converted_stands c d p (p + length front) (returns_numbered b.result c numbered) refl (has_front code p front _ has), here, returns_one b.result c numbered)
+  return_stands : (v : Option Converted) (t p q : ℕ) → IsNumberedReturn b b.result v → p + length (return_code v p t) ≡ q → HasAt code p (return_code v p t) → ReturnAt code b v t p
+  return_stands None t p q numbered end (here, none) = (t, here)
+  return_stands (Some (Convert from to a)) t p q numbered end has =
+      let inner = expression_code a p t t in
+      let front = code_unless_slot (operand_of a) inner in
+      let m = p + length front in
+      let s = slot_or (operand_of a) t in
+      let conversion = conversion_code to (operands.Slot s) m in
+      let both = front ++ conversion in
+      let r = p + length both in
+      let has_both = has_front code p both _ has in
+      let (here, none) = has_back code p both _ has in (
+        s,
+        m,
+        r,
+        returned_by (operand_of a) _ inner t p m refl (has_front code p front conversion has_both) (λ e h. expression_stands a t t p m (returns_numbered b.result (Convert from to a) numbered) e h),
+        conversion_stands to (operands.Slot s) m r (cut p r front conversion refl) (has_back code p front conversion has_both),
+        here,
+        returns_one b.result (Convert from to a) numbered,
+      )
 
-  declaration_stands : (n : ℕ) (v : Option Converted) (d p q : ℕ) → n < b.locals → IsNumberedInitial b v → p + length (declaration_code n v p d) ≡ q → HasAt code p (declaration_code n v p d) → DeclarationAt code b n v d p q
-  declaration_stands n None d p q few numbered end has = (few, omega (arith, end))
-  declaration_stands n (Some c) d p q few numbered end has =
-      let front = converted_code c p d in
-      let (here, none) = has_back code p front _ has in
-      (few, p + length front, converted_stands c d p (p + length front) numbered refl (has_front code p front _ has), here, cut p q front _ end)
+  declaration_stands : (n : ℕ) (v : Option Converted) (t p q : ℕ) → n < b.locals → IsNumberedInitial b v → p + length (declaration_code n v p t) ≡ q → HasAt code p (declaration_code n v p t) → DeclarationAt code b n v t p q
+  declaration_stands n None t p q few numbered end has = (few, omega (arith, end))
+  declaration_stands n (Some c) t p q few numbered end has = (few, initial_stands c (slot_of n) t p q numbered end has)
 
   mutual
     statement_stands : (s : Statement) (in_loop : Bool) (loop d p q : ℕ) → IsNumberedStatement b in_loop s → p + length (statement_code s p loop d) ≡ q → HasAt code p (statement_code s p loop d) → StatementAt code b s loop d p q
     statement_stands (Block r js) in_loop loop d p q (few, numbered) end has = items_stand js in_loop loop d p q numbered end has
     statement_stands Empty in_loop loop d p q numbered end has = omega (arith, end)
-    statement_stands (Evaluate a) in_loop loop d p q numbered end has = expression_stands a d p q numbered end has
-    statement_stands (If a s t) in_loop loop d p q (numbered_a, numbered_s, numbered_t) end has =
-        let condition = expression_code a p d in
+    statement_stands (Evaluate a) in_loop loop t p q numbered end has = discarded_stands a t p q numbered end has
+    statement_stands (If a s u) in_loop loop t p q (numbered_a, numbered_s, numbered_u) end has =
+        let condition = condition_code a p t in
         let m = p + length condition in
-        let then_code = statement_code s (m + 1) loop d in
-        let r = m + 1 + length then_code in
-        let else_code = statement_code t (r + 1) loop d in
-        let jump_first = jump_if_zero d (r + 1) ∷ then_code in
-        let jump_second = instructions.Jump (r + 1 + length else_code) ∷ else_code in
+        let first = statement_code s (m + 1) loop t in
+        let r = m + 1 + length first in
+        let second = statement_code u (r + 1) loop t in
+        let jump_first = failing_jump a t (r + 1) ∷ first in
+        let jump_second = instructions.Jump (r + 1 + length second) ∷ second in
         let front = condition ++ jump_first in
-        let long : length front ≡ length condition + suc (length then_code) = length-append condition jump_first in
-        let (jump, has_then) = has_back code p condition jump_first (has_front code p front jump_second has) in
-        let (over, has_else) = subst (λ x. HasAt code x jump_second) (let e : p + length front ≡ r = omega (arith, long) in e) (has_back code p front jump_second has) in
-        let end_is : r + 1 + length else_code ≡ q = omega (arith, cut p q front jump_second end, long) in (
+        let long : length front ≡ length condition + suc (length first) = length-append condition jump_first in
+        let (jump, has_first) = has_back code p condition jump_first (has_front code p front jump_second has) in
+        let (over, has_second) = subst (λ x. HasAt code x jump_second) (let e : p + length front ≡ r = omega (arith, long) in e) (has_back code p front jump_second has) in
+        let end_is : r + 1 + length second ≡ q = omega (arith, cut p q front jump_second end, long) in (
+          value_operand a t,
           m,
           r,
-          expression_stands a d p m numbered_a refl (has_front code p condition jump_first (has_front code p front jump_second has)),
+          value_stands a t p m numbered_a refl (has_front code p condition jump_first (has_front code p front jump_second has)),
           jump,
-          statement_stands s in_loop loop d (m + 1) r numbered_s refl has_then,
+          statement_stands s in_loop loop t (m + 1) r numbered_s refl has_first,
           subst (λ x. At code r (instructions.Jump x)) end_is over,
-          statement_stands t in_loop loop d (r + 1) q numbered_t end_is has_else,
+          statement_stands u in_loop loop t (r + 1) q numbered_u end_is has_second,
         )
-    statement_stands (While w a s) in_loop loop d p q (numbered_a, numbered_s) end has =
-        let condition = expression_code a (p + 2) d in
+    statement_stands (While w a s) in_loop loop t p q (numbered_a, numbered_s) end has =
+        let condition = condition_code a (p + 2) t in
         let m = p + 2 + length condition in
-        let body = statement_code s (m + 1) p d in
+        let body = statement_code s (m + 1) p t in
         let r = m + 1 + length body in
-        let test = jump_if_zero d (break_target p) ∷ body in
+        let test = failing_jump a t (break_target p) ∷ body in
         let again = instructions.Jump (continue_target p) ∷ [] in
         let (enter, (leave, inner)) = has in
         let inner_has = subst (λ x. HasAt code x ((condition ++ test) ++ again)) (let e : p + 1 + 1 ≡ p + 2 = omega arith in e) inner in
@@ -180,13 +334,14 @@ module _ (code : List Instruction) (b : Numbering) where
         let (jump, has_body) = has_back code (p + 2) condition test front_has in
         let (back, none) = has_back code (p + 2) (condition ++ test) again inner_has in
         let end_is : r + 1 ≡ q = omega (arith, end, long, all) in (
+          value_operand a t,
           m,
           r,
           enter,
           subst (λ x. At code (p + 1) (instructions.Jump x)) end_is leave,
-          expression_stands a d (p + 2) m numbered_a refl (has_front code (p + 2) condition test front_has),
+          value_stands a t (p + 2) m numbered_a refl (has_front code (p + 2) condition test front_has),
           jump,
-          statement_stands s true p d (m + 1) r numbered_s refl has_body,
+          statement_stands s true p t (m + 1) r numbered_s refl has_body,
           subst (λ x. At code x (instructions.Jump (continue_target p))) (let e : p + 2 + length (condition ++ test) ≡ r = omega (arith, long) in e) back,
           end_is,
           omega (arith, end_is),

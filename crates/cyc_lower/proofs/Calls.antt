@@ -12,27 +12,28 @@ use Rattle.cyc_types.specs.declared.typed.Callee.{Callee}
 use Rattle.cyc_types.specs.declared.typed.Callee.TheVariants as callees
 use Rattle.cyc_types.specs.Types.{Ty}
 use Rattle.cyc_types.specs.TypedTrees.{Items, Function, Program}
+use Rattle.cyc_plain.specs.declared.instruction.Operand.{Operand}
 use Rattle.cyc_plain.specs.declared.instruction.Instruction.TheVariants as instructions
 use Rattle.cyc_words.specs.Simulation.{IsOnTheWay}
 use Rattle.cyc_plain.specs.State as plain
 use Rattle.cyc_plain.specs.State.{Words, put, copied, Frame, Store, Configuration}
-use Rattle.cyc_plain.specs.Step.{Choice, with_slots, at, advanced, performed, executed}
+use Rattle.cyc_plain.specs.Step.{Choice, operand_word, with_slots, at, advanced, performed, executed}
 use Rattle.cyc_plain.specs.Step as plain_step
 use Rattle.cyc_plain.proofs.RunLaws.{limited-full}
 use Rattle.cyc_plain.proofs.SlotLaws.{put-same, put-other}
 use Rattle.cyc_words.proofs.Matching.{way_after}
-use Rattle.cyc_meaning.specs.Values.{Value, Int, Operand, kind_of, is_kind}
+use Rattle.cyc_meaning.specs.Values.{Value, Int, Operand as Kinded, kind_of, is_kind}
 use Rattle.cyc_meaning.specs.State.{World, Environment, no_locals, with_local, variable, made, opened, region_at, Entry, Rest, Caller, calls_in, demand, status_of, Focus, Given, Proceeding, Calling, Entering, Binding, State, Running, Ended}
 use Rattle.cyc_meaning.specs.Step.{wrong, declared, inside, region_end, called, step}
 use Rattle.cyc_meaning.specs.SourceMachine.{status_in}
 use Rattle.cyc_meaning.specs.Run.{is_within, limited_step}
 use Rattle.cyc_lower.specs.Lowering.{lower_program}
 use Rattle.cyc_lower.proofs.Stands.{At, ItemsAt}
-use Rattle.cyc_lower.proofs.Relation.{Is, HoldsFrom, held, callers, Shared, DataAt, SharedAt, ValueStack, StatementStack, Related, Matches, code_of, bounds_in, bounds_at, base_of, top}
-use Rattle.cyc_lower.proofs.Data.{height-least, Holds-put, Holds-rest, in_order, arguments_copied, data_put, data_declared, data_called}
+use Rattle.cyc_lower.proofs.Relation.{Is, Holds, HoldsFrom, held, callers, Shared, DataAt, DataIn, SharedAt, Prints, prints_only, gives_byte, StatementStack, LandsStack, PrintsStack, nowhere, behind_statement, Related, Matches, code_of, bounds_in, bounds_at, base_of, top}
+use Rattle.cyc_lower.proofs.Data.{Holds-rest, in_order, arguments_copied, data_declared, data_called}
 use Rattle.cyc_lower.proofs.Accesses.{IsWell, is_fitting, is_declared}
-use Rattle.cyc_lower.proofs.Matched.{IsMatched, above, below, matching, silently, one, three, shared_within, shared_way, steps_to, place_in, known, value_depth}
-use Rattle.cyc_lower.proofs.Evaluations.{IsStep, given_value}
+use Rattle.cyc_lower.proofs.Matched.{IsMatched, above, below, matching, silently, one, two_known, shared_within, shared_way, steps_to, place_in, known, lands_depth}
+use Rattle.cyc_lower.proofs.Evaluations.{IsStep, landed, lands_at}
 use Rattle.cyc_lower.proofs.StatementSteps.{shared_opened}
 
 module _ (source : Program) (pages calls : ℕ) (some_page : 1 ≤ pages) where
@@ -40,7 +41,7 @@ module _ (source : Program) (pages calls : ℕ) (some_page : 1 ≤ pages) where
 
   -- what is read is the same byte
   reads : (k : List Entry) (e : Environment) (w : World) (c : Configuration) → IsStep source pages calls some_page (Calling callees.Getchar []) k e w c
-  reads k e w c well (shared, facts, (q, (here, end), holds, stack)) =
+  reads k e w c well (shared, facts, (d, q, (here, end), holds, lands)) =
       let next : World = record w { input = drop 1 w.input } in
       let read : Configuration = record c { input = drop 1 c.input } in
       let word = unwrap_or (slice_get c.input 0) (2 ^ 32 - 1) in
@@ -55,64 +56,65 @@ module _ (source : Program) (pages calls : ℕ) (some_page : 1 ≤ pages) where
         fits = shared.fits;
       } in
       one source pages calls some_page refl shared here
-      (λ choice. given_value source pages calls some_page (record { kind = kinds.Int; value = Int byte }) word k e next read q (ap (λ (l : List ℕ). unwrap_or (slice_get l 0) (2 ^ 32 - 1)) shared.same_input) shared_read facts holds end stack)
+      (λ choice. landed source pages calls some_page (record { kind = kinds.Int; value = Int byte }) word d k e next read q (ap (λ (l : List ℕ). unwrap_or (slice_get l 0) (2 ^ 32 - 1)) shared.same_input) shared_read facts holds end lands)
 
-  low_byte : (a : ℕ) → bit_and a 255 ≡ a % 256
-  low_byte a = and_numeral a 254 refl
+  low_byte_of : (a : ℕ) → bit_and a 255 ≡ a % 256
+  low_byte_of a = and_numeral a 254 refl
 
-  prints : (i : Kind) (a : ℕ) (k : List Entry) (e : Environment) (w : World) (c : Configuration) → IsStep source pages calls some_page (Calling callees.Putchar (record { kind = i; value = Int a } ∷ [])) k e w c
-  prints i a k e w c well (shared, facts, (q, (write, mask, low, end), (is, holds), stack)) =
-      let g = c.active.function in
-      let base = base_of source g in
-      let d = top source g k in
-      let x = c.active.slots d in
+  shared_printed : (a x : ℕ) (w : World) (c : Configuration) → SharedAt source calls w c → x ≡ a
+      → SharedAt source calls (record w { output = w.output ++ a % 256 ∷ [] }) (advanced (record c { output = c.output ++ x % 256 ∷ [] }))
+  shared_printed a x w c shared is = record {
+    same_output = ap (λ (l : List ℕ). l ++ x % 256 ∷ []) shared.same_output ∙ ap (λ y. w.output ++ y % 256 ∷ []) is;
+    same_input = shared.same_input;
+    one_page = shared.one_page;
+    quiet = shared.quiet;
+    heap_alone = shared.heap_alone;
+    no_class = shared.no_class;
+    fits = shared.fits;
+  }
+
+  -- the byte is printed, and then its value is dropped, or comes to a slot
+  prints : (i : Kind) (a : ℕ) (o : Operand) (k : List Entry) (e : Environment) (w : World) (c : Configuration)
+      → SharedAt source calls w c → DataIn source c.active.slots k e w c → operand_word c.active.slots o ≡ a → Holds c.active.slots (base_of source c.active.function) (held k)
+      → PrintsStack source c.active.function e.locals o c.active.next c.frames k
+      → IsMatched source pages calls some_page (Running (Calling callees.Putchar (record { kind = i; value = Int a } ∷ [])) k e w) (plain.Running c)
+  prints i a o k e w c shared facts is holds (write, prints_only stack) =
+      one source pages calls some_page refl shared write
+      (λ choice. (shared_printed a (operand_word c.active.slots o) w c shared is, nowhere facts stack))
+  prints i a o k e w c shared facts is holds (write, gives_byte d low lands) =
+      let x = operand_word c.active.slots o in
       let s = Running (Calling callees.Putchar (record { kind = i; value = Int a } ∷ [])) k e w in
       let next : World = record w { output = w.output ++ a % 256 ∷ [] } in
       let after = Running (Given (record { kind = kinds.Int; value = Int (a % 256) })) k e next in
       let first : Configuration = advanced (record c { output = c.output ++ x % 256 ∷ [] }) in
-      let slots = put c.active.slots (suc d) 255 in
-      let second : Configuration = advanced (with_slots first slots) in
-      let last : Configuration = advanced (with_slots second (put slots d (bit_and (slots d) (slots (suc d))))) in
-      let printed : c.output ++ x % 256 ∷ [] ≡ w.output ++ a % 256 ∷ [] =
-      ap (λ (l : List ℕ). l ++ x % 256 ∷ []) shared.same_output ∙ ap (λ y. w.output ++ y % 256 ∷ []) is in
-      let shared_next : SharedAt source calls next first = record {
-        same_output = printed;
-        same_input = shared.same_input;
-        one_page = shared.one_page;
-        quiet = shared.quiet;
-        heap_alone = shared.heap_alone;
-        no_class = shared.no_class;
-        fits = shared.fits;
-      } in
-      let value : bit_and (slots d) (slots (suc d)) ≡ a % 256 =
-      ap (λ y. bit_and y (slots (suc d))) (put-other c.active.slots (suc d) d 255 (λ same. absurd (omega (arith, same))))
-      ∙ ap (bit_and x) (put-same c.active.slots (suc d) 255) ∙ low_byte x ∙ ap (λ y. y % 256) is in
-      let facts_second = data_put source g w.objects e.locals (callers k) c.active.slots c.globals c.frames (suc d) 255 (omega (arith, height-least base (held k))) facts in
-      let holds_second = Holds-put c.active.slots base (held k) (suc d) 255 (omega arith) holds in
+      let last : Configuration = advanced (with_slots first (put c.active.slots d (bit_and x 255))) in
+      let shared_next : SharedAt source calls next first = shared_printed a x w c shared is in
       let done : Related source calls (Given (record { kind = kinds.Int; value = Int (a % 256) })) k e next last =
-      given_value source pages calls some_page (record { kind = kinds.Int; value = Int (a % 256) }) (bit_and (slots d) (slots (suc d))) k e next second q value shared_next facts_second holds_second end stack in
-      let way : (c' : Configuration) → c'.output ≡ w.output ++ a % 256 ∷ [] → IsOnTheWay (above source pages calls some_page) (below source pages calls some_page) s (plain.Running c') = λ c' same.
-      way_after (above source pages calls some_page) (below source pages calls some_page) (matching source pages calls some_page) s after (plain.Running c')
-      (steps_to source pages calls some_page s after (plain.Running last) refl done) (IsPrefix-append w.output (a % 256 ∷ [])) refl same in
-      three source pages calls some_page first second refl shared
-      (shared_within source pages calls some_page next first shared_next) (way first printed)
-      (shared_within source pages calls some_page next second shared_next) (way second printed)
-      write (λ choice. refl) mask (λ choice. refl) low
-      (λ same. absurd (omega (arith, same))) (λ same. absurd (omega (arith, same))) (λ same. absurd (omega (arith, same)))
-      (λ choice. done)
+      landed source pages calls some_page (record { kind = kinds.Int; value = Int (a % 256) }) (bit_and x 255) d k e next first (c.active.next + 1 + 1) (low_byte_of x ∙ ap (λ y. y % 256) is) shared_next facts holds refl lands in
+      two_known source pages calls some_page first refl shared (shared_within source pages calls some_page next first shared_next)
+      (way_after (above source pages calls some_page) (below source pages calls some_page) (matching source pages calls some_page) s after (plain.Running first)
+      (steps_to source pages calls some_page s after (plain.Running last) refl done) (IsPrefix-append w.output (a % 256 ∷ [])) refl shared_next.same_output)
+      write (λ choice. refl) low (λ same. omega (arith, same)) (λ choice. done)
+
+  prints_value : (i : Kind) (v : Value) (k : List Entry) (e : Environment) (w : World) (c : Configuration) → IsStep source pages calls some_page (Calling callees.Putchar (record { kind = i; value = v } ∷ [])) k e w c
+  prints_value i (Int a) k e w c well (shared, facts, (u, o, single, is, holds, stack)) =
+      let v : Kinded = record { kind = i; value = Int a } in
+      let same : v ≡ u = let f : v ∷ [] ≡ u ∷ [] = single in cc in
+      prints i a o k e w c shared facts (subst (λ (x : Kinded). Is x.value (operand_word c.active.slots o)) (sym same) is) holds stack
+  prints_value i v k e w c well related = absurd (well refl)
 
   -- ---- the parameters of a call
 
-  pub entering : (h : Function) (arguments : List Operand) (k : List Entry) (e : Environment) (w : World) (c : Configuration) → IsStep source pages calls some_page (Entering h arguments) k e w c
+  pub entering : (h : Function) (arguments : List Kinded) (k : List Entry) (e : Environment) (w : World) (c : Configuration) → IsStep source pages calls some_page (Entering h arguments) k e w c
   entering h arguments k e w c well (shared, facts, (m, items, stack, holds, few)) =
       silently source pages calls some_page (Running (Entering h arguments) k e w) (Running (Binding 0 h.parameters arguments h.body) (region_end e w ∷ k) (inside e w) (opened w)) (plain.Running c) refl
       (shared_opened source pages calls some_page w c shared, facts, (m, items, stack, holds, omega (arith, few)))
       (omega arith)
 
-  pub binding : (n : ℕ) (types : List Ty) (arguments : List Operand) (body : Items) (k : List Entry) (e : Environment) (w : World) (c : Configuration) → IsStep source pages calls some_page (Binding n types arguments body) k e w c
+  pub binding : (n : ℕ) (types : List Ty) (arguments : List Kinded) (body : Items) (k : List Entry) (e : Environment) (w : World) (c : Configuration) → IsStep source pages calls some_page (Binding n types arguments body) k e w c
   binding n [] [] body k e w c well (shared, facts, (m, items, stack, holds, few)) =
       silently source pages calls some_page (Running (Binding n [] [] body) k e w) (Running Proceeding (Rest body ∷ k) e w) (plain.Running c) refl
-      (shared, facts, inl (0, (m, items, stack)))
+      (shared, behind_statement 0 facts (m, items, stack))
       (omega arith)
   binding n [] (v ∷ arguments) body k e w c well related = absurd (well refl)
   binding n (t ∷ types) [] body k e w c well related = absurd (well refl)
@@ -146,7 +148,7 @@ module _ (source : Program) (pages calls : ℕ) (some_page : 1 ≤ pages) where
       omega (arith, locals)
 
   -- a function has been called, with its arguments in the first slots
-  pub entered : FunctionsStand → (n : ℕ) (h : Function) (arguments : List Operand) (k : List Entry) (w : World) (slots globals : Words) (handlers : List ℕ) (frames : List Frame) (store : Store) (output input : List ℕ)
+  pub entered : FunctionsStand → (n : ℕ) (h : Function) (arguments : List Kinded) (k : List Entry) (w : World) (slots globals : Words) (handlers : List ℕ) (frames : List Frame) (store : Store) (output input : List ℕ)
       → slice_get source.functions n ≡ Some h
       → Shared calls w.regions w.classes w.output w.input output input store.pages (length frames)
       → DataAt source n w.objects (λ (number : ℕ). None) (callers k) slots globals frames
@@ -191,7 +193,7 @@ module _ (source : Program) (pages calls : ℕ) (some_page : 1 ≤ pages) where
         );
       }
 
-  calls_function : FunctionsStand → (n : ℕ) (before : List Operand) (found : Option Function) (k : List Entry) (e : Environment) (w : World) (c : Configuration)
+  calls_function : FunctionsStand → (n : ℕ) (before : List Kinded) (found : Option Function) (k : List Entry) (e : Environment) (w : World) (c : Configuration)
       → slice_get source.functions n ≡ found → IsWell (called found (reverse before) (Caller e ∷ k) w)
       → Related source calls (Calling (callees.Function n) before) k e w c
       → IsMatched source pages calls some_page (Running (Calling (callees.Function n) before) k e w) (plain.Running c)
@@ -201,7 +203,7 @@ module _ (source : Program) (pages calls : ℕ) (some_page : 1 ≤ pages) where
       taken : (b : Bool) → (length (reverse before) == length h.parameters) ≡ b → IsMatched source pages calls some_page (Running (Calling (callees.Function n) before) k e w) (plain.Running c)
       taken false fits = absurd (well (ap (λ (b : Bool). status_in (status_of (if b then Running (Entering h (reverse before)) (Caller e ∷ k) no_locals w else wrong w))) fits))
       taken true fits =
-          let (shared, facts, (q, (here, end), holds, stack)) = related in
+          let (shared, facts, (into, q, (here, end), holds, lands)) = related in
           let g = c.active.function in
           let base = base_of source g in
           let d = top source g k in
@@ -209,14 +211,14 @@ module _ (source : Program) (pages calls : ℕ) (some_page : 1 ≤ pages) where
           let does : step source (Running (Calling (callees.Function n) before) k e w) ≡ next =
           ap (λ (f : Option Function). called f (reverse before) (Caller e ∷ k) w) there
           ∙ ap (λ (b : Bool). if b then Running (Entering h (reverse before)) (Caller e ∷ k) no_locals w else wrong w) fits in
-          let waiting = value_depth source g e.locals q c.frames k stack in
+          let waiting = lands_depth source g e.locals into q c.frames k lands in
           elim (cases_lt calls (suc (suc (length c.frames)))) [
             | inl past ↦
-                full k e w c (Calling (callees.Function n) before) next n d (length before) d does
+                full k e w c (Calling (callees.Function n) before) next n d (length before) into does
                 (and_right (nat_le (demand next) pages) _ (false_from_ne_true (nat_le (suc (calls_in k)) calls) (λ z. absurd (omega (arith, leb-true (suc (calls_in k)) calls z, past, waiting)))))
                 shared here past
             | inr fine ↦
-                let frame : Frame = record { caller = (advanced c).active; result = d } in
+                let frame : Frame = record { caller = (advanced c).active; result = into } in
                 one source pages calls some_page does shared here
                 (λ choice.
                 let slots = copied c.active.slots d (length before) choice.contents 0 in
@@ -233,19 +235,15 @@ module _ (source : Program) (pages calls : ℕ) (some_page : 1 ≤ pages) where
                 (data_called source g n w.objects e (callers k) c.active.slots slots c.globals frame c.frames refl refl facts)
                 (arguments_copied c.active.slots choice.contents d 0 (length before) (reverse before) (omega (arith, length-reverse before))
                 (subst (λ (i : ℕ). HoldsFrom c.active.slots i (reverse before)) (let z : d ≡ d + 0 = omega arith in z) (in_order c.active.slots base before (held k) holds)))
-                (λ m at_end. (at_end, (refl, Holds-rest c.active.slots base before (held k) holds, subst (λ (i : ℕ). ValueStack source g e.locals i c.frames k) (sym end) stack))))
+                (λ m at_end. (base_of source n, at_end, (Holds-rest c.active.slots base before (held k) holds, lands_at source pages calls some_page g e.locals into (c.active.next + 1) q c.frames k end lands))))
           ]
 
-  prints_value : (i : Kind) (v : Value) (k : List Entry) (e : Environment) (w : World) (c : Configuration) → IsStep source pages calls some_page (Calling callees.Putchar (record { kind = i; value = v } ∷ [])) k e w c
-  prints_value i (Int a) k e w c well related = prints i a k e w c well related
-  prints_value i v k e w c well related = absurd (well refl)
-
   -- one argument too many
-  prints_more : (i : Kind) (v : Value) (u : Operand) (before : List Operand) (k : List Entry) (e : Environment) (w : World) (c : Configuration) → IsStep source pages calls some_page (Calling callees.Putchar (record { kind = i; value = v } ∷ u ∷ before)) k e w c
+  prints_more : (i : Kind) (v : Value) (u : Kinded) (before : List Kinded) (k : List Entry) (e : Environment) (w : World) (c : Configuration) → IsStep source pages calls some_page (Calling callees.Putchar (record { kind = i; value = v } ∷ u ∷ before)) k e w c
   prints_more i (Int a) u before k e w c well related = absurd (well refl)
   prints_more i v u before k e w c well related = absurd (well refl)
 
-  pub calling : FunctionsStand → (f : Callee) (before : List Operand) (k : List Entry) (e : Environment) (w : World) (c : Configuration) → IsStep source pages calls some_page (Calling f before) k e w c
+  pub calling : FunctionsStand → (f : Callee) (before : List Kinded) (k : List Entry) (e : Environment) (w : World) (c : Configuration) → IsStep source pages calls some_page (Calling f before) k e w c
   calling stand callees.Putchar [] k e w c well related = absurd (well refl)
   calling stand callees.Putchar (v ∷ []) k e w c well related = prints_value v.kind v.value k e w c well related
   calling stand callees.Putchar (v ∷ u ∷ before) k e w c well related = prints_more v.kind v.value u before k e w c well related

@@ -33,6 +33,14 @@ Holds-same slots other base (v ∷ vs) same (is, holds) = (
   Holds-same slots other base vs (λ n below. same n (omega (arith, below))) holds,
 )
 
+-- the same, where locals may differ
+pub Holds-above : (slots other : Words) (base : ℕ) (vs : List Operand) → ((n : ℕ) → base ≤ n → other n ≡ slots n) → Holds slots base vs → Holds other base vs
+Holds-above slots other base [] same holds = tt
+Holds-above slots other base (v ∷ vs) same (is, holds) = (
+  subst (Is v.value) (sym (same (height base vs) (height-least base vs))) is,
+  Holds-above slots other base vs same holds,
+)
+
 pub Holds-put : (slots : Words) (base : ℕ) (vs : List Operand) (n w : ℕ) → height base vs ≤ n → Holds slots base vs → Holds (put slots n w) base vs
 Holds-put slots base vs n w above holds =
     Holds-same slots (put slots n w) base vs (λ m below. put-other slots n m w (λ same. absurd (omega (arith, same, below, above)))) holds
@@ -71,6 +79,13 @@ arguments_copied from to source i many (v ∷ vs) few (is, holds) = (
   subst (Is v.value) (sym (let start : i ≡ 0 + i = omega arith in ap (copied from source many to 0) start ∙ copied-inside from to source many 0 i (omega (arith, few)))) is,
   arguments_copied from to source (suc i) many vs (omega (arith, few)) (subst (λ n. HoldsFrom from n vs) (let e : suc (source + i) ≡ source + suc i = omega arith in e) holds),
 )
+
+-- a slot that is written twice has the last word
+pub put_over : (slots : Words) (n w word m : ℕ) → slots n ≡ word → put (put slots n w) n word m ≡ slots m
+put_over slots n w word m is = elim (cases_eq m n) [
+  | inl equal ↦ ap (put (put slots n w) n word) equal ∙ put-same (put slots n w) n word ∙ sym is ∙ sym (ap slots equal)
+  | inr apart ↦ put-other (put slots n w) n m word apart ∙ put-other slots n m w apart
+]
 
 -- ---- objects
 
@@ -251,6 +266,12 @@ module _ (source : Program) where
   data_put g objects locals outer slots globals frames n w above facts =
       data_same g objects locals outer slots (put slots n w) globals frames (λ m below. put-other slots n m w (λ same. absurd (omega (arith, same, below, above)))) facts
 
+  -- a local's slot gets another word, and then the word that it had
+  pub data_put_back : (g : ℕ) (objects : List Object) (locals : ℕ → Option ℕ) (outer : List Environment) (slots globals : Words) (frames : List Frame) (n w : ℕ)
+      → DataAt source g objects locals outer slots globals frames → DataAt source g objects locals outer (put (put slots n w) n (slots n)) globals frames
+  data_put_back g objects locals outer slots globals frames n w facts =
+      data_same g objects locals outer slots (put (put slots n w) n (slots n)) globals frames (λ m below. put_over slots n w (slots n) m refl) facts
+
   pub data_assigned : (g : ℕ) (objects others : List Object) (locals : ℕ → Option ℕ) (outer : List Environment) (slots globals : Words) (frames : List Frame) (number object : ℕ) (v : Value) (w : ℕ)
       → locals number ≡ Some object → contents others object ≡ Some v → ((o : ℕ) → o ≢ object → contents others o ≡ contents objects o) → length others ≡ length objects → Is v w
       → DataAt source g objects locals outer slots globals frames → DataAt source g others locals outer (put slots (slot_of number) w) globals frames
@@ -265,6 +286,14 @@ module _ (source : Program) where
         frames_kept objects others low frames outer (λ o from to. same o (not o to)) waiting,
         globals_kept objects others globals (λ o from to. same o (not o (omega (arith, to, above)))) words,
       )
+
+  -- the same, where the slot has the word already
+  pub data_caught_up : (g : ℕ) (objects others : List Object) (locals : ℕ → Option ℕ) (outer : List Environment) (slots globals : Words) (frames : List Frame) (number object : ℕ) (v : Value) (old : ℕ)
+      → locals number ≡ Some object → contents others object ≡ Some v → ((o : ℕ) → o ≢ object → contents others o ≡ contents objects o) → length others ≡ length objects → Is v (slots number)
+      → DataAt source g objects locals outer (put slots number old) globals frames → DataAt source g others locals outer slots globals frames
+  data_caught_up g objects others locals outer slots globals frames number object v old here now same long is facts =
+      data_same g others locals outer (put (put slots number old) number (slots number)) slots globals frames (λ m below. sym (put_over slots number old (slots number) m refl))
+      (data_assigned g objects others locals outer (put slots number old) globals frames number object v (slots number) here now same long is facts)
 
   pub data_assigned_global : (g : ℕ) (objects others : List Object) (locals : ℕ → Option ℕ) (outer : List Environment) (slots globals : Words) (frames : List Frame) (number : ℕ) (v : Value) (w : ℕ)
       → number < global_count → contents others number ≡ Some v → ((o : ℕ) → o ≢ number → contents others o ≡ contents objects o) → length others ≡ length objects → Is v w

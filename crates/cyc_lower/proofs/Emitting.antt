@@ -1,6 +1,8 @@
 -- Code that is made piece by piece: lists of nodes, nodes with lists, and jumps whose targets are written back.
-use Rattle.std.proofs.Common.{◌≡◌, ℕ, suc, ◌+◌, ◌<◌, ◌≤◌, List, [], ◌∷◌, ◌++◌, length, get_or, drop, set, Option, option_map, refl, sym, ap, ◌∙◌, arith, append_assoc, append-nil}
-use Rattle.std.proofs.lemmas.List.{drop_all, drop_more, length-append}
+use Rattle.std.proofs.Common.{◌≡◌, ℕ, zero, suc, ◌+◌, ◌<◌, ◌≤◌, Bool, true, false, List, [], ◌∷◌, ◌++◌, length, get_or, drop, set, Option, Some, None, refl, sym, ap, subst, ◌∙◌, arith, append_assoc, append-nil}
+use Rattle.std.specs.Prelude.{◌==◌, is_some}
+use Rattle.std.proofs.lemmas.Bool.{eqb-true, eq-eqb}
+use Rattle.std.proofs.lemmas.List.{drop_all, drop_more, length-append, length-drop}
 use Rattle.std.proofs.Math.Seq.{set-append_seam}
 use Rattle.std.specs.declared.vec.Vec.{Vec}
 use Rattle.std.specs.declared.boxed.Box.{Box}
@@ -9,24 +11,27 @@ use Rattle.cyc_types.specs.declared.ty.Ty.{Ty as TyCode}
 use Rattle.cyc_types.specs.declared.typed.ValueType.{ValueType as ValueTypeCode}
 use Rattle.cyc_types.specs.declared.typed.Callee.{Callee}
 use Rattle.cyc_types.specs.declared.typed.Callee.TheVariants as callees
+use Rattle.cyc_types.specs.declared.typed.Kind.TheVariants as kinds
 use Rattle.cyc_types.specs.declared.typed.Operator.{Operator}
+use Rattle.cyc_types.specs.declared.typed.Operator.TheVariants as operators
 use Rattle.cyc_types.specs.declared.typed.LogicalOperator.{LogicalOperator}
 use Rattle.cyc_types.specs.declared.typed.Expr.{Expr}
 use Rattle.cyc_types.specs.declared.typed.Expr.TheVariants as expr
 use Rattle.cyc_types.specs.declared.typed.Converted.{Converted as ConvertedCode}
 use Rattle.cyc_types.specs.declared.typed.Operation.{Operation}
 use Rattle.cyc_types.specs.declared.typed.Operation.TheVariants as operation
+use Rattle.cyc_types.specs.Types.{ValueType, Void}
 use Rattle.cyc_types.specs.TypeView.{view_ty, view_value_type}
-use Rattle.cyc_types.specs.TypedTrees.{Lvalue, Local, Global, Expression, Number, Copy, Call, Unary, Binary, Assign, Converted, Convert}
+use Rattle.cyc_types.specs.TypedTrees.{Lvalue, Local, Global, Expression, Number, Copy, Call, Unary, Binary, Assign, Converted, Convert, Arguments, Operations, NoOperations, ThenCompute, ThenTest}
 use Rattle.cyc_types.specs.TypedTreeView.{view_expression, view_converted, arguments_of, operations_of}
 use Rattle.cyc_types.specs.Numbered.{argument_count}
 use Rattle.cyc_types.proofs.TypedTreeViewLemmas.{view_call, view_binary}
+use Rattle.cyc_plain.specs.declared.instruction.Operand.{Operand}
 use Rattle.cyc_plain.specs.declared.instruction.Operand.TheVariants as operands
 use Rattle.cyc_plain.specs.declared.instruction.Instruction.{Instruction}
 use Rattle.cyc_plain.specs.declared.instruction.Instruction.TheVariants as instructions
-use Rattle.cyc_meaning.specs.Operators.{division_by_zero}
-use Rattle.cyc_lower.specs.Lowering.{jump_if_nonzero, binary_operator, checked_code, load_code, operator_code, call_code, test_jump, truth_code, expression_code, converted_code, arguments_code, operations_code}
-use Rattle.cyc_lower.specs.Emission.{operation_code}
+use Rattle.cyc_lower.specs.Lowering.{slot_of, operand_of, operand_or, code_unless, left_with, left_of, slot_with, left_slot, low_byte, value_operand, next_slot, converted_operand, printed_operand, divisor_code, operator_code, load_code, compute_code, test_jump, truth_code, test_code, copy_code, expression_code, arguments_code, converted_code, converted_operand_code, printed_code, initial_code, operations_code, discarded_code}
+use Rattle.cyc_lower.specs.Emission.{most_locals, value_code, print_code, left_code, takes_operand, HasRoom, HasRoomFor, operation_code}
 
 -- ---- no expression is without code
 
@@ -40,23 +45,43 @@ loads : (l : Lvalue) (d : ℕ) → 0 < length (load_code l d)
 loads (Local p n) d = omega arith
 loads (Global n) d = omega arith
 
-calls : (f : Callee) (n d : ℕ) → 0 < length (call_code f n d)
-calls callees.Putchar n d = omega arith
-calls callees.Getchar n d = omega arith
-calls (callees.Function m) n d = omega arith
+operates : (o : Operator) (l r : Operand) (p d : ℕ) → 0 < length (operator_code o l r p d)
+operates operators.Divide l r p d = behind (divisor_code r p) _ (omega arith)
+operates operators.Remainder l r p d = behind (divisor_code r p) _ (omega arith)
+operates o l r p d = omega arith
+
+computes : (o : Operator) (b : Expression) (os : Operations) (p : ℕ) (l : Operand) (d t : ℕ) → 0 < length (operations_code (ThenCompute o b os) p l d t)
+computes o b os p l d t =
+    before (compute_code o l (value_operand b (suc t)) (value_code b p (suc t)) p (next_slot os d t)) _
+    (behind (value_code b p (suc t)) _ (operates o l (value_operand b (suc t)) (p + length (value_code b p (suc t))) (next_slot os d t)))
+
+tests : (o : LogicalOperator) (b : Expression) (os : Operations) (p : ℕ) (l : Operand) (d t : ℕ) → 0 < length (operations_code (ThenTest o b os) p l d t)
+tests o b os p l d t = before (test_code o (expression_code b (p + 1) t t) p (next_slot os d t) t) _ (omega arith)
 
 mutual
-  pub expression_some : (a : Expression) (p d : ℕ) → 0 < length (expression_code a p d)
-  expression_some (Number n) p d = omega arith
-  expression_some (Copy l t) p d = loads l d
-  expression_some (Call f cs t) p d = behind (arguments_code cs p d) (call_code f (argument_count cs) d) (calls f (argument_count cs) d)
-  expression_some (Unary o a) p d = before (expression_code a p d) _ (expression_some a p d)
-  expression_some (Binary a os t) p d = before (expression_code a p d) _ (expression_some a p d)
-  expression_some (Assign l c t) p d = before (converted_code c p d) _ (converted_some c p d)
-  expression_some a p d = omega arith
+  pub expression_some : (a : Expression) (p d t : ℕ) → 0 < length (expression_code a p d t)
+  expression_some (Number n) p d t = omega arith
+  expression_some (Copy l ty) p d t = loads l d
+  expression_some (Call callees.Putchar cs ty) p d t = behind (printed_code cs p t) _ (omega arith)
+  expression_some (Call callees.Getchar cs ty) p d t = behind (arguments_code cs p t) _ (omega arith)
+  expression_some (Call (callees.Function n) cs ty) p d t = behind (arguments_code cs p t) _ (omega arith)
+  expression_some (Unary o a) p d t = behind (value_code a p t) _ (omega arith)
+  expression_some (Binary a NoOperations ty) p d t = before (expression_code a p d t) _ (expression_some a p d t)
+  expression_some (Binary a (ThenCompute o b os) ty) p d t =
+      let front = left_code a (ThenCompute o b os) p d t in
+      behind front _ (computes o b os (p + length front) (operand_or (left_of a (ThenCompute o b os)) (left_slot a (ThenCompute o b os) d t)) d t)
+  expression_some (Binary a (ThenTest o b os) ty) p d t =
+      let front = left_code a (ThenTest o b os) p d t in
+      behind front _ (tests o b os (p + length front) (operands.Slot t) d t)
+  expression_some (Binary a os ty) p d t = before (expression_code a p t t) _ (expression_some a p t t)
+  expression_some (Assign (Local w n) c ty) p d t = before (initial_code c p (slot_of n) t) _ (initial_some c p (slot_of n) t)
+  expression_some (Assign (Global n) c ty) p d t =
+      before (converted_operand_code c p t ++ _) (copy_code (converted_operand c t) d) (behind (converted_operand_code c p t) _ (omega arith))
+  expression_some a p d t = omega arith
 
-  pub converted_some : (c : Converted) (p d : ℕ) → 0 < length (converted_code c p d)
-  converted_some (Convert from to a) p d = before (expression_code a p d) _ (expression_some a p d)
+  initial_some : (c : Converted) (p d t : ℕ) → 0 < length (initial_code c p d t)
+  initial_some (Convert from kinds.NonNull a) p d t = behind _ (instructions.Move d (value_operand a t) ∷ []) (omega arith)
+  initial_some (Convert from to a) p d t = expression_some a p d t
 
 -- what was added makes the code longer
 pub grown : (old more new : List Instruction) → new ≡ old ++ more → 0 < length more → length old < length new
@@ -64,58 +89,108 @@ grown old more new is some = let e : length new ≡ length (old ++ more) = ap le
 
 -- ---- lists
 
--- a list is lowered one node after the other, each with the slot that comes next
-pub record Lowers {X : Type 0} (all : List X → (p d : ℕ) → List Instruction) (one : X → (p d : ℕ) → List Instruction) (next : ℕ → ℕ) : Type 0 where
-  pub none : (p d : ℕ) → all [] p d ≡ []
-  pub more : (x : X) (xs : List X) (p d : ℕ) → all (x ∷ xs) p d ≡ one x p d ++ all xs (p + length (one x p d)) (next d)
+-- A list is lowered one node after the other. Each has a place and a state, such as the next slot; what it gives may depend on
+-- what is left of the list.
+pub record Lowers {X S : Type 0} (all : List X → ℕ → S → List Instruction) (one : X → List X → ℕ → S → List Instruction) (next : X → List X → S → S) : Type 0 where
+  pub none : (p : ℕ) (s : S) → all [] p s ≡ []
+  pub more : (x : X) (xs : List X) (p : ℕ) (s : S) → all (x ∷ xs) p s ≡ one x xs p s ++ all xs (p + length (one x xs p s)) (next x xs s)
 
 -- what is made, with what the rest of the list adds, is what the whole list adds to what there was
-abbrev pub Remains : {X : Type 0} → (all : List X → (p d : ℕ) → List Instruction) → (old : List Instruction) → (xs : List X) → (first i : ℕ) → (code : List Instruction) → (d : ℕ) → Type 0
-Remains all old xs first i code d = code ++ all (drop i xs) (length code) d ≡ old ++ all xs (length old) first
+abbrev pub Remains : {X S : Type 0} → (all : List X → ℕ → S → List Instruction) → (old : List Instruction) → (xs : List X) → (first : S) → (i : ℕ) → (code : List Instruction) → S → Type 0
+Remains all old xs first i code s = code ++ all (drop i xs) (length code) s ≡ old ++ all xs (length old) first
 
-module _ {X : Type 0} (all : List X → (p d : ℕ) → List Instruction) (one : X → (p d : ℕ) → List Instruction) (next : ℕ → ℕ) (lowers : Lowers all one next) where
-  pub goes_on : (old : List Instruction) (xs : List X) (first i : ℕ) (code new : List Instruction) (d : ℕ) (x : X) → i < length xs → x ≡ get_or xs i x
-      → new ≡ code ++ one x (length code) d → Remains all old xs first i code d → Remains all old xs first (i + 1) new (next d)
-  goes_on old xs first i code new d x inside at is r =
-      let here : drop i xs ≡ x ∷ drop (i + 1) xs = drop_more xs i x inside ∙ ap (λ (y : X). y ∷ drop (i + 1) xs) (sym at) in
-      let long : length new ≡ length code + length (one x (length code) d)
-      = ap length is ∙ length-append code (one x (length code) d) in
-      let rest = all (drop (i + 1) xs) in
-      ap (λ (n : ℕ). new ++ rest n (next d)) long
-      ∙ ap (λ (l : List Instruction). l ++ rest (length code + length (one x (length code) d)) (next d)) is
-      ∙ append_assoc code (one x (length code) d) (rest (length code + length (one x (length code) d)) (next d))
-      ∙ ap (λ (l : List Instruction). code ++ l) (sym (lowers.more x (drop (i + 1) xs) (length code) d))
-      ∙ ap (λ (ys : List X). code ++ all ys (length code) d) (sym here)
+module _ {X S : Type 0} (all : List X → ℕ → S → List Instruction) (one : X → List X → ℕ → S → List Instruction) (next : X → List X → S → S) (lowers : Lowers all one next) where
+  pub goes_on : (old : List Instruction) (xs : List X) (first : S) (i : ℕ) (code new : List Instruction) (s : S) (x : X) → i < length xs → x ≡ get_or xs i x
+      → new ≡ code ++ one x (drop (i + 1) xs) (length code) s → Remains all old xs first i code s → Remains all old xs first (i + 1) new (next x (drop (i + 1) xs) s)
+  goes_on old xs first i code new s x inside at is r =
+      let rest = drop (i + 1) xs in
+      let here : drop i xs ≡ x ∷ rest = drop_more xs i x inside ∙ ap (λ (y : X). y ∷ rest) (sym at) in
+      let added = one x rest (length code) s in
+      let after = next x rest s in
+      let long : length new ≡ length code + length added = ap length is ∙ length-append code added in
+      ap (λ (n : ℕ). new ++ all rest n after) long
+      ∙ ap (λ (l : List Instruction). l ++ all rest (length code + length added) after) is
+      ∙ append_assoc code added (all rest (length code + length added) after)
+      ∙ ap (λ (l : List Instruction). code ++ l) (sym (lowers.more x rest (length code) s))
+      ∙ ap (λ (ys : List X). code ++ all ys (length code) s) (sym here)
       ∙ r
 
-  pub all_made : (old : List Instruction) (xs : List X) (first i : ℕ) (code : List Instruction) (d : ℕ) → length xs ≤ i → Remains all old xs first i code d → code ≡ old ++ all xs (length old) first
-  all_made old xs first i code d done r =
+  pub all_made : (old : List Instruction) (xs : List X) (first : S) (i : ℕ) (code : List Instruction) (s : S) → length xs ≤ i → Remains all old xs first i code s → code ≡ old ++ all xs (length old) first
+  all_made old xs first i code s done r =
       sym (append-nil code)
-      ∙ ap (λ (l : List Instruction). code ++ l) (sym (lowers.none (length code) d))
-      ∙ ap (λ (ys : List X). code ++ all ys (length code) d) (sym (drop_all i xs done))
+      ∙ ap (λ (l : List Instruction). code ++ l) (sym (lowers.none (length code) s))
+      ∙ ap (λ (ys : List X). code ++ all ys (length code) s) (sym (drop_all i xs done))
       ∙ r
 
-abbrev pub all_arguments : List ConvertedCode → (p d : ℕ) → List Instruction
-all_arguments cs p d = arguments_code (arguments_of cs) p d
+-- arguments: the state is the slot of the next
+abbrev pub all_arguments : List ConvertedCode → (p t : ℕ) → List Instruction
+all_arguments cs p t = arguments_code (arguments_of cs) p t
 
-abbrev pub one_argument : ConvertedCode → (p d : ℕ) → List Instruction
-one_argument c p d = converted_code (view_converted c) p d
+abbrev pub one_argument : ConvertedCode → List ConvertedCode → (p t : ℕ) → List Instruction
+one_argument c cs p t = converted_code (view_converted c) p t
 
-pub arguments_lower : Lowers all_arguments one_argument suc
-arguments_lower = record { none = λ p d. refl; more = λ x xs p d. refl }
+abbrev pub next_argument : ConvertedCode → List ConvertedCode → ℕ → ℕ
+next_argument c cs t = suc t
 
-abbrev pub all_operations : List Operation → (p d : ℕ) → List Instruction
-all_operations os p d = operations_code (operations_of os) p d
+pub arguments_lower : Lowers all_arguments one_argument next_argument
+arguments_lower = record { none = λ p t. refl; more = λ x xs p t. refl }
 
-abbrev pub same_slot : ℕ → ℕ
-same_slot d = d
+-- the argument of `putchar`: the state is where its value stands
+abbrev pub all_printed : ℕ → List ConvertedCode → ℕ → Operand → List Instruction
+all_printed t cs p o = printed_code (arguments_of cs) p t
 
-one_operation_more : (o : Operation) (os : List Operation) (p d : ℕ) → all_operations (o ∷ os) p d ≡ operation_code o p d ++ all_operations os (p + length (operation_code o p d)) d
-one_operation_more (operation.Compute o e) os p d = refl
-one_operation_more (operation.Test o e) os p d = refl
+abbrev pub one_printed : ℕ → ConvertedCode → List ConvertedCode → ℕ → Operand → List Instruction
+one_printed t c cs p o = converted_operand_code (view_converted c) p t
 
-pub operations_lower : Lowers all_operations operation_code same_slot
-operations_lower = record { none = λ p d. refl; more = one_operation_more }
+abbrev pub next_printed : ℕ → ConvertedCode → List ConvertedCode → Operand → Operand
+next_printed t c cs o = converted_operand (view_converted c) t
+
+pub printed_lower : (t : ℕ) → Lowers (all_printed t) (one_printed t) (next_printed t)
+printed_lower t = record { none = λ p o. refl; more = λ x xs p o. refl }
+
+-- where the value stands in the end
+abbrev pub PrintedLeft : List ConvertedCode → (i : ℕ) → Operand → ℕ → Type 0
+PrintedLeft cs i o t = printed_operand (arguments_of (drop i cs)) o t ≡ printed_operand (arguments_of cs) (operands.Slot t) t
+
+pub printed_left : (cs : List ConvertedCode) (i : ℕ) (c : ConvertedCode) (o : Operand) (t : ℕ) → i < length cs → c ≡ get_or cs i c → PrintedLeft cs i o t
+    → PrintedLeft cs (i + 1) (converted_operand (view_converted c) t) t
+printed_left cs i c o t inside at left =
+    let here : drop i cs ≡ c ∷ drop (i + 1) cs = drop_more cs i c inside ∙ ap (λ (y : ConvertedCode). y ∷ drop (i + 1) cs) (sym at) in
+    sym (ap (λ (ys : List ConvertedCode). printed_operand (arguments_of ys) o t) here) ∙ left
+
+pub printed_done : (cs : List ConvertedCode) (i : ℕ) (o : Operand) (t : ℕ) → length cs ≤ i → PrintedLeft cs i o t → o ≡ printed_operand (arguments_of cs) (operands.Slot t) t
+printed_done cs i o t done left = sym (ap (λ (ys : List ConvertedCode). printed_operand (arguments_of ys) o t) (drop_all i cs done)) ∙ left
+
+-- a chain: the state is the left operand
+abbrev pub all_operations : (d t : ℕ) → List Operation → ℕ → Operand → List Instruction
+all_operations d t os p l = operations_code (operations_of os) p l d t
+
+abbrev pub one_operation : (d t : ℕ) → Operation → List Operation → ℕ → Operand → List Instruction
+one_operation d t o os p l = operation_code o p l (next_slot (operations_of os) d t) t
+
+abbrev pub next_operation : (d t : ℕ) → Operation → List Operation → Operand → Operand
+next_operation d t o os l = operands.Slot (next_slot (operations_of os) d t)
+
+one_operation_more : (d t : ℕ) (o : Operation) (os : List Operation) (p : ℕ) (l : Operand)
+    → all_operations d t (o ∷ os) p l ≡ one_operation d t o os p l ++ all_operations d t os (p + length (one_operation d t o os p l)) (next_operation d t o os l)
+one_operation_more d t (operation.Compute o e) os p l = refl
+one_operation_more d t (operation.Test o e) os p l = refl
+
+pub operations_lower : (d t : ℕ) → Lowers (all_operations d t) (one_operation d t) (next_operation d t)
+operations_lower d t = record { none = λ p l. refl; more = one_operation_more d t }
+
+-- the last operator gives to d, and any other to t
+next_slot_some : (o : Operation) (os : List Operation) (d t : ℕ) → next_slot (operations_of (o ∷ os)) d t ≡ t
+next_slot_some (operation.Compute o e) os d t = refl
+next_slot_some (operation.Test o e) os d t = refl
+
+pub slot_behind : (os : List Operation) (d t : ℕ) → 0 < length os → next_slot (operations_of os) d t ≡ t
+slot_behind [] d t some = absurd (omega (arith, some))
+slot_behind (o ∷ os) d t some = next_slot_some o os d t
+
+pub slot_at_end : (os : List Operation) (d t : ℕ) → length os ≡ 0 → next_slot (operations_of os) d t ≡ d
+slot_at_end [] d t none = refl
+slot_at_end (o ∷ os) d t none = absurd (omega (arith, none))
 
 -- ---- nodes with lists
 
@@ -123,42 +198,22 @@ pub argument_count_of : (cs : List ConvertedCode) → argument_count (arguments_
 argument_count_of [] = refl
 argument_count_of (c ∷ cs) = ap suc (argument_count_of cs)
 
-module _ (value : Expr) (f : Callee) (v : Vec ConvertedCode Heap) (t : ValueTypeCode) (is : value ≡ expr.Call f v t) (items : List ConvertedCode) (same : items ≡ v.items) (old middle new : List Instruction) (d n : ℕ) where
-  pub made_call : n ≡ length items → middle ≡ old ++ arguments_code (arguments_of items) (length old) d → new ≡ middle ++ call_code f n d → new ≡ old ++ expression_code (view_expression value) (length old) d
-  made_call many passed called =
-      let e : view_expression value ≡ Call f (arguments_of items) (view_value_type t)
-      = ap view_expression is ∙ view_call f v t ∙ ap (λ (cs : List ConvertedCode). Call f (arguments_of cs) (view_value_type t)) (sym same) in
-      called
-      ∙ ap (λ (l : List Instruction). l ++ call_code f n d) passed
-      ∙ append_assoc old (arguments_code (arguments_of items) (length old) d) (call_code f n d)
-      ∙ ap (λ (k : ℕ). old ++ (arguments_code (arguments_of items) (length old) d ++ call_code f k d)) (many ∙ sym (argument_count_of items))
-      ∙ ap (λ (a : Expression). old ++ expression_code a (length old) d) (sym e)
+-- the type of what a call gives changes no code
+pub call_alike : (f : Callee) (cs : Arguments) (ty other : ValueType) (p d t : ℕ) → expression_code (Call f cs ty) p d t ≡ expression_code (Call f cs other) p d t
+call_alike callees.Putchar cs ty other p d t = refl
+call_alike callees.Getchar cs ty other p d t = refl
+call_alike (callees.Function n) cs ty other p d t = refl
 
-module _ (value : Expr) (b : Box Expr Heap) (v : Vec Operation Heap) (t : TyCode) (is : value ≡ expr.Binary b v t) (first : Expr) (at : first ≡ b.value) (items : List Operation) (same : items ≡ v.items) (old middle new : List Instruction) (d : ℕ) where
-  pub made_binary : middle ≡ old ++ expression_code (view_expression first) (length old) d → new ≡ middle ++ operations_code (operations_of items) (length middle) d → new ≡ old ++ expression_code (view_expression value) (length old) d
-  made_binary begun chained =
-      let e : view_expression value ≡ Binary (view_expression first) (operations_of items) (view_ty t)
-      = ap view_expression is ∙ view_binary b v t ∙ ap (λ (a : Expr). Binary (view_expression a) (operations_of v.items) (view_ty t)) (sym at) ∙ ap (λ (os : List Operation). Binary (view_expression first) (operations_of os) (view_ty t)) (sym same) in
-      let a = expression_code (view_expression first) (length old) d in
-      let long : length middle ≡ length old + length a = ap length begun ∙ length-append old a in
-      chained
-      ∙ ap (λ (n : ℕ). middle ++ operations_code (operations_of items) n d) long
-      ∙ ap (λ (l : List Instruction). l ++ operations_code (operations_of items) (length old + length a) d) begun
-      ∙ append_assoc old a (operations_code (operations_of items) (length old + length a) d)
-      ∙ ap (λ (x : Expression). old ++ expression_code x (length old) d) (sym e)
+pub call_viewed : (value : Expr) (f : Callee) (v : Vec ConvertedCode Heap) (t : ValueTypeCode) → value ≡ expr.Call f v t → (items : List ConvertedCode) → items ≡ v.items
+    → view_expression value ≡ Call f (arguments_of items) (view_value_type t)
+call_viewed value f v t is items same =
+    ap view_expression is ∙ view_call f v t ∙ ap (λ (cs : List ConvertedCode). Call f (arguments_of cs) (view_value_type t)) (sym same)
 
--- an operator with its right operand, which comes into the next slot
-module _ (value : Operation) (o : Operator) (e : Expr) (is : value ≡ operation.Compute o e) (old middle new : List Instruction) (d next : ℕ) where
-  pub made_compute : next ≡ suc d → middle ≡ old ++ expression_code (view_expression e) (length old) next → new ≡ middle ++ operator_code o (length middle) d → new ≡ old ++ operation_code value (length old) d
-  made_compute behind begun applied =
-      let a = expression_code (view_expression e) (length old) (suc d) in
-      let first : middle ≡ old ++ a = begun ∙ ap (λ (k : ℕ). old ++ expression_code (view_expression e) (length old) k) behind in
-      let long : length middle ≡ length old + length a = ap length first ∙ length-append old a in
-      applied
-      ∙ ap (λ (n : ℕ). middle ++ operator_code o n d) long
-      ∙ ap (λ (l : List Instruction). l ++ operator_code o (length old + length a) d) first
-      ∙ append_assoc old a (operator_code o (length old + length a) d)
-      ∙ ap (λ (y : Operation). old ++ operation_code y (length old) d) (sym is)
+pub binary_viewed : (value : Expr) (b : Box Expr Heap) (v : Vec Operation Heap) (t : TyCode) → value ≡ expr.Binary b v t → (first : Expr) → first ≡ b.value → (items : List Operation) → items ≡ v.items
+    → view_expression value ≡ Binary (view_expression first) (operations_of items) (view_ty t)
+binary_viewed value b v t is first at items same =
+    ap view_expression is ∙ view_binary b v t ∙ ap (λ (a : Expr). Binary (view_expression a) (operations_of v.items) (view_ty t)) (sym at)
+    ∙ ap (λ (os : List Operation). Binary (view_expression first) (operations_of os) (view_ty t)) (sym same)
 
 -- ---- targets that are written back
 
@@ -188,23 +243,178 @@ module _ (old : List Instruction) (x : Instruction) (body : ℕ → List Instruc
       (written_back old x body jump begun made patched b m (p ∙ ap (λ (k : ℕ). set made k (jump target)) here ∙ ap (λ (k : ℕ). set made (length old) (jump k)) t))
       ∙ append_assoc old all last
 
-module _ (value : Operation) (o : LogicalOperator) (e : Expr) (is : value ≡ operation.Test o e) (old : List Instruction) (x : Instruction) (begun made patched new : List Instruction) (d place target : ℕ) where
-  pub made_test : place ≡ length old → begun ≡ old ++ x ∷ [] → made ≡ begun ++ expression_code (view_expression e) (length begun) d → target ≡ length made
-      → patched ≡ set made place (test_jump o d target) → new ≡ patched ++ truth_code d → new ≡ old ++ operation_code value (length old) d
-  made_test here b m t p n =
-      tested old x (λ (q : ℕ). expression_code (view_expression e) q d) (λ (q : ℕ). test_jump o d q) begun made patched new (truth_code d) place here target b m t p n
-      ∙ ap (λ (y : Operation). old ++ operation_code y (length old) d) (sym is)
+module _ (value : Operation) (o : LogicalOperator) (e : Expr) (is : value ≡ operation.Test o e) (old : List Instruction) (x : Instruction) (begun made patched new : List Instruction) (l : Operand) (d t place target : ℕ) where
+  pub made_test : place ≡ length old → begun ≡ old ++ x ∷ [] → made ≡ begun ++ expression_code (view_expression e) (length begun) t t → target ≡ length made
+      → patched ≡ set made place (test_jump o t target) → new ≡ patched ++ truth_code t d → new ≡ old ++ operation_code value (length old) l d t
+  made_test here b m k p n =
+      tested old x (λ (q : ℕ). expression_code (view_expression e) q t t) (λ (q : ℕ). test_jump o t q) begun made patched new (truth_code t d) place here target b m k p n
+      ∙ ap (λ (y : Operation). old ++ operation_code y (length old) l d t) (sym is)
 
--- a division behind its test
-module _ (o : Operator) (old m1 m2 m3 : List Instruction) (d : ℕ) where
-  pub made_checked : m1 ≡ old ++ jump_if_nonzero (d + 1) (length old + 2) ∷ [] → m2 ≡ m1 ++ instructions.Uncaught division_by_zero (operands.Slot (d + 1)) ∷ []
-      → m3 ≡ m2 ++ instructions.Binary (binary_operator o) d (operands.Slot d) (operands.Slot (d + 1)) ∷ [] → m3 ≡ old ++ checked_code o (length old) d
-  made_checked e1 e2 e3 =
-      let jump = jump_if_nonzero (d + 1) (length old + 2) in
-      let raise = instructions.Uncaught division_by_zero (operands.Slot (d + 1)) in
-      let divide = instructions.Binary (binary_operator o) d (operands.Slot d) (operands.Slot (d + 1)) in
-      e3
-      ∙ ap (λ (l : List Instruction). l ++ divide ∷ []) (e2 ∙ ap (λ (l : List Instruction). l ++ raise ∷ []) e1 ∙ append_assoc old (jump ∷ []) (raise ∷ []))
-      ∙ append_assoc old (jump ∷ raise ∷ []) (divide ∷ [])
-      ∙ ap (λ (n : ℕ). old ++ jump_if_nonzero n (length old + 2) ∷ instructions.Uncaught division_by_zero (operands.Slot n) ∷ instructions.Binary (binary_operator o) d (operands.Slot d) (operands.Slot n) ∷ [])
-      (let e : d + 1 ≡ suc d = omega arith in e)
+-- ---- pieces one behind the other
+
+-- the second is made for the place behind the first
+pub joined : (old x : List Instruction) (y : ℕ → List Instruction) (m1 m2 : List Instruction) → m1 ≡ old ++ x → m2 ≡ m1 ++ y (length m1) → m2 ≡ old ++ (x ++ y (length old + length x))
+joined old x y m1 m2 e1 e2 =
+    let place = length old + length x in
+    e2 ∙ ap (λ (n : ℕ). m1 ++ y n) (ap length e1 ∙ length-append old x) ∙ ap (λ (l : List Instruction). l ++ y place) e1 ∙ append_assoc old x (y place)
+
+pub converted_longer : (old new : List Instruction) (c : ConvertedCode) (t : ℕ) → new ≡ old ++ converted_code (view_converted c) (length old) t → length old < length new
+converted_longer old new c t is = grown old (converted_code (view_converted c) (length old) t) new is (before (expression_code (view_expression c.value) (length old) t t) _ (expression_some (view_expression c.value) (length old) t t))
+
+-- ---- calls
+
+module _ (f : Callee) (items : List ConvertedCode) (old m1 m2 : List Instruction) (d t : ℕ) where
+  pub made_putchar : (byte : Operand) → f ≡ callees.Putchar → byte ≡ printed_operand (arguments_of items) (operands.Slot t) t → m1 ≡ old ++ print_code (arguments_of items) (length old) t
+      → m2 ≡ m1 ++ low_byte byte d ∷ [] → m2 ≡ old ++ expression_code (Call f (arguments_of items) Void) (length old) d t
+  made_putchar byte is byte_is e1 e2 =
+      let o = printed_operand (arguments_of items) (operands.Slot t) t in
+      let front = printed_code (arguments_of items) (length old) t in
+      joined old (print_code (arguments_of items) (length old) t) (λ n. low_byte o d ∷ []) m1 m2 e1 (e2 ∙ ap (λ b. m1 ++ low_byte b d ∷ []) byte_is)
+      ∙ ap (λ (l : List Instruction). old ++ l) (append_assoc front (instructions.WriteByte o ∷ []) (low_byte o d ∷ []))
+      ∙ ap (λ (g : Callee). old ++ expression_code (Call g (arguments_of items) Void) (length old) d t) (sym is)
+
+  pub made_call : (n many : ℕ) → f ≡ callees.Function n → many ≡ length items → m1 ≡ old ++ arguments_code (arguments_of items) (length old) t
+      → m2 ≡ m1 ++ instructions.Call n t many d ∷ [] → m2 ≡ old ++ expression_code (Call f (arguments_of items) Void) (length old) d t
+  made_call n many is counted e1 e2 =
+      let all = argument_count (arguments_of items) in
+      joined old (arguments_code (arguments_of items) (length old) t) (λ p. instructions.Call n t all d ∷ []) m1 m2 e1 (e2 ∙ ap (λ k. m1 ++ instructions.Call n t k d ∷ []) (counted ∙ sym (argument_count_of items)))
+      ∙ ap (λ (g : Callee). old ++ expression_code (Call g (arguments_of items) Void) (length old) d t) (sym is)
+
+-- a call, as the expression that it is
+pub made_called : (value : Expr) (f : Callee) (v : Vec ConvertedCode Heap) (ty : ValueTypeCode) (items : List ConvertedCode) (old new : List Instruction) (d t : ℕ) → value ≡ expr.Call f v ty → items ≡ v.items
+    → new ≡ old ++ expression_code (Call f (arguments_of items) Void) (length old) d t → new ≡ old ++ expression_code (view_expression value) (length old) d t
+made_called value f v ty items old new d t is same made =
+    made ∙ ap (λ (l : List Instruction). old ++ l) (call_alike f (arguments_of items) Void (view_value_type ty) (length old) d t)
+    ∙ ap (λ (a : Expression). old ++ expression_code a (length old) d t) (sym (call_viewed value f v ty is items same))
+
+-- ---- chains
+
+pub made_binary : (value : Expr) (b : Box Expr Heap) (v : Vec Operation Heap) (ty : TyCode) (first : Expr) (items others : List Operation) (old m1 m2 : List Instruction) (l : Operand) (d t : ℕ)
+    → value ≡ expr.Binary b v ty → first ≡ b.value → items ≡ v.items → others ≡ v.items
+    → (l ≡ operand_or (left_of (view_expression first) (operations_of items)) (left_slot (view_expression first) (operations_of items) d t))
+    → m1 ≡ old ++ left_code (view_expression first) (operations_of items) (length old) d t
+    → m2 ≡ m1 ++ operations_code (operations_of others) (length m1) l d t → m2 ≡ old ++ expression_code (view_expression value) (length old) d t
+made_binary value b v ty first items others old m1 m2 l d t is at same same_others l_is e1 e2 =
+    let a = view_expression first in
+    let os = operations_of items in
+    let left = operand_or (left_of a os) (left_slot a os d t) in
+    joined old (left_code a os (length old) d t) (λ p. operations_code os p left d t) m1 m2 e1
+    (e2 ∙ ap (λ (os' : List Operation). m1 ++ operations_code (operations_of os') (length m1) l d t) (same_others ∙ sym same) ∙ ap (λ (o : Operand). m1 ++ operations_code os (length m1) o d t) l_is)
+    ∙ ap (λ (x : Expression). old ++ expression_code x (length old) d t) (sym (binary_viewed value b v ty is first at items same))
+
+-- what was added makes the code no shorter
+pub no_shorter_than : (old more new : List Instruction) → new ≡ old ++ more → length old ≤ length new
+no_shorter_than old more new is = let e : length new ≡ length (old ++ more) = ap length is in omega (arith, e, length-append old more)
+
+-- behind a left operand there is room for the chain
+pub room_behind : (a : Expression) (os : Operations) (old new : List Instruction) (d t : ℕ) → t ≤ most_locals + length old → new ≡ old ++ left_code a os (length old) d t
+    → (t ≤ most_locals + length new) × HasRoom os t (length new)
+room_behind a NoOperations old new d t low is = let more = no_shorter_than old _ new is in (omega (arith, low, more), omega (arith, low, more))
+room_behind a (ThenCompute o b os) old new d t low is =
+    let more = no_shorter_than old _ new is in (
+      omega (arith, low, more),
+      λ none.
+          let code : left_code a (ThenCompute o b os) (length old) d t ≡ expression_code a (length old) t t =
+          ap (λ (k : Option Operand). code_unless (left_with k (operand_of a)) (expression_code a (length old) (slot_with k a t) t)) none in
+          let longer = grown old (expression_code a (length old) t t) new (is ∙ ap (λ (l : List Instruction). old ++ l) code) (expression_some a (length old) t t) in
+          omega (arith, low, longer),
+    )
+room_behind a os old new d t low is = let more = no_shorter_than old _ new is in (omega (arith, low, more), omega (arith, low, more))
+
+-- a left operand that is not one without code
+left_plain : (a : Expression) (os : List Operation) (d t to : ℕ) → takes_operand (operations_of os) ≡ false → (length os ≡ 0 → to ≡ d) → (0 < length os → to ≡ t)
+    → (left_of a (operations_of os) ≡ None) × (to ≡ left_slot a (operations_of os) d t)
+left_plain a [] d t to plain none some = (refl, none refl)
+left_plain a (operation.Test o e ∷ os) d t to plain none some = (refl, some (omega arith))
+left_plain a (operation.Compute o e ∷ os) d t to plain none some = by (operand_of (view_expression e)) plain
+  where
+    by : (k : Option Operand) → is_some k ≡ false → (left_with k (operand_of a) ≡ None) × (to ≡ slot_with k a t)
+    by (Some k) plain = absurd (let f : true ≡ false = plain in cc)
+    by None plain = (refl, some (omega arith))
+
+made_left : (a : Expression) (os : List Operation) (old new : List Instruction) (d t to : ℕ) → takes_operand (operations_of os) ≡ false → (length os ≡ 0 → to ≡ d) → (0 < length os → to ≡ t)
+    → new ≡ old ++ expression_code a (length old) to t
+    → (operands.Slot to ≡ operand_or (left_of a (operations_of os)) (left_slot a (operations_of os) d t)) × (new ≡ old ++ left_code a (operations_of os) (length old) d t)
+made_left a os old new d t to plain none some is =
+    let (unknown, slot) = left_plain a os d t to plain none some in
+    let there = left_slot a (operations_of os) d t in (
+      ap operands.Slot slot ∙ sym (ap (λ (k : Option Operand). operand_or k there) unknown),
+      is ∙ ap (λ (n : ℕ). old ++ expression_code a (length old) n t) slot ∙ sym (ap (λ (k : Option Operand). old ++ code_unless k (expression_code a (length old) there t)) unknown),
+    )
+
+pub made_left_alone : (a : Expression) (os : List Operation) (old new : List Instruction) (d t to : ℕ) → takes_operand (operations_of os) ≡ false → (length os == 0) ≡ true → to ≡ d
+    → new ≡ old ++ expression_code a (length old) to t
+    → (operands.Slot to ≡ operand_or (left_of a (operations_of os)) (left_slot a (operations_of os) d t)) × (new ≡ old ++ left_code a (operations_of os) (length old) d t)
+made_left_alone a os old new d t to plain empty there is =
+    made_left a os old new d t to plain (λ none. there) (λ some. absurd (let none : length os ≡ 0 = eqb-true (length os) 0 empty in omega (arith, some, none))) is
+
+pub made_left_first : (a : Expression) (os : List Operation) (old new : List Instruction) (d t to : ℕ) → takes_operand (operations_of os) ≡ false → (length os == 0) ≡ false → to ≡ t
+    → new ≡ old ++ expression_code a (length old) to t
+    → (operands.Slot to ≡ operand_or (left_of a (operations_of os)) (left_slot a (operations_of os) d t)) × (new ≡ old ++ left_code a (operations_of os) (length old) d t)
+made_left_first a os old new d t to plain more there is =
+    made_left a os old new d t to plain (λ none. absurd (let f : false ≡ true = sym more ∙ eq-eqb (length os) 0 none in cc)) (λ some. there) is
+
+pub made_compute : (value : Operation) (o : Operator) (e : Expr) (old m1 m2 : List Instruction) (l r : Operand) (d t : ℕ) → value ≡ operation.Compute o e
+    → r ≡ value_operand (view_expression e) (t + 1) → m1 ≡ old ++ value_code (view_expression e) (length old) (t + 1) → m2 ≡ m1 ++ operator_code o l r (length m1) d
+    → m2 ≡ old ++ operation_code value (length old) l d t
+made_compute value o e old m1 m2 l r d t is r_is e1 e2 =
+    let a = view_expression e in
+    let next : t + 1 ≡ suc t = omega arith in
+    let right = value_operand a (suc t) in
+    joined old (value_code a (length old) (suc t)) (λ p. operator_code o l right p d) m1 m2 (e1 ∙ ap (λ (n : ℕ). old ++ value_code a (length old) n) next)
+    (e2 ∙ ap (λ (x : Operand). m1 ++ operator_code o l x (length m1) d) (r_is ∙ ap (value_operand a) next))
+    ∙ ap (λ (x : Operation). old ++ operation_code x (length old) l d t) (sym is)
+
+-- where one operator is made, more may follow
+operates_longer : (x : Operation) (p : ℕ) (l : Operand) (d t : ℕ) → 0 < length (operation_code x p l d t)
+operates_longer (operation.Compute o e) p l d t = behind (value_code (view_expression e) p (suc t)) _ (operates o l (value_operand (view_expression e) (suc t)) (p + length (value_code (view_expression e) p (suc t))) d)
+operates_longer (operation.Test o e) p l d t = omega arith
+
+room_everywhere : (os : Operations) (t many : ℕ) → t < most_locals + many → HasRoom os t many
+room_everywhere NoOperations t many low = omega (arith, low)
+room_everywhere (ThenCompute o b os) t many low = λ none. low
+room_everywhere os t many low = omega (arith, low)
+
+pub room_after : (x : Operation) (os : Operations) (old new : List Instruction) (l : Operand) (d t : ℕ) → t ≤ most_locals + length old → new ≡ old ++ operation_code x (length old) l d t
+    → (t ≤ most_locals + length new) × HasRoom os t (length new)
+room_after x os old new l d t low is =
+    let longer = grown old (operation_code x (length old) l d t) new is (operates_longer x (length old) l d t) in
+    (omega (arith, low, longer), room_everywhere os t (length new) (omega (arith, low, longer)))
+
+room_first : (x : Operation) (os : List Operation) (t many : ℕ) → HasRoom (operations_of (x ∷ os)) t many → HasRoomFor x t many
+room_first (operation.Compute o e) os t many room = room
+room_first (operation.Test o e) os t many room = room
+
+pub room_here : (xs : List Operation) (i : ℕ) (x : Operation) (t many : ℕ) → i < length xs → x ≡ get_or xs i x → HasRoom (operations_of (drop i xs)) t many → HasRoomFor x t many
+room_here xs i x t many inside at room =
+    let here : drop i xs ≡ x ∷ drop (i + 1) xs = drop_more xs i x inside ∙ ap (λ (y : Operation). y ∷ drop (i + 1) xs) (sym at) in
+    room_first x (drop (i + 1) xs) t many (subst (λ (ys : List Operation). HasRoom (operations_of ys) t many) here room)
+
+-- the slot for what an operator gives, by how many follow
+pub slot_by_count : (xs : List Operation) (i many to d t : ℕ) → many + (i + 1) ≡ length xs → (many ≡ 0 → to ≡ d) → (0 < many → to ≡ t) → to ≡ next_slot (operations_of (drop (i + 1) xs)) d t
+slot_by_count xs i zero to d t counted none some = none refl ∙ sym (slot_at_end (drop (i + 1) xs) d t (omega (arith, length-drop (i + 1) xs, counted)))
+slot_by_count xs i (suc many) to d t counted none some = some (omega arith) ∙ sym (slot_behind (drop (i + 1) xs) d t (omega (arith, length-drop (i + 1) xs, counted)))
+
+-- the byte that `putchar` prints
+pub made_print : (items : List ConvertedCode) (old code new : List Instruction) (i : ℕ) (byte : Operand) (t : ℕ) → length items ≤ i
+    → Remains (all_printed t) old items (operands.Slot t) i code byte → PrintedLeft items i byte t → new ≡ code ++ instructions.WriteByte byte ∷ []
+    → (byte ≡ printed_operand (arguments_of items) (operands.Slot t) t) × (new ≡ old ++ print_code (arguments_of items) (length old) t)
+made_print items old code new i byte t done r left is =
+    let o = printed_operand (arguments_of items) (operands.Slot t) t in
+    let byte_is : byte ≡ o = printed_done items i byte t done left in
+    let made = all_made (all_printed t) (one_printed t) (next_printed t) (printed_lower t) old items (operands.Slot t) i code byte done r in (
+      byte_is,
+      joined old (printed_code (arguments_of items) (length old) t) (λ p. instructions.WriteByte o ∷ []) code new made (is ∙ ap (λ (b : Operand). code ++ instructions.WriteByte b ∷ []) byte_is),
+    )
+
+-- a call whose value is dropped, as the expression that it is
+discarded_alike : (f : Callee) (cs : Arguments) (ty other : ValueType) (p t : ℕ) → discarded_code (Call f cs ty) p t ≡ discarded_code (Call f cs other) p t
+discarded_alike callees.Putchar cs ty other p t = refl
+discarded_alike callees.Getchar cs ty other p t = refl
+discarded_alike (callees.Function n) cs ty other p t = refl
+
+pub made_discarded : (value : Expr) (f : Callee) (v : Vec ConvertedCode Heap) (ty : ValueTypeCode) (items : List ConvertedCode) (old new : List Instruction) (t : ℕ) → value ≡ expr.Call f v ty → items ≡ v.items
+    → new ≡ old ++ discarded_code (Call f (arguments_of items) Void) (length old) t → new ≡ old ++ discarded_code (view_expression value) (length old) t
+made_discarded value f v ty items old new t is same made =
+    made ∙ ap (λ (l : List Instruction). old ++ l) (discarded_alike f (arguments_of items) Void (view_value_type ty) (length old) t)
+    ∙ ap (λ (a : Expression). old ++ discarded_code a (length old) t) (sym (call_viewed value f v ty is items same))

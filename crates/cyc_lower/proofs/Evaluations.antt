@@ -1,24 +1,33 @@
 -- The steps that begin an expression.
-use Rattle.std.proofs.Common.{◌≡◌, ℕ, ◌+◌, ◌≤◌, ◌<◌, List, [], ◌∷◌, ◌++◌, length, Option, None, Some, slice_get, refl, sym, ap, subst, ◌∙◌, arith}
-use Rattle.std.proofs.lemmas.Option.{same_Some}
+use Rattle.std.proofs.Common.{◌≡◌, ℕ, suc, ◌+◌, ◌≤◌, ◌<◌, Bool, true, List, [], ◌∷◌, ◌++◌, length, Option, None, Some, slice_get, refl, sym, ap, subst, ◌∙◌, arith}
+use Rattle.std.specs.Prelude.{◌==◌}
+use Rattle.std.proofs.lemmas.Bool.{eq-eqb}
+use Rattle.std.proofs.lemmas.Option.{same_Some, none-some}
 use Rattle.cyc_types.specs.declared.typed.Callee.{Callee}
+use Rattle.cyc_types.specs.declared.typed.Callee.TheVariants as callees
 use Rattle.cyc_types.specs.declared.typed.Kind.{Kind}
 use Rattle.cyc_types.specs.declared.typed.Kind.TheVariants as kinds
+use Rattle.cyc_types.specs.declared.typed.Operator.{Operator}
 use Rattle.cyc_types.specs.Types.{Ty, ValueType}
-use Rattle.cyc_types.specs.TypedTrees.{Lvalue, Local, Global, Expression, Number, Copy, Call, Unary, Binary, Assign, Convert, Arguments, NoArguments, MoreArguments, Function, Program}
+use Rattle.cyc_types.specs.TypedTrees.{Lvalue, Local, Global, Expression, Number, Copy, Call, Unary, Binary, Assign, Converted, Convert, Arguments, NoArguments, MoreArguments, Operations, NoOperations, ThenCompute, ThenTest, Function, Program}
+use Rattle.cyc_types.specs.TypedTrees as typed
 use Rattle.cyc_types.specs.Numbered.{argument_count}
+use Rattle.cyc_plain.specs.declared.instruction.Operand.{Operand}
+use Rattle.cyc_plain.specs.declared.instruction.Operand.TheVariants as operands
+use Rattle.cyc_plain.specs.declared.instruction.Instruction.{Instruction}
 use Rattle.cyc_plain.specs.State as plain
-use Rattle.cyc_plain.specs.State.{put, Configuration}
-use Rattle.cyc_plain.specs.Step.{with_slots, advanced}
+use Rattle.cyc_plain.specs.State.{put, Frame, Configuration}
+use Rattle.cyc_plain.specs.Step.{operand_word, with_slots, advanced}
 use Rattle.cyc_plain.proofs.SlotLaws.{put-same}
-use Rattle.cyc_meaning.specs.Values.{Value, Int, Thin, Operand, kind_of}
-use Rattle.cyc_meaning.specs.State.{World, Environment, ConvertTo, Operate, Chain, Store, Entry, Needs, Focus, Evaluating, Given, Running}
+use Rattle.cyc_meaning.specs.Values.{Value, Int, Thin, Operand as Kinded, kind_of}
+use Rattle.cyc_meaning.specs.SourceMachine.{status_in}
+use Rattle.cyc_meaning.specs.State.{status_of, World, Environment, ConvertTo, Operate, Chain, Apply, Store, Pass, Entry, Needs, Discard, Focus, Evaluating, Given, Running}
 use Rattle.cyc_meaning.specs.Step.{object_of, assigned, passes, step}
-use Rattle.cyc_lower.specs.Lowering.{slot_of}
-use Rattle.cyc_lower.proofs.Weights.{weight, stack_weight, arguments_weight}
-use Rattle.cyc_lower.proofs.Stands.{ArgumentsAt, CallAt}
-use Rattle.cyc_lower.proofs.Relation.{Is, height, Holds, held, contents, callers, DataAt, SharedAt, ValueStack, Related, Matches, code_of, bounds_in, bounds_at, base_of, top}
-use Rattle.cyc_lower.proofs.Data.{height-least, Holds-put, data_put}
+use Rattle.cyc_lower.specs.Lowering.{slot_of, operand_of, value_slot, left_with, slot_with}
+use Rattle.cyc_lower.proofs.Weights.{weight, stack_weight, expression_weight, arguments_weight}
+use Rattle.cyc_lower.proofs.Stands.{At, CopyBy, CopyAt, OperandBy, ConversionAt, ExpressionAt, ArgumentsAt, OperationsAt, ValueAt, AssignmentAt, PrintedAt, DiscardedAt}
+use Rattle.cyc_lower.proofs.Relation.{Is, height, Holds, held, contents, callers, Lands, in_temporary, in_local, drops, leaves, copies, Prints, prints_only, gives_byte, DataIn, SharedAt, CallAt, ValueStack, DroppedStack, AheadStack, LandsStack, HandsOnStack, PrintsStack, RightAt, EvaluatingAt, as_operand, into_slot, for_effect, as_right, in_operand, ahead, with_left, Related, Matches, code_of, bounds_in, bounds_at, base_of, top}
+use Rattle.cyc_lower.proofs.Data.{height-least, Holds-put, Holds-local, data_put, data_put_back}
 use Rattle.cyc_lower.proofs.Accesses.{IsWell, is_loaded}
 use Rattle.cyc_lower.proofs.Matched.{IsMatched, silently, one}
 
@@ -32,49 +41,93 @@ module _ (source : Program) (pages calls : ℕ) (some_page : 1 ≤ pages) where
   abbrev pub IsStep : Focus → List Entry → Environment → World → Configuration → Type 0
   IsStep focus k e w c = IsWell (step source (Running focus k e w)) → Related source calls focus k e w c → IsMatched source pages calls some_page (Running focus k e w) (plain.Running c)
 
-  -- a value comes to the top, and the next instruction is the one behind
-  pub given_value : (v : Operand) (word : ℕ) (k : List Entry) (e : Environment) (w : World) (c : Configuration) (q : ℕ) → Is v.value word
-      → SharedAt source calls w c → DataAt source c.active.function w.objects e.locals (callers k) c.active.slots c.globals c.frames
-      → Holds c.active.slots (base_of source c.active.function) (held k) → c.active.next + 1 ≡ q → ValueStack source c.active.function e.locals q c.frames k
-      → Related source calls (Given v) k e w (advanced (with_slots c (put c.active.slots (top source c.active.function k) word)))
-  given_value v word k e w c q is shared facts holds end stack =
-      let d = top source c.active.function k in
+  -- a value comes to a slot, and the next instruction is the one behind
+  pub landed : (v : Kinded) (word d : ℕ) (k : List Entry) (e : Environment) (w : World) (c : Configuration) (q : ℕ) → Is v.value word
+      → SharedAt source calls w c → DataIn source c.active.slots k e w c → Holds c.active.slots (base_of source c.active.function) (held k)
+      → c.active.next + 1 ≡ q → LandsStack source c.active.function e.locals d q c.frames k
+      → Related source calls (Given v) k e w (advanced (with_slots c (put c.active.slots d word)))
+  landed v word d k e w c q is shared facts holds end (in_temporary least stack) =
       let base = base_of source c.active.function in (
         shared,
-        data_put source c.active.function w.objects e.locals (callers k) c.active.slots c.globals c.frames d word (height-least base (held k)) facts,
-        (
-          subst (Is v.value) (sym (put-same c.active.slots d word)) is,
-          Holds-put c.active.slots base (held k) d word (omega arith) holds,
-          subst (λ r. ValueStack source c.active.function e.locals r c.frames k) (sym end) stack,
-        ),
+        in_operand (operands.Slot d)
+            (data_put source c.active.function w.objects e.locals (callers k) c.active.slots c.globals c.frames d word (omega (arith, least, height-least base (held k))) facts)
+            (subst (Is v.value) (sym (put-same c.active.slots d word)) is)
+            (Holds-put c.active.slots base (held k) d word least holds)
+            (subst (λ r. ValueStack source c.active.function e.locals (operands.Slot d) r c.frames k) (sym end) stack),
       )
+  landed v word d k e w c q is shared facts holds end (in_local below stack) =
+      let base = base_of source c.active.function in (
+        shared,
+        ahead d (c.active.slots d, data_put_back source c.active.function w.objects e.locals (callers k) c.active.slots c.globals c.frames d word facts) below
+            (subst (Is v.value) (sym (put-same c.active.slots d word)) is)
+            (Holds-local c.active.slots base (held k) d word below holds)
+            (subst (λ r. AheadStack source c.active.function e.locals d r c.frames k) (sym end) stack),
+      )
+
+  -- what stands behind a slot, at an equal place
+  pub lands_at : (g : ℕ) (locals : ℕ → Option ℕ) (d p q : ℕ) (frames : List Frame) (k : List Entry) → p ≡ q → LandsStack source g locals d q frames k → LandsStack source g locals d p frames k
+  lands_at g locals d p q frames k same lands = subst (λ r. LandsStack source g locals d r frames k) (sym same) lands
+
+  -- what a dropped value would be done with
+  pub dropped_value : (g : ℕ) (locals : ℕ → Option ℕ) (o : Operand) (p : ℕ) (frames : List Frame) (k : List Entry) → DroppedStack source g p frames k → ValueStack source g locals o p frames k
+  dropped_value g locals o p frames (Discard ∷ k) stack = stack
+  dropped_value g locals o p frames k stack = absurd stack
+
+  -- ---- operands without code
+
+  -- the value of such an expression is found in the operand
+  pub record IsRead (a : Expression) (o : Operand) (k : List Entry) (e : Environment) (w : World) (c : Configuration) : Type 0 where
+    pub value : Kinded
+    pub gives : step source (Running (Evaluating a) k e w) ≡ Running (Given value) k e w
+    pub is : Is value.value (operand_word c.active.slots o)
+    pub some : expression_weight a ≡ 1
+
+  pub reads : (a : Expression) (o : Operand) (k : List Entry) (e : Environment) (w : World) (c : Configuration) → operand_of a ≡ Some o → IsWell (step source (Running (Evaluating a) k e w))
+      → DataIn source c.active.slots k e w c → IsRead a o k e w c
+  reads (Number n) o k e w c known well facts =
+      record { value = record { kind = kinds.Int; value = Int n }; gives = refl; is = ap (operand_word c.active.slots) (sym (same_Some (operands.Word n) o known)); some = refl }
+  reads (Copy (Local p n) t) o k e w c known well (low, below, hold, waiting, words) =
+      let found = is_loaded (kind_of t) (e.locals n) k e w well in
+      record {
+        value = record { kind = kind_of t; value = found.value };
+        gives = found.gives;
+        is = subst (λ x. Is found.value (operand_word c.active.slots x)) (same_Some (operands.Slot (slot_of n)) o known) (hold.holds n found.number found.value found.there found.has);
+        some = refl;
+      }
+  reads a o k e w c known well facts = absurd (none-some o known)
 
   -- ---- calls
 
   -- the next argument is evaluated, or the call is made
-  pub passes_related : (f : Callee) (before : List Operand) (cs : Arguments) (k : List Entry) (e : Environment) (w : World) (c : Configuration) (m q all : ℕ)
-      → SharedAt source calls w c → DataAt source c.active.function w.objects e.locals (callers k) c.active.slots c.globals c.frames
+  pub passes_related : (f : Callee) (before : List Kinded) (cs : Arguments) (k : List Entry) (e : Environment) (w : World) (c : Configuration) (d m q all : ℕ)
+      → SharedAt source calls w c → DataIn source c.active.slots k e w c
       → ArgumentsAt (code_of source c.active.function) (bounds_at source c.active.function) cs (height (base_of source c.active.function) (before ++ held k)) c.active.next m
-      → CallAt (code_of source c.active.function) (bounds_at source c.active.function) f all (top source c.active.function k) m q
+      → CallAt source c.active.function f all (top source c.active.function k) d m q
       → length before + argument_count cs ≡ all
-      → Holds c.active.slots (base_of source c.active.function) (before ++ held k) → ValueStack source c.active.function e.locals q c.frames k
+      → Holds c.active.slots (base_of source c.active.function) (before ++ held k) → LandsStack source c.active.function e.locals d q c.frames k
       → Matches source calls (passes f before cs k e w) (plain.Running c)
-  passes_related f before NoArguments k e w c m q all shared facts at call long holds stack =
+  passes_related callees.Putchar before cs k e w c d m q all shared facts at call long holds lands = absurd call
+  passes_related callees.Getchar before NoArguments k e w c d m q all shared facts at (here, end) long holds lands =
+      (shared, facts, (d, q, subst (λ p. CallAt source c.active.function callees.Getchar (length before) (top source c.active.function k) d p q) (sym at) (here, end), holds, lands))
+  passes_related (callees.Function n) before NoArguments k e w c d m q all shared facts at call long holds lands =
       let many : all ≡ length before = omega (arith, long) in (
         shared,
         facts,
         (
+          d,
           q,
-          subst (λ n. CallAt (code_of source c.active.function) (bounds_at source c.active.function) f n (top source c.active.function k) c.active.next q) many
-              (subst (λ p. CallAt (code_of source c.active.function) (bounds_at source c.active.function) f all (top source c.active.function k) p q) (sym at) call),
+          subst (λ i. CallAt source c.active.function (callees.Function n) i (top source c.active.function k) d c.active.next q) many
+              (subst (λ p. CallAt source c.active.function (callees.Function n) all (top source c.active.function k) d p q) (sym at) call),
           holds,
-          stack,
+          lands,
         ),
       )
-  passes_related f before (MoreArguments (Convert from to a) cs) k e w c m q all shared facts (r, (s, at_a, at_to), at) call long holds stack =
-      (shared, facts, (s, at_a, holds, (r, at_to, (m, q, all, at, call, long, stack))))
+  passes_related callees.Getchar before (MoreArguments (Convert from to a) cs) k e w c d m q all shared facts (r, (s, at_a, at_to), at) call long holds lands =
+      (shared, facts, into_slot (height (base_of source c.active.function) (before ++ held k)) s at_a holds (in_temporary (omega arith) (r, at_to, (d, m, q, all, refl, at, call, long, lands))))
+  passes_related (callees.Function n) before (MoreArguments (Convert from to a) cs) k e w c d m q all shared facts (r, (s, at_a, at_to), at) call long holds lands =
+      (shared, facts, into_slot (height (base_of source c.active.function) (before ++ held k)) s at_a holds (in_temporary (omega arith) (r, at_to, (d, m, q, all, refl, at, call, long, lands))))
 
-  pub passes_weight : (f : Callee) (before : List Operand) (cs : Arguments) (k : List Entry) (e : Environment) (w : World) → weight (passes f before cs k e w) ≤ arguments_weight cs + stack_weight k
+  pub passes_weight : (f : Callee) (before : List Kinded) (cs : Arguments) (k : List Entry) (e : Environment) (w : World) → weight (passes f before cs k e w) ≤ arguments_weight cs + stack_weight k
   passes_weight f before NoArguments k e w = omega arith
   passes_weight f before (MoreArguments (Convert from to a) cs) k e w = omega arith
 
@@ -88,44 +141,192 @@ module _ (source : Program) (pages calls : ℕ) (some_page : 1 ≤ pages) where
   pub global_there : (g n : ℕ) → n < (bounds_at source g).globals → n < length source.globals
   global_there g n few = omega (arith, few, globals_in (slice_get source.functions g))
 
-  copies : (l : Lvalue) (t : Ty) (k : List Entry) (e : Environment) (w : World) (c : Configuration) → IsStep (Evaluating (Copy l t)) k e w c
-  copies (Local p n) t k e w c well (shared, (low, below, hold, waiting, words), (q, (at, end), holds, stack)) =
+  -- ---- an expression, by where its value is to be
+
+  -- what is known at each such step
+  abbrev At_step : Expression → List Entry → Environment → World → Configuration → Type 0
+  At_step a k e w c = IsWell (step source (Running (Evaluating a) k e w)) × SharedAt source calls w c × DataIn source c.active.slots k e w c
+      × Holds c.active.slots (base_of source c.active.function) (held k)
+
+  abbrev IsBegun : Expression → List Entry → Environment → World → Configuration → Type 0
+  IsBegun a k e w c = IsMatched source pages calls some_page (Running (Evaluating a) k e w) (plain.Running c)
+
+  known_operand : (a : Expression) (o : Operand) (k : List Entry) (e : Environment) (w : World) (c : Configuration) (q : ℕ) → operand_of a ≡ Some o → c.active.next ≡ q → At_step a k e w c
+      → ValueStack source c.active.function e.locals o q c.frames k → IsBegun a k e w c
+  known_operand a o k e w c q known end (well, shared, facts, holds) stack =
+      let found = reads a o k e w c known well facts in
+      silently source pages calls some_page (Running (Evaluating a) k e w) (Running (Given found.value) k e w) (plain.Running c) found.gives
+      (shared, in_operand o facts found.is holds (subst (λ r. ValueStack source c.active.function e.locals o r c.frames k) (sym end) stack))
+      (omega (arith, found.some))
+
+  -- a place is assigned, and then the value of the assignment is handed on
+  assigns : (l : Lvalue) (from to : Kind) (a : Expression) (t : ValueType) (k : List Entry) (e : Environment) (w : World) (c : Configuration) (object : Option ℕ) (o : Operand) (m : ℕ)
+      → object_of e l ≡ object → At_step (Assign l (Convert from to a) t) k e w c
+      → AssignmentAt (code_of source c.active.function) (bounds_at source c.active.function) l (Convert from to a) o (top source c.active.function k) c.active.next m
+      → HandsOnStack source c.active.function e.locals o m c.frames k → IsBegun (Assign l (Convert from to a) t) k e w c
+  assigns l from to a t k e w c None o m found (well, shared, facts, holds) at hands =
+      absurd (well (ap (λ x. status_in (status_of (assigned x (Convert from to a) k e w))) found))
+  assigns (Local p n) from kinds.NonNull a t k e w c (Some object) o m found (well, shared, facts, holds) (there, (r, s, u, at_a, check, move, end)) hands =
+      let g = c.active.function in
+      silently source pages calls some_page (Running (Evaluating (Assign (Local p n) (Convert from kinds.NonNull a) t)) k e w)
+      (Running (Evaluating a) (Needs (ConvertTo from kinds.NonNull) ∷ Needs (Store (Thin object 0)) ∷ k) e w) (plain.Running c)
+      (ap (λ x. assigned x (Convert from kinds.NonNull a) k e w) found)
+      (shared, facts, as_operand r s at_a holds (u, check, (Local p n, o, m, (move, end, there), (object, refl, found), hands)))
+      (omega arith)
+  assigns (Local p n) from to a t k e w c (Some object) o m found (well, shared, facts, holds) (there, at_a) hands =
+      let g = c.active.function in
+      let below : n < base_of source g = (facts.2.within n object found).0 in
+      silently source pages calls some_page (Running (Evaluating (Assign (Local p n) (Convert from to a) t)) k e w)
+      (Running (Evaluating a) (Needs (ConvertTo from to) ∷ Needs (Store (Thin object 0)) ∷ k) e w) (plain.Running c)
+      (ap (λ x. assigned x (Convert from to a) k e w) found)
+      (shared, facts, into_slot n m at_a holds (in_local below (tt, (object, refl, found, subst (λ x. HandsOnStack source g e.locals x m c.frames k) there hands))))
+      (omega arith)
+  assigns (Global n) from to a t k e w c (Some object) o m found (well, shared, facts, holds) (s, (r, at_a, at_to), few, store, end) hands =
+      silently source pages calls some_page (Running (Evaluating (Assign (Global n) (Convert from to a) t)) k e w)
+      (Running (Evaluating a) (Needs (ConvertTo from to) ∷ Needs (Store (Thin object 0)) ∷ k) e w) (plain.Running c)
+      (ap (λ x. assigned x (Convert from to a) k e w) found)
+      (shared, facts, as_operand o r at_a holds (s, at_to, (Global n, o, m, (store, end, refl, few), (object, refl, found), hands)))
+      (omega arith)
+
+  -- a byte is printed
+  prints : (cs : Arguments) (t : ValueType) (k : List Entry) (e : Environment) (w : World) (c : Configuration) (o : Operand) (m : ℕ) → At_step (Call callees.Putchar cs t) k e w c
+      → PrintedAt (code_of source c.active.function) (bounds_at source c.active.function) cs (top source c.active.function k) o c.active.next m
+      → PrintsStack source c.active.function e.locals o m c.frames k → IsBegun (Call callees.Putchar cs t) k e w c
+  prints NoArguments t k e w c o m known at stack = absurd at
+  prints (MoreArguments (Convert from to a) NoArguments) t k e w c o m (well, shared, facts, holds) (s, at_a, at_to) (write, stack) =
+      silently source pages calls some_page (Running (Evaluating (Call callees.Putchar (MoreArguments (Convert from to a) NoArguments) t)) k e w)
+      (Running (Evaluating a) (Needs (ConvertTo from to) ∷ Needs (Pass callees.Putchar [] NoArguments) ∷ k) e w) (plain.Running c) refl
+      (shared, facts, as_operand o s at_a holds (m, at_to, (refl, refl, write, stack)))
+      (omega arith)
+  prints (MoreArguments c' (MoreArguments c'' cs)) t k e w c o m known at stack = absurd at
+
+  calls_out : (f : Callee) (cs : Arguments) (t : ValueType) (k : List Entry) (e : Environment) (w : World) (c : Configuration) (d m q : ℕ) → At_step (Call f cs t) k e w c
+      → ArgumentsAt (code_of source c.active.function) (bounds_at source c.active.function) cs (top source c.active.function k) c.active.next m
+      → CallAt source c.active.function f (argument_count cs) (top source c.active.function k) d m q
+      → LandsStack source c.active.function e.locals d q c.frames k → IsBegun (Call f cs t) k e w c
+  calls_out f cs t k e w c d m q (well, shared, facts, holds) at call lands =
+      silently source pages calls some_page (Running (Evaluating (Call f cs t)) k e w) (passes f [] cs k e w) (plain.Running c) refl
+      (passes_related f [] cs k e w c d m q (argument_count cs) shared facts at call (omega arith) holds lands)
+      (omega (arith, passes_weight f [] cs k e w))
+
+  -- the first operand of a chain: it may be without code where the second is
+  chain_begins : (right : Option Operand) (a : Expression) (os : Operations) (t : Ty) (k : List Entry) (e : Environment) (w : World) (c : Configuration) (l : Operand) (m : ℕ) → At_step (Binary a os t) k e w c
+      → OperandBy (code_of source c.active.function) (bounds_at source c.active.function) (left_with right (operand_of a))
+      (ExpressionAt (code_of source c.active.function) (bounds_at source c.active.function) a (slot_with right a (top source c.active.function k)) (top source c.active.function k) c.active.next m)
+      (slot_with right a (top source c.active.function k)) l c.active.next m
+      → ValueStack source c.active.function e.locals l m c.frames (Needs (Chain os) ∷ k) → IsBegun (Binary a os t) k e w c
+  chain_begins (Some r) a os t k e w c l m (well, shared, facts, holds) at stack =
+      silently source pages calls some_page (Running (Evaluating (Binary a os t)) k e w) (Running (Evaluating a) (Needs (Chain os) ∷ k) e w) (plain.Running c) refl
+      (shared, facts, as_operand l m at holds stack)
+      (omega arith)
+  chain_begins None a os t k e w c l m (well, shared, facts, holds) (is, at) stack =
+      let g = c.active.function in
+      silently source pages calls some_page (Running (Evaluating (Binary a os t)) k e w) (Running (Evaluating a) (Needs (Chain os) ∷ k) e w) (plain.Running c) refl
+      (shared, facts, into_slot (top source g k) m at holds (in_temporary (omega arith) (subst (λ x. ValueStack source g e.locals x m c.frames (Needs (Chain os) ∷ k)) is stack)))
+      (omega arith)
+
+  comes : (a : Expression) (k : List Entry) (e : Environment) (w : World) (c : Configuration) (d q : ℕ) → At_step a k e w c
+      → ExpressionAt (code_of source c.active.function) (bounds_at source c.active.function) a d (top source c.active.function k) c.active.next q
+      → LandsStack source c.active.function e.locals d q c.frames k → IsBegun a k e w c
+  comes (Number n) k e w c d q (well, shared, facts, holds) (at, end) lands =
+      one source pages calls some_page refl shared at (λ choice. landed (record { kind = kinds.Int; value = Int n }) n d k e w c q refl shared facts holds end lands)
+  comes (Copy (Local p n) t) k e w c d q (well, shared, facts, holds) (at, end) lands =
       let found = is_loaded (kind_of t) (e.locals n) k e w well in
       one source pages calls some_page found.gives shared at
-      (λ choice. given_value (record { kind = kind_of t; value = found.value }) (c.active.slots (slot_of n)) k e w c q (hold.holds n found.number found.value found.there found.has) shared (low, below, hold, waiting, words) holds end stack)
-  copies (Global n) t k e w c well (shared, (low, below, hold, waiting, words), (q, (few, at, end), holds, stack)) =
+      (λ choice. landed (record { kind = kind_of t; value = found.value }) (c.active.slots (slot_of n)) d k e w c q (facts.2.holds n found.number found.value found.there found.has) shared facts holds end lands)
+  comes (Copy (Global n) t) k e w c d q (well, shared, facts, holds) (few, at, end) lands =
       let found = is_loaded (kind_of t) (Some n) k e w well in
       let same : n ≡ found.number = same_Some n found.number found.there in
       one source pages calls some_page found.gives shared at
-      (λ choice. given_value (record { kind = kind_of t; value = found.value }) (c.globals n) k e w c q (words n found.value (global_there c.active.function n few) (ap (contents w.objects) same ∙ found.has)) shared (low, below, hold, waiting, words) holds end stack)
-
-  assigns : (l : Lvalue) (from to : Kind) (a : Expression) (t : ValueType) (k : List Entry) (e : Environment) (w : World) (c : Configuration) (object : Option ℕ)
-      → object_of e l ≡ object → IsWell (assigned object (Convert from to a) k e w) → Related source calls (Evaluating (Assign l (Convert from to a) t)) k e w c
-      → IsMatched source pages calls some_page (Running (Evaluating (Assign l (Convert from to a) t)) k e w) (plain.Running c)
-  assigns l from to a t k e w c None is well related = absurd (well refl)
-  assigns l from to a t k e w c (Some object) is well (shared, facts, (q, (m, (r, at_a, at_to), at), holds, stack)) =
-      silently source pages calls some_page (Running (Evaluating (Assign l (Convert from to a) t)) k e w) (Running (Evaluating a) (Needs (ConvertTo from to) ∷ Needs (Store (Thin object 0)) ∷ k) e w) (plain.Running c)
-      (ap (λ o. assigned o (Convert from to a) k e w) is)
-      (shared, facts, (r, at_a, holds, (m, at_to, (l, q, at, (object, refl, object_of_same l e ∙ is), stack))))
+      (λ choice. landed (record { kind = kind_of t; value = found.value }) (c.globals n) d k e w c q (facts.4 n found.value (global_there c.active.function n few) (ap (contents w.objects) same ∙ found.has)) shared facts holds end lands)
+  comes (Call callees.Putchar cs t) k e w c d q known (o, m, at, write, low, end) lands =
+      prints cs t k e w c o m known at (write, gives_byte d low (lands_at c.active.function e.locals d (m + 1 + 1) q c.frames k end lands))
+  comes (Call callees.Getchar cs t) k e w c d q known (m, at, here, end) lands = calls_out callees.Getchar cs t k e w c d m q known at (here, end) lands
+  comes (Call (callees.Function n) cs t) k e w c d q known (m, at, here, end) lands = calls_out (callees.Function n) cs t k e w c d m q known at (here, end) lands
+  comes (Unary o a) k e w c d q (well, shared, facts, holds) (r, m, at_a, at, end) lands =
+      silently source pages calls some_page (Running (Evaluating (Unary o a)) k e w) (Running (Evaluating a) (Needs (Operate o) ∷ k) e w) (plain.Running c) refl
+      (shared, facts, as_operand r m at_a holds (d, at, lands_at c.active.function e.locals d (m + 1) q c.frames k end lands))
       (omega arith)
+  comes (Binary a NoOperations t) k e w c d q (well, shared, facts, holds) (l, m, (is, at_a), (is_there, end)) lands =
+      silently source pages calls some_page (Running (Evaluating (Binary a NoOperations t)) k e w) (Running (Evaluating a) (Needs (Chain NoOperations) ∷ k) e w) (plain.Running c) refl
+      (shared, facts, into_slot d m at_a holds (lands_at c.active.function e.locals d m q c.frames k end lands))
+      (omega arith)
+  comes (Binary a (ThenCompute o b os) t) k e w c d q known (l, m, at_a, at) lands =
+      chain_begins (operand_of b) a (ThenCompute o b os) t k e w c l m known at_a (d, q, at, lands)
+  comes (Binary a (ThenTest o b os) t) k e w c d q known (l, m, at_a, at) lands =
+      chain_begins None a (ThenTest o b os) t k e w c l m known at_a (d, q, at, lands)
+  comes (Binary a os t) k e w c d q known (l, m, at_a, at) lands = absurd at
+  comes (Assign (Local p n) (Convert from to a) t) k e w c d q known (o, m, at, copy) lands = assigns (Local p n) from to a t k e w c (object_of e (Local p n)) o m refl known at (copies d q copy lands)
+  comes (Assign (Global n) (Convert from to a) t) k e w c d q known (o, m, at, copy) lands = assigns (Global n) from to a t k e w c (object_of e (Global n)) o m refl known at (copies d q copy lands)
+  comes a k e w c d q known at lands = absurd at
 
-  -- ---- all expressions
+  -- a value that is in its slot is not copied
+  copy_none : (code : List Instruction) (n p q : ℕ) → CopyAt code (operands.Slot n) n p q → p ≡ q
+  copy_none code n p q copy = subst (λ (b : Bool). CopyBy code b (operands.Slot n) n p q) (eq-eqb n n refl) copy
+
+  in_top : (a : Expression) (k : List Entry) (e : Environment) (w : World) (c : Configuration) (o : Operand) (q : ℕ) → At_step a k e w c
+      → (o ≡ operands.Slot (top source c.active.function k))
+      × ExpressionAt (code_of source c.active.function) (bounds_at source c.active.function) a (top source c.active.function k) (top source c.active.function k) c.active.next q
+      → ValueStack source c.active.function e.locals o q c.frames k → IsBegun a k e w c
+  in_top a k e w c o q known (is, at) stack =
+      comes a k e w c (top source c.active.function k) q known at (in_temporary (omega arith) (subst (λ x. ValueStack source c.active.function e.locals x q c.frames k) is stack))
+
+  operand : (a : Expression) (k : List Entry) (e : Environment) (w : World) (c : Configuration) (o : Operand) (q : ℕ) → At_step a k e w c
+      → ValueAt (code_of source c.active.function) (bounds_at source c.active.function) a (top source c.active.function k) o c.active.next q
+      → ValueStack source c.active.function e.locals o q c.frames k → IsBegun a k e w c
+  operand (Number n) k e w c o q known (is, end) stack = known_operand (Number n) o k e w c q (ap Some (sym is)) end known stack
+  operand (Copy (Local p n) t) k e w c o q known (is, end) stack = known_operand (Copy (Local p n) t) o k e w c q (ap Some (sym is)) end known stack
+  operand (Copy (Global n) t) k e w c o q known at stack = in_top (Copy (Global n) t) k e w c o q known at stack
+  operand (Call f cs t) k e w c o q known at stack = in_top (Call f cs t) k e w c o q known at stack
+  operand (Unary u a) k e w c o q known at stack = in_top (Unary u a) k e w c o q known at stack
+  operand (Binary a os t) k e w c o q known at stack = in_top (Binary a os t) k e w c o q known at stack
+  operand (Assign (Local p n) (Convert from to a) t) k e w c o q known (is, (there, m, (is_there, at), copy)) stack =
+      let g = c.active.function in
+      let end : m ≡ q = copy_none (code_of source g) n m q (subst (λ x. CopyAt (code_of source g) x n m q) is_there copy) in
+      assigns (Local p n) from to a t k e w c (object_of e (Local p n)) there m refl known (is_there, at)
+      (leaves (subst (λ x. ValueStack source g e.locals x m c.frames k) (is ∙ sym is_there) (subst (λ r. ValueStack source g e.locals o r c.frames k) (sym end) stack)))
+  operand (Assign (Global n) c' t) k e w c o q known at stack = in_top (Assign (Global n) c' t) k e w c o q known at stack
+  operand a k e w c o q known (is, at) stack = absurd at
+
+  for_its_effect : (a : Expression) (k : List Entry) (e : Environment) (w : World) (c : Configuration) (q : ℕ) → At_step a k e w c
+      → DiscardedAt (code_of source c.active.function) (bounds_at source c.active.function) a (top source c.active.function k) c.active.next q
+      → DroppedStack source c.active.function q c.frames k → IsBegun a k e w c
+  for_its_effect (Call callees.Putchar cs t) k e w c q known (o, m, at, write, end) stack =
+      prints cs t k e w c o m known at (write, prints_only (subst (λ r. DroppedStack source c.active.function r c.frames k) (sym end) stack))
+  for_its_effect (Assign l (Convert from to a) t) k e w c q known (o, at) stack = assigns l from to a t k e w c (object_of e l) o q refl known at (drops stack)
+  for_its_effect (Number n) k e w c q known (o, at) stack = operand (Number n) k e w c o q known at (dropped_value c.active.function e.locals o q c.frames k stack)
+  for_its_effect (Copy (Local p n) t) k e w c q known (o, at) stack = operand (Copy (Local p n) t) k e w c o q known at (dropped_value c.active.function e.locals o q c.frames k stack)
+  for_its_effect (Copy (Global n) t) k e w c q known (o, at) stack = in_top (Copy (Global n) t) k e w c o q known at (dropped_value c.active.function e.locals o q c.frames k stack)
+  for_its_effect (Call callees.Getchar cs t) k e w c q known (o, at) stack = in_top (Call callees.Getchar cs t) k e w c o q known at (dropped_value c.active.function e.locals o q c.frames k stack)
+  for_its_effect (Call (callees.Function n) cs t) k e w c q known (o, at) stack = in_top (Call (callees.Function n) cs t) k e w c o q known at (dropped_value c.active.function e.locals o q c.frames k stack)
+  for_its_effect (Unary u a) k e w c q known (o, at) stack = in_top (Unary u a) k e w c o q known at (dropped_value c.active.function e.locals o q c.frames k stack)
+  for_its_effect (Binary a os t) k e w c q known (o, at) stack = in_top (Binary a os t) k e w c o q known at (dropped_value c.active.function e.locals o q c.frames k stack)
+  for_its_effect typed.NullPointer k e w c q known (o, (is, at)) stack = absurd at
+  for_its_effect typed.HeapRegion k e w c q known (o, (is, at)) stack = absurd at
+  for_its_effect (typed.Counter level) k e w c q known (o, (is, at)) stack = absurd at
+  for_its_effect (typed.Move p n t) k e w c q known (o, (is, at)) stack = absurd at
+  for_its_effect (typed.Peek p n t) k e w c q known (o, (is, at)) stack = absurd at
+  for_its_effect (typed.Load x) k e w c q known (o, (is, at)) stack = absurd at
+  for_its_effect (typed.AddressOf l t) k e w c q known (o, (is, at)) stack = absurd at
+  for_its_effect (typed.AddressOfCell x t) k e w c q known (o, (is, at)) stack = absurd at
+  for_its_effect (typed.NumberOfElements a) k e w c q known (o, (is, at)) stack = absurd at
+  for_its_effect (typed.FreeUnique a) k e w c q known (o, (is, at)) stack = absurd at
+  for_its_effect (typed.FreeKey a) k e w c q known (o, (is, at)) stack = absurd at
+  for_its_effect (typed.Store x v t) k e w c q known (o, (is, at)) stack = absurd at
+  for_its_effect (typed.New x v t) k e w c q known (o, (is, at)) stack = absurd at
+
+  -- a right operand without code, with the left one beside it
+  beside_left : (a : Expression) (k : List Entry) (e : Environment) (w : World) (c : Configuration) → IsWell (step source (Running (Evaluating a) k e w)) → SharedAt source calls w c → DataIn source c.active.slots k e w c
+      → RightAt source a e.locals c.active.function c.active.next c.active.slots c.frames k → IsBegun a k e w c
+  beside_left a (Needs (Apply u left) ∷ k) e w c well shared facts (l, r, d, q, known, is_left, holds, at, lands) =
+      let found = reads a r (Needs (Apply u left) ∷ k) e w c known well facts in
+      silently source pages calls some_page (Running (Evaluating a) (Needs (Apply u left) ∷ k) e w) (Running (Given found.value) (Needs (Apply u left) ∷ k) e w) (plain.Running c) found.gives
+      (shared, with_left facts (l, r, d, q, is_left, found.is, holds, at, lands))
+      (omega (arith, found.some))
+  beside_left a k e w c well shared facts right = absurd right
 
   pub evaluating : (a : Expression) (k : List Entry) (e : Environment) (w : World) (c : Configuration) → IsStep (Evaluating a) k e w c
-  evaluating (Number n) k e w c well (shared, facts, (q, (at, end), holds, stack)) =
-      one source pages calls some_page refl shared at (λ choice. given_value (record { kind = kinds.Int; value = Int n }) n k e w c q refl shared facts holds end stack)
-  evaluating (Copy l t) k e w c well related = copies l t k e w c well related
-  evaluating (Call f cs t) k e w c well (shared, facts, (q, (m, at, call), holds, stack)) =
-      silently source pages calls some_page (Running (Evaluating (Call f cs t)) k e w) (passes f [] cs k e w) (plain.Running c) refl
-      (passes_related f [] cs k e w c m q (argument_count cs) shared facts at call (omega arith) holds stack)
-      (omega (arith, passes_weight f [] cs k e w))
-  evaluating (Unary o a) k e w c well (shared, facts, (q, (m, at_a, at, end), holds, stack)) =
-      silently source pages calls some_page (Running (Evaluating (Unary o a)) k e w) (Running (Evaluating a) (Needs (Operate o) ∷ k) e w) (plain.Running c) refl
-      (shared, facts, (m, at_a, holds, (at, subst (λ r. ValueStack source c.active.function e.locals r c.frames k) (sym end) stack)))
-      (omega arith)
-  evaluating (Binary a os t) k e w c well (shared, facts, (q, (m, at_a, at), holds, stack)) =
-      silently source pages calls some_page (Running (Evaluating (Binary a os t)) k e w) (Running (Evaluating a) (Needs (Chain os) ∷ k) e w) (plain.Running c) refl
-      (shared, facts, (m, at_a, holds, (q, at, stack)))
-      (omega arith)
-  evaluating (Assign l (Convert from to a) t) k e w c well related = assigns l from to a t k e w c (object_of e l) refl well related
-  evaluating a k e w c well (shared, facts, (q, at, holds, stack)) = absurd at
+  evaluating a k e w c well (shared, facts, as_operand o q at holds stack) = operand a k e w c o q (well, shared, facts, holds) at stack
+  evaluating a k e w c well (shared, facts, into_slot d q at holds lands) = comes a k e w c d q (well, shared, facts, holds) at lands
+  evaluating a k e w c well (shared, facts, for_effect q at holds stack) = for_its_effect a k e w c q (well, shared, facts, holds) at stack
+  evaluating a k e w c well (shared, facts, as_right right) = beside_left a k e w c well shared facts right

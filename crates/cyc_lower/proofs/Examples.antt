@@ -14,7 +14,7 @@ use Rattle.cyc_types.specs.TypedTrees.{Local, Global, Expression, Number, Copy, 
 use Rattle.cyc_types.specs.declared.region.Region.TheVariants.{Heap}
 use Rattle.cyc_syntax.specs.declared.tree.PointerKind.TheVariants.{Nullable, NonNull}
 use Rattle.cyc_plain.specs.declared.instruction.Instruction.{Instruction}
-use Rattle.cyc_plain.specs.declared.instruction.Operand.TheVariants.{Slot}
+use Rattle.cyc_plain.specs.declared.instruction.Operand.TheVariants.{Slot, Word as Constant}
 use Rattle.cyc_plain.specs.declared.instruction.Instruction.TheVariants.{Move, Jump}
 use Rattle.cyc_plain.specs.declared.instruction.Instruction.TheVariants as instructions
 use Rattle.cyc_plain.specs.declared.instruction.BinaryOperator.TheVariants as plain_binary
@@ -261,19 +261,33 @@ code_of_body body = function_code (function [] ints body)
 
 -- a loop, with its two jumps in front
 loop_code : code_of_body (all (While nowhere (local 0) Break ∷ returns (local 1) ∷ [])) ≡
-    Jump 2 ∷ Jump 6 ∷ Move 2 (Slot 0) ∷ jump_if_zero 2 1 ∷ Jump 1 ∷ Jump 2
-    ∷ Move 2 (Slot 1) ∷ instructions.Return 2
+    Jump 2 ∷ Jump 5 ∷ jump_if_zero (Slot 0) 1 ∷ Jump 1 ∷ Jump 2
+    ∷ instructions.Return 1
     ∷ instructions.Return 2 ∷ []
 loop_code = refl
 
 -- a branch, and a division with its test
 branch_code : code_of_body (all (If (local 0) (Evaluate (two (local 0) (ThenCompute Divide (local 1) NoOperations))) Empty ∷ [])) ≡
-    Move 2 (Slot 0) ∷ jump_if_zero 2 8
-    ∷ Move 2 (Slot 0) ∷ Move 3 (Slot 1) ∷ jump_if_nonzero 3 6 ∷ instructions.Uncaught 4 (Slot 3)
-    ∷ instructions.Binary plain_binary.Divide 2 (Slot 2) (Slot 3)
-    ∷ Jump 8
+    jump_if_zero (Slot 0) 5
+    ∷ jump_if_nonzero (Slot 1) 3 ∷ instructions.Uncaught 4 (Slot 1) ∷ instructions.Binary plain_binary.Divide 2 (Slot 0) (Slot 1)
+    ∷ Jump 5
     ∷ instructions.Return 2 ∷ []
 branch_code = refl
+
+-- a local gets a sum by one instruction, and a byte is printed by one
+direct_code : code_of_body (all (Evaluate (sets 0 (two (local 0) (ThenCompute Add (Number 1) NoOperations))) ∷ Evaluate (call Putchar (local 1 ∷ [])) ∷ [])) ≡
+    instructions.Binary plain_binary.Add 0 (Slot 0) (Constant 1)
+    ∷ instructions.WriteByte (Slot 1)
+    ∷ instructions.Return 2 ∷ []
+direct_code = refl
+
+-- a chain that ends in the local that it reads has its values before in a temporary
+chain_code : code_of_body (all (Evaluate (sets 0 (two (local 1) (ThenCompute Subtract (Number 3) (ThenCompute Divide (local 0) (ThenCompute Remainder (Number 7) NoOperations))))) ∷ [])) ≡
+    instructions.Binary plain_binary.Subtract 2 (Slot 1) (Constant 3)
+    ∷ jump_if_nonzero (Slot 0) 3 ∷ instructions.Uncaught 4 (Slot 0) ∷ instructions.Binary plain_binary.Divide 2 (Slot 2) (Slot 0)
+    ∷ instructions.Binary plain_binary.Remainder 0 (Slot 2) (Constant 7)
+    ∷ instructions.Return 2 ∷ []
+chain_code = refl
 
 -- ---- frame counts
 

@@ -4,7 +4,11 @@ use Rattle.std.specs.Prelude.{Contains, if◌then◌else◌}
 use Rattle.std.specs.List.{AllByRecursion}
 use Rattle.std.proofs.lemmas.Bool.{le-leb, and_from}
 use Rattle.cyc_words.specs.Ending.{Ending, Full}
-use Rattle.cyc_types.specs.TypedTrees.{Program}
+use Rattle.cyc_types.specs.declared.typed.Callee.TheVariants as callees
+use Rattle.cyc_types.specs.TypedTrees.{Expression, NoOperations, Program}
+use Rattle.cyc_meaning.specs.Values.{Operand as Kinded}
+use Rattle.cyc_plain.specs.declared.instruction.Operand.{Operand}
+use Rattle.cyc_plain.specs.declared.instruction.Operand.TheVariants as operands
 use Rattle.cyc_plain.specs.declared.instruction.Instruction.{Instruction}
 use Rattle.cyc_words.specs.Simulation as simulation
 use Rattle.cyc_words.specs.Simulation.{Status, Failed, Machine, Matching, Comes, IsOnTheWay, IsMatchedStep, IsStepped, IsDistinct}
@@ -23,85 +27,181 @@ use Rattle.cyc_lower.specs.Lowering.{lower_program}
 use Rattle.cyc_meaning.specs.SourceMachine.{status_in, source_machine}
 use Rattle.cyc_lower.proofs.Weights.{weight}
 use Rattle.cyc_lower.proofs.Stands.{At}
-use Rattle.cyc_lower.proofs.Relation.{IsPlainStack, SharedAt, ValueStack, StatementStack, FocusAt, Related, Matches, code_of}
+use Rattle.cyc_lower.proofs.Relation.{IsPlainStack, Lands, in_temporary, in_local, HandsOn, drops, leaves, copies, Prints, prints_only, gives_byte, SharedAt, ValueStack, DroppedStack, AheadStack, StatementStack, LandsStack, PrintsStack, RightAt, ReadyAt, EvaluatingAt, as_operand, into_slot, for_effect, as_right, FocusAt, GivenAt, in_operand, nowhere, ahead, with_left, ProceedingAt, behind_statement, behind_call, behind_wrong, Related, Matches, code_of}
 
 module _ (source : Program) where
+  -- ---- where a value goes
+
+  pub by_lands : {base free d : ℕ} {temporary ahead : Type 0} {X : Type 0} → Lands source base free d temporary ahead → (temporary → X) → (ahead → X) → X
+  by_lands (in_temporary least stack) first second = first stack
+  by_lands (in_local below stack) first second = second stack
+
+  by_hands : {code : List Instruction} {o : Operand} {p : ℕ} {dropped stays : Type 0} {comes : (d q : ℕ) → Type 0} {X : Type 0} → HandsOn source code o p dropped stays comes
+      → (dropped → X) → (stays → X) → ((d q : ℕ) → comes d q → X) → X
+  by_hands (drops stack) first second third = first stack
+  by_hands (leaves stack) first second third = second stack
+  by_hands (copies d q at stack) first second third = third d q stack
+
+  by_prints : {code : List Instruction} {o : Operand} {p : ℕ} {dropped : Type 0} {comes : (d : ℕ) → Type 0} {X : Type 0} → Prints source code o p dropped comes
+      → (dropped → X) → ((d : ℕ) → comes d → X) → X
+  by_prints (prints_only stack) first second = first stack
+  by_prints (gives_byte d at stack) first second = second d stack
+
   -- ---- calls under way
 
   -- each frame is a call, and the running one is one more
-  mutual
-    pub value_depth : (g : ℕ) (locals : ℕ → Option ℕ) (p : ℕ) (frames : List Frame) (k : List Entry) → ValueStack source g locals p frames k → calls_in k ≡ suc (length frames)
-    value_depth g locals p frames [] stack = absurd stack
-    value_depth g locals p frames (Needs (ConvertTo from to) ∷ k) (q, at, stack) = omega (arith, value_depth g locals q frames k stack)
-    value_depth g locals p frames (Needs (Operate o) ∷ k) (at, stack) = omega (arith, value_depth g locals (p + 1) frames k stack)
-    value_depth g locals p frames (Needs (Chain os) ∷ k) (q, at, stack) = omega (arith, value_depth g locals q frames k stack)
-    value_depth g locals p frames (Needs (Apply o left) ∷ k) (q, at, stack) = omega (arith, value_depth g locals q frames k stack)
-    value_depth g locals p frames (Needs Decide ∷ k) (q, at, stack) = omega (arith, value_depth g locals q frames k stack)
-    value_depth g locals p frames (Needs (Store place) ∷ k) (l, q, at, is, stack) = omega (arith, value_depth g locals q frames k stack)
-    value_depth g locals p frames (Needs (Pass f before cs) ∷ k) (m, q, all, at, call, long, stack) = omega (arith, value_depth g locals q frames k stack)
-    value_depth g locals p frames (Needs (Initialise n kind items) ∷ k) (loop, q, at, below, items_at, stack) = omega (arith, statement_depth g loop q frames k stack)
-    value_depth g locals p frames (Needs (Choose s t) ∷ k) (loop, r, q, at, at_s, jump, at_t, stack) = omega (arith, statement_depth g loop q frames k stack)
-    value_depth g locals p frames (Needs (Test a s) ∷ k) (loop, outer, q, at, r, jump, body, back, stack) = omega (arith, statement_depth g outer q frames k stack)
-    value_depth g locals p frames (Needs Return ∷ k) (loop, q, at, one, stack) = omega (arith, statement_depth g loop q frames k stack)
-    value_depth g locals p frames (Discard ∷ k) (loop, stack) = omega (arith, statement_depth g loop p frames k stack)
-    value_depth g locals p frames (entry ∷ k) stack = absurd stack
+  abbrev HasDepth : List Frame → List Entry → Type 0
+  HasDepth frames k = calls_in k ≡ suc (length frames)
 
-    pub statement_depth : (g loop p : ℕ) (frames : List Frame) (k : List Entry) → StatementStack source g loop p frames k → calls_in k ≡ suc (length frames)
-    statement_depth g loop p frames [] stack = absurd stack
-    statement_depth g loop p frames (Rest js ∷ k) (q, at, stack) = omega (arith, statement_depth g loop q frames k stack)
-    statement_depth g loop p frames (Join ∷ k) (q, at, stack) = omega (arith, statement_depth g loop q frames k stack)
-    statement_depth g loop p frames (Loop a s ∷ k) (outer, q, at, jump, stack) = omega (arith, statement_depth g outer q frames k stack)
-    statement_depth g loop p frames (CloseRegion r h ∷ k) stack = omega (arith, statement_depth g loop p frames k stack)
-    statement_depth g loop p [] (Caller e ∷ k) (at, below) = absurd below
-    statement_depth g loop p (f ∷ frames) (Caller e ∷ k) (at, (result, holds, stack)) = omega (arith, value_depth f.caller.function e.locals f.caller.next frames k stack)
-    statement_depth g loop p [] (Main ∷ []) (at, last) = omega arith
-    statement_depth g loop p (f ∷ frames) (Main ∷ k) (at, last) = absurd last
-    statement_depth g loop p [] (Main ∷ entry ∷ k) (at, last) = absurd last
-    statement_depth g loop p frames (entry ∷ k) stack = absurd stack
+  mutual
+    pub value_depth : (g : ℕ) (locals : ℕ → Option ℕ) (o : Operand) (p : ℕ) (frames : List Frame) (k : List Entry) → ValueStack source g locals o p frames k → HasDepth frames k
+    value_depth g locals o p frames [] stack = absurd stack
+    value_depth g locals o p frames (Needs (ConvertTo from to) ∷ k) (q, at, stack) = value_depth g locals o q frames k stack
+    value_depth g locals o p frames (Needs (Operate u) ∷ k) (d, at, lands) =
+        by_lands lands (λ stack. value_depth g locals (operands.Slot d) (p + 1) frames k stack) (λ stack. ahead_depth g locals d (p + 1) frames k stack)
+    value_depth g locals o p frames (Needs (Chain NoOperations) ∷ k) stack = value_depth g locals o p frames k stack
+    value_depth g locals o p frames (Needs (Chain os) ∷ k) (d, q, at, lands) =
+        by_lands lands (λ stack. value_depth g locals (operands.Slot d) q frames k stack) (λ stack. ahead_depth g locals d q frames k stack)
+    value_depth g locals o p frames (Needs (Apply u left) ∷ k) (d, q, at, lands) =
+        by_lands lands (λ stack. value_depth g locals (operands.Slot d) q frames k stack) (λ stack. ahead_depth g locals d q frames k stack)
+    value_depth g locals o p frames (Needs Decide ∷ k) (d, q, is, at, lands) =
+        by_lands lands (λ stack. value_depth g locals (operands.Slot d) q frames k stack) (λ stack. ahead_depth g locals d q frames k stack)
+    value_depth g locals o p frames (Needs (Store place) ∷ k) (l, to, q, at, is, hands) =
+        by_hands hands (λ stack. dropped_depth g q frames k stack) (λ stack. value_depth g locals to q frames k stack)
+        (λ d r lands. by_lands lands (λ stack. value_depth g locals (operands.Slot d) r frames k stack) (λ stack. ahead_depth g locals d r frames k stack))
+    value_depth g locals o p frames (Needs (Pass callees.Putchar before cs) ∷ k) (none, single, at, prints) =
+        by_prints prints (λ stack. dropped_depth g (p + 1) frames k stack)
+        (λ d lands. by_lands lands (λ stack. value_depth g locals (operands.Slot d) (p + 1 + 1) frames k stack) (λ stack. ahead_depth g locals d (p + 1 + 1) frames k stack))
+    value_depth g locals o p frames (Needs (Pass callees.Getchar before cs) ∷ k) (d, m, q, all, is, at, call, long, lands) =
+        by_lands lands (λ stack. value_depth g locals (operands.Slot d) q frames k stack) (λ stack. ahead_depth g locals d q frames k stack)
+    value_depth g locals o p frames (Needs (Pass (callees.Function n) before cs) ∷ k) (d, m, q, all, is, at, call, long, lands) =
+        by_lands lands (λ stack. value_depth g locals (operands.Slot d) q frames k stack) (λ stack. ahead_depth g locals d q frames k stack)
+    value_depth g locals o p frames (Needs (Initialise n kind items) ∷ k) (loop, q, at, below, items_at, stack) = statement_depth g loop q frames k stack
+    value_depth g locals o p frames (Needs (Choose s t) ∷ k) (loop, r, q, at, at_s, jump, at_t, stack) = statement_depth g loop q frames k stack
+    value_depth g locals o p frames (Needs (Test a s) ∷ k) (loop, outer, q, at, r, jump, body, back, stack) = statement_depth g outer q frames k stack
+    value_depth g locals o p frames (Needs Return ∷ k) (loop, q, s, is, at, one, stack) = statement_depth g loop q frames k stack
+    value_depth g locals o p frames (Discard ∷ k) (loop, stack) = statement_depth g loop p frames k stack
+    value_depth g locals o p frames (entry ∷ k) stack = absurd stack
+
+    pub dropped_depth : (g p : ℕ) (frames : List Frame) (k : List Entry) → DroppedStack source g p frames k → HasDepth frames k
+    dropped_depth g p frames (Discard ∷ k) (loop, stack) = statement_depth g loop p frames k stack
+    dropped_depth g p frames k stack = absurd stack
+
+    pub ahead_depth : (g : ℕ) (locals : ℕ → Option ℕ) (n p : ℕ) (frames : List Frame) (k : List Entry) → AheadStack source g locals n p frames k → HasDepth frames k
+    ahead_depth g locals n p frames (Needs (ConvertTo from to) ∷ k) (quiet, stack) = ahead_depth g locals n p frames k stack
+    ahead_depth g locals n p frames (Needs (Chain NoOperations) ∷ k) stack = ahead_depth g locals n p frames k stack
+    ahead_depth g locals n p frames (Needs (Store place) ∷ k) (object, is, found, hands) =
+        by_hands hands (λ stack. dropped_depth g p frames k stack) (λ stack. value_depth g locals (operands.Slot n) p frames k stack)
+        (λ d r lands. by_lands lands (λ stack. value_depth g locals (operands.Slot d) r frames k stack) (λ stack. ahead_depth g locals d r frames k stack))
+    ahead_depth g locals n p frames (Needs (Initialise number kind items) ∷ k) (loop, q, is, items_at, stack) = statement_depth g loop q frames k stack
+    ahead_depth g locals n p frames k stack = absurd stack
+
+    pub statement_depth : (g loop p : ℕ) (frames : List Frame) (k : List Entry) → StatementStack source g loop p frames k → HasDepth frames k
+    statement_depth g loop p frames (Rest js ∷ k) (q, at, stack) = statement_depth g loop q frames k stack
+    statement_depth g loop p frames (Join ∷ k) (q, at, stack) = statement_depth g loop q frames k stack
+    statement_depth g loop p frames (Loop a s ∷ k) (outer, q, at, jump, stack) = statement_depth g outer q frames k stack
+    statement_depth g loop p frames (CloseRegion r h ∷ k) stack = statement_depth g loop p frames k stack
+    statement_depth g loop p [] (Caller e ∷ k) (s, at, below) = absurd below
+    statement_depth g loop p (f ∷ frames) (Caller e ∷ k) (s, at, (holds, lands)) =
+        omega (arith, by_lands lands (λ stack. value_depth f.caller.function e.locals (operands.Slot f.result) f.caller.next frames k stack) (λ stack. ahead_depth f.caller.function e.locals f.result f.caller.next frames k stack))
+    statement_depth g loop p [] (Main ∷ []) (s, at, last) = omega arith
+    statement_depth g loop p (f ∷ frames) (Main ∷ k) (s, at, last) = absurd last
+    statement_depth g loop p [] (Main ∷ entry ∷ k) (s, at, last) = absurd last
+    statement_depth g loop p frames k stack = absurd stack
 
   -- and nothing waits but what the int language has
   mutual
-    pub value_plain : (g : ℕ) (locals : ℕ → Option ℕ) (p : ℕ) (frames : List Frame) (k : List Entry) → ValueStack source g locals p frames k → IsPlainStack k
-    value_plain g locals p frames [] stack = absurd stack
-    value_plain g locals p frames (Needs (ConvertTo from to) ∷ k) (q, at, stack) = value_plain g locals q frames k stack
-    value_plain g locals p frames (Needs (Operate o) ∷ k) (at, stack) = value_plain g locals (p + 1) frames k stack
-    value_plain g locals p frames (Needs (Chain os) ∷ k) (q, at, stack) = value_plain g locals q frames k stack
-    value_plain g locals p frames (Needs (Apply o left) ∷ k) (q, at, stack) = value_plain g locals q frames k stack
-    value_plain g locals p frames (Needs Decide ∷ k) (q, at, stack) = value_plain g locals q frames k stack
-    value_plain g locals p frames (Needs (Store place) ∷ k) (l, q, at, is, stack) = value_plain g locals q frames k stack
-    value_plain g locals p frames (Needs (Pass f before cs) ∷ k) (m, q, all, at, call, long, stack) = value_plain g locals q frames k stack
-    value_plain g locals p frames (Needs (Initialise n kind items) ∷ k) (loop, q, at, below, items_at, stack) = statement_plain g loop q frames k stack
-    value_plain g locals p frames (Needs (Choose s t) ∷ k) (loop, r, q, at, at_s, jump, at_t, stack) = statement_plain g loop q frames k stack
-    value_plain g locals p frames (Needs (Test a s) ∷ k) (loop, outer, q, at, r, jump, body, back, stack) = statement_plain g outer q frames k stack
-    value_plain g locals p frames (Needs Return ∷ k) (loop, q, at, one, stack) = statement_plain g loop q frames k stack
-    value_plain g locals p frames (Discard ∷ k) (loop, stack) = statement_plain g loop p frames k stack
-    value_plain g locals p frames (entry ∷ k) stack = absurd stack
+    pub value_plain : (g : ℕ) (locals : ℕ → Option ℕ) (o : Operand) (p : ℕ) (frames : List Frame) (k : List Entry) → ValueStack source g locals o p frames k → IsPlainStack k
+    value_plain g locals o p frames [] stack = absurd stack
+    value_plain g locals o p frames (Needs (ConvertTo from to) ∷ k) (q, at, stack) = value_plain g locals o q frames k stack
+    value_plain g locals o p frames (Needs (Operate u) ∷ k) (d, at, lands) =
+        by_lands lands (λ stack. value_plain g locals (operands.Slot d) (p + 1) frames k stack) (λ stack. ahead_plain g locals d (p + 1) frames k stack)
+    value_plain g locals o p frames (Needs (Chain NoOperations) ∷ k) stack = value_plain g locals o p frames k stack
+    value_plain g locals o p frames (Needs (Chain os) ∷ k) (d, q, at, lands) =
+        by_lands lands (λ stack. value_plain g locals (operands.Slot d) q frames k stack) (λ stack. ahead_plain g locals d q frames k stack)
+    value_plain g locals o p frames (Needs (Apply u left) ∷ k) (d, q, at, lands) =
+        by_lands lands (λ stack. value_plain g locals (operands.Slot d) q frames k stack) (λ stack. ahead_plain g locals d q frames k stack)
+    value_plain g locals o p frames (Needs Decide ∷ k) (d, q, is, at, lands) =
+        by_lands lands (λ stack. value_plain g locals (operands.Slot d) q frames k stack) (λ stack. ahead_plain g locals d q frames k stack)
+    value_plain g locals o p frames (Needs (Store place) ∷ k) (l, to, q, at, is, hands) =
+        by_hands hands (λ stack. dropped_plain g q frames k stack) (λ stack. value_plain g locals to q frames k stack)
+        (λ d r lands. by_lands lands (λ stack. value_plain g locals (operands.Slot d) r frames k stack) (λ stack. ahead_plain g locals d r frames k stack))
+    value_plain g locals o p frames (Needs (Pass callees.Putchar before cs) ∷ k) (none, single, at, prints) =
+        by_prints prints (λ stack. dropped_plain g (p + 1) frames k stack)
+        (λ d lands. by_lands lands (λ stack. value_plain g locals (operands.Slot d) (p + 1 + 1) frames k stack) (λ stack. ahead_plain g locals d (p + 1 + 1) frames k stack))
+    value_plain g locals o p frames (Needs (Pass callees.Getchar before cs) ∷ k) (d, m, q, all, is, at, call, long, lands) =
+        by_lands lands (λ stack. value_plain g locals (operands.Slot d) q frames k stack) (λ stack. ahead_plain g locals d q frames k stack)
+    value_plain g locals o p frames (Needs (Pass (callees.Function n) before cs) ∷ k) (d, m, q, all, is, at, call, long, lands) =
+        by_lands lands (λ stack. value_plain g locals (operands.Slot d) q frames k stack) (λ stack. ahead_plain g locals d q frames k stack)
+    value_plain g locals o p frames (Needs (Initialise n kind items) ∷ k) (loop, q, at, below, items_at, stack) = statement_plain g loop q frames k stack
+    value_plain g locals o p frames (Needs (Choose s t) ∷ k) (loop, r, q, at, at_s, jump, at_t, stack) = statement_plain g loop q frames k stack
+    value_plain g locals o p frames (Needs (Test a s) ∷ k) (loop, outer, q, at, r, jump, body, back, stack) = statement_plain g outer q frames k stack
+    value_plain g locals o p frames (Needs Return ∷ k) (loop, q, s, is, at, one, stack) = statement_plain g loop q frames k stack
+    value_plain g locals o p frames (Discard ∷ k) (loop, stack) = statement_plain g loop p frames k stack
+    value_plain g locals o p frames (entry ∷ k) stack = absurd stack
 
-    statement_plain : (g loop p : ℕ) (frames : List Frame) (k : List Entry) → StatementStack source g loop p frames k → IsPlainStack k
-    statement_plain g loop p frames [] stack = absurd stack
+    pub dropped_plain : (g p : ℕ) (frames : List Frame) (k : List Entry) → DroppedStack source g p frames k → IsPlainStack k
+    dropped_plain g p frames (Discard ∷ k) (loop, stack) = statement_plain g loop p frames k stack
+    dropped_plain g p frames k stack = absurd stack
+
+    pub ahead_plain : (g : ℕ) (locals : ℕ → Option ℕ) (n p : ℕ) (frames : List Frame) (k : List Entry) → AheadStack source g locals n p frames k → IsPlainStack k
+    ahead_plain g locals n p frames (Needs (ConvertTo from to) ∷ k) (quiet, stack) = ahead_plain g locals n p frames k stack
+    ahead_plain g locals n p frames (Needs (Chain NoOperations) ∷ k) stack = ahead_plain g locals n p frames k stack
+    ahead_plain g locals n p frames (Needs (Store place) ∷ k) (object, is, found, hands) =
+        by_hands hands (λ stack. dropped_plain g p frames k stack) (λ stack. value_plain g locals (operands.Slot n) p frames k stack)
+        (λ d r lands. by_lands lands (λ stack. value_plain g locals (operands.Slot d) r frames k stack) (λ stack. ahead_plain g locals d r frames k stack))
+    ahead_plain g locals n p frames (Needs (Initialise number kind items) ∷ k) (loop, q, is, items_at, stack) = statement_plain g loop q frames k stack
+    ahead_plain g locals n p frames k stack = absurd stack
+
+    pub statement_plain : (g loop p : ℕ) (frames : List Frame) (k : List Entry) → StatementStack source g loop p frames k → IsPlainStack k
     statement_plain g loop p frames (Rest js ∷ k) (q, at, stack) = statement_plain g loop q frames k stack
     statement_plain g loop p frames (Join ∷ k) (q, at, stack) = statement_plain g loop q frames k stack
     statement_plain g loop p frames (Loop a s ∷ k) (outer, q, at, jump, stack) = statement_plain g outer q frames k stack
     statement_plain g loop p frames (CloseRegion r h ∷ k) stack = statement_plain g loop p frames k stack
-    statement_plain g loop p [] (Caller e ∷ k) (at, below) = absurd below
-    statement_plain g loop p (f ∷ frames) (Caller e ∷ k) (at, (result, holds, stack)) = value_plain f.caller.function e.locals f.caller.next frames k stack
-    statement_plain g loop p [] (Main ∷ []) (at, last) = tt
-    statement_plain g loop p (f ∷ frames) (Main ∷ k) (at, last) = absurd last
-    statement_plain g loop p [] (Main ∷ entry ∷ k) (at, last) = absurd last
-    statement_plain g loop p frames (entry ∷ k) stack = absurd stack
+    statement_plain g loop p [] (Caller e ∷ k) (s, at, below) = absurd below
+    statement_plain g loop p (f ∷ frames) (Caller e ∷ k) (s, at, (holds, lands)) =
+        by_lands lands (λ stack. value_plain f.caller.function e.locals (operands.Slot f.result) f.caller.next frames k stack) (λ stack. ahead_plain f.caller.function e.locals f.result f.caller.next frames k stack)
+    statement_plain g loop p [] (Main ∷ []) (s, at, last) = tt
+    statement_plain g loop p (f ∷ frames) (Main ∷ k) (s, at, last) = absurd last
+    statement_plain g loop p [] (Main ∷ entry ∷ k) (s, at, last) = absurd last
+    statement_plain g loop p frames k stack = absurd stack
+
+  pub lands_depth : (g : ℕ) (locals : ℕ → Option ℕ) (d p : ℕ) (frames : List Frame) (k : List Entry) → LandsStack source g locals d p frames k → HasDepth frames k
+  lands_depth g locals d p frames k lands = by_lands lands (λ stack. value_depth g locals (operands.Slot d) p frames k stack) (λ stack. ahead_depth g locals d p frames k stack)
+
+  pub lands_plain : (g : ℕ) (locals : ℕ → Option ℕ) (d p : ℕ) (frames : List Frame) (k : List Entry) → LandsStack source g locals d p frames k → IsPlainStack k
+  lands_plain g locals d p frames k lands = by_lands lands (λ stack. value_plain g locals (operands.Slot d) p frames k stack) (λ stack. ahead_plain g locals d p frames k stack)
+
+  prints_depth : (g : ℕ) (locals : ℕ → Option ℕ) (o : Operand) (p : ℕ) (frames : List Frame) (k : List Entry) → PrintsStack source g locals o p frames k → HasDepth frames k
+  prints_depth g locals o p frames k (at, prints) = by_prints prints (λ stack. dropped_depth g (p + 1) frames k stack) (λ d lands. lands_depth g locals d (p + 1 + 1) frames k lands)
+
+  right_depth : (a : Expression) (locals : ℕ → Option ℕ) (g p : ℕ) (slots : ℕ → ℕ) (frames : List Frame) (k : List Entry) → RightAt source a locals g p slots frames k → HasDepth frames k
+  right_depth a locals g p slots frames (Needs (Apply u left) ∷ k) (l, r, d, q, known, is, holds, at, lands) = lands_depth g locals d q frames k lands
+  right_depth a locals g p slots frames k right = absurd right
+
+  ready_depth : (v : Kinded) (locals : ℕ → Option ℕ) (g p : ℕ) (slots : ℕ → ℕ) (frames : List Frame) (k : List Entry) → ReadyAt source v locals g p slots frames k → HasDepth frames k
+  ready_depth v locals g p slots frames (Needs (Apply u left) ∷ k) (l, r, d, q, is_left, is, holds, at, lands) = lands_depth g locals d q frames k lands
+  ready_depth v locals g p slots frames k ready = absurd ready
+
+  evaluating_depth : (a : Expression) (locals : ℕ → Option ℕ) (g p : ℕ) (slots : ℕ → ℕ) (frames : List Frame) (k : List Entry) → EvaluatingAt source a locals g p slots frames k → HasDepth frames k
+  evaluating_depth a locals g p slots frames k (as_operand o q at holds stack) = value_depth g locals o q frames k stack
+  evaluating_depth a locals g p slots frames k (into_slot d q at holds lands) = lands_depth g locals d q frames k lands
+  evaluating_depth a locals g p slots frames k (for_effect q at holds stack) = dropped_depth g q frames k stack
+  evaluating_depth a locals g p slots frames k (as_right right) = right_depth a locals g p slots frames k right
 
   -- what a related state shares
   pub shared_of : (calls : ℕ) (focus : Focus) (k : List Entry) (e : Environment) (w : World) (c : Configuration) → Related source calls focus k e w c → SharedAt source calls w c
   shared_of calls (Throwing tag value) k e w c r = r.0
+  shared_of calls (Given v) k e w c r = r.0
+  shared_of calls Proceeding k e w c r = r.0
   shared_of calls focus k e w c r = r.0
 
-  depth_going : (focus : Focus) (k : List Entry) (locals : ℕ → Option ℕ) (g p : ℕ) (slots : ℕ → ℕ) (frames : List Frame) → FocusAt source focus k locals g p slots frames → calls_in k ≡ suc (length frames)
-  depth_going (Evaluating a) k locals g p slots frames (q, at, holds, stack) = value_depth g locals q frames k stack
-  depth_going (Given v) k locals g p slots frames (is, holds, stack) = value_depth g locals p frames k stack
+  depth_going : (focus : Focus) (k : List Entry) (locals : ℕ → Option ℕ) (g p : ℕ) (slots : ℕ → ℕ) (frames : List Frame) → FocusAt source focus k locals g p slots frames → HasDepth frames k
+  depth_going (Evaluating a) k locals g p slots frames at = evaluating_depth a locals g p slots frames k at
   depth_going (Executing s) k locals g p slots frames (loop, q, at, stack) = statement_depth g loop q frames k stack
-  depth_going Proceeding k locals g p slots frames (inl (loop, stack)) = statement_depth g loop p frames k stack
-  depth_going Proceeding k locals g p slots frames (inr (holds, stack)) = value_depth g locals p frames k stack
-  depth_going (Calling f before) k locals g p slots frames (q, at, holds, stack) = value_depth g locals q frames k stack
+  depth_going (Calling callees.Putchar before) k locals g p slots frames (v, o, single, is, holds, prints) = prints_depth g locals o p frames k prints
+  depth_going (Calling callees.Getchar before) k locals g p slots frames (d, q, at, holds, lands) = lands_depth g locals d q frames k lands
+  depth_going (Calling (callees.Function n) before) k locals g p slots frames (d, q, at, holds, lands) = lands_depth g locals d q frames k lands
   depth_going (Entering h arguments) k locals g p slots frames (m, at, stack, holds, few) = statement_depth g 0 m frames k stack
   depth_going (Binding n types arguments body) k locals g p slots frames (m, at, stack, holds, few) = statement_depth g 0 m frames k stack
   depth_going Breaking k locals g p slots frames (loop, q, at, stack) = statement_depth g loop q frames k stack
@@ -110,8 +210,21 @@ module _ (source : Program) where
   depth_going (Returning None) k locals g p slots frames (loop, q, s, at, stack) = statement_depth g loop q frames k stack
   depth_going focus k locals g p slots frames at = absurd at
 
+  depth_given : (v : Kinded) (k : List Entry) (e : Environment) (w : World) (c : Configuration) → GivenAt source v k e w c → HasDepth c.frames k
+  depth_given v k e w c (in_operand o facts is holds stack) = value_depth c.active.function e.locals o c.active.next c.frames k stack
+  depth_given v k e w c (nowhere facts stack) = dropped_depth c.active.function c.active.next c.frames k stack
+  depth_given v k e w c (ahead n facts below is holds stack) = ahead_depth c.active.function e.locals n c.active.next c.frames k stack
+  depth_given v k e w c (with_left facts ready) = ready_depth v e.locals c.active.function c.active.next c.active.slots c.frames k ready
+
+  depth_proceeding : (k : List Entry) (e : Environment) (w : World) (c : Configuration) → ProceedingAt source k e w c → HasDepth c.frames k
+  depth_proceeding k e w c (behind_statement loop facts stack) = statement_depth c.active.function loop c.active.next c.frames k stack
+  depth_proceeding k e w c (behind_call o facts stack) = value_depth c.active.function e.locals o c.active.next c.frames k stack
+  depth_proceeding k e w c (behind_wrong n stack) = ahead_depth c.active.function e.locals n c.active.next c.frames k stack
+
   depth_fits : (calls : ℕ) (focus : Focus) (k : List Entry) (e : Environment) (w : World) (c : Configuration) → Related source calls focus k e w c → calls_in k ≤ calls
   depth_fits calls (Throwing tag value) k e w c r = r.1
+  depth_fits calls (Given v) k e w c (shared, at) = omega (arith, depth_given v k e w c at, shared.fits)
+  depth_fits calls Proceeding k e w c (shared, at) = omega (arith, depth_proceeding k e w c at, shared.fits)
   depth_fits calls focus k e w c r = omega (arith, depth_going focus k e.locals c.active.function c.active.next c.active.slots c.frames r.2, r.0.fits)
 
 module _ (source : Program) (pages calls : ℕ) (some_page : 1 ≤ pages) where
@@ -266,6 +379,21 @@ module _ (source : Program) (pages calls : ℕ) (some_page : 1 ≤ pages) where
       by_places (Running focus k e w) next (place_in c) [] (plain.Running c) does (tt, tt) (known c i at, tt)
       (executes (Running focus k e w) next c i [] at (λ choice. matches_within_below next (performed (lower_program source) choice c i) (goes choice)) (shared_way focus k e w c shared) goes)
 
+  -- two, of which the first is known
+  pub two_known : {focus : Focus} {k : List Entry} {e : Environment} {w : World} {c : Configuration} {next : State} {i j : Instruction} (d : Configuration)
+      → step source (Running focus k e w) ≡ next → SharedAt source calls w c
+      → plain_step.is_within pages calls (plain.Running d) ≡ true → IsOnTheWay above below (Running focus k e w) (plain.Running d)
+      → At (code_of source c.active.function) c.active.next i → ((choice : Choice) → performed (lower_program source) choice c i ≡ plain.Running d)
+      → At (code_of source d.active.function) d.active.next j → c.active.next ≢ d.active.next
+      → ((choice : Choice) → Matches source calls next (performed (lower_program source) choice d j))
+      → IsMatched (Running focus k e w) (plain.Running c)
+  two_known {focus} {k} {e} {w} {c} {next} {i} {j} d does shared within_d way_d at first at_d other goes =
+      by_places (Running focus k e w) next (place_in c) (place_in d ∷ []) (plain.Running c) does ((apart c d other, tt), (tt, tt)) (known c i at, (known d j at_d, tt))
+      (executes (Running focus k e w) next c i (place_in d ∷ []) at
+      (λ choice. ap (plain_step.is_within pages calls) (first choice) ∙ within_d) (shared_way focus k e w c shared)
+      (λ choice. subst (Executes (Running focus k e w) next (place_in d ∷ [])) (sym (first choice))
+      (executes (Running focus k e w) next d j [] at_d (λ later. matches_within_below next (performed (lower_program source) later d j) (goes later)) way_d goes)))
+
   -- two, of which the first shows nothing
   pub two : {focus : Focus} {k : List Entry} {e : Environment} {w : World} {c : Configuration} {next : State} {i j : Instruction} (d : Configuration)
       → step source (Running focus k e w) ≡ next → SharedAt source calls w c → SharedAt source calls w d
@@ -274,11 +402,7 @@ module _ (source : Program) (pages calls : ℕ) (some_page : 1 ≤ pages) where
       → ((choice : Choice) → Matches source calls next (performed (lower_program source) choice d j))
       → IsMatched (Running focus k e w) (plain.Running c)
   two {focus} {k} {e} {w} {c} {next} {i} {j} d does shared shared_d at first at_d other goes =
-      by_places (Running focus k e w) next (place_in c) (place_in d ∷ []) (plain.Running c) does ((apart c d other, tt), (tt, tt)) (known c i at, (known d j at_d, tt))
-      (executes (Running focus k e w) next c i (place_in d ∷ []) at
-      (λ choice. ap (plain_step.is_within pages calls) (first choice) ∙ shared_within w d shared_d) (shared_way focus k e w c shared)
-      (λ choice. subst (Executes (Running focus k e w) next (place_in d ∷ [])) (sym (first choice))
-      (executes (Running focus k e w) next d j [] at_d (λ later. matches_within_below next (performed (lower_program source) later d j) (goes later)) (shared_way focus k e w d shared_d) goes)))
+      two_known d does shared (shared_within w d shared_d) (shared_way focus k e w d shared_d) at first at_d other goes
 
   -- three, of which the first two are known
   pub three : {focus : Focus} {k : List Entry} {e : Environment} {w : World} {c : Configuration} {next : State} {i j l : Instruction} (d f : Configuration)

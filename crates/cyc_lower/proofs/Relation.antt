@@ -1,19 +1,25 @@
 -- What a state of the source and one of the plain program have in common while the one is matched by the other.
 use Rattle.std.proofs.Common.{◌≡◌, ℕ, suc, ◌+◌, ◌≤◌, ◌<◌, List, [], ◌∷◌, ◌++◌, length, Option, None, Some, slice_get}
 use Rattle.std.specs.Prelude.{◌⊎◌}
-use Rattle.cyc_types.specs.TypedTrees.{Lvalue, Expression, Statement, Function, Program}
+use Rattle.cyc_types.specs.declared.typed.Kind.{Kind}
+use Rattle.cyc_types.specs.declared.typed.Kind.TheVariants as kinds
+use Rattle.cyc_types.specs.declared.typed.Callee.{Callee}
+use Rattle.cyc_types.specs.declared.typed.Callee.TheVariants as callees
+use Rattle.cyc_types.specs.TypedTrees.{Lvalue, Local, Global, Expression, Call, Assign, Arguments, NoArguments, Converted, NoOperations, ThenCompute, ThenTest, Statement, Function, Program}
 use Rattle.cyc_types.specs.Numbered.{Numbering, numbering_of, signatures_of, argument_count}
+use Rattle.cyc_plain.specs.declared.instruction.Operand.{Operand}
 use Rattle.cyc_plain.specs.declared.instruction.Operand.TheVariants as operands
 use Rattle.cyc_plain.specs.declared.instruction.Instruction.{Instruction}
 use Rattle.cyc_plain.specs.declared.instruction.Instruction.TheVariants as instructions
 use Rattle.cyc_plain.specs.Program.{routine_at}
-use Rattle.cyc_plain.specs.State.{Words, Frame, Configuration}
+use Rattle.cyc_plain.specs.State.{Words, put, Frame, Configuration}
+use Rattle.cyc_plain.specs.Step.{operand_word}
 use Rattle.cyc_plain.specs.State as plain
-use Rattle.cyc_meaning.specs.Values.{Value, Int, Null, Thin, Fat, Handle, Key, Operand, Cell}
+use Rattle.cyc_meaning.specs.Values.{Value, Int, Null, Thin, Fat, Handle, Key, Operand as Kinded, Cell}
 use Rattle.cyc_meaning.specs.State.{Sort, Heap, Globals, Stack, Lexical, Dynamic, Region, Object, World, counted, first_classes, Environment, ConvertTo, Operate, Chain, Apply, Decide, Store, Pass, Initialise, Choose, Test, Return, Entry, Needs, NeedsPlace, Discard, Rest, Join, Loop, CloseRegion, CloseLexical, EndLoan, Handler, Caller, Main, calls_in, Focus, Evaluating, Given, Executing, Proceeding, Calling, Entering, Binding, Breaking, Continuing, Returning, Throwing, State, Running, Ended}
 use Rattle.cyc_meaning.specs.Step.{object_of}
-use Rattle.cyc_lower.specs.Lowering.{jump_if_zero, slot_of, unary_operator, break_target, continue_target, results_of, lower_program}
-use Rattle.cyc_lower.proofs.Stands.{At, ConversionAt, OperatorAt, TruthAt, StoreAt, CallAt, ExpressionAt, ArgumentsAt, OperationsAt, StatementAt, ItemsAt}
+use Rattle.cyc_lower.specs.Lowering.{slot_of, unary_operator, operand_of, is_in, jump_if_zero, low_byte, break_target, continue_target, results_of, lower_program}
+use Rattle.cyc_lower.proofs.Stands.{At, ConversionAt, OperatorAt, TruthAt, CopyAt, ExpressionAt, ArgumentsAt, OperationsAt, ValueAt, DiscardedAt, StatementAt, ItemsAt}
 
 -- ---- values in slots
 
@@ -27,21 +33,21 @@ Is (Handle region) w = ⊥
 Is (Key region) w = ⊥
 
 -- the slot behind values, of which the last one stands in the first slot
-abbrev pub height : ℕ → List Operand → ℕ
+abbrev pub height : ℕ → List Kinded → ℕ
 height base [] = base
 height base (v ∷ vs) = suc (height base vs)
 
-abbrev pub Holds : Words → ℕ → List Operand → Type 0
+abbrev pub Holds : Words → ℕ → List Kinded → Type 0
 Holds slots base [] = Unit {0}
 Holds slots base (v ∷ vs) = Is v.value (slots (height base vs)) × Holds slots base vs
 
 -- values in order from this slot on
-abbrev pub HoldsFrom : Words → ℕ → List Operand → Type 0
+abbrev pub HoldsFrom : Words → ℕ → List Kinded → Type 0
 HoldsFrom slots first [] = Unit {0}
 HoldsFrom slots first (v ∷ vs) = Is v.value (slots first) × HoldsFrom slots (suc first) vs
 
 -- the values of the running call that are inside the entries of a stack
-abbrev pub held : List Entry → List Operand
+abbrev pub held : List Entry → List Kinded
 held [] = []
 held (Needs (ConvertTo from to) ∷ k) = held k
 held (Needs (Operate operator) ∷ k) = held k
@@ -51,7 +57,7 @@ held (Needs Decide ∷ k) = held k
 held (Needs (Store place) ∷ k) = held k
 held (Needs (Pass callee before rest) ∷ k) = before ++ held k
 held (Needs (Initialise number kind items) ∷ k) = []
-held (Needs (Choose then otherwise) ∷ k) = []
+held (Needs (Choose first second) ∷ k) = []
 held (Needs (Test condition body) ∷ k) = []
 held (Needs Return ∷ k) = []
 held (entry ∷ k) = []
@@ -162,10 +168,26 @@ module _ (source : Program) where
     in_place : p ≡ q → Arrives code p q
     by_jump : At code p (instructions.Jump q) → Arrives code p q
 
+  -- A value comes to slot d: that of a temporary, from `free` on, or that of a local which is about to be assigned.
+  pub data Lands (base free d : ℕ) (temporary ahead : Type 0) : Type 0 where
+    in_temporary : free ≤ d → temporary → Lands base free d temporary ahead
+    in_local : d < base → ahead → Lands base free d temporary ahead
+
+  -- The value of an assignment, which stands in an operand: it is dropped, or stays there, or comes to another slot.
+  pub data HandsOn (code : List Instruction) (o : Operand) (p : ℕ) (dropped stays : Type 0) (comes : (d q : ℕ) → Type 0) : Type 0 where
+    drops : dropped → HandsOn code o p dropped stays comes
+    leaves : stays → HandsOn code o p dropped stays comes
+    copies : (d q : ℕ) → CopyAt code o d p q → comes d q → HandsOn code o p dropped stays comes
+
+  -- a byte is printed, and its value is dropped, or comes to a slot
+  pub data Prints (code : List Instruction) (o : Operand) (p : ℕ) (dropped : Type 0) (comes : (d : ℕ) → Type 0) : Type 0 where
+    prints_only : dropped → Prints code o p dropped comes
+    gives_byte : (d : ℕ) → At code p (low_byte o d) → comes d → Prints code o p dropped comes
+
   abbrev pub LoopAt : ℕ → Expression → Statement → (loop q : ℕ) → Type 0
-  LoopAt g condition body loop q = (m : ℕ) × (r : ℕ) × At (code_of g) (break_target loop) (instructions.Jump q)
-      × ExpressionAt (code_of g) (bounds_at g) condition (base_of g) (continue_target loop) m
-      × At (code_of g) m (jump_if_zero (base_of g) (break_target loop))
+  LoopAt g condition body loop q = (o : Operand) × (m : ℕ) × (r : ℕ) × At (code_of g) (break_target loop) (instructions.Jump q)
+      × ValueAt (code_of g) (bounds_at g) condition (base_of g) o (continue_target loop) m
+      × At (code_of g) m (jump_if_zero o (break_target loop))
       × StatementAt (code_of g) (bounds_at g) body loop (base_of g) (m + 1) r
       × At (code_of g) r (instructions.Jump (continue_target loop)) × (break_target loop < q)
 
@@ -182,43 +204,90 @@ module _ (source : Program) where
   abbrev pub IsPlaceOf : (ℕ → Option ℕ) → Lvalue → Value → Type 0
   IsPlaceOf locals l place = (object : ℕ) × (place ≡ Thin object 0) × (object_of (record { locals = locals; home = 0; counters = λ level. None }) l ≡ Some object)
 
-  -- From place p on stands what is done with the value at the top, and with all that waits: of the running call, whose function
-  -- is g, and of its callers.
+  -- a conversion that raises nothing
+  abbrev pub IsQuiet : Kind → Type 0
+  IsQuiet kinds.NonNull = ⊥
+  IsQuiet kind = Unit {0}
+
+  -- the value in an operand is stored, and then stands in another
+  abbrev pub StoreAt : (g : ℕ) → Lvalue → (from to : Operand) → (p q : ℕ) → Type 0
+  StoreAt g (Local w n) from to p q = At (code_of g) p (instructions.Move (slot_of n) from) × (p + 1 ≡ q) × (to ≡ operands.Slot (slot_of n))
+  StoreAt g (Global n) from to p q =
+      At (code_of g) p (instructions.StoreGlobal n from) × (p + 1 ≡ q) × (to ≡ from) × (n < (bounds_at g).globals)
+
+  -- a call of so many arguments, which stand in the slots from t on, and what it gives comes to slot d
+  abbrev pub CallAt : (g : ℕ) → Callee → (arguments t d p q : ℕ) → Type 0
+  CallAt g callees.Putchar arguments t d p q = ⊥
+  CallAt g callees.Getchar arguments t d p q = At (code_of g) p (instructions.ReadByte d) × (p + 1 ≡ q)
+  CallAt g (callees.Function n) arguments t d p q = At (code_of g) p (instructions.Call n t arguments d) × (p + 1 ≡ q)
+
+  -- From place p on stands what is done with a value, and with all that waits: of the running call, whose function is g, and of
+  -- its callers. The value stands in operand o.
   abbrev mutual
-    pub ValueStack : (g : ℕ) → (ℕ → Option ℕ) → (p : ℕ) → List Frame → List Entry → Type 0
-    ValueStack g locals p frames [] = ⊥
-    ValueStack g locals p frames (Needs (ConvertTo from to) ∷ k) =
-        (q : ℕ) × ConversionAt (code_of g) (bounds_at g) to (top g k) p q × ValueStack g locals q frames k
-    ValueStack g locals p frames (Needs (Operate operator) ∷ k) =
-        At (code_of g) p (instructions.Unary (unary_operator operator) (top g k) (operands.Slot (top g k))) × ValueStack g locals (p + 1) frames k
-    ValueStack g locals p frames (Needs (Chain operations) ∷ k) =
-        (q : ℕ) × OperationsAt (code_of g) (bounds_at g) operations (top g k) p q × ValueStack g locals q frames k
-    ValueStack g locals p frames (Needs (Apply operator left) ∷ k) =
-        (q : ℕ) × OperatorAt (code_of g) (bounds_at g) operator (top g k) p q × ValueStack g locals q frames k
-    ValueStack g locals p frames (Needs Decide ∷ k) =
-        (q : ℕ) × TruthAt (code_of g) (bounds_at g) (top g k) p q × ValueStack g locals q frames k
-    ValueStack g locals p frames (Needs (Store place) ∷ k) =
-        (l : Lvalue) × (q : ℕ) × StoreAt (code_of g) (bounds_at g) l (top g k) p q × IsPlaceOf locals l place × ValueStack g locals q frames k
-    ValueStack g locals p frames (Needs (Pass callee before arguments) ∷ k) =
-        (m : ℕ) × (q : ℕ) × (all : ℕ) × ArgumentsAt (code_of g) (bounds_at g) arguments (suc (height (base_of g) (before ++ held k))) p m
-        × CallAt (code_of g) (bounds_at g) callee all (top g k) m q × (length before + suc (argument_count arguments) ≡ all)
-        × ValueStack g locals q frames k
-    ValueStack g locals p frames (Needs (Initialise number kind items) ∷ k) =
-        (loop : ℕ) × (q : ℕ) × At (code_of g) p (instructions.Move (slot_of number) (operands.Slot (base_of g))) × (number < base_of g)
+    pub ValueStack : (g : ℕ) → (ℕ → Option ℕ) → Operand → (p : ℕ) → List Frame → List Entry → Type 0
+    ValueStack g locals o p frames [] = ⊥
+    ValueStack g locals o p frames (Needs (ConvertTo from to) ∷ k) =
+        (q : ℕ) × ConversionAt (code_of g) (bounds_at g) to o p q × ValueStack g locals o q frames k
+    ValueStack g locals o p frames (Needs (Operate operator) ∷ k) =
+        (d : ℕ) × At (code_of g) p (instructions.Unary (unary_operator operator) d o)
+        × Lands (base_of g) (top g k) d (ValueStack g locals (operands.Slot d) (p + 1) frames k) (AheadStack g locals d (p + 1) frames k)
+    ValueStack g locals o p frames (Needs (Chain NoOperations) ∷ k) = ValueStack g locals o p frames k
+    ValueStack g locals o p frames (Needs (Chain operations) ∷ k) =
+        (d : ℕ) × (q : ℕ) × OperationsAt (code_of g) (bounds_at g) operations o d (top g k) p q
+        × Lands (base_of g) (top g k) d (ValueStack g locals (operands.Slot d) q frames k) (AheadStack g locals d q frames k)
+    ValueStack g locals o p frames (Needs (Apply operator left) ∷ k) =
+        (d : ℕ) × (q : ℕ) × OperatorAt (code_of g) (bounds_at g) operator d (operands.Slot (top g k)) o p q
+        × Lands (base_of g) (top g k) d (ValueStack g locals (operands.Slot d) q frames k) (AheadStack g locals d q frames k)
+    ValueStack g locals o p frames (Needs Decide ∷ k) =
+        (d : ℕ) × (q : ℕ) × (o ≡ operands.Slot (top g k)) × TruthAt (code_of g) (bounds_at g) (top g k) d p q
+        × Lands (base_of g) (top g k) d (ValueStack g locals (operands.Slot d) q frames k) (AheadStack g locals d q frames k)
+    ValueStack g locals o p frames (Needs (Store place) ∷ k) =
+        (l : Lvalue) × (to : Operand) × (q : ℕ) × StoreAt g l o to p q × IsPlaceOf locals l place
+        × HandsOn (code_of g) to q (DroppedStack g q frames k) (ValueStack g locals to q frames k)
+        (λ d r. Lands (base_of g) (top g k) d (ValueStack g locals (operands.Slot d) r frames k) (AheadStack g locals d r frames k))
+    ValueStack g locals o p frames (Needs (Pass callees.Putchar before arguments) ∷ k) =
+        (before ≡ []) × (arguments ≡ NoArguments) × At (code_of g) p (instructions.WriteByte o)
+        × Prints (code_of g) o (p + 1) (DroppedStack g (p + 1) frames k)
+        (λ d. Lands (base_of g) (top g k) d (ValueStack g locals (operands.Slot d) (p + 1 + 1) frames k) (AheadStack g locals d (p + 1 + 1) frames k))
+    ValueStack g locals o p frames (Needs (Pass callee before arguments) ∷ k) =
+        (d : ℕ) × (m : ℕ) × (q : ℕ) × (all : ℕ) × (o ≡ operands.Slot (height (base_of g) (before ++ held k)))
+        × ArgumentsAt (code_of g) (bounds_at g) arguments (suc (height (base_of g) (before ++ held k))) p m
+        × CallAt g callee all (top g k) d m q × (length before + suc (argument_count arguments) ≡ all)
+        × Lands (base_of g) (top g k) d (ValueStack g locals (operands.Slot d) q frames k) (AheadStack g locals d q frames k)
+    ValueStack g locals o p frames (Needs (Initialise number kind items) ∷ k) =
+        (loop : ℕ) × (q : ℕ) × At (code_of g) p (instructions.Move (slot_of number) o) × (number < base_of g)
         × ItemsAt (code_of g) (bounds_at g) items loop (base_of g) (p + 1) q × StatementStack g loop q frames k
-    ValueStack g locals p frames (Needs (Choose then otherwise) ∷ k) =
-        (loop : ℕ) × (r : ℕ) × (q : ℕ) × At (code_of g) p (jump_if_zero (base_of g) (r + 1))
-        × StatementAt (code_of g) (bounds_at g) then loop (base_of g) (p + 1) r × At (code_of g) r (instructions.Jump q)
-        × StatementAt (code_of g) (bounds_at g) otherwise loop (base_of g) (r + 1) q × StatementStack g loop q frames k
-    ValueStack g locals p frames (Needs (Test condition body) ∷ k) =
+    ValueStack g locals o p frames (Needs (Choose first second) ∷ k) =
+        (loop : ℕ) × (r : ℕ) × (q : ℕ) × At (code_of g) p (jump_if_zero o (r + 1))
+        × StatementAt (code_of g) (bounds_at g) first loop (base_of g) (p + 1) r × At (code_of g) r (instructions.Jump q)
+        × StatementAt (code_of g) (bounds_at g) second loop (base_of g) (r + 1) q × StatementStack g loop q frames k
+    ValueStack g locals o p frames (Needs (Test condition body) ∷ k) =
         (loop : ℕ) × (outer : ℕ) × (q : ℕ) × LoopAt g condition body loop q
-        × (r : ℕ) × At (code_of g) p (jump_if_zero (base_of g) (break_target loop))
+        × (r : ℕ) × At (code_of g) p (jump_if_zero o (break_target loop))
         × StatementAt (code_of g) (bounds_at g) body loop (base_of g) (p + 1) r
         × At (code_of g) r (instructions.Jump (continue_target loop)) × StatementStack g outer q frames k
-    ValueStack g locals p frames (Needs Return ∷ k) =
-        (loop : ℕ) × (q : ℕ) × At (code_of g) p (instructions.Return (base_of g)) × (results_of (bounds_at g).result ≡ 1) × StatementStack g loop q frames k
-    ValueStack g locals p frames (Discard ∷ k) = (loop : ℕ) × StatementStack g loop p frames k
-    ValueStack g locals p frames (entry ∷ k) = ⊥
+    ValueStack g locals o p frames (Needs Return ∷ k) =
+        (loop : ℕ) × (q : ℕ) × (s : ℕ) × (o ≡ operands.Slot s) × At (code_of g) p (instructions.Return s) × (results_of (bounds_at g).result ≡ 1)
+        × StatementStack g loop q frames k
+    ValueStack g locals o p frames (Discard ∷ k) = (loop : ℕ) × StatementStack g loop p frames k
+    ValueStack g locals o p frames (entry ∷ k) = ⊥
+
+    -- the same for a value that stands nowhere, since nobody wants it
+    pub DroppedStack : (g p : ℕ) → List Frame → List Entry → Type 0
+    DroppedStack g p frames (Discard ∷ k) = (loop : ℕ) × StatementStack g loop p frames k
+    DroppedStack g p frames k = ⊥
+
+    -- the same for a value that stands in the slot of local n already, which is about to get it
+    pub AheadStack : (g : ℕ) → (ℕ → Option ℕ) → (n p : ℕ) → List Frame → List Entry → Type 0
+    AheadStack g locals n p frames (Needs (ConvertTo from to) ∷ k) = IsQuiet to × AheadStack g locals n p frames k
+    AheadStack g locals n p frames (Needs (Chain NoOperations) ∷ k) = AheadStack g locals n p frames k
+    AheadStack g locals n p frames (Needs (Store place) ∷ k) =
+        (object : ℕ) × (place ≡ Thin object 0) × (locals n ≡ Some object)
+        × HandsOn (code_of g) (operands.Slot n) p (DroppedStack g p frames k) (ValueStack g locals (operands.Slot n) p frames k)
+        (λ d r. Lands (base_of g) (top g k) d (ValueStack g locals (operands.Slot d) r frames k) (AheadStack g locals d r frames k))
+    AheadStack g locals n p frames (Needs (Initialise number kind items) ∷ k) =
+        (loop : ℕ) × (q : ℕ) × (number ≡ n) × ItemsAt (code_of g) (bounds_at g) items loop (base_of g) p q × StatementStack g loop q frames k
+    AheadStack g locals n p frames k = ⊥
 
     -- the same where no value waits
     pub StatementStack : (g loop p : ℕ) → List Frame → List Entry → Type 0
@@ -230,26 +299,63 @@ module _ (source : Program) where
         × StatementStack g outer q frames k
     StatementStack g loop p frames (CloseRegion region home ∷ k) = StatementStack g loop p frames k
     StatementStack g loop p frames (Caller e ∷ k) =
-        At (code_of g) p (instructions.Return (base_of g))
-        × Below frames (λ f rest. (f.result ≡ top f.caller.function k) × Holds f.caller.slots (base_of f.caller.function) (held k)
-        × ValueStack f.caller.function e.locals f.caller.next rest k)
-    StatementStack g loop p frames (Main ∷ k) = At (code_of g) p (instructions.Return (base_of g)) × IsLast frames k
+        (s : ℕ) × At (code_of g) p (instructions.Return s)
+        × Below frames (λ f rest. Holds f.caller.slots (base_of f.caller.function) (held k)
+        × Lands (base_of f.caller.function) (top f.caller.function k) f.result
+        (ValueStack f.caller.function e.locals (operands.Slot f.result) f.caller.next rest k)
+        (AheadStack f.caller.function e.locals f.result f.caller.next rest k))
+    StatementStack g loop p frames (Main ∷ k) = (s : ℕ) × At (code_of g) p (instructions.Return s) × IsLast frames k
     StatementStack g loop p frames k = ⊥
+
+  -- a value comes to slot d, and what is done with it stands from place p on
+  abbrev pub LandsStack : (g : ℕ) → (ℕ → Option ℕ) → (d p : ℕ) → List Frame → List Entry → Type 0
+  LandsStack g locals d p frames k =
+      Lands (base_of g) (top g k) d (ValueStack g locals (operands.Slot d) p frames k) (AheadStack g locals d p frames k)
+
+  abbrev pub HandsOnStack : (g : ℕ) → (ℕ → Option ℕ) → Operand → (p : ℕ) → List Frame → List Entry → Type 0
+  HandsOnStack g locals o p frames k =
+      HandsOn (code_of g) o p (DroppedStack g p frames k) (ValueStack g locals o p frames k) (λ d q. LandsStack g locals d q frames k)
+
+  abbrev pub PrintsStack : (g : ℕ) → (ℕ → Option ℕ) → Operand → (p : ℕ) → List Frame → List Entry → Type 0
+  PrintsStack g locals o p frames k =
+      At (code_of g) p (instructions.WriteByte o)
+      × Prints (code_of g) o (p + 1) (DroppedStack g (p + 1) frames k) (λ d. LandsStack g locals d (p + 1 + 1) frames k)
 
   -- ---- the focus
 
+  -- A right operand without code: the left one may be without code too, and both are read at once.
+  abbrev pub RightAt : Expression → (ℕ → Option ℕ) → (g p : ℕ) → Words → List Frame → List Entry → Type 0
+  RightAt a locals g p slots frames (Needs (Apply operator left) ∷ k) =
+      (l : Operand) × (r : Operand) × (d : ℕ) × (q : ℕ) × (operand_of a ≡ Some r) × Is left.value (operand_word slots l) × Holds slots (base_of g) (held k)
+      × OperatorAt (code_of g) (bounds_at g) operator d l r p q × LandsStack g locals d q frames k
+  RightAt a locals g p slots frames k = ⊥
+
+  -- both operands are there
+  abbrev pub ReadyAt : Kinded → (ℕ → Option ℕ) → (g p : ℕ) → Words → List Frame → List Entry → Type 0
+  ReadyAt v locals g p slots frames (Needs (Apply operator left) ∷ k) =
+      (l : Operand) × (r : Operand) × (d : ℕ) × (q : ℕ) × Is left.value (operand_word slots l) × Is v.value (operand_word slots r) × Holds slots (base_of g) (held k)
+      × OperatorAt (code_of g) (bounds_at g) operator d l r p q × LandsStack g locals d q frames k
+  ReadyAt v locals g p slots frames k = ⊥
+
+  -- the code of an expression, by where its value is to be
+  pub data EvaluatingAt (a : Expression) (locals : ℕ → Option ℕ) (g p : ℕ) (slots : Words) (frames : List Frame) (k : List Entry) : Type 0 where
+    as_operand : (o : Operand) → (q : ℕ) → ValueAt (code_of g) (bounds_at g) a (top g k) o p q → Holds slots (base_of g) (held k)
+        → ValueStack g locals o q frames k → EvaluatingAt a locals g p slots frames k
+    into_slot : (d q : ℕ) → ExpressionAt (code_of g) (bounds_at g) a d (top g k) p q → Holds slots (base_of g) (held k)
+        → LandsStack g locals d q frames k → EvaluatingAt a locals g p slots frames k
+    for_effect : (q : ℕ) → DiscardedAt (code_of g) (bounds_at g) a (top g k) p q → Holds slots (base_of g) (held k)
+        → DroppedStack g q frames k → EvaluatingAt a locals g p slots frames k
+    as_right : RightAt a locals g p slots frames k → EvaluatingAt a locals g p slots frames k
+
   abbrev pub FocusAt : Focus → List Entry → (ℕ → Option ℕ) → (g p : ℕ) → Words → List Frame → Type 0
-  FocusAt (Evaluating a) k locals g p slots frames =
-      (q : ℕ) × ExpressionAt (code_of g) (bounds_at g) a (top g k) p q × Holds slots (base_of g) (held k) × ValueStack g locals q frames k
-  FocusAt (Given v) k locals g p slots frames =
-      Is v.value (slots (top g k)) × Holds slots (base_of g) (held k) × ValueStack g locals p frames k
+  FocusAt (Evaluating a) k locals g p slots frames = EvaluatingAt a locals g p slots frames k
   FocusAt (Executing s) k locals g p slots frames =
       (loop : ℕ) × (q : ℕ) × StatementAt (code_of g) (bounds_at g) s loop (base_of g) p q × StatementStack g loop q frames k
-  FocusAt Proceeding k locals g p slots frames =
-      ((loop : ℕ) × StatementStack g loop p frames k) ⊎ (Holds slots (base_of g) (held k) × ValueStack g locals p frames k)
+  FocusAt (Calling callees.Putchar before) k locals g p slots frames =
+      (v : Kinded) × (o : Operand) × (before ≡ v ∷ []) × Is v.value (operand_word slots o) × Holds slots (base_of g) (held k) × PrintsStack g locals o p frames k
   FocusAt (Calling callee before) k locals g p slots frames =
-      (q : ℕ) × CallAt (code_of g) (bounds_at g) callee (length before) (top g k) p q × Holds slots (base_of g) (before ++ held k)
-      × ValueStack g locals q frames k
+      (d : ℕ) × (q : ℕ) × CallAt g callee (length before) (top g k) d p q × Holds slots (base_of g) (before ++ held k)
+      × LandsStack g locals d q frames k
   FocusAt (Entering h arguments) k locals g p slots frames =
       (m : ℕ) × ItemsAt (code_of g) (bounds_at g) h.body 0 (base_of g) p m × StatementStack g 0 m frames k
       × HoldsFrom slots 0 arguments × (length h.parameters ≤ base_of g)
@@ -272,20 +378,44 @@ module _ (source : Program) where
   abbrev pub SharedAt : (calls : ℕ) → World → Configuration → Type 0
   SharedAt calls w c = Shared calls w.regions w.classes w.output w.input c.output c.input c.store.pages (length c.frames)
 
+  -- the data of the running call and of those that wait, where the running one has these slots
+  abbrev pub DataIn : (slots : Words) → List Entry → Environment → World → Configuration → Type 0
+  DataIn slots k e w c = DataAt c.active.function w.objects e.locals (callers k) slots c.globals c.frames
+
+  -- the same, but for the slot of one local, which had another word before
+  abbrev pub DataBut : (n : ℕ) → List Entry → Environment → World → Configuration → Type 0
+  DataBut n k e w c = (word : ℕ) × DataIn (put c.active.slots n word) k e w c
+
   abbrev pub GoesOn : (calls : ℕ) → Focus → List Entry → Environment → World → Configuration → Type 0
   GoesOn calls focus k e w c =
-      SharedAt calls w c
-      × DataAt c.active.function w.objects e.locals (callers k) c.active.slots c.globals c.frames
+      SharedAt calls w c × DataIn c.active.slots k e w c
       × FocusAt focus k e.locals c.active.function c.active.next c.active.slots c.frames
+
+  -- where a value stands that is handed on
+  pub data GivenAt (v : Kinded) (k : List Entry) (e : Environment) (w : World) (c : Configuration) : Type 0 where
+    in_operand : (o : Operand) → DataIn c.active.slots k e w c → Is v.value (operand_word c.active.slots o)
+        → Holds c.active.slots (base_of c.active.function) (held k) → ValueStack c.active.function e.locals o c.active.next c.frames k → GivenAt v k e w c
+    nowhere : DataIn c.active.slots k e w c → DroppedStack c.active.function c.active.next c.frames k → GivenAt v k e w c
+    ahead : (n : ℕ) → DataBut n k e w c → n < base_of c.active.function → Is v.value (c.active.slots n)
+        → Holds c.active.slots (base_of c.active.function) (held k) → AheadStack c.active.function e.locals n c.active.next c.frames k → GivenAt v k e w c
+    with_left : DataIn c.active.slots k e w c → ReadyAt v e.locals c.active.function c.active.next c.active.slots c.frames k → GivenAt v k e w c
+
+  -- What goes on without a value: a statement, or what was called without one. Where a value is wanted, the source goes wrong next.
+  pub data ProceedingAt (k : List Entry) (e : Environment) (w : World) (c : Configuration) : Type 0 where
+    behind_statement : (loop : ℕ) → DataIn c.active.slots k e w c → StatementStack c.active.function loop c.active.next c.frames k → ProceedingAt k e w c
+    behind_call : (o : Operand) → DataIn c.active.slots k e w c → ValueStack c.active.function e.locals o c.active.next c.frames k → ProceedingAt k e w c
+    behind_wrong : (n : ℕ) → AheadStack c.active.function e.locals n c.active.next c.frames k → ProceedingAt k e w c
 
   -- An exception that nothing catches ends the plain program at once, while the source leaves one entry after the other.
   abbrev pub Throws : (calls : ℕ) → (tag value : ℕ) → List Entry → World → Configuration → Type 0
   Throws calls tag value k w c =
       SharedAt calls w c × (calls_in k ≤ calls) × IsPlainStack k
-      × (s : ℕ) × At (code_of c.active.function) c.active.next (instructions.Uncaught tag (operands.Slot s)) × (c.active.slots s ≡ value)
+      × (o : Operand) × At (code_of c.active.function) c.active.next (instructions.Uncaught tag o) × (operand_word c.active.slots o ≡ value)
 
   abbrev pub Related : (calls : ℕ) → Focus → List Entry → Environment → World → Configuration → Type 0
   Related calls (Throwing tag value) k e w c = Throws calls tag value k w c
+  Related calls (Given v) k e w c = SharedAt calls w c × GivenAt v k e w c
+  Related calls Proceeding k e w c = SharedAt calls w c × ProceedingAt k e w c
   Related calls focus k e w c = GoesOn calls focus k e w c
 
   abbrev pub Matches : (calls : ℕ) → State → plain.State → Type 0

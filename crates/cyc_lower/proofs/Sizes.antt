@@ -1,6 +1,7 @@
 -- The size of a function's code is at most three for each token that its spelling needs.
-use Rattle.std.proofs.Common.{◌≡◌, ℕ, suc, ◌+◌, ◌*◌, ◌≤◌, List, [], ◌∷◌, ◌++◌, length, Option, None, Some, arith}
-use Rattle.std.specs.Prelude.{sum_by}
+use Rattle.std.proofs.Common.{◌≡◌, ℕ, zero, suc, ◌+◌, ◌*◌, ◌≤◌, Bool, true, false, List, [], ◌∷◌, ◌++◌, length, Option, None, Some, arith}
+use Rattle.cyc_meaning.specs.Operators.{null_exception}
+use Rattle.std.specs.Prelude.{sum_by, if◌then◌else◌}
 use Rattle.std.proofs.lemmas.List.Sums.{sum_by-append, sum_by-cons}
 use Rattle.cyc_types.specs.declared.typed.Kind.{Kind}
 use Rattle.cyc_types.specs.declared.typed.Kind.TheVariants as kinds
@@ -14,11 +15,12 @@ use Rattle.cyc_types.specs.TypedTrees.{Lvalue, Local, Global, Expression, Number
 use Rattle.cyc_types.specs.Numbered.{argument_count}
 use Rattle.cyc_types.proofs.WeightLemmas.{some_token}
 use Rattle.cyc_types.specs.Weight.{expression_weight, converted_weight, arguments_weight, more_arguments_weight, operations_weight, else_weight, statement_weight, items_weight, function_weight}
+use Rattle.cyc_plain.specs.declared.instruction.Operand.{Operand}
 use Rattle.cyc_plain.specs.declared.instruction.Operand.TheVariants as operands
 use Rattle.cyc_plain.specs.declared.instruction.Instruction.{Instruction}
 use Rattle.cyc_plain.specs.declared.instruction.Instruction.TheVariants as instructions
 use Rattle.cyc_plain.specs.Program.{instruction_size, size}
-use Rattle.cyc_lower.specs.Lowering.{jump_if_zero, jump_if_nonzero, unary_operator, break_target, continue_target, conversion_code, operator_code, truth_code, load_code, store_code, call_code, test_code, expression_code, converted_code, arguments_code, operations_code, return_code, declaration_code, statement_code, items_code, first_temporary, lower_function}
+use Rattle.cyc_lower.specs.Lowering.{slot_of, unary_operator, binary_operator, operand_of, operand_or, code_unless, slot_or, code_unless_slot, left_with, left_of, value_slot, next_slot, slot_with, left_slot, value_operand, converted_operand, printed_operand, check_code, conversion_code, divisor_code, checked_code, operator_code, truth_code, load_code, low_byte, test_code, is_in, copy_code, expression_code, arguments_code, converted_code, converted_operand_code, printed_code, initial_code, assignment_code, operations_code, discarded_code, condition_code, failing_jump, break_target, continue_target, return_code, declaration_code, statement_code, items_code, first_temporary, jump_if_zero, jump_if_nonzero, lower_function, lower_global, lower_program}
 use Rattle.cyc_lower.specs.Lowered.{size_per_weight}
 
 abbrev code_size : List Instruction → ℕ
@@ -32,80 +34,171 @@ cons i a = sum_by-cons instruction_size i a
 
 -- ---- expressions
 
-conversion_size : (to : Kind) (p d : ℕ) → code_size (conversion_code to p d) ≤ 2
-conversion_size kinds.NonNull p d = omega arith
-conversion_size to p d = omega arith
+unless_size : (known : Option Operand) (x : List Instruction) → code_size (code_unless known x) ≤ code_size x
+unless_size (Some o) x = omega arith
+unless_size None x = omega arith
 
-operator_size : (o : Operator) (p d : ℕ) → code_size (operator_code o p d) ≤ 3
-operator_size operators.Divide p d = omega arith
-operator_size operators.Remainder p d = omega arith
-operator_size o p d = omega arith
+unless_slot_size : (known : Option Operand) (x : List Instruction) → code_size (code_unless_slot known x) ≤ code_size x
+unless_slot_size (Some (operands.Slot n)) x = omega arith
+unless_slot_size (Some (operands.Word n)) x = omega arith
+unless_slot_size None x = omega arith
+
+conversion_size : (to : Kind) (o : Operand) (p : ℕ) → code_size (conversion_code to o p) ≤ 2
+conversion_size kinds.NonNull o p = omega arith
+conversion_size to o p = omega arith
+
+divisor_size : (o : Operand) (p : ℕ) → code_size (divisor_code o p) ≤ 2
+divisor_size (operands.Word (suc n)) p = omega arith
+divisor_size (operands.Word zero) p = omega arith
+divisor_size (operands.Slot n) p = omega arith
+
+checked_size : (o : Operator) (l r : Operand) (p d : ℕ) → code_size (checked_code o l r p d) ≤ 3
+checked_size o l r p d = omega (arith, both (divisor_code r p) (instructions.Binary (binary_operator o) d l r ∷ []), divisor_size r p)
+
+operator_size : (o : Operator) (l r : Operand) (p d : ℕ) → code_size (operator_code o l r p d) ≤ 3
+operator_size operators.Divide l r p d = checked_size operators.Divide l r p d
+operator_size operators.Remainder l r p d = checked_size operators.Remainder l r p d
+operator_size o l r p d = omega arith
 
 load_size : (l : Lvalue) (d : ℕ) → code_size (load_code l d) ≤ 1
 load_size (Local w n) d = omega arith
 load_size (Global n) d = omega arith
 
-store_size : (l : Lvalue) (d : ℕ) → code_size (store_code l d) ≤ 1
-store_size (Local w n) d = omega arith
-store_size (Global n) d = omega arith
+copy_by_size : (is : Bool) (o : Operand) (d : ℕ) → code_size (if is then [] else instructions.Move d o ∷ []) ≤ 1
+copy_by_size true o d = omega arith
+copy_by_size false o d = omega arith
 
-call_size : (f : Callee) (n d : ℕ) → code_size (call_code f n d) ≤ 3 + n
-call_size callees.Putchar n d = omega arith
-call_size callees.Getchar n d = omega arith
-call_size (callees.Function g) n d = omega arith
+copy_size : (o : Operand) (d : ℕ) → code_size (copy_code o d) ≤ 1
+copy_size o d = copy_by_size (is_in o d) o d
 
-test_size : (o : LogicalOperator) (operand : List Instruction) (p d : ℕ) → code_size (test_code o operand p d) ≤ 3 + code_size operand
-test_size logical.AndThen operand p d = omega (arith, both operand (truth_code d), cons (jump_if_zero d (p + 1 + length operand)) (operand ++ truth_code d))
-test_size logical.OrElse operand p d = omega (arith, both operand (truth_code d), cons (jump_if_nonzero d (p + 1 + length operand)) (operand ++ truth_code d))
+test_size : (o : LogicalOperator) (operand : List Instruction) (p d t : ℕ) → code_size (test_code o operand p d t) ≤ 3 + code_size operand
+test_size logical.AndThen operand p d t = omega (arith, both operand (truth_code t d), cons (jump_if_zero (operands.Slot t) (p + 1 + length operand)) (operand ++ truth_code t d))
+test_size logical.OrElse operand p d t = omega (arith, both operand (truth_code t d), cons (jump_if_nonzero (operands.Slot t) (p + 1 + length operand)) (operand ++ truth_code t d))
 
 mutual
-  expression_size : (a : Expression) (p d : ℕ) → code_size (expression_code a p d) ≤ 3 * expression_weight a
-  expression_size (Number n) p d = omega arith
-  expression_size (Copy l t) p d = omega (arith, load_size l d)
-  expression_size (Call f cs t) p d =
-      omega (arith, both (arguments_code cs p d) (call_code f (argument_count cs) d), arguments_size cs p d, call_size f (argument_count cs) d)
-  expression_size (Unary o a) p d = omega (arith, both (expression_code a p d) (instructions.Unary (unary_operator o) d (operands.Slot d) ∷ []), expression_size a p d)
-  expression_size (Binary a os t) p d =
-      omega (arith, both (expression_code a p d) (operations_code os (p + length (expression_code a p d)) d), expression_size a p d, operations_size os (p + length (expression_code a p d)) d)
-  expression_size (Assign l c t) p d = omega (arith, both (converted_code c p d) (store_code l d), converted_size c p d, store_size l d)
-  expression_size a p d = omega (arith, some_token a)
+  expression_size : (a : Expression) (p d t : ℕ) → code_size (expression_code a p d t) ≤ 3 * expression_weight a
+  expression_size (Number n) p d t = omega arith
+  expression_size (Copy l ty) p d t = omega (arith, load_size l d)
+  expression_size (Call callees.Putchar cs ty) p d t =
+      let o = printed_operand cs (operands.Slot t) t in
+      omega (arith, both (printed_code cs p t) (instructions.WriteByte o ∷ low_byte o d ∷ []), printed_size cs p t)
+  expression_size (Call callees.Getchar cs ty) p d t =
+      omega (arith, both (arguments_code cs p t) (instructions.ReadByte d ∷ []), arguments_size cs p t)
+  expression_size (Call (callees.Function n) cs ty) p d t =
+      omega (arith, both (arguments_code cs p t) (instructions.Call n t (argument_count cs) d ∷ []), arguments_size cs p t)
+  expression_size (Unary o a) p d t =
+      let inner = expression_code a p (value_slot a t) t in
+      omega (arith, both (code_unless (operand_of a) inner) (instructions.Unary (unary_operator o) d (value_operand a t) ∷ []), unless_size (operand_of a) inner, expression_size a p (value_slot a t) t)
+  expression_size (Binary a os ty) p d t =
+      let inner = expression_code a p (left_slot a os d t) t in
+      let front = code_unless (left_of a os) inner in
+      let l = operand_or (left_of a os) (left_slot a os d t) in
+      omega (arith, both front (operations_code os (p + length front) l d t), unless_size (left_of a os) inner, expression_size a p (left_slot a os d t) t, operations_size os (p + length front) l d t)
+  expression_size (Assign (Local w n) c ty) p d t =
+      let o = operands.Slot (slot_of n) in
+      omega (arith, both (initial_code c p (slot_of n) t) (copy_code o d), initial_size c p (slot_of n) t, copy_size o d)
+  expression_size (Assign (Global n) c ty) p d t =
+      let o = converted_operand c t in
+      let front = converted_operand_code c p t in
+      let store = instructions.StoreGlobal n o ∷ [] in
+      omega (arith, both (front ++ store) (copy_code o d), both front store, converted_operand_size c p t, copy_size o d)
+  expression_size a p d t = omega (arith, some_token a)
 
-  converted_size : (c : Converted) (p d : ℕ) → code_size (converted_code c p d) ≤ 3 * converted_weight c + 2
-  converted_size (Convert from to a) p d =
-      omega (arith, both (expression_code a p d) (conversion_code to (p + length (expression_code a p d)) d), expression_size a p d, conversion_size to (p + length (expression_code a p d)) d)
+  initial_size : (c : Converted) (p d t : ℕ) → code_size (initial_code c p d t) ≤ 3 * converted_weight c + 3
+  initial_size (Convert from kinds.NonNull a) p d t =
+      let inner = expression_code a p (value_slot a t) t in
+      let front = code_unless (operand_of a) inner in
+      let o = value_operand a t in
+      let check = check_code null_exception o (p + length front) in
+      omega (arith, both (front ++ check) (instructions.Move d o ∷ []), both front check, unless_size (operand_of a) inner, expression_size a p (value_slot a t) t)
+  initial_size (Convert from to a) p d t = omega (arith, expression_size a p d t)
+
+  converted_size : (c : Converted) (p t : ℕ) → code_size (converted_code c p t) ≤ 3 * converted_weight c + 2
+  converted_size (Convert from to a) p t =
+      let front = expression_code a p t t in
+      omega (arith, both front (conversion_code to (operands.Slot t) (p + length front)), expression_size a p t t, conversion_size to (operands.Slot t) (p + length front))
+
+  converted_operand_size : (c : Converted) (p t : ℕ) → code_size (converted_operand_code c p t) ≤ 3 * converted_weight c + 2
+  converted_operand_size (Convert from to a) p t =
+      let inner = expression_code a p (value_slot a t) t in
+      let front = code_unless (operand_of a) inner in
+      omega (arith, both front (conversion_code to (value_operand a t) (p + length front)), unless_size (operand_of a) inner, expression_size a p (value_slot a t) t, conversion_size to (value_operand a t) (p + length front))
+
+  printed_size : (cs : Arguments) (p t : ℕ) → code_size (printed_code cs p t) ≤ 3 * arguments_weight cs + 2
+  printed_size NoArguments p t = omega arith
+  printed_size (MoreArguments c cs) p t =
+      let front = converted_operand_code c p t in
+      omega (arith, both front (printed_code cs (p + length front) t), converted_operand_size c p t, more_printed_size cs (p + length front) t)
+
+  more_printed_size : (cs : Arguments) (p t : ℕ) → code_size (printed_code cs p t) ≤ 3 * more_arguments_weight cs
+  more_printed_size NoArguments p t = omega arith
+  more_printed_size (MoreArguments c cs) p t =
+      let front = converted_operand_code c p t in
+      omega (arith, both front (printed_code cs (p + length front) t), converted_operand_size c p t, more_printed_size cs (p + length front) t)
 
   -- with the words that are passed
-  arguments_size : (cs : Arguments) (p d : ℕ) → code_size (arguments_code cs p d) + argument_count cs ≤ 3 * arguments_weight cs + 3
-  arguments_size NoArguments p d = omega arith
-  arguments_size (MoreArguments c cs) p d =
-      let q = p + length (converted_code c p d) in
-      omega (arith, both (converted_code c p d) (arguments_code cs q (suc d)), converted_size c p d, more_arguments_size cs q (suc d))
+  arguments_size : (cs : Arguments) (p t : ℕ) → code_size (arguments_code cs p t) + argument_count cs ≤ 3 * arguments_weight cs + 3
+  arguments_size NoArguments p t = omega arith
+  arguments_size (MoreArguments c cs) p t =
+      let q = p + length (converted_code c p t) in
+      omega (arith, both (converted_code c p t) (arguments_code cs q (suc t)), converted_size c p t, more_arguments_size cs q (suc t))
 
-  more_arguments_size : (cs : Arguments) (p d : ℕ) → code_size (arguments_code cs p d) + argument_count cs ≤ 3 * more_arguments_weight cs
-  more_arguments_size NoArguments p d = omega arith
-  more_arguments_size (MoreArguments c cs) p d =
-      let q = p + length (converted_code c p d) in
-      omega (arith, both (converted_code c p d) (arguments_code cs q (suc d)), converted_size c p d, more_arguments_size cs q (suc d))
+  more_arguments_size : (cs : Arguments) (p t : ℕ) → code_size (arguments_code cs p t) + argument_count cs ≤ 3 * more_arguments_weight cs
+  more_arguments_size NoArguments p t = omega arith
+  more_arguments_size (MoreArguments c cs) p t =
+      let q = p + length (converted_code c p t) in
+      omega (arith, both (converted_code c p t) (arguments_code cs q (suc t)), converted_size c p t, more_arguments_size cs q (suc t))
 
-  operations_size : (os : Operations) (p d : ℕ) → code_size (operations_code os p d) ≤ 3 * operations_weight os
-  operations_size NoOperations p d = omega arith
-  operations_size (ThenCompute o a os) p d =
-      let operand = expression_code a p (suc d) in
-      let operator = operator_code o (p + length operand) d in
+  operations_size : (os : Operations) (p : ℕ) (l : Operand) (d t : ℕ) → code_size (operations_code os p l d t) ≤ 3 * operations_weight os
+  operations_size NoOperations p l d t = omega arith
+  operations_size (ThenCompute o a os) p l d t =
+      let inner = expression_code a p (value_slot a (suc t)) (suc t) in
+      let operand = code_unless (operand_of a) inner in
+      let next = next_slot os d t in
+      let operator = operator_code o l (value_operand a (suc t)) (p + length operand) next in
       let q = p + length (operand ++ operator) in
-      omega (arith, both (operand ++ operator) (operations_code os q d), both operand operator, expression_size a p (suc d), operator_size o (p + length operand) d, operations_size os q d)
-  operations_size (ThenTest o a os) p d =
-      let operand = expression_code a (p + 1) d in
-      let front = test_code o operand p d in
+      omega (
+        arith,
+        both (operand ++ operator) (operations_code os q (operands.Slot next) d t),
+        both operand operator,
+        unless_size (operand_of a) inner,
+        expression_size a p (value_slot a (suc t)) (suc t),
+        operator_size o l (value_operand a (suc t)) (p + length operand) next,
+        operations_size os q (operands.Slot next) d t,
+      )
+  operations_size (ThenTest o a os) p l d t =
+      let operand = expression_code a (p + 1) t t in
+      let next = next_slot os d t in
+      let front = test_code o operand p next t in
       let q = p + length front in
-      omega (arith, both front (operations_code os q d), test_size o operand p d, expression_size a (p + 1) d, operations_size os q d)
-  operations_size os p d = omega arith
+      omega (arith, both front (operations_code os q (operands.Slot next) d t), test_size o operand p next t, expression_size a (p + 1) t t, operations_size os q (operands.Slot next) d t)
+  operations_size os p l d t = omega arith
+
+assignment_size : (l : Lvalue) (c : Converted) (p t : ℕ) → code_size (assignment_code l c p t) ≤ 3 * converted_weight c + 3
+assignment_size (Local w n) c p t = initial_size c p (slot_of n) t
+assignment_size (Global n) c p t =
+    let front = converted_operand_code c p t in
+    omega (arith, both front (instructions.StoreGlobal n (converted_operand c t) ∷ []), converted_operand_size c p t)
+
+discarded_size : (a : Expression) (p t : ℕ) → code_size (discarded_code a p t) ≤ 3 * expression_weight a
+discarded_size (Call callees.Putchar cs ty) p t =
+    omega (arith, both (printed_code cs p t) (instructions.WriteByte (printed_operand cs (operands.Slot t) t) ∷ []), printed_size cs p t)
+discarded_size (Assign l c ty) p t = omega (arith, assignment_size l c p t)
+discarded_size a p t = omega (arith, unless_size (operand_of a) (expression_code a p t t), expression_size a p t t)
 
 -- ---- statements
 
-return_size : (v : Option Converted) (p d : ℕ) → code_size (return_code v p d) ≤ 3 * statement_weight (Return v)
-return_size None p d = omega arith
-return_size (Some c) p d = omega (arith, both (converted_code c p d) (instructions.Return d ∷ []), converted_size c p d)
+condition_size : (a : Expression) (p t : ℕ) → code_size (condition_code a p t) ≤ 3 * expression_weight a
+condition_size a p t = omega (arith, unless_size (operand_of a) (expression_code a p (value_slot a t) t), expression_size a p (value_slot a t) t)
+
+return_size : (v : Option Converted) (p t : ℕ) → code_size (return_code v p t) ≤ 3 * statement_weight (Return v)
+return_size None p t = omega arith
+return_size (Some (Convert from to a)) p t =
+    let inner = expression_code a p t t in
+    let front = code_unless_slot (operand_of a) inner in
+    let s = slot_or (operand_of a) t in
+    let conversion = conversion_code to (operands.Slot s) (p + length front) in
+    omega (arith, both (front ++ conversion) (instructions.Return s ∷ []), both front conversion, unless_slot_size (operand_of a) inner, expression_size a p t t, conversion_size to (operands.Slot s) (p + length front))
 
 else_size : (t : Statement) (p loop d : ℕ) → code_size (statement_code t p loop d) ≤ 3 * statement_weight t → code_size (statement_code t p loop d) ≤ 3 * else_weight t (statement_weight t)
 else_size Empty p loop d bound = omega arith
@@ -115,30 +208,30 @@ mutual
   statement_size : (s : Statement) (p loop d : ℕ) → code_size (statement_code s p loop d) ≤ 3 * statement_weight s
   statement_size (Block r js) p loop d = omega (arith, items_size js p loop d)
   statement_size Empty p loop d = omega arith
-  statement_size (Evaluate a) p loop d = omega (arith, expression_size a p d)
-  statement_size (If a s t) p loop d =
-      let condition = expression_code a p d in
+  statement_size (Evaluate a) p loop t = omega (arith, discarded_size a p t)
+  statement_size (If a s u) p loop t =
+      let condition = condition_code a p t in
       let m = p + length condition in
-      let then_code = statement_code s (m + 1) loop d in
-      let r = m + 1 + length then_code in
-      let else_code = statement_code t (r + 1) loop d in
-      let jump_first = jump_if_zero d (r + 1) ∷ then_code in
-      let jump_second = instructions.Jump (r + 1 + length else_code) ∷ else_code in
+      let first = statement_code s (m + 1) loop t in
+      let r = m + 1 + length first in
+      let second = statement_code u (r + 1) loop t in
+      let jump_first = failing_jump a t (r + 1) ∷ first in
+      let jump_second = instructions.Jump (r + 1 + length second) ∷ second in
       omega (
         arith,
         both (condition ++ jump_first) jump_second,
         both condition jump_first,
-        cons (jump_if_zero d (r + 1)) then_code,
-        cons (instructions.Jump (r + 1 + length else_code)) else_code,
-        expression_size a p d,
-        statement_size s (m + 1) loop d,
-        else_size t (r + 1) loop d (statement_size t (r + 1) loop d),
+        cons (failing_jump a t (r + 1)) first,
+        cons (instructions.Jump (r + 1 + length second)) second,
+        condition_size a p t,
+        statement_size s (m + 1) loop t,
+        else_size u (r + 1) loop t (statement_size u (r + 1) loop t),
       )
-  statement_size (While w a s) p loop d =
-      let condition = expression_code a (p + 2) d in
+  statement_size (While w a s) p loop t =
+      let condition = condition_code a (p + 2) t in
       let m = p + 2 + length condition in
-      let body = statement_code s (m + 1) p d in
-      let test = jump_if_zero d (break_target p) ∷ body in
+      let body = statement_code s (m + 1) p t in
+      let test = failing_jump a t (break_target p) ∷ body in
       let again = instructions.Jump (continue_target p) ∷ [] in
       let rest = (condition ++ test) ++ again in
       let exit = instructions.Jump (m + 1 + length body + 1) in
@@ -148,9 +241,9 @@ mutual
         cons exit rest,
         both (condition ++ test) again,
         both condition test,
-        cons (jump_if_zero d (break_target p)) body,
-        expression_size a (p + 2) d,
-        statement_size s (m + 1) p d,
+        cons (failing_jump a t (break_target p)) body,
+        condition_size a (p + 2) t,
+        statement_size s (m + 1) p t,
       )
   statement_size (Return v) p loop d = return_size v p d
   statement_size Break p loop d = omega arith
@@ -166,7 +259,7 @@ mutual
   items_size (MoreItems (Declare n t (Some c)) js) p loop d =
       let front = declaration_code n (Some c) p d in
       let q = p + length front in
-      omega (arith, both front (items_code js q loop d), both (converted_code c p d) (instructions.Move n (operands.Slot d) ∷ []), converted_size c p d, items_size js q loop d)
+      omega (arith, both front (items_code js q loop d), initial_size c p n d, items_size js q loop d)
   items_size (MoreItems j js) p loop d = omega (arith, items_size js p loop d)
 
 pub function_size : (h : Function) → size (lower_function h) ≤ size_per_weight * function_weight h

@@ -1,5 +1,5 @@
 -- Where in a function's code the code of a construct stands, with all places between its parts left open.
-use Rattle.std.proofs.Common.{◌≡◌, ℕ, suc, ◌+◌, ◌<◌, List, [], ◌∷◌, ◌++◌, length, Option, None, Some, slice_get, refl, ap, subst, arith, length-append}
+use Rattle.std.proofs.Common.{◌≡◌, ℕ, suc, ◌+◌, ◌<◌, Bool, true, false, List, [], ◌∷◌, ◌++◌, length, Option, None, Some, slice_get, refl, ap, subst, arith, length-append}
 use Rattle.cyc_types.specs.declared.typed.Kind.{Kind}
 use Rattle.cyc_types.specs.declared.typed.Kind.TheVariants as kinds
 use Rattle.cyc_types.specs.declared.typed.Callee.{Callee}
@@ -9,12 +9,13 @@ use Rattle.cyc_types.specs.declared.typed.Operator.TheVariants as operators
 use Rattle.cyc_types.specs.TypedTrees.{Lvalue, Local, Global, Expression, Number, Copy, Call, Unary, Binary, Assign, Converted, Convert, Arguments, NoArguments, MoreArguments, Operations, NoOperations, ThenCompute, ThenTest, Statement, Block, Empty, Evaluate, If, While, Return, Break, Continue, Items, NoItems, MoreItems, Execute, Declare}
 use Rattle.cyc_types.specs.Numbered.{Numbering, argument_count}
 use Rattle.cyc_plain.specs.declared.instruction.UnaryOperator.TheVariants as plain_unary
-use Rattle.cyc_plain.specs.declared.instruction.BinaryOperator.TheVariants as plain_binary
+use Rattle.cyc_plain.specs.declared.instruction.Comparison.TheVariants as comparisons
+use Rattle.cyc_plain.specs.declared.instruction.Operand.{Operand}
 use Rattle.cyc_plain.specs.declared.instruction.Operand.TheVariants as operands
 use Rattle.cyc_plain.specs.declared.instruction.Instruction.{Instruction}
 use Rattle.cyc_plain.specs.declared.instruction.Instruction.TheVariants as instructions
 use Rattle.cyc_meaning.specs.Operators.{null_exception, division_by_zero}
-use Rattle.cyc_lower.specs.Lowering.{jump_if_zero, jump_if_nonzero, slot_of, unary_operator, binary_operator, test_jump, break_target, continue_target, results_of}
+use Rattle.cyc_lower.specs.Lowering.{slot_of, unary_operator, binary_operator, operand_of, operand_or, slot_or, left_of, value_slot, next_slot, left_slot, is_in, jump_if_zero, jump_if_nonzero, test_jump, low_byte, break_target, continue_target, results_of}
 
 -- ---- lists of instructions in a code
 
@@ -57,95 +58,164 @@ has_all code back = has_from [] code back
 
 -- ---- expressions
 
--- In a code of a function with these bounds, from p to q stands the code of this, whose value comes to slot d or is there.
+-- a value comes to a slot, where it is not there yet
+module _ (code : List Instruction) where
+  abbrev pub CopyBy : Bool → Operand → (d p q : ℕ) → Type 0
+  CopyBy true o d p q = p ≡ q
+  CopyBy false o d p q = At code p (instructions.Move d o) × (p + 1 ≡ q)
+
+  abbrev pub CopyAt : Operand → (d p q : ℕ) → Type 0
+  CopyAt o d p q = CopyBy (is_in o d) o d p q
+
+-- In a code of a function with these bounds, from p to q stands the code of this, with temporaries from slot t on.
 module _ (code : List Instruction) (bounds : Numbering) where
-  abbrev pub ConversionAt : Kind → (d p q : ℕ) → Type 0
-  ConversionAt kinds.NonNull d p q = At code p (jump_if_nonzero d q) × At code (p + 1) (instructions.Uncaught null_exception (operands.Slot d)) × (p + 2 ≡ q)
-  ConversionAt to d p q = p ≡ q
+  -- an operand without code, or code that brings the value to a slot
+  abbrev pub OperandBy : Option Operand → (computed : Type 0) → (slot : ℕ) → Operand → (p q : ℕ) → Type 0
+  OperandBy (Some known) computed slot o p q = (o ≡ known) × (p ≡ q)
+  OperandBy None computed slot o p q = (o ≡ operands.Slot slot) × computed
 
-  abbrev pub CheckedAt : Operator → (d p q : ℕ) → Type 0
-  CheckedAt o d p q =
-      At code p (jump_if_nonzero (suc d) (p + 2)) × At code (p + 1) (instructions.Uncaught division_by_zero (operands.Slot (suc d)))
-      × At code (p + 2) (instructions.Binary (binary_operator o) d (operands.Slot d) (operands.Slot (suc d))) × (p + 2 + 1 ≡ q)
+  abbrev pub CheckAt : (tag : ℕ) → Operand → (p q : ℕ) → Type 0
+  CheckAt tag o p q = At code p (jump_if_nonzero o q) × At code (p + 1) (instructions.Uncaught tag o) × (p + 2 ≡ q)
 
-  abbrev pub OperatorAt : Operator → (d p q : ℕ) → Type 0
-  OperatorAt operators.Divide d p q = CheckedAt operators.Divide d p q
-  OperatorAt operators.Remainder d p q = CheckedAt operators.Remainder d p q
-  OperatorAt o d p q = At code p (instructions.Binary (binary_operator o) d (operands.Slot d) (operands.Slot (suc d))) × (p + 1 ≡ q)
+  abbrev pub ConversionAt : Kind → Operand → (p q : ℕ) → Type 0
+  ConversionAt kinds.NonNull o p q = CheckAt null_exception o p q
+  ConversionAt to o p q = p ≡ q
 
-  abbrev pub TruthAt : (d p q : ℕ) → Type 0
-  TruthAt d p q = At code p (instructions.Unary plain_unary.Not d (operands.Slot d)) × At code (p + 1) (instructions.Unary plain_unary.Not d (operands.Slot d)) × (p + 1 + 1 ≡ q)
+  abbrev pub DivisorAt : Operand → (p q : ℕ) → Type 0
+  DivisorAt (operands.Word (suc n)) p q = p ≡ q
+  DivisorAt o p q = CheckAt division_by_zero o p q
+
+  abbrev pub CheckedAt : Operator → (d : ℕ) → (l r : Operand) → (p q : ℕ) → Type 0
+  CheckedAt o d l r p q = (m : ℕ) × DivisorAt r p m × At code m (instructions.Binary (binary_operator o) d l r) × (m + 1 ≡ q)
+
+  abbrev pub OperatorAt : Operator → (d : ℕ) → (l r : Operand) → (p q : ℕ) → Type 0
+  OperatorAt operators.Divide d l r p q = CheckedAt operators.Divide d l r p q
+  OperatorAt operators.Remainder d l r p q = CheckedAt operators.Remainder d l r p q
+  OperatorAt o d l r p q = At code p (instructions.Binary (binary_operator o) d l r) × (p + 1 ≡ q)
+
+  abbrev pub TruthAt : (t d p q : ℕ) → Type 0
+  TruthAt t d p q =
+      At code p (instructions.Unary plain_unary.Not t (operands.Slot t)) × At code (p + 1) (instructions.Unary plain_unary.Not d (operands.Slot t))
+      × (p + 1 + 1 ≡ q)
 
   abbrev pub LoadAt : Lvalue → (d p q : ℕ) → Type 0
   LoadAt (Local w n) d p q = At code p (instructions.Move d (operands.Slot (slot_of n))) × (p + 1 ≡ q)
   LoadAt (Global n) d p q = (n < bounds.globals) × At code p (instructions.LoadGlobal d n) × (p + 1 ≡ q)
 
-  abbrev pub StoreAt : Lvalue → (d p q : ℕ) → Type 0
-  StoreAt (Local w n) d p q = At code p (instructions.Move (slot_of n) (operands.Slot d)) × (p + 1 ≡ q)
-  StoreAt (Global n) d p q = (n < bounds.globals) × At code p (instructions.StoreGlobal n (operands.Slot d)) × (p + 1 ≡ q)
-
-  abbrev pub CallAt : Callee → (arguments d p q : ℕ) → Type 0
-  CallAt callees.Putchar arguments d p q =
-      At code p (instructions.WriteByte (operands.Slot d)) × At code (p + 1) (instructions.Move (suc d) (operands.Word 255))
-      × At code (p + 1 + 1) (instructions.Binary plain_binary.And d (operands.Slot d) (operands.Slot (suc d))) × (p + 1 + 1 + 1 ≡ q)
-  CallAt callees.Getchar arguments d p q = At code p (instructions.ReadByte d) × (p + 1 ≡ q)
-  CallAt (callees.Function n) arguments d p q = At code p (instructions.Call n d arguments d) × (p + 1 ≡ q)
-
   abbrev mutual
-    pub ExpressionAt : Expression → (d p q : ℕ) → Type 0
-    ExpressionAt (Number n) d p q = At code p (instructions.Move d (operands.Word n)) × (p + 1 ≡ q)
-    ExpressionAt (Copy l t) d p q = LoadAt l d p q
-    ExpressionAt (Call f cs t) d p q = (m : ℕ) × ArgumentsAt cs d p m × CallAt f (argument_count cs) d m q
-    ExpressionAt (Unary o a) d p q = (m : ℕ) × ExpressionAt a d p m × At code m (instructions.Unary (unary_operator o) d (operands.Slot d)) × (m + 1 ≡ q)
-    ExpressionAt (Binary a os t) d p q = (m : ℕ) × ExpressionAt a d p m × OperationsAt os d m q
-    ExpressionAt (Assign l c t) d p q = (m : ℕ) × ConvertedAt c d p m × StoreAt l d m q
-    ExpressionAt a d p q = ⊥
+    -- the value comes to slot d by the last instruction
+    pub ExpressionAt : Expression → (d t p q : ℕ) → Type 0
+    ExpressionAt (Number n) d t p q = At code p (instructions.Move d (operands.Word n)) × (p + 1 ≡ q)
+    ExpressionAt (Copy l ty) d t p q = LoadAt l d p q
+    ExpressionAt (Call callees.Putchar cs ty) d t p q =
+        (o : Operand) × (m : ℕ) × PrintedAt cs t o p m × At code m (instructions.WriteByte o) × At code (m + 1) (low_byte o d) × (m + 1 + 1 ≡ q)
+    ExpressionAt (Call callees.Getchar cs ty) d t p q = (m : ℕ) × ArgumentsAt cs t p m × At code m (instructions.ReadByte d) × (m + 1 ≡ q)
+    ExpressionAt (Call (callees.Function n) cs ty) d t p q =
+        (m : ℕ) × ArgumentsAt cs t p m × At code m (instructions.Call n t (argument_count cs) d) × (m + 1 ≡ q)
+    ExpressionAt (Unary o a) d t p q =
+        (r : Operand) × (m : ℕ) × OperandBy (operand_of a) (ExpressionAt a (value_slot a t) t p m) (value_slot a t) r p m
+        × At code m (instructions.Unary (unary_operator o) d r) × (m + 1 ≡ q)
+    ExpressionAt (Binary a os ty) d t p q =
+        (l : Operand) × (m : ℕ) × OperandBy (left_of a os) (ExpressionAt a (left_slot a os d t) t p m) (left_slot a os d t) l p m
+        × OperationsAt os l d t m q
+    ExpressionAt (Assign (Local w n) c ty) d t p q =
+        (o : Operand) × (m : ℕ) × ((o ≡ operands.Slot (slot_of n)) × InitialAt c (slot_of n) t p m) × CopyAt code o d m q
+    ExpressionAt (Assign (Global n) c ty) d t p q =
+        (o : Operand) × (m : ℕ)
+        × ((r : ℕ) × ConvertedOperandAt c t o p r × (n < bounds.globals) × At code r (instructions.StoreGlobal n o) × (r + 1 ≡ m))
+        × CopyAt code o d m q
+    ExpressionAt a d t p q = ⊥
 
-    pub ConvertedAt : Converted → (d p q : ℕ) → Type 0
-    ConvertedAt (Convert from to a) d p q = (m : ℕ) × ExpressionAt a d p m × ConversionAt to d m q
+    -- the value comes to slot d, converted
+    pub InitialAt : Converted → (d t p q : ℕ) → Type 0
+    InitialAt (Convert from kinds.NonNull a) d t p q =
+        (o : Operand) × (m : ℕ) × (r : ℕ) × OperandBy (operand_of a) (ExpressionAt a (value_slot a t) t p m) (value_slot a t) o p m
+        × CheckAt null_exception o m r × At code r (instructions.Move d o) × (r + 1 ≡ q)
+    InitialAt (Convert from to a) d t p q = ExpressionAt a d t p q
 
-    pub ArgumentsAt : Arguments → (d p q : ℕ) → Type 0
-    ArgumentsAt NoArguments d p q = p ≡ q
-    ArgumentsAt (MoreArguments c cs) d p q = (m : ℕ) × ConvertedAt c d p m × ArgumentsAt cs (suc d) m q
+    -- the value comes to slot t and is converted there
+    pub ConvertedAt : Converted → (t p q : ℕ) → Type 0
+    ConvertedAt (Convert from to a) t p q = (m : ℕ) × ExpressionAt a t t p m × ConversionAt to (operands.Slot t) m q
 
-    pub OperationsAt : Operations → (d p q : ℕ) → Type 0
-    OperationsAt NoOperations d p q = p ≡ q
-    OperationsAt (ThenCompute o a os) d p q =
-        (m : ℕ) × (r : ℕ) × ExpressionAt a (suc d) p m × OperatorAt o d m r × OperationsAt os d r q
-    OperationsAt (ThenTest o a os) d p q =
-        (m : ℕ) × (r : ℕ) × At code p (test_jump o d m) × ExpressionAt a d (p + 1) m × TruthAt d m r × OperationsAt os d r q
-    OperationsAt os d p q = ⊥
+    -- the value is converted where it is
+    pub ConvertedOperandAt : Converted → (t : ℕ) → Operand → (p q : ℕ) → Type 0
+    ConvertedOperandAt (Convert from to a) t o p q =
+        (m : ℕ) × OperandBy (operand_of a) (ExpressionAt a (value_slot a t) t p m) (value_slot a t) o p m × ConversionAt to o m q
+
+    -- the only argument of `putchar`
+    pub PrintedAt : Arguments → (t : ℕ) → Operand → (p q : ℕ) → Type 0
+    PrintedAt (MoreArguments c NoArguments) t o p q = ConvertedOperandAt c t o p q
+    PrintedAt cs t o p q = ⊥
+
+    pub ArgumentsAt : Arguments → (t p q : ℕ) → Type 0
+    ArgumentsAt NoArguments t p q = p ≡ q
+    ArgumentsAt (MoreArguments c cs) t p q = (m : ℕ) × ConvertedAt c t p m × ArgumentsAt cs (suc t) m q
+
+    -- The left operand is l. It is slot t where it may not be any operand.
+    pub OperationsAt : Operations → (l : Operand) → (d t p q : ℕ) → Type 0
+    OperationsAt NoOperations l d t p q = (l ≡ operands.Slot d) × (p ≡ q)
+    OperationsAt (ThenCompute o a os) l d t p q =
+        (r : Operand) × (m : ℕ) × (s : ℕ)
+        × OperandBy (operand_of a) ((l ≡ operands.Slot t) × ExpressionAt a (value_slot a (suc t)) (suc t) p m) (value_slot a (suc t)) r p m
+        × OperatorAt o (next_slot os d t) l r m s × OperationsAt os (operands.Slot (next_slot os d t)) d t s q
+    OperationsAt (ThenTest o a os) l d t p q =
+        (m : ℕ) × (r : ℕ) × (l ≡ operands.Slot t) × At code p (test_jump o t m) × ExpressionAt a t t (p + 1) m × TruthAt t (next_slot os d t) m r
+        × OperationsAt os (operands.Slot (next_slot os d t)) d t r q
+    OperationsAt os l d t p q = ⊥
+
+  -- where the value of an expression stands that is an operand
+  abbrev pub ValueAt : Expression → (t : ℕ) → Operand → (p q : ℕ) → Type 0
+  ValueAt a t o p q = OperandBy (operand_of a) (ExpressionAt a (value_slot a t) t p q) (value_slot a t) o p q
+
+  -- what is assigned comes to its place, and then stands in an operand too
+  abbrev pub AssignmentAt : Lvalue → Converted → Operand → (t p q : ℕ) → Type 0
+  AssignmentAt (Local w n) c o t p q = (o ≡ operands.Slot (slot_of n)) × InitialAt c (slot_of n) t p q
+  AssignmentAt (Global n) c o t p q =
+      (r : ℕ) × ConvertedOperandAt c t o p r × (n < bounds.globals) × At code r (instructions.StoreGlobal n o) × (r + 1 ≡ q)
+
+  -- the value of an expression is dropped
+  abbrev pub DiscardedAt : Expression → (t p q : ℕ) → Type 0
+  DiscardedAt (Call callees.Putchar cs ty) t p q = (o : Operand) × (m : ℕ) × PrintedAt cs t o p m × At code m (instructions.WriteByte o) × (m + 1 ≡ q)
+  DiscardedAt (Assign l c ty) t p q = (o : Operand) × AssignmentAt l c o t p q
+  DiscardedAt a t p q = (o : Operand) × OperandBy (operand_of a) (ExpressionAt a t t p q) t o p q
 
   -- ---- statements
 
-  abbrev pub ReturnAt : Option Converted → (d p : ℕ) → Type 0
-  ReturnAt None d p = At code p (instructions.Return d)
-  ReturnAt (Some c) d p = (m : ℕ) × ConvertedAt c d p m × At code m (instructions.Return d) × (results_of bounds.result ≡ 1)
+  -- a value that is returned stands in the slot of a local, or comes to one
+  abbrev pub ReturnedAt : Option Operand → (computed : Type 0) → (slot s : ℕ) → (p q : ℕ) → Type 0
+  ReturnedAt (Some (operands.Slot n)) computed slot s p q = (s ≡ n) × (p ≡ q)
+  ReturnedAt o computed slot s p q = (s ≡ slot) × computed
 
-  abbrev pub DeclarationAt : ℕ → Option Converted → (d p q : ℕ) → Type 0
-  DeclarationAt n None d p q = (n < bounds.locals) × (p ≡ q)
-  DeclarationAt n (Some c) d p q = (n < bounds.locals) × (m : ℕ) × ConvertedAt c d p m × At code m (instructions.Move (slot_of n) (operands.Slot d)) × (m + 1 ≡ q)
+  abbrev pub ReturnAt : Option Converted → (t p : ℕ) → Type 0
+  ReturnAt None t p = (s : ℕ) × At code p (instructions.Return s)
+  ReturnAt (Some (Convert from to a)) t p =
+      (s : ℕ) × (m : ℕ) × (r : ℕ) × ReturnedAt (operand_of a) (ExpressionAt a t t p m) t s p m × ConversionAt to (operands.Slot s) m r
+      × At code r (instructions.Return s) × (results_of bounds.result ≡ 1)
+
+  abbrev pub DeclarationAt : ℕ → Option Converted → (t p q : ℕ) → Type 0
+  DeclarationAt n None t p q = (n < bounds.locals) × (p ≡ q)
+  DeclarationAt n (Some c) t p q = (n < bounds.locals) × InitialAt c (slot_of n) t p q
 
   -- in a loop that begins at this place
   abbrev mutual
-    pub StatementAt : Statement → (loop d p q : ℕ) → Type 0
-    StatementAt (Block r js) loop d p q = ItemsAt js loop d p q
-    StatementAt Empty loop d p q = p ≡ q
-    StatementAt (Evaluate a) loop d p q = ExpressionAt a d p q
-    StatementAt (If a s t) loop d p q =
-        (m : ℕ) × (r : ℕ) × ExpressionAt a d p m × At code m (jump_if_zero d (r + 1)) × StatementAt s loop d (m + 1) r
-        × At code r (instructions.Jump q) × StatementAt t loop d (r + 1) q
-    StatementAt (While w a s) loop d p q =
-        (m : ℕ) × (r : ℕ) × At code p (instructions.Jump (continue_target p)) × At code (break_target p) (instructions.Jump q)
-        × ExpressionAt a d (continue_target p) m × At code m (jump_if_zero d (break_target p)) × StatementAt s p d (m + 1) r
+    pub StatementAt : Statement → (loop t p q : ℕ) → Type 0
+    StatementAt (Block r js) loop t p q = ItemsAt js loop t p q
+    StatementAt Empty loop t p q = p ≡ q
+    StatementAt (Evaluate a) loop t p q = DiscardedAt a t p q
+    StatementAt (If a s u) loop t p q =
+        (o : Operand) × (m : ℕ) × (r : ℕ) × ValueAt a t o p m × At code m (jump_if_zero o (r + 1)) × StatementAt s loop t (m + 1) r
+        × At code r (instructions.Jump q) × StatementAt u loop t (r + 1) q
+    StatementAt (While w a s) loop t p q =
+        (o : Operand) × (m : ℕ) × (r : ℕ) × At code p (instructions.Jump (continue_target p)) × At code (break_target p) (instructions.Jump q)
+        × ValueAt a t o (continue_target p) m × At code m (jump_if_zero o (break_target p)) × StatementAt s p t (m + 1) r
         × At code r (instructions.Jump (continue_target p)) × (r + 1 ≡ q) × (break_target p < q)
-    StatementAt (Return v) loop d p q = ReturnAt v d p
-    StatementAt Break loop d p q = At code p (instructions.Jump (break_target loop))
-    StatementAt Continue loop d p q = At code p (instructions.Jump (continue_target loop))
-    StatementAt s loop d p q = ⊥
+    StatementAt (Return v) loop t p q = ReturnAt v t p
+    StatementAt Break loop t p q = At code p (instructions.Jump (break_target loop))
+    StatementAt Continue loop t p q = At code p (instructions.Jump (continue_target loop))
+    StatementAt s loop t p q = ⊥
 
-    pub ItemsAt : Items → (loop d p q : ℕ) → Type 0
-    ItemsAt NoItems loop d p q = p ≡ q
-    ItemsAt (MoreItems (Execute s) js) loop d p q = (m : ℕ) × StatementAt s loop d p m × ItemsAt js loop d m q
-    ItemsAt (MoreItems (Declare n t v) js) loop d p q = (m : ℕ) × DeclarationAt n v d p m × ItemsAt js loop d m q
-    ItemsAt js loop d p q = ⊥
+    pub ItemsAt : Items → (loop t p q : ℕ) → Type 0
+    ItemsAt NoItems loop t p q = p ≡ q
+    ItemsAt (MoreItems (Execute s) js) loop t p q = (m : ℕ) × StatementAt s loop t p m × ItemsAt js loop t m q
+    ItemsAt (MoreItems (Declare n ty v) js) loop t p q = (m : ℕ) × DeclarationAt n v t p m × ItemsAt js loop t m q
+    ItemsAt js loop t p q = ⊥

@@ -1,26 +1,30 @@
 -- The steps of statements, and those that leave entries.
-use Rattle.std.proofs.Common.{◌≡◌, ℕ, zero, suc, ◌+◌, ◌≤◌, ◌<◌, List, [], ◌∷◌, length, map, slice_index_or, Option, None, Some, slice_get, refl, sym, ap, subst, ◌∙◌, arith, inl, inr}
+use Rattle.std.proofs.Common.{◌≡◌, ◌≢◌, ℕ, zero, suc, ◌+◌, ◌≤◌, ◌<◌, List, [], ◌∷◌, length, map, slice_index_or, Option, None, Some, slice_get, refl, sym, ap, subst, ◌∙◌, arith, inl, inr}
+use Rattle.std.proofs.lemmas.Bool.{cases_eq, cases_lt}
 use Rattle.std.proofs.lemmas.Option.{same_Some, none-some}
 use Rattle.cyc_words.specs.Word.{signed}
 use Rattle.cyc_words.specs.Ending.{Returned, Uncaught}
 use Rattle.cyc_types.specs.declared.typed.Kind.{Kind}
+use Rattle.cyc_types.specs.declared.typed.Kind.TheVariants as kinds
 use Rattle.cyc_types.specs.Types.{Ty}
-use Rattle.cyc_types.specs.TypedTrees.{Expression, Converted, Convert, Statement, Block, Empty, Evaluate, If, While, Break, Continue, Items, NoItems, MoreItems, Execute, Declare, Function, Program}
+use Rattle.cyc_types.specs.TypedTrees.{Local, Expression, Copy, Converted, Convert, Statement, Block, Empty, Evaluate, If, While, Break, Continue, Items, NoItems, MoreItems, Execute, Declare, Function, Program}
 use Rattle.cyc_types.specs.TypedTrees as typed
+use Rattle.cyc_plain.specs.declared.instruction.Operand.{Operand}
+use Rattle.cyc_plain.specs.declared.instruction.Operand.TheVariants as operands
 use Rattle.cyc_plain.specs.declared.instruction.Instruction.{Instruction}
 use Rattle.cyc_plain.specs.declared.instruction.Instruction.TheVariants as instructions
 use Rattle.cyc_plain.specs.Program.{no_routine, routine_at}
 use Rattle.cyc_plain.specs.State as plain
-use Rattle.cyc_plain.specs.State.{Words, copied, Activation, Frame, Store, Configuration}
+use Rattle.cyc_plain.specs.State.{Words, put, copied, Activation, Frame, Store, Configuration}
 use Rattle.cyc_plain.specs.Step.{at}
-use Rattle.cyc_plain.proofs.SlotLaws.{copied-inside, copied-below}
-use Rattle.cyc_meaning.specs.Values.{Value, Int, kind_of, Operand}
+use Rattle.cyc_plain.proofs.SlotLaws.{put-same, put-other, copied-inside, copied-below, copied-above}
+use Rattle.cyc_meaning.specs.Values.{Value, Int, kind_of, Operand as Kinded}
 use Rattle.cyc_meaning.specs.State.{Region, World, Environment, variable, made, opened, closed, with_local, region_at, ConvertTo, Initialise, Choose, Return, Entry, Needs, NeedsPlace, Discard, Rest, Join, Loop, CloseRegion, CloseLexical, EndLoan, Handler, Caller, Main, Focus, Evaluating, Executing, Proceeding, Breaking, Continuing, Returning, Throwing, Running}
 use Rattle.cyc_meaning.specs.Step.{inside, region_end, step}
-use Rattle.cyc_lower.specs.Lowering.{break_target, results_of, lower_function, lower_program}
-use Rattle.cyc_lower.proofs.Stands.{At, ItemsAt}
-use Rattle.cyc_lower.proofs.Relation.{Is, Holds, held, callers, Shared, DataAt, SharedAt, ValueStack, StatementStack, Below, IsLast, Arrives, in_place, by_jump, code_of, bounds_in, bounds_at, base_of, top}
-use Rattle.cyc_lower.proofs.Data.{height-least, Holds-same, data_declared, data_returned}
+use Rattle.cyc_lower.specs.Lowering.{operand_of, break_target, results_of, lower_function, lower_program}
+use Rattle.cyc_lower.proofs.Stands.{At, ExpressionAt, InitialAt, ReturnedAt, ItemsAt}
+use Rattle.cyc_lower.proofs.Relation.{Is, Holds, held, callers, Shared, DataAt, SharedAt, Lands, in_temporary, in_local, ValueStack, AheadStack, StatementStack, LandsStack, EvaluatingAt, as_operand, into_slot, for_effect, in_operand, ahead, behind_statement, behind_call, behind_wrong, Below, IsLast, Arrives, in_place, by_jump, code_of, bounds_in, bounds_at, base_of, top}
+use Rattle.cyc_lower.proofs.Data.{height-least, Holds-same, Holds-above, data_declared, data_returned}
 use Rattle.cyc_lower.proofs.Accesses.{IsWell, is_declared, is_closed, quiet_opened, quiet_closed, counted_opened, counted_closed}
 use Rattle.cyc_lower.proofs.Matched.{IsMatched, silently, one, two}
 use Rattle.cyc_lower.proofs.Evaluations.{IsStep}
@@ -64,33 +68,41 @@ module _ (source : Program) (pages calls : ℕ) (some_page : 1 ≤ pages) where
 
   -- ---- statements
 
+  -- a value that is returned comes to a slot, or is in that of a local
+  returned : (a : Expression) (locals : ℕ → Option ℕ) (g p : ℕ) (slots : Words) (frames : List Frame) (k : List Entry) (s m : ℕ)
+      → ReturnedAt (code_of source g) (bounds_at source g) (operand_of a) (ExpressionAt (code_of source g) (bounds_at source g) a (top source g k) (top source g k) p m) (top source g k) s p m
+      → Holds slots (base_of source g) (held k) → ValueStack source g locals (operands.Slot s) m frames k → EvaluatingAt source a locals g p slots frames k
+  returned (Copy (Local w n) t) locals g p slots frames k s m (is, end) holds stack = as_operand (operands.Slot s) m (ap operands.Slot is, end) holds stack
+  returned a locals g p slots frames k s m (is, at) holds stack =
+      into_slot (top source g k) m at holds (in_temporary (omega arith) (subst (λ x. ValueStack source g locals (operands.Slot x) m frames k) is stack))
+
   pub executing : (s : Statement) (k : List Entry) (e : Environment) (w : World) (c : Configuration) → IsStep source pages calls some_page (Executing s) k e w c
   executing (Block r js) k e w c well (shared, facts, (loop, q, items, stack)) =
       silently source pages calls some_page (Running (Executing (Block r js)) k e w) (Running Proceeding (Rest js ∷ region_end e w ∷ k) (inside e w) (opened w)) (plain.Running c) refl
-      (shared_opened w c shared, facts, inl (loop, (q, items, stack)))
+      (shared_opened w c shared, behind_statement loop facts (q, items, stack))
       (omega arith)
   executing Empty k e w c well (shared, facts, (loop, q, end, stack)) =
       silently source pages calls some_page (Running (Executing Empty) k e w) (Running Proceeding k e w) (plain.Running c) refl
-      (shared, facts, inl (loop, subst (λ r. StatementStack source c.active.function loop r c.frames k) (sym end) stack))
+      (shared, behind_statement loop facts (subst (λ r. StatementStack source c.active.function loop r c.frames k) (sym end) stack))
       (omega arith)
   executing (Evaluate a) k e w c well (shared, facts, (loop, q, here, stack)) =
       silently source pages calls some_page (Running (Executing (Evaluate a)) k e w) (Running (Evaluating a) (Discard ∷ k) e w) (plain.Running c) refl
-      (shared, facts, (q, here, tt, (loop, stack)))
+      (shared, facts, for_effect q here tt (loop, stack))
       (omega arith)
-  executing (If a s t) k e w c well (shared, facts, (loop, q, (m, r, at_a, jump, at_s, over, at_t), stack)) =
+  executing (If a s t) k e w c well (shared, facts, (loop, q, (o, m, r, at_a, jump, at_s, over, at_t), stack)) =
       silently source pages calls some_page (Running (Executing (If a s t)) k e w) (Running (Evaluating a) (Needs (Choose s t) ∷ k) e w) (plain.Running c) refl
-      (shared, facts, (m, at_a, tt, (loop, r, q, jump, at_s, over, at_t, stack)))
+      (shared, facts, as_operand o m at_a tt (loop, r, q, jump, at_s, over, at_t, stack))
       (omega arith)
-  executing (While p a s) k e w c well (shared, facts, (loop, q, (m, r, enter, leave, at_a, jump, at_s, back, end, after), stack)) =
+  executing (While p a s) k e w c well (shared, facts, (loop, q, (o, m, r, enter, leave, at_a, jump, at_s, back, end, after), stack)) =
       one source pages calls some_page refl shared enter
-      (λ choice. (shared, facts, (m, at_a, tt, (c.active.next, loop, q, (m, r, leave, at_a, jump, at_s, back, after), r, jump, at_s, back, stack))))
-  executing (typed.Return None) k e w c well (shared, facts, (loop, q, here, stack)) =
+      (λ choice. (shared, facts, as_operand o m at_a tt (c.active.next, loop, q, (o, m, r, leave, at_a, jump, at_s, back, after), r, jump, at_s, back, stack)))
+  executing (typed.Return None) k e w c well (shared, facts, (loop, q, (s, here), stack)) =
       silently source pages calls some_page (Running (Executing (typed.Return None)) k e w) (Running (Returning None) k e w) (plain.Running c) refl
-      (shared, facts, (loop, q, base_of source c.active.function, here, stack))
+      (shared, facts, (loop, q, s, here, stack))
       (omega arith)
-  executing (typed.Return (Some (Convert from to a))) k e w c well (shared, facts, (loop, q, (m, (s, at_a, at_to), here, single), stack)) =
+  executing (typed.Return (Some (Convert from to a))) k e w c well (shared, facts, (loop, q, (s, m, r, at_a, at_to, here, single), stack)) =
       silently source pages calls some_page (Running (Executing (typed.Return (Some (Convert from to a)))) k e w) (Running (Evaluating a) (Needs (ConvertTo from to) ∷ Needs Return ∷ k) e w) (plain.Running c) refl
-      (shared, facts, (s, at_a, tt, (m, at_to, (loop, q, here, single, stack))))
+      (shared, facts, returned a e.locals c.active.function c.active.next c.active.slots c.frames (Needs (ConvertTo from to) ∷ Needs Return ∷ k) s m at_a tt (r, at_to, (loop, q, s, refl, here, single, stack)))
       (omega arith)
   executing Break k e w c well (shared, facts, (loop, q, here, stack)) =
       silently source pages calls some_page (Running (Executing Break) k e w) (Running Breaking k e w) (plain.Running c) refl
@@ -104,22 +116,49 @@ module _ (source : Program) (pages calls : ℕ) (some_page : 1 ≤ pages) where
 
   -- ---- the end of a call
 
-  -- the caller goes on behind the call, and has what was returned, if anything
-  comes_back : (g value results : ℕ) (slots globals : Words) (handlers : List ℕ) (p : ℕ) (f : Frame) (frames : List Frame) (store : Store) (output input : List ℕ) (k : List Entry) (locals : ℕ → Option ℕ) (outer : Environment) (w : World)
-      → Shared calls w.regions w.classes w.output w.input output input store.pages (length (f ∷ frames))
+  -- what a caller has waits behind the call
+  abbrev pub Waits : Environment → List Entry → Frame → List Frame → Type 0
+  Waits outer k f rest = Holds f.caller.slots (base_of source f.caller.function) (held k) × LandsStack source f.caller.function outer.locals f.result f.caller.next rest k
+
+  -- the value comes to the slot for it
+  value_copied : (from to : Words) (value results d : ℕ) → results ≡ 1 → copied from value results to d d ≡ from value
+  value_copied from to value results d single =
+      ap (copied from value results to d) (let z : d ≡ d + 0 = omega arith in z) ∙ copied-inside from to value results d 0 (omega (arith, single))
+      ∙ ap from (let z : value + 0 ≡ value = omega arith in z)
+
+  -- one slot differs, and gets its word back
+  as_before : (old now : Words) (d n : ℕ) → ((m : ℕ) → m ≢ d → now m ≡ old m) → put now d (old d) n ≡ old n
+  as_before old now d n elsewhere = elim (cases_eq n d) [
+    | inl equal ↦ ap (put now d (old d)) equal ∙ put-same now d (old d) ∙ sym (ap old equal)
+    | inr apart ↦ put-other now d n (old d) apart ∙ elsewhere n apart
+  ]
+
+  -- the caller goes on behind the call, with a temporary written
+  comes_back : (g value results : ℕ) (slots globals : Words) (f : Frame) (frames : List Frame) (k : List Entry) (locals : ℕ → Option ℕ) (outer : Environment) (w : World)
       → DataAt source g w.objects locals (outer ∷ callers k) slots globals (f ∷ frames)
-      → f.result ≡ top source f.caller.function k → Holds f.caller.slots (base_of source f.caller.function) (held k)
-      → Shared calls w.regions w.classes w.output w.input output input store.pages (length frames)
-      × DataAt source f.caller.function w.objects outer.locals (callers k) (copied slots value results f.caller.slots f.result) globals frames
+      → top source f.caller.function k ≤ f.result → Holds f.caller.slots (base_of source f.caller.function) (held k)
+      → DataAt source f.caller.function w.objects outer.locals (callers k) (copied slots value results f.caller.slots f.result) globals frames
       × Holds (copied slots value results f.caller.slots f.result) (base_of source f.caller.function) (held k)
-  comes_back g value results slots globals handlers p f frames store output input k locals outer w shared facts into holds =
+  comes_back g value results slots globals f frames k locals outer w facts least holds =
       let base = base_of source f.caller.function in (
-        shared_returned w output input store.pages (length frames) shared,
         data_returned source g w.objects locals outer (callers k) slots (copied slots value results f.caller.slots f.result) globals f frames
-            (λ n less. copied-below slots f.caller.slots value results f.result n (omega (arith, less, into, height-least base (held k)))) facts,
+            (λ n less. copied-below slots f.caller.slots value results f.result n (omega (arith, less, least, height-least base (held k)))) facts,
         Holds-same f.caller.slots (copied slots value results f.caller.slots f.result) base (held k)
-            (λ n less. copied-below slots f.caller.slots value results f.result n (omega (arith, less, into))) holds,
+            (λ n less. copied-below slots f.caller.slots value results f.result n (omega (arith, less, least))) holds,
       )
+
+  -- where one word is copied, all other slots are as before
+  one_copied : (from to : Words) (value d n : ℕ) → n ≢ d → copied from value 1 to d n ≡ to n
+  one_copied from to value d n other = elim (cases_lt n d) [
+    | inl less ↦ copied-below from to value 1 d n less
+    | inr more ↦ copied-above from to value 1 d n (omega (arith, more, cases_more more))
+  ]
+    where
+      cases_more : d ≤ n → suc d ≤ n
+      cases_more more = elim (cases_eq n d) [
+        | inl equal ↦ absurd (other equal)
+        | inr apart ↦ omega (arith, more, apart)
+      ]
 
   -- without a value
   leaves_call : (focus : Focus) (active : Activation) (frames : List Frame) (globals : Words) (store : Store) (output input : List ℕ) (k : List Entry) (e outer : Environment) (w : World) (s : ℕ)
@@ -127,30 +166,48 @@ module _ (source : Program) (pages calls : ℕ) (some_page : 1 ≤ pages) where
       → SharedAt source calls w (record { active = active; frames = frames; globals = globals; store = store; output = output; input = input })
       → DataAt source active.function w.objects e.locals (outer ∷ callers k) active.slots globals frames
       → At (code_of source active.function) active.next (instructions.Return s)
-      → Below source frames (λ f rest. (f.result ≡ top source f.caller.function k) × Holds f.caller.slots (base_of source f.caller.function) (held k) × ValueStack source f.caller.function outer.locals f.caller.next rest k)
+      → Below source frames (Waits outer k)
       → IsMatched source pages calls some_page (Running focus (Caller outer ∷ k) e w) (plain.Running (record { active = active; frames = frames; globals = globals; store = store; output = output; input = input }))
   leaves_call focus active [] globals store output input k e outer w s does shared facts here below = absurd below
-  leaves_call focus active (f ∷ frames) globals store output input k e outer w s does shared facts here (into, holds, stack) =
+  leaves_call focus active (f ∷ frames) globals store output input k e outer w s does shared facts here (holds, in_temporary least stack) =
       let results = (routine_at (lower_program source) active.function).results in
-      let back = comes_back active.function s results active.slots globals active.handlers active.next f frames store output input k e.locals outer w shared facts into holds in
-      one source pages calls some_page does shared here (λ choice. (back.0, back.1, inr (back.2, stack)))
+      let back = comes_back active.function s results active.slots globals f frames k e.locals outer w facts least holds in
+      one source pages calls some_page does shared here (λ choice. (shared_returned w output input store.pages (length frames) shared, behind_call (operands.Slot f.result) back.0 stack))
+  leaves_call focus active (f ∷ frames) globals store output input k e outer w s does shared facts here (holds, in_local below stack) =
+      one source pages calls some_page does shared here (λ choice. (shared_returned w output input store.pages (length frames) shared, behind_wrong f.result stack))
 
   -- with a value
-  hands_back : (v : Operand) (active : Activation) (frames : List Frame) (globals : Words) (store : Store) (output input : List ℕ) (k : List Entry) (e outer : Environment) (w : World) (s : ℕ)
+  hands_back : (v : Kinded) (active : Activation) (frames : List Frame) (globals : Words) (store : Store) (output input : List ℕ) (k : List Entry) (e outer : Environment) (w : World) (s : ℕ)
       → SharedAt source calls w (record { active = active; frames = frames; globals = globals; store = store; output = output; input = input })
       → DataAt source active.function w.objects e.locals (outer ∷ callers k) active.slots globals frames
       → At (code_of source active.function) active.next (instructions.Return s) → Is v.value (active.slots s) → (routine_at (lower_program source) active.function).results ≡ 1
-      → Below source frames (λ f rest. (f.result ≡ top source f.caller.function k) × Holds f.caller.slots (base_of source f.caller.function) (held k) × ValueStack source f.caller.function outer.locals f.caller.next rest k)
+      → Below source frames (Waits outer k)
       → IsMatched source pages calls some_page (Running (Returning (Some v)) (Caller outer ∷ k) e w) (plain.Running (record { active = active; frames = frames; globals = globals; store = store; output = output; input = input }))
   hands_back v active [] globals store output input k e outer w s shared facts here is single below = absurd below
-  hands_back v active (f ∷ frames) globals store output input k e outer w s shared facts here is single (into, holds, stack) =
+  hands_back v active (f ∷ frames) globals store output input k e outer w s shared facts here is single (holds, in_temporary least stack) =
       let results = (routine_at (lower_program source) active.function).results in
-      let back = comes_back active.function s results active.slots globals active.handlers active.next f frames store output input k e.locals outer w shared facts into holds in
-      let place : top source f.caller.function k ≡ f.result + 0 = omega (arith, into) in
-      let same : copied active.slots s results f.caller.slots f.result (top source f.caller.function k) ≡ active.slots (s + 0) =
-      ap (copied active.slots s results f.caller.slots f.result) place ∙ copied-inside active.slots f.caller.slots s results f.result 0 (omega (arith, single)) in
+      let back = comes_back active.function s results active.slots globals f frames k e.locals outer w facts least holds in
       one source pages calls some_page refl shared here
-      (λ choice. (back.0, back.1, (subst (Is v.value) (sym (same ∙ ap active.slots (let z : s + 0 ≡ s = omega arith in z))) is, back.2, stack)))
+      (λ choice. (
+        shared_returned w output input store.pages (length frames) shared,
+        in_operand (operands.Slot f.result) back.0 (subst (Is v.value) (sym (value_copied active.slots f.caller.slots s results f.result single)) is) back.1 stack,
+      ))
+  hands_back v active (f ∷ frames) globals store output input k e outer w s shared facts here is single (holds, in_local below stack) =
+      let results = (routine_at (lower_program source) active.function).results in
+      let base = base_of source f.caller.function in
+      let d = f.result in
+      let now = copied active.slots s results f.caller.slots d in
+      let elsewhere : (n : ℕ) → n ≢ d → now n ≡ f.caller.slots n =
+      λ n other. ap (λ many. copied active.slots s many f.caller.slots d n) single ∙ one_copied active.slots f.caller.slots s d n other in
+      one source pages calls some_page refl shared here
+      (λ choice. (
+        shared_returned w output input store.pages (length frames) shared,
+        ahead d
+            (f.caller.slots d, data_returned source active.function w.objects e.locals outer (callers k) active.slots (put now d (f.caller.slots d)) globals f frames (λ n less. as_before f.caller.slots now d n elsewhere) facts)
+            below (subst (Is v.value) (sym (value_copied active.slots f.caller.slots s results d single)) is)
+            (Holds-above f.caller.slots now base (held k) (λ n from. elsewhere n (λ same. absurd (omega (arith, same, from, below)))) holds)
+            stack,
+      ))
 
   -- ---- what goes on when something is done
 
@@ -177,8 +234,8 @@ module _ (source : Program) (pages calls : ℕ) (some_page : 1 ≤ pages) where
       (Running Proceeding (Rest js ∷ k) (with_local e n (length w.objects)) (made w x)) (plain.Running c)
       (is_declared (region_at w e.home) Proceeding n (kind_of t) None (Rest js ∷ k) e w well) (
         shared,
-        data_declared source g w.objects e (callers k) c.active.slots c.active.slots c.globals c.frames n x few (λ i less other. refl) (λ v has. absurd (none-some v has)) facts,
-        inl (loop, (q, subst (λ p. ItemsAt (code_of source g) (bounds_at source g) js loop (base_of source g) p q) (sym end) items, stack)),
+        behind_statement loop (data_declared source g w.objects e (callers k) c.active.slots c.active.slots c.globals c.frames n x few (λ i less other. refl) (λ v has. absurd (none-some v has)) facts)
+            (q, subst (λ p. ItemsAt (code_of source g) (bounds_at source g) js loop (base_of source g) p q) (sym end) items, stack),
       )
       (omega arith)
 
@@ -188,60 +245,80 @@ module _ (source : Program) (pages calls : ℕ) (some_page : 1 ≤ pages) where
       → IsMatched source pages calls some_page (Running Proceeding (Join ∷ k) e w) (plain.Running c)
   joins k e w c loop q shared facts (in_place end) stack =
       silently source pages calls some_page (Running Proceeding (Join ∷ k) e w) (Running Proceeding k e w) (plain.Running c) refl
-      (shared, facts, inl (loop, subst (λ r. StatementStack source c.active.function loop r c.frames k) (sym end) stack))
+      (shared, behind_statement loop facts (subst (λ r. StatementStack source c.active.function loop r c.frames k) (sym end) stack))
       (omega arith)
   joins k e w c loop q shared facts (by_jump jump) stack =
-      one source pages calls some_page refl shared jump (λ choice. (shared, facts, inl (loop, stack)))
+      one source pages calls some_page refl shared jump (λ choice. (shared, behind_statement loop facts stack))
 
-  pub proceeding : (k : List Entry) (e : Environment) (w : World) (c : Configuration) → IsStep source pages calls some_page Proceeding k e w c
-  proceeding [] e w c well related = absurd (well refl)
-  proceeding (Needs a ∷ k) e w c well related = absurd (well refl)
-  proceeding (NeedsPlace a ∷ k) e w c well related = absurd (well refl)
-  proceeding (CloseLexical region ∷ k) e w c well (shared, facts, inl (loop, stack)) = absurd stack
-  proceeding (CloseLexical region ∷ k) e w c well (shared, facts, inr (holds, stack)) = absurd stack
-  proceeding (EndLoan lent ∷ k) e w c well (shared, facts, inl (loop, stack)) = absurd stack
-  proceeding (EndLoan lent ∷ k) e w c well (shared, facts, inr (holds, stack)) = absurd stack
-  proceeding (Handler handler ∷ k) e w c well (shared, facts, inl (loop, stack)) = absurd stack
-  proceeding (Handler handler ∷ k) e w c well (shared, facts, inr (holds, stack)) = absurd stack
-  proceeding (Main ∷ k) e w c well related = absurd (well refl)
-  proceeding (Discard ∷ k) e w c well (shared, facts, inl (loop, stack)) = absurd stack
-  proceeding (Discard ∷ k) e w c well (shared, facts, inr (holds, (loop, stack))) =
-      silently source pages calls some_page (Running Proceeding (Discard ∷ k) e w) (Running Proceeding k e w) (plain.Running c) refl
-      (shared, facts, inl (loop, stack))
+  -- a local gets its initial value
+  initial : (n : ℕ) (ty : Ty) (from to : Kind) (a : Expression) (js : Items) (k : List Entry) (e : Environment) (w : World) (c : Configuration) (loop m q : ℕ)
+      → SharedAt source calls w c → DataAt source c.active.function w.objects e.locals (callers k) c.active.slots c.globals c.frames
+      → n < base_of source c.active.function
+      → InitialAt (code_of source c.active.function) (bounds_at source c.active.function) (Convert from to a) n (base_of source c.active.function) c.active.next m
+      → ItemsAt (code_of source c.active.function) (bounds_at source c.active.function) js loop (base_of source c.active.function) m q
+      → StatementStack source c.active.function loop q c.frames k
+      → IsMatched source pages calls some_page (Running Proceeding (Rest (MoreItems (Declare n ty (Some (Convert from to a))) js) ∷ k) e w) (plain.Running c)
+  initial n ty from kinds.NonNull a js k e w c loop m q shared facts few (o, s, r, at_a, check, move, end) items stack =
+      let g = c.active.function in
+      silently source pages calls some_page (Running Proceeding (Rest (MoreItems (Declare n ty (Some (Convert from kinds.NonNull a))) js) ∷ k) e w)
+      (Running (Evaluating a) (Needs (ConvertTo from kinds.NonNull) ∷ Needs (Initialise n (kind_of ty) js) ∷ k) e w) (plain.Running c) refl
+      (shared, facts, as_operand o s at_a tt (r, check, (loop, q, move, few, subst (λ p. ItemsAt (code_of source g) (bounds_at source g) js loop (base_of source g) p q) (sym end) items, stack)))
       (omega arith)
-  proceeding (Rest js ∷ k) e w c well (shared, facts, inr (holds, stack)) = absurd stack
-  proceeding (Rest NoItems ∷ k) e w c well (shared, facts, inl (loop, (q, end, stack))) =
+  initial n ty from to a js k e w c loop m q shared facts few at_a items stack =
+      silently source pages calls some_page (Running Proceeding (Rest (MoreItems (Declare n ty (Some (Convert from to a))) js) ∷ k) e w)
+      (Running (Evaluating a) (Needs (ConvertTo from to) ∷ Needs (Initialise n (kind_of ty) js) ∷ k) e w) (plain.Running c) refl
+      (shared, facts, into_slot n m at_a tt (in_local few (tt, (loop, q, refl, items, stack))))
+      (omega arith)
+
+  after_statement : (k : List Entry) (e : Environment) (w : World) (c : Configuration) (loop : ℕ) → IsWell (step source (Running Proceeding k e w))
+      → SharedAt source calls w c → DataAt source c.active.function w.objects e.locals (callers k) c.active.slots c.globals c.frames
+      → StatementStack source c.active.function loop c.active.next c.frames k → IsMatched source pages calls some_page (Running Proceeding k e w) (plain.Running c)
+  after_statement (Rest NoItems ∷ k) e w c loop well shared facts (q, end, stack) =
       silently source pages calls some_page (Running Proceeding (Rest NoItems ∷ k) e w) (Running Proceeding k e w) (plain.Running c) refl
-      (shared, facts, inl (loop, subst (λ r. StatementStack source c.active.function loop r c.frames k) (sym end) stack))
+      (shared, behind_statement loop facts (subst (λ r. StatementStack source c.active.function loop r c.frames k) (sym end) stack))
       (omega arith)
-  proceeding (Rest (MoreItems (Execute s) js) ∷ k) e w c well (shared, facts, inl (loop, (q, (m, at_s, items), stack))) =
+  after_statement (Rest (MoreItems (Execute s) js) ∷ k) e w c loop well shared facts (q, (m, at_s, items), stack) =
       silently source pages calls some_page (Running Proceeding (Rest (MoreItems (Execute s) js) ∷ k) e w) (Running (Executing s) (Rest js ∷ k) e w) (plain.Running c) refl
       (shared, facts, (loop, m, at_s, (q, items, stack)))
       (omega arith)
-  proceeding (Rest (MoreItems (Declare n t None) js) ∷ k) e w c well (shared, facts, inl (loop, (q, (m, (few, end), items), stack))) =
+  after_statement (Rest (MoreItems (Declare n t None) js) ∷ k) e w c loop well shared facts (q, (m, (few, end), items), stack) =
       declares n t js k e w c loop m q well shared facts few end items stack
-  proceeding (Rest (MoreItems (Declare n t (Some (Convert from to a))) js) ∷ k) e w c well (shared, facts, inl (loop, (q, (m, (few, r, (s, at_a, at_to), here, end), items), stack))) =
-      let g = c.active.function in
-      silently source pages calls some_page (Running Proceeding (Rest (MoreItems (Declare n t (Some (Convert from to a))) js) ∷ k) e w)
-      (Running (Evaluating a) (Needs (ConvertTo from to) ∷ Needs (Initialise n (kind_of t) js) ∷ k) e w) (plain.Running c) refl
-      (shared, facts, (s, at_a, tt, (r, at_to, (loop, q, here, few, subst (λ p. ItemsAt (code_of source g) (bounds_at source g) js loop (base_of source g) p q) (sym end) items, stack))))
-      (omega arith)
-  proceeding (Rest js ∷ k) e w c well (shared, facts, inl (loop, (q, items, stack))) = absurd items
-  proceeding (Join ∷ k) e w c well (shared, facts, inr (holds, stack)) = absurd stack
-  proceeding (Join ∷ k) e w c well (shared, facts, inl (loop, (q, arrives, stack))) = joins k e w c loop q shared facts arrives stack
-  proceeding (Loop a s ∷ k) e w c well (shared, facts, inr (holds, stack)) = absurd stack
-  proceeding (Loop a s ∷ k) e w c well (shared, facts, inl (loop, (outer, q, (m, r, leave, at_a, jump, at_s, back, after), here, stack))) =
+  after_statement (Rest (MoreItems (Declare n t (Some (Convert from to a))) js) ∷ k) e w c loop well shared facts (q, (m, (few, at), items), stack) =
+      initial n t from to a js k e w c loop m q shared facts few at items stack
+  after_statement (Rest js ∷ k) e w c loop well shared facts (q, at, stack) = absurd at
+  after_statement (Join ∷ k) e w c loop well shared facts (q, arrives, stack) = joins k e w c loop q shared facts arrives stack
+  after_statement (Loop a s ∷ k) e w c loop well shared facts (outer, q, (o, m, r, leave, at_a, jump, at_s, back, after), here, stack) =
       one source pages calls some_page refl shared here
-      (λ choice. (shared, facts, (m, at_a, tt, (loop, outer, q, (m, r, leave, at_a, jump, at_s, back, after), r, jump, at_s, back, stack))))
-  proceeding (CloseRegion region home ∷ k) e w c well (shared, facts, inr (holds, stack)) = absurd stack
-  proceeding (CloseRegion region home ∷ k) e w c well (shared, facts, inl (loop, stack)) =
+      (λ choice. (shared, facts, as_operand o m at_a tt (loop, outer, q, (o, m, r, leave, at_a, jump, at_s, back, after), r, jump, at_s, back, stack)))
+  after_statement (CloseRegion region home ∷ k) e w c loop well shared facts stack =
       let found = is_closed Proceeding region home k e w well in
       silently source pages calls some_page (Running Proceeding (CloseRegion region home ∷ k) e w) (Running Proceeding k (record e { home = home }) (closed w region found.region)) (plain.Running c) found.gives
-      (shared_closed w c region found.region found.there shared, facts, inl (loop, stack))
+      (shared_closed w c region found.region found.there shared, behind_statement loop facts stack)
       (omega arith)
-  proceeding (Caller outer ∷ k) e w c well (shared, facts, inr (holds, stack)) = absurd stack
-  proceeding (Caller outer ∷ k) e w c well (shared, facts, inl (loop, (here, below))) =
-      leaves_call Proceeding c.active c.frames c.globals c.store c.output c.input k e outer w (base_of source c.active.function) refl shared facts here below
+  after_statement (Caller outer ∷ k) e w c loop well shared facts (s, here, below) =
+      leaves_call Proceeding c.active c.frames c.globals c.store c.output c.input k e outer w s refl shared facts here below
+  after_statement (Main ∷ k) e w c loop well shared facts stack = absurd (well refl)
+  after_statement k e w c loop well shared facts stack = absurd stack
+
+  after_call : (k : List Entry) (e : Environment) (w : World) (c : Configuration) (o : Operand) → IsWell (step source (Running Proceeding k e w))
+      → SharedAt source calls w c → DataAt source c.active.function w.objects e.locals (callers k) c.active.slots c.globals c.frames
+      → ValueStack source c.active.function e.locals o c.active.next c.frames k → IsMatched source pages calls some_page (Running Proceeding k e w) (plain.Running c)
+  after_call (Needs a ∷ k) e w c o well shared facts stack = absurd (well refl)
+  after_call (Discard ∷ k) e w c o well shared facts (loop, stack) =
+      silently source pages calls some_page (Running Proceeding (Discard ∷ k) e w) (Running Proceeding k e w) (plain.Running c) refl
+      (shared, behind_statement loop facts stack)
+      (omega arith)
+  after_call k e w c o well shared facts stack = absurd stack
+
+  after_wrong : (k : List Entry) (e : Environment) (w : World) (c : Configuration) (n : ℕ) → IsWell (step source (Running Proceeding k e w))
+      → AheadStack source c.active.function e.locals n c.active.next c.frames k → IsMatched source pages calls some_page (Running Proceeding k e w) (plain.Running c)
+  after_wrong (Needs a ∷ k) e w c n well stack = absurd (well refl)
+  after_wrong k e w c n well stack = absurd stack
+
+  pub proceeding : (k : List Entry) (e : Environment) (w : World) (c : Configuration) → IsStep source pages calls some_page Proceeding k e w c
+  proceeding k e w c well (shared, behind_statement loop facts stack) = after_statement k e w c loop well shared facts stack
+  proceeding k e w c well (shared, behind_call o facts stack) = after_call k e w c o well shared facts stack
+  proceeding k e w c well (shared, behind_wrong n stack) = after_wrong k e w c n well stack
 
   -- ---- breaks
 
@@ -253,12 +330,12 @@ module _ (source : Program) (pages calls : ℕ) (some_page : 1 ≤ pages) where
       silently source pages calls some_page (Running Breaking (Rest js ∷ k) e w) (Running Breaking k e w) (plain.Running c) refl (shared, facts, (loop, r, here, stack)) (omega arith)
   breaking (Join ∷ k) e w c well (shared, facts, (loop, q, here, (r, arrives, stack))) =
       silently source pages calls some_page (Running Breaking (Join ∷ k) e w) (Running Breaking k e w) (plain.Running c) refl (shared, facts, (loop, r, here, stack)) (omega arith)
-  breaking (Loop a s ∷ k) e w c well (shared, facts, (loop, q, here, (outer, r, (m, n, leave, at_a, jump, at_s, back, after), again, stack))) =
+  breaking (Loop a s ∷ k) e w c well (shared, facts, (loop, q, here, (outer, r, (o, m, n, leave, at_a, jump, at_s, back, after), again, stack))) =
       two source pages calls some_page (at c (break_target loop)) refl shared shared here (λ choice. refl) leave
       (λ same.
       let jumps : r ≡ break_target loop = ap (λ (i : Instruction). target_of i) (same_Some (instructions.Jump r) (instructions.Jump (break_target loop)) (sym leave ∙ ap (slice_get (code_of source c.active.function)) (sym same) ∙ here)) in
       absurd (omega (arith, jumps, after)))
-      (λ choice. (shared, facts, inl (outer, stack)))
+      (λ choice. (shared, behind_statement outer facts stack))
     where
       target_of : Instruction → ℕ
       target_of (instructions.Jump t) = t
@@ -283,9 +360,9 @@ module _ (source : Program) (pages calls : ℕ) (some_page : 1 ≤ pages) where
       silently source pages calls some_page (Running Continuing (Rest js ∷ k) e w) (Running Continuing k e w) (plain.Running c) refl (shared, facts, (loop, r, here, stack)) (omega arith)
   continuing (Join ∷ k) e w c well (shared, facts, (loop, q, here, (r, arrives, stack))) =
       silently source pages calls some_page (Running Continuing (Join ∷ k) e w) (Running Continuing k e w) (plain.Running c) refl (shared, facts, (loop, r, here, stack)) (omega arith)
-  continuing (Loop a s ∷ k) e w c well (shared, facts, (loop, q, here, (outer, r, (m, n, leave, at_a, jump, at_s, back, after), again, stack))) =
+  continuing (Loop a s ∷ k) e w c well (shared, facts, (loop, q, here, (outer, r, (o, m, n, leave, at_a, jump, at_s, back, after), again, stack))) =
       one source pages calls some_page refl shared here
-      (λ choice. (shared, facts, (m, at_a, tt, (loop, outer, r, (m, n, leave, at_a, jump, at_s, back, after), n, jump, at_s, back, stack))))
+      (λ choice. (shared, facts, as_operand o m at_a tt (loop, outer, r, (o, m, n, leave, at_a, jump, at_s, back, after), n, jump, at_s, back, stack)))
   continuing (CloseRegion region home ∷ k) e w c well (shared, facts, (loop, q, here, stack)) =
       let found = is_closed Continuing region home k e w well in
       silently source pages calls some_page (Running Continuing (CloseRegion region home ∷ k) e w) (Running Continuing k (record e { home = home }) (closed w region found.region)) (plain.Running c) found.gives
@@ -327,7 +404,7 @@ module _ (source : Program) (pages calls : ℕ) (some_page : 1 ≤ pages) where
       silently source pages calls some_page (Running (Returning None) (CloseRegion region home ∷ k) e w) (Running (Returning None) k (record e { home = home }) (closed w region found.region)) (plain.Running c) found.gives
       (shared_closed w c region found.region found.there shared, facts, (loop, q, s, here, stack))
       (omega arith)
-  returning_none (Caller outer ∷ k) e w c well (shared, facts, (loop, q, s, here, (last, below))) =
+  returning_none (Caller outer ∷ k) e w c well (shared, facts, (loop, q, s, here, (u, last, below))) =
       leaves_call (Returning None) c.active c.frames c.globals c.store c.output c.input k e outer w s refl shared facts here below
   returning_none (NeedsPlace a ∷ k) e w c well (shared, facts, (loop, q, s, here, stack)) = absurd stack
   returning_none (CloseLexical region ∷ k) e w c well (shared, facts, (loop, q, s, here, stack)) = absurd stack
@@ -335,7 +412,7 @@ module _ (source : Program) (pages calls : ℕ) (some_page : 1 ≤ pages) where
   returning_none (Handler handler ∷ k) e w c well (shared, facts, (loop, q, s, here, stack)) = absurd stack
   returning_none (Main ∷ k) e w c well related = absurd (well refl)
 
-  returning_some : (v : Operand) (k : List Entry) (e : Environment) (w : World) (c : Configuration) → IsStep source pages calls some_page (Returning (Some v)) k e w c
+  returning_some : (v : Kinded) (k : List Entry) (e : Environment) (w : World) (c : Configuration) → IsStep source pages calls some_page (Returning (Some v)) k e w c
   returning_some v [] e w c well related = absurd (well refl)
   returning_some v (Needs a ∷ k) e w c well (shared, facts, (loop, q, s, here, is, single, stack)) = absurd stack
   returning_some v (Discard ∷ k) e w c well (shared, facts, (loop, q, s, here, is, single, stack)) = absurd stack
@@ -350,16 +427,16 @@ module _ (source : Program) (pages calls : ℕ) (some_page : 1 ≤ pages) where
       silently source pages calls some_page (Running (Returning (Some v)) (CloseRegion region home ∷ k) e w) (Running (Returning (Some v)) k (record e { home = home }) (closed w region found.region)) (plain.Running c) found.gives
       (shared_closed w c region found.region found.there shared, facts, (loop, q, s, here, is, single, stack))
       (omega arith)
-  returning_some v (Caller outer ∷ k) e w c well (shared, facts, (loop, q, s, here, is, single, (last, below))) =
+  returning_some v (Caller outer ∷ k) e w c well (shared, facts, (loop, q, s, here, is, single, (u, last, below))) =
       hands_back v c.active c.frames c.globals c.store c.output c.input k e outer w s shared facts here is (results_at c.active.function ∙ single) below
   returning_some v (NeedsPlace a ∷ k) e w c well (shared, facts, (loop, q, s, here, is, single, stack)) = absurd stack
   returning_some v (CloseLexical region ∷ k) e w c well (shared, facts, (loop, q, s, here, is, single, stack)) = absurd stack
   returning_some v (EndLoan lent ∷ k) e w c well (shared, facts, (loop, q, s, here, is, single, stack)) = absurd stack
   returning_some v (Handler handler ∷ k) e w c well (shared, facts, (loop, q, s, here, is, single, stack)) = absurd stack
-  returning_some v (Main ∷ k) e w c well (shared, facts, (loop, q, s, here, is, single, (last, none))) =
+  returning_some v (Main ∷ k) e w c well (shared, facts, (loop, q, s, here, is, single, (u, last, none))) =
       ends_main v.kind v.value c.active c.frames c.globals c.store c.output c.input k e w s well shared here is none
 
-  pub returning : (v : Option Operand) (k : List Entry) (e : Environment) (w : World) (c : Configuration) → IsStep source pages calls some_page (Returning v) k e w c
+  pub returning : (v : Option Kinded) (k : List Entry) (e : Environment) (w : World) (c : Configuration) → IsStep source pages calls some_page (Returning v) k e w c
   returning None k e w c well related = returning_none k e w c well related
   returning (Some v) k e w c well related = returning_some v k e w c well related
 

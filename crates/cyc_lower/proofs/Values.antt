@@ -1,7 +1,7 @@
 -- The steps that hand a value on.
-use Rattle.std.proofs.Common.{◌≡◌, ◌≢◌, ℕ, suc, ◌+◌, ◌≤◌, ◌<◌, Bool, true, false, not, List, [], ◌∷◌, Option, Some, slice_get, refl, sym, ap, subst, ◌∙◌, arith, inl}
+use Rattle.std.proofs.Common.{◌≡◌, ◌≢◌, ℕ, zero, suc, ◌+◌, ◌≤◌, ◌<◌, Bool, true, false, not, List, [], ◌∷◌, ◌++◌, Option, None, Some, slice_get, refl, sym, ap, subst, ◌∙◌, arith, inl, inr, length}
 use Rattle.std.specs.Prelude.{◌==◌, if◌then◌else◌}
-use Rattle.std.proofs.lemmas.Bool.{eqb-true}
+use Rattle.std.proofs.lemmas.Bool.{cases_eq, eqb-true, false_from_ne_true}
 use Rattle.std.proofs.lemmas.Option.{same_Some}
 use Rattle.cyc_types.specs.declared.typed.Kind.{Kind}
 use Rattle.cyc_types.specs.declared.typed.Kind.TheVariants as kinds
@@ -12,7 +12,9 @@ use Rattle.cyc_types.specs.declared.typed.Operator.{Operator}
 use Rattle.cyc_types.specs.declared.typed.Operator.TheVariants as operators
 use Rattle.cyc_types.specs.declared.typed.LogicalOperator.{LogicalOperator}
 use Rattle.cyc_types.specs.declared.typed.LogicalOperator.TheVariants as logical
-use Rattle.cyc_types.specs.TypedTrees.{Lvalue, Local, Global, Expression, Arguments, Operations, NoOperations, ThenCompute, ThenTest, Statement, Items, Program}
+use Rattle.cyc_types.specs.declared.typed.Callee.TheVariants as callees
+use Rattle.cyc_types.specs.TypedTrees.{Lvalue, Local, Global, Expression, Arguments, NoArguments, MoreArguments, Operations, NoOperations, ThenCompute, ThenTest, Statement, Items, Program}
+use Rattle.cyc_plain.specs.declared.instruction.Operand.{Operand}
 use Rattle.cyc_plain.specs.declared.instruction.Operand.TheVariants as operands
 use Rattle.cyc_plain.specs.declared.instruction.Instruction.{Instruction}
 use Rattle.cyc_plain.specs.declared.instruction.Instruction.TheVariants as instructions
@@ -20,28 +22,30 @@ use Rattle.cyc_plain.specs.declared.instruction.UnaryOperator.TheVariants as pla
 use Rattle.cyc_plain.specs.Operators.{truth}
 use Rattle.cyc_plain.specs.Operators as plain_operators
 use Rattle.cyc_plain.specs.State as plain
-use Rattle.cyc_plain.specs.State.{put, Configuration}
-use Rattle.cyc_plain.specs.Step.{Choice, with_slots, at, advanced, gives}
+use Rattle.cyc_plain.specs.State.{put, Frame, Configuration}
+use Rattle.cyc_plain.specs.Step.{Choice, operand_word, with_slots, at, advanced, gives, performed}
 use Rattle.cyc_plain.specs.Step as plain_step
 use Rattle.cyc_plain.proofs.SlotLaws.{put-same, put-other}
-use Rattle.cyc_meaning.specs.Values.{Value, Int, Null, Thin, Fat, Handle, Key, Operand, is_kind}
-use Rattle.cyc_meaning.specs.Operators.{Gives, Raises, has_no_result, binary_word, is_zero, unary_result, truth_of}
+use Rattle.cyc_meaning.specs.Values.{Value, Int, Null, Thin, Fat, Handle, Key, Operand as Kinded, is_kind}
+use Rattle.cyc_meaning.specs.Operators.{Gives, Raises, has_no_result, binary_word, is_zero, unary_result, truth_of, division_by_zero}
 use Rattle.cyc_meaning.specs.Conversion.{conversion}
-use Rattle.cyc_meaning.specs.State.{World, Environment, variable, written, region_at, Awaiting, ConvertTo, Operate, Chain, Apply, Decide, Store, Pass, Initialise, Choose, Test, Return, Entry, Needs, Discard, Rest, Join, Loop, Evaluating, Given, Executing, Proceeding, Returning, Throwing, State, Running}
+use Rattle.cyc_meaning.specs.State.{World, Environment, with_local, made, variable, written, region_at, Awaiting, ConvertTo, Operate, Chain, Apply, Decide, Store, Pass, Initialise, Choose, Test, Return, Entry, Needs, Discard, Rest, Join, Loop, Focus, Evaluating, Given, Executing, Proceeding, Calling, Returning, Throwing, State, Running}
 use Rattle.cyc_meaning.specs.Step.{wrong, object_of, computed, stored_at, declared, passes, tested, awaits_right, chosen, looped, step}
-use Rattle.cyc_lower.specs.Lowering.{jump_if_zero, jump_if_nonzero, unary_operator, binary_operator, break_target, lower_program}
-use Rattle.cyc_lower.proofs.Stands.{At, CheckedAt, TruthAt, StoreAt}
-use Rattle.cyc_lower.proofs.Relation.{Is, Holds, held, contents, callers, DataAt, SharedAt, ValueStack, Related, Matches, in_place, by_jump, code_of, bounds_at, base_of, top}
-use Rattle.cyc_lower.proofs.Data.{height-least, Holds-put, Holds-local, data_put, data_assigned, data_assigned_global, data_declared}
+use Rattle.cyc_lower.specs.Lowering.{slot_of, unary_operator, binary_operator, operand_of, value_slot, next_slot, is_in, low_byte, jump_if_zero, jump_if_nonzero, break_target, lower_program}
+use Rattle.cyc_lower.proofs.Stands.{At, OperandBy, CopyBy, CopyAt, CheckAt, CheckedAt, OperatorAt, TruthAt, ExpressionAt, OperationsAt}
+use Rattle.cyc_lower.proofs.Relation.{Is, Holds, held, contents, callers, in_place, by_jump, IsQuiet, Lands, in_temporary, in_local, HandsOn, drops, leaves, copies, DataIn, SharedAt, StoreAt, ValueStack, DroppedStack, AheadStack, LandsStack, HandsOnStack, ReadyAt, as_operand, into_slot, as_right, GivenAt, in_operand, nowhere, ahead, with_left, behind_statement, Related, Matches, code_of, bounds_at, base_of, top}
+use Rattle.cyc_lower.proofs.Data.{height-least, Holds-put, Holds-local, put_over, data_same, data_put, data_put_back, data_assigned, data_caught_up, data_assigned_global, data_declared}
 use Rattle.cyc_lower.proofs.Accesses.{IsWell, is_fitting, is_stored, written_here, written_elsewhere, written_length, is_declared}
-use Rattle.cyc_lower.proofs.Matched.{IsMatched, silently, one, two, three, shared_way, shared_within, value_depth, value_plain}
-use Rattle.cyc_lower.proofs.Evaluations.{IsStep, given_value, passes_related, passes_weight, object_of_same, global_there}
+use Rattle.cyc_lower.proofs.Weights.{weight}
+use Rattle.cyc_lower.proofs.Relation.{StatementStack}
+use Rattle.cyc_lower.proofs.Matched.{IsMatched, silently, one, two, three, shared_way, shared_within, lands_depth, value_depth, lands_plain, value_plain}
+use Rattle.cyc_lower.proofs.Evaluations.{IsStep, landed, lands_at, passes_related, passes_weight, object_of_same, global_there}
 
 -- an operand of a kind, and an int
-abbrev pub of_kind : Kind → Value → Operand
+abbrev pub of_kind : Kind → Value → Kinded
 of_kind kind v = record { kind = kind; value = v }
 
-abbrev pub int_of : ℕ → Operand
+abbrev pub int_of : ℕ → Kinded
 int_of word = of_kind kinds.Int (Int word)
 
 -- whether a value is zero is told by its word
@@ -65,123 +69,200 @@ module _ (source : Program) (pages calls : ℕ) (some_page : 1 ≤ pages) where
   pub not_taken : (s : State) (c : Configuration) (b : Bool) (target : ℕ) → b ≡ false → Matches source calls s (plain.Running (at c (c.active.next + 1))) → Matches source calls s (plain_step.branches c b target)
   not_taken s c b target is m = subst (λ (x : Bool). Matches source calls s (plain_step.branches c x target)) (sym is) m
 
+  -- what is known of a value that stands in an operand
+  abbrev pub Stands : Kinded → Operand → List Entry → Environment → World → Configuration → Type 0
+  Stands v o k e w c = SharedAt source calls w c × DataIn source c.active.slots k e w c × Is v.value (operand_word c.active.slots o)
+      × Holds c.active.slots (base_of source c.active.function) (held k)
+
+  abbrev pub GoesBehind : Kinded → List Entry → Environment → World → Configuration → Type 0
+  GoesBehind v k e w c = IsMatched source pages calls some_page (Running (Given v) k e w) (plain.Running c)
+
   -- ---- conversions
 
   -- the same value goes on, and nothing is executed
-  kept_value : (from to i : Kind) (v : Value) (k : List Entry) (e : Environment) (w : World) (c : Configuration) (q : ℕ)
-      → step source (Running (Given (of_kind i v)) (Needs (ConvertTo from to) ∷ k) e w) ≡ Running (Given (of_kind to v)) k e w
-      → SharedAt source calls w c → DataAt source c.active.function w.objects e.locals (callers k) c.active.slots c.globals c.frames
-      → Is v (c.active.slots (top source c.active.function k)) → Holds c.active.slots (base_of source c.active.function) (held k)
-      → c.active.next ≡ q → ValueStack source c.active.function e.locals q c.frames k
-      → IsMatched source pages calls some_page (Running (Given (of_kind i v)) (Needs (ConvertTo from to) ∷ k) e w) (plain.Running c)
-  kept_value from to i v k e w c q does shared facts is holds end stack =
+  kept_value : (from to i : Kind) (v : Value) (o : Operand) (k : List Entry) (e : Environment) (w : World) (c : Configuration) (q : ℕ)
+      → step source (Running (Given (of_kind i v)) (Needs (ConvertTo from to) ∷ k) e w) ≡ Running (Given (of_kind to v)) k e w → Stands (of_kind i v) o k e w c
+      → c.active.next ≡ q → ValueStack source c.active.function e.locals o q c.frames k → GoesBehind (of_kind i v) (Needs (ConvertTo from to) ∷ k) e w c
+  kept_value from to i v o k e w c q does (shared, facts, is, holds) end stack =
       silently source pages calls some_page (Running (Given (of_kind i v)) (Needs (ConvertTo from to) ∷ k) e w) (Running (Given (of_kind to v)) k e w) (plain.Running c) does
-      (shared, facts, (is, holds, subst (λ r. ValueStack source c.active.function e.locals r c.frames k) (sym end) stack))
+      (shared, in_operand o facts is holds (subst (λ r. ValueStack source c.active.function e.locals o r c.frames k) (sym end) stack))
       (omega arith)
 
-  converted : (from to i : Kind) (v : Value) (k : List Entry) (e : Environment) (w : World) (c : Configuration) → IsWell (computed to (conversion to v) k e w)
-      → step source (Running (Given (of_kind i v)) (Needs (ConvertTo from to) ∷ k) e w) ≡ computed to (conversion to v) k e w
-      → Related source calls (Given (of_kind i v)) (Needs (ConvertTo from to) ∷ k) e w c
-      → IsMatched source pages calls some_page (Running (Given (of_kind i v)) (Needs (ConvertTo from to) ∷ k) e w) (plain.Running c)
-  converted from to i (Thin object offset) k e w c well does (shared, facts, (is, holds, stack)) = absurd is
-  converted from to i (Fat object start many index) k e w c well does (shared, facts, (is, holds, stack)) = absurd is
-  converted from to i (Handle region) k e w c well does (shared, facts, (is, holds, stack)) = absurd is
-  converted from to i (Key region) k e w c well does (shared, facts, (is, holds, stack)) = absurd is
-  converted from kinds.Int i (Int a) k e w c well does (shared, facts, (is, holds, (q, end, stack))) = kept_value from kinds.Int i (Int a) k e w c q does shared facts is holds end stack
-  converted from kinds.Nullable i Null k e w c well does (shared, facts, (is, holds, (q, end, stack))) = kept_value from kinds.Nullable i Null k e w c q does shared facts is holds end stack
-  converted from kinds.Fat i Null k e w c well does (shared, facts, (is, holds, (q, end, stack))) = kept_value from kinds.Fat i Null k e w c q does shared facts is holds end stack
-  converted from kinds.NonNull i Null k e w c well does (shared, facts, (is, holds, (q, (jump, uncaught, end), stack))) =
-      let d = top source c.active.function k in
-      one source pages calls some_page does shared jump
-      (λ choice. not_taken (Running (Throwing 1 0) k e w) c (not (c.active.slots d == 0)) q (ap (λ x. not (x == 0)) is)
-      (shared, omega (arith, value_depth source c.active.function e.locals q c.frames k stack, shared.fits), value_plain source c.active.function e.locals q c.frames k stack, d, uncaught, is))
-  converted from to i v k e w c well does related = absurd (well refl)
+  -- a value is converted from its own kind
+  converts_kind : (from to : Kind) (v : Kinded) (k : List Entry) (e : Environment) (w : World) → IsWell (step source (Running (Given v) (Needs (ConvertTo from to) ∷ k) e w))
+      → step source (Running (Given v) (Needs (ConvertTo from to) ∷ k) e w) ≡ computed to (conversion to v.value) k e w
+  converts_kind from to v k e w well =
+      ap (λ (b : Bool). if b then computed to (conversion to v.value) k e w else wrong w) (is_fitting (is_kind v.kind from) (computed to (conversion to v.value) k e w) w well)
 
-  converts : (from to : Kind) (v : Operand) (k : List Entry) (e : Environment) (w : World) (c : Configuration) → IsStep source pages calls some_page (Given v) (Needs (ConvertTo from to) ∷ k) e w c
-  converts from to v k e w c well related =
-      let fits : is_kind v.kind from ≡ true = is_fitting (is_kind v.kind from) (computed to (conversion to v.value) k e w) w well in
-      let does : step source (Running (Given v) (Needs (ConvertTo from to) ∷ k) e w) ≡ computed to (conversion to v.value) k e w = ap (λ (b : Bool). if b then computed to (conversion to v.value) k e w else wrong w) fits in
-      converted from to v.kind v.value k e w c (subst IsWell does well) does related
+  converted : (from to i : Kind) (v : Value) (o : Operand) (k : List Entry) (e : Environment) (w : World) (c : Configuration) → IsWell (computed to (conversion to v) k e w)
+      → step source (Running (Given (of_kind i v)) (Needs (ConvertTo from to) ∷ k) e w) ≡ computed to (conversion to v) k e w → Stands (of_kind i v) o k e w c
+      → ValueStack source c.active.function e.locals o c.active.next c.frames (Needs (ConvertTo from to) ∷ k) → GoesBehind (of_kind i v) (Needs (ConvertTo from to) ∷ k) e w c
+  converted from to i (Thin object offset) o k e w c well does (shared, facts, is, holds) stack = absurd is
+  converted from to i (Fat object start many index) o k e w c well does (shared, facts, is, holds) stack = absurd is
+  converted from to i (Handle region) o k e w c well does (shared, facts, is, holds) stack = absurd is
+  converted from to i (Key region) o k e w c well does (shared, facts, is, holds) stack = absurd is
+  converted from kinds.Int i (Int a) o k e w c well does stands (q, end, stack) = kept_value from kinds.Int i (Int a) o k e w c q does stands end stack
+  converted from kinds.Nullable i Null o k e w c well does stands (q, end, stack) = kept_value from kinds.Nullable i Null o k e w c q does stands end stack
+  converted from kinds.Fat i Null o k e w c well does stands (q, end, stack) = kept_value from kinds.Fat i Null o k e w c q does stands end stack
+  converted from kinds.NonNull i Null o k e w c well does (shared, facts, is, holds) (q, (jump, uncaught, end), stack) =
+      one source pages calls some_page does shared jump
+      (λ choice. not_taken (Running (Throwing 1 0) k e w) c (not (operand_word c.active.slots o == 0)) q (ap (λ x. not (x == 0)) is) (
+        shared,
+        omega (arith, value_depth source c.active.function e.locals o q c.frames k stack, shared.fits),
+        value_plain source c.active.function e.locals o q c.frames k stack,
+        o,
+        uncaught,
+        is,
+      ))
+  converted from to i v o k e w c well does stands stack = absurd (well refl)
+
+  converts : (from to : Kind) (v : Kinded) (o : Operand) (k : List Entry) (e : Environment) (w : World) (c : Configuration)
+      → IsWell (step source (Running (Given v) (Needs (ConvertTo from to) ∷ k) e w)) → Stands v o k e w c
+      → ValueStack source c.active.function e.locals o c.active.next c.frames (Needs (ConvertTo from to) ∷ k) → GoesBehind v (Needs (ConvertTo from to) ∷ k) e w c
+  converts from to v o k e w c well stands stack =
+      let does = converts_kind from to v k e w well in
+      converted from to v.kind v.value o k e w c (subst IsWell does well) does stands stack
+
+  -- a conversion that raises nothing, of a value in the slot of a local that is about to get it
+  converted_ahead : (from to i : Kind) (v : Value) (n : ℕ) (k : List Entry) (e : Environment) (w : World) (c : Configuration)
+      → IsWell (computed to (conversion to v) k e w) → IsQuiet source to → Is v (c.active.slots n)
+      → (computed to (conversion to v) k e w ≡ Running (Given (of_kind to v)) k e w → GoesBehind (of_kind i v) (Needs (ConvertTo from to) ∷ k) e w c)
+      → GoesBehind (of_kind i v) (Needs (ConvertTo from to) ∷ k) e w c
+  converted_ahead from to i (Thin object offset) n k e w c well quiet is goes = absurd is
+  converted_ahead from to i (Fat object start many index) n k e w c well quiet is goes = absurd is
+  converted_ahead from to i (Handle region) n k e w c well quiet is goes = absurd is
+  converted_ahead from to i (Key region) n k e w c well quiet is goes = absurd is
+  converted_ahead from kinds.Int i (Int a) n k e w c well quiet is goes = goes refl
+  converted_ahead from kinds.Nullable i Null n k e w c well quiet is goes = goes refl
+  converted_ahead from kinds.Fat i Null n k e w c well quiet is goes = goes refl
+  converted_ahead from kinds.NonNull i Null n k e w c well quiet is goes = absurd quiet
+  converted_ahead from to i v n k e w c well quiet is goes = absurd (well refl)
+
+  converts_ahead : (from to : Kind) (v : Kinded) (n : ℕ) (k : List Entry) (e : Environment) (w : World) (c : Configuration)
+      → IsWell (step source (Running (Given v) (Needs (ConvertTo from to) ∷ k) e w)) → IsQuiet source to → Is v.value (c.active.slots n)
+      → (step source (Running (Given v) (Needs (ConvertTo from to) ∷ k) e w) ≡ Running (Given (of_kind to v.value)) k e w → GoesBehind v (Needs (ConvertTo from to) ∷ k) e w c)
+      → GoesBehind v (Needs (ConvertTo from to) ∷ k) e w c
+  converts_ahead from to v n k e w c well quiet is goes =
+      let does = converts_kind from to v k e w well in
+      converted_ahead from to v.kind v.value n k e w c (subst IsWell does well) quiet is (λ same. goes (does ∙ same))
 
   -- ---- operators
 
-  operates_word : (o : UnaryOperator) (i : Kind) (a : ℕ) (k : List Entry) (e : Environment) (w : World) (c : Configuration)
-      → unary_result o (Int a) ≡ Gives (Int (plain_operators.unary_result (unary_operator o) a))
-      → Related source calls (Given (of_kind i (Int a))) (Needs (Operate o) ∷ k) e w c
-      → IsMatched source pages calls some_page (Running (Given (of_kind i (Int a))) (Needs (Operate o) ∷ k) e w) (plain.Running c)
-  operates_word o i a k e w c result (shared, facts, (is, holds, (here, stack))) =
-      let x = c.active.slots (top source c.active.function k) in
+  operates_word : (u : UnaryOperator) (i : Kind) (a : ℕ) (o : Operand) (k : List Entry) (e : Environment) (w : World) (c : Configuration)
+      → unary_result u (Int a) ≡ Gives (Int (plain_operators.unary_result (unary_operator u) a)) → Stands (of_kind i (Int a)) o k e w c
+      → ValueStack source c.active.function e.locals o c.active.next c.frames (Needs (Operate u) ∷ k) → GoesBehind (of_kind i (Int a)) (Needs (Operate u) ∷ k) e w c
+  operates_word u i a o k e w c result (shared, facts, is, holds) (d, here, lands) =
+      let x = operand_word c.active.slots o in
       one source pages calls some_page (ap (λ r. computed kinds.Int r k e w) result) shared here
-      (λ choice. given_value source pages calls some_page (int_of (plain_operators.unary_result (unary_operator o) a)) (plain_operators.unary_result (unary_operator o) x) k e w c (c.active.next + 1) (ap (plain_operators.unary_result (unary_operator o)) is) shared facts holds refl stack)
+      (λ choice. landed source pages calls some_page (int_of (plain_operators.unary_result (unary_operator u) a)) (plain_operators.unary_result (unary_operator u) x) d k e w c (c.active.next + 1) (ap (plain_operators.unary_result (unary_operator u)) is) shared facts holds refl lands)
 
-  operates_value : (o : UnaryOperator) (i : Kind) (v : Value) (k : List Entry) (e : Environment) (w : World) (c : Configuration) → IsStep source pages calls some_page (Given (of_kind i v)) (Needs (Operate o) ∷ k) e w c
-  operates_value o i (Thin object offset) k e w c well (shared, facts, (is, holds, stack)) = absurd is
-  operates_value o i (Fat object start many index) k e w c well (shared, facts, (is, holds, stack)) = absurd is
-  operates_value o i (Handle region) k e w c well (shared, facts, (is, holds, stack)) = absurd is
-  operates_value o i (Key region) k e w c well (shared, facts, (is, holds, stack)) = absurd is
-  operates_value unary.Negate i Null k e w c well related = absurd (well refl)
-  operates_value unary.Complement i Null k e w c well related = absurd (well refl)
-  operates_value unary.Not i Null k e w c well (shared, facts, (is, holds, (here, stack))) =
+  operates_value : (u : UnaryOperator) (i : Kind) (v : Value) (o : Operand) (k : List Entry) (e : Environment) (w : World) (c : Configuration)
+      → IsWell (step source (Running (Given (of_kind i v)) (Needs (Operate u) ∷ k) e w)) → Stands (of_kind i v) o k e w c
+      → ValueStack source c.active.function e.locals o c.active.next c.frames (Needs (Operate u) ∷ k) → GoesBehind (of_kind i v) (Needs (Operate u) ∷ k) e w c
+  operates_value u i (Thin object offset) o k e w c well (shared, facts, is, holds) stack = absurd is
+  operates_value u i (Fat object start many index) o k e w c well (shared, facts, is, holds) stack = absurd is
+  operates_value u i (Handle region) o k e w c well (shared, facts, is, holds) stack = absurd is
+  operates_value u i (Key region) o k e w c well (shared, facts, is, holds) stack = absurd is
+  operates_value unary.Negate i Null o k e w c well stands stack = absurd (well refl)
+  operates_value unary.Complement i Null o k e w c well stands stack = absurd (well refl)
+  operates_value unary.Not i Null o k e w c well (shared, facts, is, holds) (d, here, lands) =
       one source pages calls some_page refl shared here
-      (λ choice. given_value source pages calls some_page (int_of 1) (truth (c.active.slots (top source c.active.function k) == 0)) k e w c (c.active.next + 1) (ap (λ x. truth (x == 0)) is) shared facts holds refl stack)
-  operates_value unary.Negate i (Int a) k e w c well related = operates_word unary.Negate i a k e w c refl related
-  operates_value unary.Complement i (Int a) k e w c well related = operates_word unary.Complement i a k e w c refl related
-  operates_value unary.Not i (Int a) k e w c well related = operates_word unary.Not i a k e w c refl related
+      (λ choice. landed source pages calls some_page (int_of 1) (truth (operand_word c.active.slots o == 0)) d k e w c (c.active.next + 1) (ap (λ x. truth (x == 0)) is) shared facts holds refl lands)
+  operates_value unary.Negate i (Int a) o k e w c well stands stack = operates_word unary.Negate i a o k e w c refl stands stack
+  operates_value unary.Complement i (Int a) o k e w c well stands stack = operates_word unary.Complement i a o k e w c refl stands stack
+  operates_value unary.Not i (Int a) o k e w c well stands stack = operates_word unary.Not i a o k e w c refl stands stack
 
-  operates : (o : UnaryOperator) (v : Operand) (k : List Entry) (e : Environment) (w : World) (c : Configuration) → IsStep source pages calls some_page (Given v) (Needs (Operate o) ∷ k) e w c
-  operates o v k e w c well related = operates_value o v.kind v.value k e w c well related
+  operates : (u : UnaryOperator) (v : Kinded) (o : Operand) (k : List Entry) (e : Environment) (w : World) (c : Configuration)
+      → IsWell (step source (Running (Given v) (Needs (Operate u) ∷ k) e w)) → Stands v o k e w c
+      → ValueStack source c.active.function e.locals o c.active.next c.frames (Needs (Operate u) ∷ k) → GoesBehind v (Needs (Operate u) ∷ k) e w c
+  operates u v o k e w c well stands stack = operates_value u v.kind v.value o k e w c well stands stack
 
   -- ---- divisions
 
-  -- a checked operator
-  divides : (o : Operator) (i j : Kind) (a b : ℕ) (f : Bool) (k : List Entry) (e : Environment) (w : World) (c : Configuration) (q : ℕ)
-      → ((x : ℕ) → plain_operators.has_no_result (binary_operator o) x ≡ (x == 0)) → ((x : ℕ) → has_no_result o x ≡ (x == 0))
-      → ((x y : ℕ) → plain_operators.binary_result (binary_operator o) x y ≡ binary_word o x y)
-      → (b == 0) ≡ f
-      → SharedAt source calls w c → DataAt source c.active.function w.objects e.locals (callers k) c.active.slots c.globals c.frames
-      → c.active.slots (suc (top source c.active.function k)) ≡ b → c.active.slots (top source c.active.function k) ≡ a
-      → Holds c.active.slots (base_of source c.active.function) (held k)
-      → CheckedAt (code_of source c.active.function) (bounds_at source c.active.function) o (top source c.active.function k) c.active.next q
-      → ValueStack source c.active.function e.locals q c.frames k
-      → IsMatched source pages calls some_page (Running (Given (of_kind j (Int b))) (Needs (Apply o (of_kind i (Int a))) ∷ k) e w) (plain.Running c)
-  divides o i j a b true k e w c q plain_test test same zero_b shared facts is is_left holds (jump, uncaught, here, end) stack =
-      let d = top source c.active.function k in
+  -- the division itself, of operands that are these words
+  quotient : (u : Operator) (a b : ℕ) (l r : Operand) (d : ℕ) (k : List Entry) (e : Environment) (w : World) (c : Configuration) (q : ℕ)
+      → ((x : ℕ) → plain_operators.has_no_result (binary_operator u) x ≡ (x == 0)) → ((x y : ℕ) → plain_operators.binary_result (binary_operator u) x y ≡ binary_word u x y)
+      → (b == 0) ≡ false → SharedAt source calls w c → DataIn source c.active.slots k e w c
+      → operand_word c.active.slots l ≡ a → operand_word c.active.slots r ≡ b → Holds c.active.slots (base_of source c.active.function) (held k)
+      → c.active.next + 1 ≡ q → LandsStack source c.active.function e.locals d q c.frames k
+      → (choice : Choice) → Matches source calls (Running (Given (int_of (binary_word u a b))) k e w) (performed (lower_program source) choice c (instructions.Binary (binary_operator u) d l r))
+  quotient u a b l r d k e w c q plain_test same nonzero shared facts is_left is holds end lands choice =
+      let x = operand_word c.active.slots l in
+      let y = operand_word c.active.slots r in
+      let result = plain_operators.binary_result (binary_operator u) x y in
+      subst (λ (z : Bool). Matches source calls (Running (Given (int_of (binary_word u a b))) k e w) (if z then plain.Stuck c.output c.input else gives c d result)) (sym (plain_test y ∙ ap (λ z. z == 0) is ∙ nonzero))
+      (landed source pages calls some_page (int_of (binary_word u a b)) result d k e w c q
+      (same x y ∙ ap (λ z. binary_word u z y) is_left ∙ ap (binary_word u a) is)
+      shared facts holds end lands)
+
+  -- behind its test
+  tested_divides : (u : Operator) (i j : Kind) (a b : ℕ) (f : Bool) (l r : Operand) (d : ℕ) (k : List Entry) (e : Environment) (w : World) (c : Configuration) (m q : ℕ)
+      → ((x : ℕ) → plain_operators.has_no_result (binary_operator u) x ≡ (x == 0)) → ((x : ℕ) → has_no_result u x ≡ (x == 0))
+      → ((x y : ℕ) → plain_operators.binary_result (binary_operator u) x y ≡ binary_word u x y) → (b == 0) ≡ f
+      → SharedAt source calls w c → DataIn source c.active.slots k e w c
+      → operand_word c.active.slots l ≡ a → operand_word c.active.slots r ≡ b → Holds c.active.slots (base_of source c.active.function) (held k)
+      → CheckAt (code_of source c.active.function) (bounds_at source c.active.function) division_by_zero r c.active.next m
+      → At (code_of source c.active.function) m (instructions.Binary (binary_operator u) d l r) → m + 1 ≡ q
+      → LandsStack source c.active.function e.locals d q c.frames k → GoesBehind (of_kind j (Int b)) (Needs (Apply u (of_kind i (Int a))) ∷ k) e w c
+  tested_divides u i j a b true l r d k e w c m q plain_test test same zero_b shared facts is_left is holds (jump, uncaught, behind) here end lands =
       let b_is : b ≡ 0 = eqb-true b 0 zero_b in
-      one source pages calls some_page (ap (λ x. computed kinds.Int (if x then Raises 4 else Gives (Int (binary_word o a b))) k e w) (test b ∙ zero_b)) shared jump
-      (λ choice. not_taken (Running (Throwing 4 0) k e w) c (not (c.active.slots (suc d) == 0)) (c.active.next + 2) (ap (λ x. not (x == 0)) (is ∙ b_is))
-      (shared, omega (arith, value_depth source c.active.function e.locals q c.frames k stack, shared.fits), value_plain source c.active.function e.locals q c.frames k stack, suc d, uncaught, is ∙ b_is))
-  divides o i j a b false k e w c q plain_test test same zero_b shared facts is is_left holds (jump, uncaught, here, end) stack =
-      let d = top source c.active.function k in
-      let there = at c (c.active.next + 2) in
-      let nonzero : (c.active.slots (suc d) == 0) ≡ false = ap (λ x. x == 0) is ∙ zero_b in
-      two source pages calls some_page there
-      (ap (λ x. computed kinds.Int (if x then Raises 4 else Gives (Int (binary_word o a b))) k e w) (test b ∙ zero_b)) shared shared
-      jump (λ choice. ap (λ x. plain_step.branches c (not x) (c.active.next + 2)) nonzero)
-      here (λ equal. omega (arith, equal))
-      (λ choice.
-      let result = plain_operators.binary_result (binary_operator o) (c.active.slots d) (c.active.slots (suc d)) in
-      subst (λ (x : Bool). Matches source calls (Running (Given (int_of (binary_word o a b))) k e w) (if x then plain.Stuck c.output c.input else gives there d result)) (sym (plain_test (c.active.slots (suc d)) ∙ nonzero))
-      (given_value source pages calls some_page (int_of (binary_word o a b)) result k e w there q
-      (same (c.active.slots d) (c.active.slots (suc d)) ∙ ap (λ x. binary_word o x (c.active.slots (suc d))) is_left ∙ ap (binary_word o a) is)
-      shared facts holds end stack))
+      one source pages calls some_page (ap (λ x. computed kinds.Int (if x then Raises 4 else Gives (Int (binary_word u a b))) k e w) (test b ∙ zero_b)) shared jump
+      (λ choice. not_taken (Running (Throwing 4 0) k e w) c (not (operand_word c.active.slots r == 0)) m (ap (λ x. not (x == 0)) (is ∙ b_is))
+      (shared, omega (arith, lands_depth source c.active.function e.locals d q c.frames k lands, shared.fits), lands_plain source c.active.function e.locals d q c.frames k lands, r, uncaught, is ∙ b_is))
+  tested_divides u i j a b false l r d k e w c m q plain_test test same zero_b shared facts is_left is holds (jump, uncaught, behind) here end lands =
+      let nonzero : (operand_word c.active.slots r == 0) ≡ false = ap (λ x. x == 0) is ∙ zero_b in
+      two source pages calls some_page (at c m)
+      (ap (λ x. computed kinds.Int (if x then Raises 4 else Gives (Int (binary_word u a b))) k e w) (test b ∙ zero_b)) shared shared
+      jump (λ choice. ap (λ x. plain_step.branches c (not x) m) nonzero)
+      here (λ equal. omega (arith, equal, behind))
+      (quotient u a b l r d k e w (at c m) q plain_test same zero_b shared facts is_left is holds end lands)
 
-  computes : (o : Operator) (i j : Kind) (a b : ℕ) (k : List Entry) (e : Environment) (w : World) (c : Configuration) → IsStep source pages calls some_page (Given (of_kind j (Int b))) (Needs (Apply o (of_kind i (Int a))) ∷ k) e w c
-  computes operators.Divide i j a b k e w c well (shared, facts, (is, (is_left, holds), (q, here, stack))) =
-      divides operators.Divide i j a b (b == 0) k e w c q (λ x. refl) (λ x. refl) (λ x y. refl) refl shared facts is is_left holds here stack
-  computes operators.Remainder i j a b k e w c well (shared, facts, (is, (is_left, holds), (q, here, stack))) =
-      divides operators.Remainder i j a b (b == 0) k e w c q (λ x. refl) (λ x. refl) (λ x y. refl) refl shared facts is is_left holds here stack
-  computes o i j a b k e w c well (shared, facts, (is, (is_left, holds), (q, (here, end), stack))) =
-      let d = top source c.active.function k in
+  -- a divisor that is a number other than 0 has no test
+  divides : (u : Operator) (i j : Kind) (a b : ℕ) (l r : Operand) (d : ℕ) (k : List Entry) (e : Environment) (w : World) (c : Configuration) (q : ℕ)
+      → ((x : ℕ) → plain_operators.has_no_result (binary_operator u) x ≡ (x == 0)) → ((x : ℕ) → has_no_result u x ≡ (x == 0))
+      → ((x y : ℕ) → plain_operators.binary_result (binary_operator u) x y ≡ binary_word u x y)
+      → SharedAt source calls w c → DataIn source c.active.slots k e w c
+      → operand_word c.active.slots l ≡ a → operand_word c.active.slots r ≡ b → Holds c.active.slots (base_of source c.active.function) (held k)
+      → CheckedAt (code_of source c.active.function) (bounds_at source c.active.function) u d l r c.active.next q
+      → LandsStack source c.active.function e.locals d q c.frames k → GoesBehind (of_kind j (Int b)) (Needs (Apply u (of_kind i (Int a))) ∷ k) e w c
+  divides u i j a b l (operands.Word (suc n)) d k e w c q plain_test test same shared facts is_left is holds (m, begin, here, end) lands =
+      let nonzero : (b == 0) ≡ false = ap (λ x. x == 0) (sym is) ∙ false_from_ne_true (suc n == 0) (λ h. absurd (let z : suc n ≡ 0 = eqb-true (suc n) 0 h in omega (arith, z))) in
+      one source pages calls some_page (ap (λ x. computed kinds.Int (if x then Raises 4 else Gives (Int (binary_word u a b))) k e w) (test b ∙ nonzero)) shared
+      (subst (λ x. At (code_of source c.active.function) x (instructions.Binary (binary_operator u) d l (operands.Word (suc n)))) (sym begin) here)
+      (quotient u a b l (operands.Word (suc n)) d k e w c q plain_test same nonzero shared facts is_left is holds (ap (λ x. x + 1) begin ∙ end) lands)
+  divides u i j a b l (operands.Word zero) d k e w c q plain_test test same shared facts is_left is holds (m, check, here, end) lands =
+      tested_divides u i j a b (b == 0) l (operands.Word zero) d k e w c m q plain_test test same refl shared facts is_left is holds check here end lands
+  divides u i j a b l (operands.Slot n) d k e w c q plain_test test same shared facts is_left is holds (m, check, here, end) lands =
+      tested_divides u i j a b (b == 0) l (operands.Slot n) d k e w c m q plain_test test same refl shared facts is_left is holds check here end lands
+
+  computes : (u : Operator) (i j : Kind) (a b : ℕ) (l r : Operand) (d : ℕ) (k : List Entry) (e : Environment) (w : World) (c : Configuration) (q : ℕ)
+      → SharedAt source calls w c → DataIn source c.active.slots k e w c
+      → operand_word c.active.slots l ≡ a → operand_word c.active.slots r ≡ b → Holds c.active.slots (base_of source c.active.function) (held k)
+      → OperatorAt (code_of source c.active.function) (bounds_at source c.active.function) u d l r c.active.next q
+      → LandsStack source c.active.function e.locals d q c.frames k → GoesBehind (of_kind j (Int b)) (Needs (Apply u (of_kind i (Int a))) ∷ k) e w c
+  computes operators.Divide i j a b l r d k e w c q shared facts is_left is holds here lands =
+      divides operators.Divide i j a b l r d k e w c q (λ x. refl) (λ x. refl) (λ x y. refl) shared facts is_left is holds here lands
+  computes operators.Remainder i j a b l r d k e w c q shared facts is_left is holds here lands =
+      divides operators.Remainder i j a b l r d k e w c q (λ x. refl) (λ x. refl) (λ x y. refl) shared facts is_left is holds here lands
+  computes u i j a b l r d k e w c q shared facts is_left is holds (here, end) lands =
+      let x = operand_word c.active.slots l in
+      let y = operand_word c.active.slots r in
       one source pages calls some_page refl shared here
-      (λ choice. given_value source pages calls some_page (int_of (binary_word o a b)) (binary_word o (c.active.slots d) (c.active.slots (suc d))) k e w c q
-      (ap (λ x. binary_word o x (c.active.slots (suc d))) is_left ∙ ap (binary_word o a) is) shared facts holds end stack)
+      (λ choice. landed source pages calls some_page (int_of (binary_word u a b)) (binary_word u x y) d k e w c q
+      (ap (λ z. binary_word u z y) is_left ∙ ap (binary_word u a) is) shared facts holds end lands)
 
-  applies_values : (o : Operator) (i j : Kind) (left v : Value) (k : List Entry) (e : Environment) (w : World) (c : Configuration) → IsStep source pages calls some_page (Given (of_kind j v)) (Needs (Apply o (of_kind i left)) ∷ k) e w c
-  applies_values o i j (Int a) (Int b) k e w c well related = computes o i j a b k e w c well related
-  applies_values o i j left v k e w c well related = absurd (well refl)
+  -- both operands are there
+  applies_values : (u : Operator) (i j : Kind) (left v : Value) (k : List Entry) (e : Environment) (w : World) (c : Configuration)
+      → IsWell (step source (Running (Given (of_kind j v)) (Needs (Apply u (of_kind i left)) ∷ k) e w)) → SharedAt source calls w c → DataIn source c.active.slots k e w c
+      → ReadyAt source (of_kind j v) e.locals c.active.function c.active.next c.active.slots c.frames (Needs (Apply u (of_kind i left)) ∷ k)
+      → GoesBehind (of_kind j v) (Needs (Apply u (of_kind i left)) ∷ k) e w c
+  applies_values u i j (Int a) (Int b) k e w c well shared facts (l, r, d, q, is_left, is, holds, here, lands) = computes u i j a b l r d k e w c q shared facts is_left is holds here lands
+  applies_values u i j left v k e w c well shared facts ready = absurd (well refl)
 
-  applies : (o : Operator) (left v : Operand) (k : List Entry) (e : Environment) (w : World) (c : Configuration) → IsStep source pages calls some_page (Given v) (Needs (Apply o left) ∷ k) e w c
-  applies o left v k e w c well related = applies_values o left.kind v.kind left.value v.value k e w c well related
+  applies : (u : Operator) (left v : Kinded) (k : List Entry) (e : Environment) (w : World) (c : Configuration)
+      → IsWell (step source (Running (Given v) (Needs (Apply u left) ∷ k) e w)) → SharedAt source calls w c → DataIn source c.active.slots k e w c
+      → ReadyAt source v e.locals c.active.function c.active.next c.active.slots c.frames (Needs (Apply u left) ∷ k) → GoesBehind v (Needs (Apply u left) ∷ k) e w c
+  applies u left v k e w c well shared facts ready = applies_values u left.kind v.kind left.value v.value k e w c well shared facts ready
 
   -- ---- truth values
 
@@ -193,77 +274,95 @@ module _ (source : Program) (pages calls : ℕ) (some_page : 1 ≤ pages) where
   negated c k = advanced (with_slots c (put c.active.slots (top source c.active.function k) (truth (c.active.slots (top source c.active.function k) == 0))))
 
   -- where a word was negated once, a second time gives 0 or 1
-  negated_twice : (t : ℕ) (k : List Entry) (e : Environment) (w : World) (c : Configuration) (q : ℕ) → t ≡ truth (not (c.active.slots (top source c.active.function k) == 0))
-      → SharedAt source calls w c → DataAt source c.active.function w.objects e.locals (callers k) c.active.slots c.globals c.frames
-      → Holds c.active.slots (base_of source c.active.function) (held k) → c.active.next + 1 + 1 ≡ q → ValueStack source c.active.function e.locals q c.frames k
-      → Related source calls (Given (int_of t)) k e w (negated (negated c k) k)
-  negated_twice t k e w c q t_is shared facts holds end stack =
-      let d = top source c.active.function k in
+  negated_twice : (t d : ℕ) (k : List Entry) (e : Environment) (w : World) (c : Configuration) (q : ℕ) → t ≡ truth (not (c.active.slots (top source c.active.function k) == 0))
+      → SharedAt source calls w c → DataIn source c.active.slots k e w c
+      → Holds c.active.slots (base_of source c.active.function) (held k) → c.active.next + 1 + 1 ≡ q → LandsStack source c.active.function e.locals d q c.frames k
+      → Related source calls (Given (int_of t)) k e w
+      (advanced (with_slots (negated c k) (put (negated c k).active.slots d (truth ((negated c k).active.slots (top source c.active.function k) == 0)))))
+  negated_twice t d k e w c q t_is shared facts holds end lands =
+      let free = top source c.active.function k in
       let base = base_of source c.active.function in
-      let x = truth (c.active.slots d == 0) in
-      let slots = put c.active.slots d x in
-      given_value source pages calls some_page (int_of t) (truth (slots d == 0)) k e w (negated c k) q
-      (ap (λ y. truth (y == 0)) (put-same c.active.slots d x) ∙ truth_twice (c.active.slots d == 0) ∙ sym t_is)
-      shared (data_put source c.active.function w.objects e.locals (callers k) c.active.slots c.globals c.frames d x (height-least base (held k)) facts)
-      (Holds-put c.active.slots base (held k) d x (omega arith) holds) end stack
+      let x = truth (c.active.slots free == 0) in
+      let slots = put c.active.slots free x in
+      landed source pages calls some_page (int_of t) (truth (slots free == 0)) d k e w (negated c k) q
+      (ap (λ y. truth (y == 0)) (put-same c.active.slots free x) ∙ truth_twice (c.active.slots free == 0) ∙ sym t_is)
+      shared (data_put source c.active.function w.objects e.locals (callers k) c.active.slots c.globals c.frames free x (height-least base (held k)) facts)
+      (Holds-put c.active.slots base (held k) free x (omega arith) holds) end lands
 
-  decides_truth : (v : Operand) (k : List Entry) (e : Environment) (w : World) (c : Configuration) → IsStep source pages calls some_page (Given v) (Needs Decide ∷ k) e w c
-  decides_truth v k e w c well (shared, facts, (is, holds, (q, (first, second, end), stack))) =
+  decides_truth : (v : Kinded) (o : Operand) (k : List Entry) (e : Environment) (w : World) (c : Configuration) → Stands v o k e w c
+      → ValueStack source c.active.function e.locals o c.active.next c.frames (Needs Decide ∷ k) → GoesBehind v (Needs Decide ∷ k) e w c
+  decides_truth v o k e w c (shared, facts, is, holds) (d, q, there, (first, second, end), lands) =
       let x = c.active.slots (top source c.active.function k) in
+      let is_x : Is v.value x = subst (λ z. Is v.value (operand_word c.active.slots z)) there is in
       two source pages calls some_page (negated c k)
-      (ap (λ o. computed kinds.Int (truth_of o) k e w) (zero_is v.value x is)) shared shared first (λ choice. refl) second (λ equal. omega (arith, equal))
-      (λ choice. negated_twice (truth (not (x == 0))) k e w c q refl shared facts holds end stack)
+      (ap (λ z. computed kinds.Int (truth_of z) k e w) (zero_is v.value x is_x)) shared shared first (λ choice. refl) second (λ equal. omega (arith, equal))
+      (λ choice. negated_twice (truth (not (x == 0))) d k e w c q refl shared facts holds end lands)
 
   -- ---- chains
 
+  -- the value of all before goes to what is left of a chain
+  chain_lands : (os : Operations) (g : ℕ) (locals : ℕ → Option ℕ) (d p q : ℕ) (frames : List Frame) (k : List Entry)
+      → OperationsAt (code_of source g) (bounds_at source g) os (operands.Slot (next_slot os d (top source g k))) d (top source g k) p q
+      → LandsStack source g locals d q frames k → LandsStack source g locals (next_slot os d (top source g k)) p frames (Needs (Chain os) ∷ k)
+  chain_lands NoOperations g locals d p q frames k (is, end) lands = lands_at source pages calls some_page g locals d p q frames k end lands
+  chain_lands (ThenCompute u b os) g locals d p q frames k ops lands = in_temporary (omega arith) (d, q, ops, lands)
+  chain_lands (ThenTest u b os) g locals d p q frames k ops lands = in_temporary (omega arith) (d, q, ops, lands)
+  chain_lands os g locals d p q frames k ops lands = absurd ops
+
   -- where the left operand decides, the right one is jumped over
-  decided_at_once : (o : LogicalOperator) (b : Expression) (os : Operations) (v : Operand) (f : Bool) (k : List Entry) (e : Environment) (w : World) (c : Configuration) (i : Instruction) (m r q : ℕ)
-      → step source (Running (Given v) (Needs (Chain (ThenTest o b os)) ∷ k) e w) ≡ Running (Given (int_of (if f then 0 else 1))) (Needs (Chain os) ∷ k) e w
+  decided_at_once : (u : LogicalOperator) (b : Expression) (os : Operations) (v : Kinded) (f : Bool) (k : List Entry) (e : Environment) (w : World) (c : Configuration) (i : Instruction) (d m r : ℕ)
+      → step source (Running (Given v) (Needs (Chain (ThenTest u b os)) ∷ k) e w) ≡ Running (Given (int_of (if f then 0 else 1))) (Needs (Chain os) ∷ k) e w
       → At (code_of source c.active.function) c.active.next i → ((choice : Choice) → plain_step.performed (lower_program source) choice c i ≡ plain.Running (at c m))
-      → i ≢ instructions.Unary plain_unary.Not (top source c.active.function k) (operands.Slot (top source c.active.function k))
+      → ((x : ℕ) → i ≢ instructions.Unary plain_unary.Not x (operands.Slot (top source c.active.function k)))
       → (c.active.slots (top source c.active.function k) == 0) ≡ f
-      → SharedAt source calls w c → DataAt source c.active.function w.objects e.locals (callers k) c.active.slots c.globals c.frames
+      → SharedAt source calls w c → DataIn source c.active.slots k e w c
       → Holds c.active.slots (base_of source c.active.function) (held k)
-      → TruthAt (code_of source c.active.function) (bounds_at source c.active.function) (top source c.active.function k) m r
-      → ValueStack source c.active.function e.locals r c.frames (Needs (Chain os) ∷ k)
-      → IsMatched source pages calls some_page (Running (Given v) (Needs (Chain (ThenTest o b os)) ∷ k) e w) (plain.Running c)
-  decided_at_once o b os v f k e w c i m r q does here jumps other told shared facts holds (first, second, end) stack =
+      → TruthAt (code_of source c.active.function) (bounds_at source c.active.function) (top source c.active.function k) d m r
+      → LandsStack source c.active.function e.locals d r c.frames (Needs (Chain os) ∷ k)
+      → GoesBehind v (Needs (Chain (ThenTest u b os)) ∷ k) e w c
+  decided_at_once u b os v f k e w c i d m r does here jumps other told shared facts holds (first, second, end) lands =
       let code = code_of source c.active.function in
-      let d = top source c.active.function k in
+      let free = top source c.active.function k in
       let there = at c m in
-      let negation = instructions.Unary plain_unary.Not d (operands.Slot d) in
-      let s = Running (Given v) (Needs (Chain (ThenTest o b os)) ∷ k) e w in
       three source pages calls some_page there (negated there k) does shared
-      (shared_within source pages calls some_page w there shared) (shared_way source pages calls some_page (Given v) (Needs (Chain (ThenTest o b os)) ∷ k) e w there shared)
-      (shared_within source pages calls some_page w (negated there k) shared) (shared_way source pages calls some_page (Given v) (Needs (Chain (ThenTest o b os)) ∷ k) e w (negated there k) shared)
+      (shared_within source pages calls some_page w there shared) (shared_way source pages calls some_page (Given v) (Needs (Chain (ThenTest u b os)) ∷ k) e w there shared)
+      (shared_within source pages calls some_page w (negated there k) shared) (shared_way source pages calls some_page (Given v) (Needs (Chain (ThenTest u b os)) ∷ k) e w (negated there k) shared)
       here jumps first (λ choice. refl) second
-      (other_place code c.active.next m i negation here first other) (other_place code c.active.next (m + 1) i negation here second other) (λ equal. omega (arith, equal))
-      (λ choice. negated_twice (if f then 0 else 1) (Needs (Chain os) ∷ k) e w there r (opposite f told) shared facts holds end stack)
+      (other_place code c.active.next m i (instructions.Unary plain_unary.Not free (operands.Slot free)) here first (other free))
+      (other_place code c.active.next (m + 1) i (instructions.Unary plain_unary.Not d (operands.Slot free)) here second (other d)) (λ equal. omega (arith, equal))
+      (λ choice. negated_twice (if f then 0 else 1) d (Needs (Chain os) ∷ k) e w there r (opposite f told) shared facts holds end lands)
     where
       opposite : (b : Bool) → (c.active.slots (top source c.active.function k) == 0) ≡ b → (if b then 0 else 1) ≡ truth (not (c.active.slots (top source c.active.function k) == 0))
-      opposite true e = ap (λ x. truth (not x)) (sym e)
-      opposite false e = ap (λ x. truth (not x)) (sym e)
+      opposite true same = ap (λ x. truth (not x)) (sym same)
+      opposite false same = ap (λ x. truth (not x)) (sym same)
 
   -- in a place with a test, both ways
-  tests : (o : LogicalOperator) (b : Expression) (os : Operations) (v : Operand) (f : Bool) (k : List Entry) (e : Environment) (w : World) (c : Configuration)
-      → (c.active.slots (top source c.active.function k) == 0) ≡ f → Related source calls (Given v) (Needs (Chain (ThenTest o b os)) ∷ k) e w c
-      → IsMatched source pages calls some_page (Running (Given v) (Needs (Chain (ThenTest o b os)) ∷ k) e w) (plain.Running c)
-  tests logical.AndThen b os v true k e w c told (shared, facts, (is, holds, (q, (m, r, jump, at_b, truths, ops), stack))) =
-      let does = ap (λ (x : Option Bool). tested x logical.AndThen b os (k) e w) (zero_is v.value _ is ∙ ap Some told) in
-      decided_at_once logical.AndThen b os v true k e w c _ m r q does jump (λ choice. ap (λ x. plain_step.branches c x m) told) (λ same. let f : jump_if_zero _ m ≡ instructions.Unary plain_unary.Not _ _ = same in cc) told shared facts holds truths (q, ops, stack)
-  tests logical.AndThen b os v false k e w c told (shared, facts, (is, holds, (q, (m, r, jump, at_b, truths, ops), stack))) =
-      let does = ap (λ (x : Option Bool). tested x logical.AndThen b os (k) e w) (zero_is v.value _ is ∙ ap Some told) in
+  tests : (u : LogicalOperator) (b : Expression) (os : Operations) (v : Kinded) (f : Bool) (k : List Entry) (e : Environment) (w : World) (c : Configuration) (d q : ℕ)
+      → (c.active.slots (top source c.active.function k) == 0) ≡ f → Stands v (operands.Slot (top source c.active.function k)) k e w c
+      → OperationsAt (code_of source c.active.function) (bounds_at source c.active.function) (ThenTest u b os) (operands.Slot (top source c.active.function k)) d (top source c.active.function k) c.active.next q
+      → LandsStack source c.active.function e.locals d q c.frames k → GoesBehind v (Needs (Chain (ThenTest u b os)) ∷ k) e w c
+  tests logical.AndThen b os v true k e w c d q told (shared, facts, is, holds) (m, r, there, jump, at_b, truths, ops) lands =
+      let does = ap (λ (x : Option Bool). tested x logical.AndThen b os k e w) (zero_is v.value _ is ∙ ap Some told) in
+      decided_at_once logical.AndThen b os v true k e w c _ (next_slot os d (top source c.active.function k)) m r does jump (λ choice. ap (λ x. plain_step.branches c x m) told)
+      (λ x same. let f : jump_if_zero _ m ≡ instructions.Unary plain_unary.Not x _ = same in cc) told shared facts holds truths
+      (chain_lands os c.active.function e.locals d r q c.frames k ops lands)
+  tests logical.AndThen b os v false k e w c d q told (shared, facts, is, holds) (m, r, there, jump, at_b, truths, ops) lands =
+      let free = top source c.active.function k in
+      let does = ap (λ (x : Option Bool). tested x logical.AndThen b os k e w) (zero_is v.value _ is ∙ ap Some told) in
       one source pages calls some_page does shared jump
       (λ choice. not_taken (Running (Evaluating b) (Needs Decide ∷ Needs (Chain os) ∷ k) e w) c _ m told
-      (shared, facts, (m, at_b, holds, (r, truths, (q, ops, stack)))))
-  tests logical.OrElse b os v true k e w c told (shared, facts, (is, holds, (q, (m, r, jump, at_b, truths, ops), stack))) =
-      let does = ap (λ (x : Option Bool). tested x logical.OrElse b os (k) e w) (zero_is v.value _ is ∙ ap Some told) in
+      (shared, facts, into_slot free m at_b holds (in_temporary (omega arith) (next_slot os d free, r, refl, truths, chain_lands os c.active.function e.locals d r q c.frames k ops lands))))
+  tests logical.OrElse b os v true k e w c d q told (shared, facts, is, holds) (m, r, there, jump, at_b, truths, ops) lands =
+      let free = top source c.active.function k in
+      let does = ap (λ (x : Option Bool). tested x logical.OrElse b os k e w) (zero_is v.value _ is ∙ ap Some told) in
       one source pages calls some_page does shared jump
       (λ choice. not_taken (Running (Evaluating b) (Needs Decide ∷ Needs (Chain os) ∷ k) e w) c _ m (ap not told)
-      (shared, facts, (m, at_b, holds, (r, truths, (q, ops, stack)))))
-  tests logical.OrElse b os v false k e w c told (shared, facts, (is, holds, (q, (m, r, jump, at_b, truths, ops), stack))) =
-      let does = ap (λ (x : Option Bool). tested x logical.OrElse b os (k) e w) (zero_is v.value _ is ∙ ap Some told) in
-      decided_at_once logical.OrElse b os v false k e w c _ m r q does jump (λ choice. ap (λ x. plain_step.branches c (not x) m) told) (λ same. let f : jump_if_nonzero _ m ≡ instructions.Unary plain_unary.Not _ _ = same in cc) told shared facts holds truths (q, ops, stack)
+      (shared, facts, into_slot free m at_b holds (in_temporary (omega arith) (next_slot os d free, r, refl, truths, chain_lands os c.active.function e.locals d r q c.frames k ops lands))))
+  tests logical.OrElse b os v false k e w c d q told (shared, facts, is, holds) (m, r, there, jump, at_b, truths, ops) lands =
+      let does = ap (λ (x : Option Bool). tested x logical.OrElse b os k e w) (zero_is v.value _ is ∙ ap Some told) in
+      decided_at_once logical.OrElse b os v false k e w c _ (next_slot os d (top source c.active.function k)) m r does jump (λ choice. ap (λ x. plain_step.branches c (not x) m) told)
+      (λ x same. let f : jump_if_nonzero _ m ≡ instructions.Unary plain_unary.Not x _ = same in cc) told shared facts holds truths
+      (chain_lands os c.active.function e.locals d r q c.frames k ops lands)
 
   -- the left operand fits
   awaited : (fits : Bool) (waiting : Awaiting) (b : Expression) (os : Operations) (k : List Entry) (e : Environment) (w : World) → IsWell (awaits_right fits waiting b os k e w)
@@ -271,140 +370,331 @@ module _ (source : Program) (pages calls : ℕ) (some_page : 1 ≤ pages) where
   awaited true waiting b os k e w well = refl
   awaited false waiting b os k e w well = absurd (well refl)
 
-  chains : (os : Operations) (v : Operand) (k : List Entry) (e : Environment) (w : World) (c : Configuration) → IsStep source pages calls some_page (Given v) (Needs (Chain os) ∷ k) e w c
-  chains NoOperations v k e w c well (shared, facts, (is, holds, (q, end, stack))) =
-      silently source pages calls some_page (Running (Given v) (Needs (Chain NoOperations) ∷ k) e w) (Running (Given v) k e w) (plain.Running c) refl
-      (shared, facts, (is, holds, subst (λ r. ValueStack source c.active.function e.locals r c.frames k) (sym end) stack))
+  -- an operator: its right operand has no code, or comes behind the left one
+  chain_goes_on : (known : Option Operand) (u : Operator) (b : Expression) (os : Operations) (v : Kinded) (l : Operand) (k : List Entry) (e : Environment) (w : World) (c : Configuration) (r : Operand) (d m s : ℕ)
+      → IsWell (step source (Running (Given v) (Needs (Chain (ThenCompute u b os)) ∷ k) e w)) → operand_of b ≡ known → Stands v l k e w c
+      → OperandBy (code_of source c.active.function) (bounds_at source c.active.function) known
+      ((l ≡ operands.Slot (top source c.active.function k))
+      × ExpressionAt (code_of source c.active.function) (bounds_at source c.active.function) b (value_slot b (suc (top source c.active.function k))) (suc (top source c.active.function k)) c.active.next m)
+      (value_slot b (suc (top source c.active.function k))) r c.active.next m
+      → OperatorAt (code_of source c.active.function) (bounds_at source c.active.function) u d l r m s
+      → LandsStack source c.active.function e.locals d s c.frames (Needs (Chain os) ∷ k)
+      → GoesBehind v (Needs (Chain (ThenCompute u b os)) ∷ k) e w c
+  chain_goes_on (Some known) u b os v l k e w c r d m s well is_known (shared, facts, is, holds) (r_is, begin) here lands =
+      let g = c.active.function in
+      silently source pages calls some_page (Running (Given v) (Needs (Chain (ThenCompute u b os)) ∷ k) e w) (Running (Evaluating b) (Needs (Apply u v) ∷ Needs (Chain os) ∷ k) e w) (plain.Running c) (awaited (is_kind v.kind kinds.Int) (Apply u v) b os k e w well)
+      (shared, facts, as_right (l, r, d, s, is_known ∙ ap Some (sym r_is), is, holds, subst (λ x. OperatorAt (code_of source g) (bounds_at source g) u d l r x s) (sym begin) here, lands))
       (omega arith)
-  chains (ThenCompute o b os) v k e w c well (shared, facts, (is, holds, (q, (m, r, at_b, at_o, ops), stack))) =
-      silently source pages calls some_page (Running (Given v) (Needs (Chain (ThenCompute o b os)) ∷ k) e w) (Running (Evaluating b) (Needs (Apply o v) ∷ Needs (Chain os) ∷ k) e w) (plain.Running c)
-      (awaited (is_kind v.kind kinds.Int) (Apply o v) b os k e w well)
-      (shared, facts, (m, at_b, (is, holds), (r, at_o, (q, ops, stack))))
+  chain_goes_on None u b os v l k e w c r d m s well is_known (shared, facts, is, holds) (r_is, (there, at_b)) here lands =
+      let g = c.active.function in
+      let free = suc (top source g k) in
+      silently source pages calls some_page (Running (Given v) (Needs (Chain (ThenCompute u b os)) ∷ k) e w) (Running (Evaluating b) (Needs (Apply u v) ∷ Needs (Chain os) ∷ k) e w) (plain.Running c) (awaited (is_kind v.kind kinds.Int) (Apply u v) b os k e w well) (
+        shared,
+        facts,
+        as_operand r m
+            (subst (λ x. OperandBy (code_of source g) (bounds_at source g) x (ExpressionAt (code_of source g) (bounds_at source g) b (value_slot b free) free c.active.next m) (value_slot b free) r c.active.next m) (sym is_known) (r_is, at_b))
+            (subst (λ x. Is v.value (operand_word c.active.slots x)) there is, holds)
+            (d, s, subst (λ x. OperatorAt (code_of source g) (bounds_at source g) u d x r m s) there here, lands),
+      )
       (omega arith)
-  chains (ThenTest o b os) v k e w c well related = tests o b os v (c.active.slots (top source c.active.function k) == 0) k e w c refl related
-  chains os v k e w c well (shared, facts, (is, holds, (q, at, stack))) = absurd at
 
-  -- ---- assignments and arguments
+  chains : (os : Operations) (v : Kinded) (o : Operand) (k : List Entry) (e : Environment) (w : World) (c : Configuration)
+      → IsWell (step source (Running (Given v) (Needs (Chain os) ∷ k) e w)) → Stands v o k e w c
+      → ValueStack source c.active.function e.locals o c.active.next c.frames (Needs (Chain os) ∷ k) → GoesBehind v (Needs (Chain os) ∷ k) e w c
+  chains NoOperations v o k e w c well (shared, facts, is, holds) stack =
+      silently source pages calls some_page (Running (Given v) (Needs (Chain NoOperations) ∷ k) e w) (Running (Given v) k e w) (plain.Running c) refl
+      (shared, in_operand o facts is holds stack)
+      (omega arith)
+  chains (ThenCompute u b os) v o k e w c well stands (d, q, (r, m, s, at_b, at, ops), lands) =
+      chain_goes_on (operand_of b) u b os v o k e w c r (next_slot os d (top source c.active.function k)) m s well refl stands at_b at (chain_lands os c.active.function e.locals d s q c.frames k ops lands)
+  chains (ThenTest u b os) v o k e w c well (shared, facts, is, holds) (d, q, (m, r, there, jump, at_b, truths, ops), lands) =
+      tests u b os v (c.active.slots (top source c.active.function k) == 0) k e w c d q refl
+      (shared, facts, subst (λ x. Is v.value (operand_word c.active.slots x)) there is, holds) (m, r, refl, jump, at_b, truths, ops) lands
+  chains os v o k e w c well stands (d, q, at, lands) = absurd at
+
+  -- ---- assignments
+
+  -- the value of an assignment is where it is to be, or one instruction brings it there
+  data Handed (v : Kinded) (k : List Entry) (e : Environment) (w : World) (c : Configuration) : Type 0 where
+    at_once : Related source calls (Given v) k e w c → Handed v k e w c
+    by_copy : (i : Instruction) → At (code_of source c.active.function) c.active.next i
+        → ((choice : Choice) → Matches source calls (Running (Given v) k e w) (performed (lower_program source) choice c i)) → Handed v k e w c
+
+  -- a value that is in a slot already has landed there
+  landed_there : (v : Kinded) (d : ℕ) (k : List Entry) (e : Environment) (w : World) (c : Configuration) (q : ℕ) → Stands v (operands.Slot d) k e w c → c.active.next ≡ q
+      → LandsStack source c.active.function e.locals d q c.frames k → Related source calls (Given v) k e w c
+  landed_there v d k e w c q (shared, facts, is, holds) end (in_temporary least stack) =
+      (shared, in_operand (operands.Slot d) facts is holds (subst (λ r. ValueStack source c.active.function e.locals (operands.Slot d) r c.frames k) (sym end) stack))
+  landed_there v d k e w c q (shared, facts, is, holds) end (in_local below stack) =
+      let slots = c.active.slots in (
+        shared,
+        ahead d
+            (slots d, data_same source c.active.function w.objects e.locals (callers k) slots (put slots d (slots d)) c.globals c.frames (λ m less. put_again slots d m) facts)
+            below is holds (subst (λ r. AheadStack source c.active.function e.locals d r c.frames k) (sym end) stack),
+      )
+    where
+      put_again : (slots : ℕ → ℕ) (n m : ℕ) → put slots n (slots n) m ≡ slots m
+      put_again slots n m = elim (cases_eq m n) [
+        | inl equal ↦ ap (put slots n (slots n)) equal ∙ put-same slots n (slots n) ∙ sym (ap slots equal)
+        | inr apart ↦ put-other slots n m (slots n) apart
+      ]
+
+  copied : (b : Bool) (v : Kinded) (o : Operand) (d : ℕ) (k : List Entry) (e : Environment) (w : World) (c : Configuration) (q : ℕ) → is_in o d ≡ b → Stands v o k e w c
+      → CopyBy (code_of source c.active.function) b o d c.active.next q → LandsStack source c.active.function e.locals d q c.frames k → Handed v k e w c
+  copied true v (operands.Slot n) d k e w c q same stands end lands =
+      at_once (landed_there v d k e w c q (subst (λ x. Stands v (operands.Slot x) k e w c) (eqb-true n d same) stands) end lands)
+  copied true v (operands.Word n) d k e w c q same stands end lands = absurd (let f : false ≡ true = same in cc)
+  copied false v o d k e w c q same (shared, facts, is, holds) (here, end) lands =
+      by_copy (instructions.Move d o) here (λ choice. landed source pages calls some_page v (operand_word c.active.slots o) d k e w c q is shared facts holds end lands)
+
+  handed : (v : Kinded) (o : Operand) (k : List Entry) (e : Environment) (w : World) (c : Configuration) (q : ℕ) → c.active.next ≡ q → Stands v o k e w c
+      → HandsOnStack source c.active.function e.locals o q c.frames k → Handed v k e w c
+  handed v o k e w c q here (shared, facts, is, holds) (drops stack) =
+      at_once (shared, nowhere facts (subst (λ r. DroppedStack source c.active.function r c.frames k) (sym here) stack))
+  handed v o k e w c q here (shared, facts, is, holds) (leaves stack) =
+      at_once (shared, in_operand o facts is holds (subst (λ r. ValueStack source c.active.function e.locals o r c.frames k) (sym here) stack))
+  handed v o k e w c q here stands (copies d r copy lands) =
+      copied (is_in o d) v o d k e w c r refl stands (subst (λ x. CopyAt (code_of source c.active.function) o d x r) (sym here) copy) lands
+
+  -- a step that ends so, behind one instruction or behind none
+  hands_behind : {focus : Focus} {before : List Entry} {w0 : World} {i : Instruction} (v : Kinded) (k : List Entry) (e : Environment) (w : World) (c d : Configuration)
+      → step source (Running focus before e w0) ≡ Running (Given v) k e w → SharedAt source calls w0 c → SharedAt source calls w0 d
+      → At (code_of source c.active.function) c.active.next i → ((choice : Choice) → performed (lower_program source) choice c i ≡ plain.Running d) → c.active.next ≢ d.active.next
+      → Handed v k e w d → IsMatched source pages calls some_page (Running focus before e w0) (plain.Running c)
+  hands_behind {focus} {before} {w0} {i} v k e w c d does shared shared_d here first other (at_once related) =
+      one source pages calls some_page does shared here (λ choice. subst (Matches source calls (Running (Given v) k e w)) (sym (first choice)) related)
+  hands_behind {focus} {before} {w0} {i} v k e w c d does shared shared_d here first other (by_copy j at goes) =
+      two source pages calls some_page d does shared shared_d here first at other goes
+
+  hands_at_once : (v : Kinded) (before : List Entry) (k : List Entry) (e : Environment) (w0 w : World) (c : Configuration)
+      → step source (Running (Given v) before e w0) ≡ Running (Given v) k e w → SharedAt source calls w0 c
+      → weight (Running (Given v) k e w) < weight (Running (Given v) before e w0) → Handed v k e w c → GoesBehind v before e w0 c
+  hands_at_once v before k e w0 w c does shared lighter (at_once related) = silently source pages calls some_page (Running (Given v) before e w0) (Running (Given v) k e w) (plain.Running c) does related lighter
+  hands_at_once v before k e w0 w c does shared lighter (by_copy i at goes) = one source pages calls some_page does shared at goes
 
   -- a temporary is no local
   local_apart : (g n : ℕ) (k : List Entry) → n < base_of source g → top source g k ≢ n
   local_apart g n k few same = absurd (omega (arith, same, few, height-least (base_of source g) (held k)))
 
-  stores : (object : ℕ) (v : Operand) (l : Lvalue) (k : List Entry) (e : Environment) (w : World) (c : Configuration) (q : ℕ)
-      → object_of e l ≡ Some object → IsWell (stored_at (Thin object 0) v (Given v) k e w)
-      → SharedAt source calls w c → DataAt source c.active.function w.objects e.locals (callers k) c.active.slots c.globals c.frames
-      → Is v.value (c.active.slots (top source c.active.function k)) → Holds c.active.slots (base_of source c.active.function) (held k)
-      → StoreAt (code_of source c.active.function) (bounds_at source c.active.function) l (top source c.active.function k) c.active.next q
-      → ValueStack source c.active.function e.locals q c.frames k
-      → IsMatched source pages calls some_page (Running (Given v) (Needs (Store (Thin object 0)) ∷ k) e w) (plain.Running c)
-  stores object v (Local p n) k e w c q found well shared facts is holds (here, end) stack =
+  stores : (object : ℕ) (v : Kinded) (l : Lvalue) (o to : Operand) (k : List Entry) (e : Environment) (w : World) (c : Configuration) (q : ℕ)
+      → object_of e l ≡ Some object → IsWell (stored_at (Thin object 0) v (Given v) k e w) → Stands v o k e w c
+      → StoreAt source c.active.function l o to c.active.next q → HandsOnStack source c.active.function e.locals to q c.frames k
+      → GoesBehind v (Needs (Store (Thin object 0)) ∷ k) e w c
+  stores object v (Local p n) o to k e w c q found well (shared, facts, is, holds) (here, end, there) hands =
       let g = c.active.function in
-      let d = top source g k in
-      let x = c.active.slots d in
+      let x = operand_word c.active.slots o in
       let stored = is_stored object v (Given v) k e w well in
       let few : n < base_of source g = (facts.2.within n object found).0 in
-      one source pages calls some_page stored.gives shared here
-      (λ choice. (
+      let after : Configuration = advanced (with_slots c (put c.active.slots n x)) in
+      let next = written w object 0 stored.at v.value in
+      hands_behind v k e next c after stored.gives shared shared here (λ choice. refl) (λ same. omega (arith, same))
+      (handed v to k e next after q end (
         shared,
-        data_assigned source g w.objects (written w object 0 stored.at v.value).objects e.locals (callers k) c.active.slots c.globals c.frames n object v.value x found
+        data_assigned source g w.objects next.objects e.locals (callers k) c.active.slots c.globals c.frames n object v.value x found
             (written_here w object stored.at v.value stored.object_there stored.cell_there) (written_elsewhere w object stored.at v.value stored.object_there stored.cell_there)
             (written_length w object stored.at v.value stored.object_there stored.cell_there) is facts,
-        (
-          subst (Is v.value) (sym (put-other c.active.slots n d x (local_apart g n k few))) is,
-          Holds-local c.active.slots (base_of source g) (held k) n x few holds,
-          subst (λ r. ValueStack source g e.locals r c.frames k) (sym end) stack,
-        ),
-      ))
-  stores object v (Global n) k e w c q found well shared facts is holds (few, here, end) stack =
+        subst (λ z. Is v.value (operand_word after.active.slots z)) (sym there) (subst (Is v.value) (sym (put-same c.active.slots n x)) is),
+        Holds-local c.active.slots (base_of source g) (held k) n x few holds,
+      ) hands)
+  stores object v (Global n) o to k e w c q found well (shared, facts, is, holds) (here, end, there, few) hands =
       let g = c.active.function in
-      let d = top source g k in
+      let x = operand_word c.active.slots o in
       let stored = is_stored object v (Given v) k e w well in
       let same : n ≡ object = same_Some n object found in
-      one source pages calls some_page stored.gives shared here
-      (λ choice. (
+      let after : Configuration = advanced (record c { globals = put c.globals n x }) in
+      let next = written w object 0 stored.at v.value in
+      hands_behind v k e next c after stored.gives shared shared here (λ choice. refl) (λ equal. omega (arith, equal))
+      (handed v to k e next after q end (
         shared,
-        data_assigned_global source g w.objects (written w object 0 stored.at v.value).objects e.locals (callers k) c.active.slots c.globals c.frames n v.value (c.active.slots d)
+        data_assigned_global source g w.objects next.objects e.locals (callers k) c.active.slots c.globals c.frames n v.value x
             (global_there source pages calls some_page g n few)
-            (ap (contents (written w object 0 stored.at v.value).objects) same ∙ written_here w object stored.at v.value stored.object_there stored.cell_there)
-            (λ o other. written_elsewhere w object stored.at v.value stored.object_there stored.cell_there o (λ equal. other (equal ∙ sym same)))
+            (ap (contents next.objects) same ∙ written_here w object stored.at v.value stored.object_there stored.cell_there)
+            (λ i other. written_elsewhere w object stored.at v.value stored.object_there stored.cell_there i (λ equal. other (equal ∙ sym same)))
             (written_length w object stored.at v.value stored.object_there stored.cell_there) is facts,
-        (is, holds, subst (λ r. ValueStack source g e.locals r c.frames k) (sym end) stack),
-      ))
+        subst (λ z. Is v.value (operand_word c.active.slots z)) (sym there) is,
+        holds,
+      ) hands)
 
-  stores_at : (place : Value) (v : Operand) (k : List Entry) (e : Environment) (w : World) (c : Configuration) → IsStep source pages calls some_page (Given v) (Needs (Store place) ∷ k) e w c
-  stores_at place v k e w c well (shared, facts, (is, holds, (l, q, here, (object, place_is, found), stack))) =
-      subst (λ p. IsMatched source pages calls some_page (Running (Given v) (Needs (Store p) ∷ k) e w) (plain.Running c)) (sym place_is)
-      (stores object v l k e w c q (sym (object_of_same l e) ∙ found) (subst (λ p. IsWell (stored_at p v (Given v) k e w)) place_is well) shared facts is holds here stack)
+  stores_at : (place : Value) (v : Kinded) (o : Operand) (k : List Entry) (e : Environment) (w : World) (c : Configuration)
+      → IsWell (step source (Running (Given v) (Needs (Store place) ∷ k) e w)) → Stands v o k e w c
+      → ValueStack source c.active.function e.locals o c.active.next c.frames (Needs (Store place) ∷ k) → GoesBehind v (Needs (Store place) ∷ k) e w c
+  stores_at place v o k e w c well stands (l, to, q, here, (object, place_is, found), hands) =
+      subst (λ p. GoesBehind v (Needs (Store p) ∷ k) e w c) (sym place_is)
+      (stores object v l o to k e w c q (sym (object_of_same l e) ∙ found) (subst (λ p. IsWell (stored_at p v (Given v) k e w)) place_is well) stands here hands)
 
-  hands_on : (f : Callee) (before : List Operand) (cs : Arguments) (v : Operand) (k : List Entry) (e : Environment) (w : World) (c : Configuration) → IsStep source pages calls some_page (Given v) (Needs (Pass f before cs) ∷ k) e w c
-  hands_on f before cs v k e w c well (shared, facts, (is, holds, (m, q, all, here, call, long, stack))) =
-      silently source pages calls some_page (Running (Given v) (Needs (Pass f before cs) ∷ k) e w) (passes f (v ∷ before) cs k e w) (plain.Running c) refl
-      (passes_related source pages calls some_page f (v ∷ before) cs k e w c m q all shared facts here call (omega (arith, long)) (is, holds) stack)
-      (omega (arith, passes_weight source pages calls some_page f (v ∷ before) cs k e w))
+  -- the local has the value already
+  catches_up : (object n old : ℕ) (v : Kinded) (k : List Entry) (e : Environment) (w : World) (c : Configuration)
+      → e.locals n ≡ Some object → IsWell (stored_at (Thin object 0) v (Given v) k e w) → SharedAt source calls w c → DataIn source (put c.active.slots n old) k e w c
+      → Is v.value (c.active.slots n) → Holds c.active.slots (base_of source c.active.function) (held k)
+      → HandsOnStack source c.active.function e.locals (operands.Slot n) c.active.next c.frames k → GoesBehind v (Needs (Store (Thin object 0)) ∷ k) e w c
+  catches_up object n old v k e w c found well shared facts is holds hands =
+      let g = c.active.function in
+      let stored = is_stored object v (Given v) k e w well in
+      let next = written w object 0 stored.at v.value in
+      hands_at_once v (Needs (Store (Thin object 0)) ∷ k) k e w next c stored.gives shared (omega arith)
+      (handed v (operands.Slot n) k e next c c.active.next refl (
+        shared,
+        data_caught_up source g w.objects next.objects e.locals (callers k) c.active.slots c.globals c.frames n object v.value old found
+            (written_here w object stored.at v.value stored.object_there stored.cell_there) (written_elsewhere w object stored.at v.value stored.object_there stored.cell_there)
+            (written_length w object stored.at v.value stored.object_there stored.cell_there) is facts,
+        is,
+        holds,
+      ) hands)
+
+  -- ---- arguments
+
+  hands_on : (f : Callee) (before : List Kinded) (cs : Arguments) (v : Kinded) (o : Operand) (k : List Entry) (e : Environment) (w : World) (c : Configuration) → Stands v o (Needs (Pass f before cs) ∷ k) e w c
+      → ValueStack source c.active.function e.locals o c.active.next c.frames (Needs (Pass f before cs) ∷ k) → GoesBehind v (Needs (Pass f before cs) ∷ k) e w c
+  hands_on callees.Putchar [] NoArguments v o k e w c (shared, facts, is, holds) (none, single, write, prints) =
+      silently source pages calls some_page (Running (Given v) (Needs (Pass callees.Putchar [] NoArguments) ∷ k) e w) (Running (Calling callees.Putchar (v ∷ [])) k e w) (plain.Running c) refl
+      (shared, facts, (v, o, refl, is, holds, (write, prints)))
+      (omega arith)
+  hands_on callees.Putchar [] (MoreArguments c' cs) v o k e w c stands (none, single, write, prints) = absurd (let f : MoreArguments c' cs ≡ NoArguments = single in cc)
+  hands_on callees.Putchar (u ∷ before) cs v o k e w c stands (none, single, write, prints) = absurd (let f : u ∷ before ≡ [] = none in cc)
+  hands_on callees.Getchar before cs v o k e w c (shared, facts, is, holds) (d, m, q, all, there, here, call, long, lands) =
+      silently source pages calls some_page (Running (Given v) (Needs (Pass callees.Getchar before cs) ∷ k) e w) (passes callees.Getchar (v ∷ before) cs k e w) (plain.Running c) refl
+      (passes_related source pages calls some_page callees.Getchar (v ∷ before) cs k e w c d m q all shared facts here call (omega (arith, long))
+      (subst (λ x. Is v.value (operand_word c.active.slots x)) there is, holds) lands)
+      (omega (arith, passes_weight source pages calls some_page callees.Getchar (v ∷ before) cs k e w))
+  hands_on (callees.Function n) before cs v o k e w c (shared, facts, is, holds) (d, m, q, all, there, here, call, long, lands) =
+      silently source pages calls some_page (Running (Given v) (Needs (Pass (callees.Function n) before cs) ∷ k) e w) (passes (callees.Function n) (v ∷ before) cs k e w) (plain.Running c) refl
+      (passes_related source pages calls some_page (callees.Function n) (v ∷ before) cs k e w c d m q all shared facts here call (omega (arith, long))
+      (subst (λ x. Is v.value (operand_word c.active.slots x)) there is, holds) lands)
+      (omega (arith, passes_weight source pages calls some_page (callees.Function n) (v ∷ before) cs k e w))
 
   -- ---- what is done with the value of a whole expression
 
-  initialises : (n : ℕ) (kind : Kind) (js : Items) (v : Operand) (k : List Entry) (e : Environment) (w : World) (c : Configuration) → IsStep source pages calls some_page (Given v) (Needs (Initialise n kind js) ∷ k) e w c
-  initialises n kind js v k e w c well (shared, facts, (is, holds, (loop, q, here, few, items, stack))) =
-      let g = c.active.function in
-      let x = c.active.slots (base_of source g) in
+  -- a local is made, with the value that it gets
+  makes_local : (n : ℕ) (kind : Kind) (js : Items) (v : Kinded) (k : List Entry) (e : Environment) (w : World) → IsWell (step source (Running (Given v) (Needs (Initialise n kind js) ∷ k) e w))
+      → step source (Running (Given v) (Needs (Initialise n kind js) ∷ k) e w) ≡ Running Proceeding (Rest js ∷ k) (with_local e n (length w.objects)) (made w (variable e.home kind (Some v.value)))
+  makes_local n kind js v k e w well =
       let made_it = declared (region_at w e.home) Proceeding n kind (Some v.value) (Rest js ∷ k) e w in
       let does : step source (Running (Given v) (Needs (Initialise n kind js) ∷ k) e w) ≡ made_it =
       ap (λ (b : Bool). if b then made_it else wrong w) (is_fitting (is_kind v.kind kind) made_it w well) in
-      one source pages calls some_page (does ∙ is_declared (region_at w e.home) Proceeding n kind (Some v.value) (Rest js ∷ k) e w (subst IsWell does well)) shared here
+      does ∙ is_declared (region_at w e.home) Proceeding n kind (Some v.value) (Rest js ∷ k) e w (subst IsWell does well)
+
+  initialises : (n : ℕ) (kind : Kind) (js : Items) (v : Kinded) (o : Operand) (k : List Entry) (e : Environment) (w : World) (c : Configuration)
+      → IsWell (step source (Running (Given v) (Needs (Initialise n kind js) ∷ k) e w)) → Stands v o (Needs (Initialise n kind js) ∷ k) e w c
+      → ValueStack source c.active.function e.locals o c.active.next c.frames (Needs (Initialise n kind js) ∷ k) → GoesBehind v (Needs (Initialise n kind js) ∷ k) e w c
+  initialises n kind js v o k e w c well (shared, facts, is, holds) (loop, q, here, few, items, stack) =
+      let g = c.active.function in
+      let x = operand_word c.active.slots o in
+      one source pages calls some_page (makes_local n kind js v k e w well) shared here
       (λ choice. (
         shared,
-        data_declared source g w.objects e (callers k) c.active.slots (put c.active.slots n x) c.globals c.frames n (variable e.home kind (Some v.value)) few
+        behind_statement loop
+            (data_declared source g w.objects e (callers k) c.active.slots (put c.active.slots n x) c.globals c.frames n (variable e.home kind (Some v.value)) few
             (λ m less other. put-other c.active.slots n m x other)
-            (λ u has. subst (λ y. Is u y) (sym (put-same c.active.slots n x)) (subst (λ y. Is y x) (same_Some v.value u has) is)) facts,
-        inl (loop, (q, items, stack)),
+            (λ u has. subst (λ y. Is u y) (sym (put-same c.active.slots n x)) (subst (λ y. Is y x) (same_Some v.value u has) is)) facts)
+            (q, items, stack),
       ))
 
-  chooses : (s t : Statement) (v : Operand) (f : Bool) (k : List Entry) (e : Environment) (w : World) (c : Configuration)
-      → (c.active.slots (base_of source c.active.function) == 0) ≡ f → Related source calls (Given v) (Needs (Choose s t) ∷ k) e w c
-      → IsMatched source pages calls some_page (Running (Given v) (Needs (Choose s t) ∷ k) e w) (plain.Running c)
-  chooses s t v true k e w c told (shared, facts, (is, holds, (loop, r, q, jump, at_s, over, at_t, stack))) =
+  initialises_ahead : (n old : ℕ) (kind : Kind) (js : Items) (v : Kinded) (k : List Entry) (e : Environment) (w : World) (c : Configuration) (loop : ℕ)
+      → IsWell (step source (Running (Given v) (Needs (Initialise n kind js) ∷ k) e w)) → SharedAt source calls w c
+      → DataIn source (put c.active.slots n old) (Needs (Initialise n kind js) ∷ k) e w c → n < base_of source c.active.function → Is v.value (c.active.slots n)
+      → StatementStack source c.active.function loop c.active.next c.frames (Rest js ∷ k) → GoesBehind v (Needs (Initialise n kind js) ∷ k) e w c
+  initialises_ahead n old kind js v k e w c loop well shared facts few is stack =
+      let g = c.active.function in
+      let slots = c.active.slots in
+      silently source pages calls some_page (Running (Given v) (Needs (Initialise n kind js) ∷ k) e w)
+      (Running Proceeding (Rest js ∷ k) (with_local e n (length w.objects)) (made w (variable e.home kind (Some v.value)))) (plain.Running c)
+      (makes_local n kind js v k e w well) (
+        shared,
+        behind_statement loop
+            (data_declared source g w.objects e (callers k) (put slots n old) slots c.globals c.frames n (variable e.home kind (Some v.value)) few
+            (λ m less other. sym (put-other slots n m old other)) (λ u has. subst (λ y. Is y (slots n)) (same_Some v.value u has) is) facts)
+            stack,
+      )
+      (omega arith)
+
+  chooses : (s t : Statement) (v : Kinded) (f : Bool) (o : Operand) (k : List Entry) (e : Environment) (w : World) (c : Configuration)
+      → (operand_word c.active.slots o == 0) ≡ f → Stands v o (Needs (Choose s t) ∷ k) e w c
+      → ValueStack source c.active.function e.locals o c.active.next c.frames (Needs (Choose s t) ∷ k) → GoesBehind v (Needs (Choose s t) ∷ k) e w c
+  chooses s t v true o k e w c told (shared, facts, is, holds) (loop, r, q, jump, at_s, over, at_t, stack) =
       one source pages calls some_page (ap (λ (x : Option Bool). chosen x s t k e w) (zero_is v.value _ is ∙ ap Some told)) shared jump
       (λ choice. taken (Running (Executing t) (Join ∷ k) e w) c _ (r + 1) told (shared, facts, (loop, q, at_t, (q, in_place refl, stack))))
-  chooses s t v false k e w c told (shared, facts, (is, holds, (loop, r, q, jump, at_s, over, at_t, stack))) =
+  chooses s t v false o k e w c told (shared, facts, is, holds) (loop, r, q, jump, at_s, over, at_t, stack) =
       one source pages calls some_page (ap (λ (x : Option Bool). chosen x s t k e w) (zero_is v.value _ is ∙ ap Some told)) shared jump
       (λ choice. not_taken (Running (Executing s) (Join ∷ k) e w) c _ (r + 1) told (shared, facts, (loop, r, at_s, (q, by_jump over, stack))))
 
-  loops : (a : Expression) (s : Statement) (v : Operand) (f : Bool) (k : List Entry) (e : Environment) (w : World) (c : Configuration)
-      → (c.active.slots (base_of source c.active.function) == 0) ≡ f → Related source calls (Given v) (Needs (Test a s) ∷ k) e w c
-      → IsMatched source pages calls some_page (Running (Given v) (Needs (Test a s) ∷ k) e w) (plain.Running c)
-  loops a s v true k e w c told (shared, facts, (is, holds, (loop, outer, q, around, r, jump, at_s, back, stack))) =
+  loops : (a : Expression) (s : Statement) (v : Kinded) (f : Bool) (o : Operand) (k : List Entry) (e : Environment) (w : World) (c : Configuration)
+      → (operand_word c.active.slots o == 0) ≡ f → Stands v o (Needs (Test a s) ∷ k) e w c
+      → ValueStack source c.active.function e.locals o c.active.next c.frames (Needs (Test a s) ∷ k) → GoesBehind v (Needs (Test a s) ∷ k) e w c
+  loops a s v true o k e w c told (shared, facts, is, holds) (loop, outer, q, (there, m, n, leave, at_a, again, at_body, repeats, after), r, jump, at_s, back, stack) =
       let code = code_of source c.active.function in
-      let leave = break_target loop in
-      two source pages calls some_page (at c leave) (ap (λ (x : Option Bool). looped x a s k e w) (zero_is v.value _ is ∙ ap Some told)) shared shared
-      jump (λ choice. ap (λ x. plain_step.branches c x leave) told)
-      around.2 (other_place code c.active.next leave _ _ jump around.2 (λ same. let f : jump_if_zero (base_of source c.active.function) leave ≡ instructions.Jump q = same in cc))
-      (λ choice. (shared, facts, inl (outer, stack)))
-  loops a s v false k e w c told (shared, facts, (is, holds, (loop, outer, q, around, r, jump, at_s, back, stack))) =
+      two source pages calls some_page (at c (break_target loop)) (ap (λ (x : Option Bool). looped x a s k e w) (zero_is v.value _ is ∙ ap Some told)) shared shared
+      jump (λ choice. ap (λ x. plain_step.branches c x (break_target loop)) told)
+      leave (other_place code c.active.next (break_target loop) _ _ jump leave (λ same. let f : jump_if_zero o (break_target loop) ≡ instructions.Jump q = same in cc))
+      (λ choice. (shared, behind_statement outer facts stack))
+  loops a s v false o k e w c told (shared, facts, is, holds) (loop, outer, q, around, r, jump, at_s, back, stack) =
       one source pages calls some_page (ap (λ (x : Option Bool). looped x a s k e w) (zero_is v.value _ is ∙ ap Some told)) shared jump
       (λ choice. not_taken (Running (Executing s) (Loop a s ∷ k) e w) c _ _ told (shared, facts, (loop, r, at_s, (outer, q, around, back, stack))))
 
   -- ---- all that waits for a value
 
-  pub given : (v : Operand) (k : List Entry) (e : Environment) (w : World) (c : Configuration) → IsStep source pages calls some_page (Given v) k e w c
-  given v [] e w c well related = absurd (well refl)
-  given v (Needs (ConvertTo from to) ∷ k) e w c well related = converts from to v k e w c well related
-  given v (Needs (Operate o) ∷ k) e w c well related = operates o v k e w c well related
-  given v (Needs (Chain os) ∷ k) e w c well related = chains os v k e w c well related
-  given v (Needs (Apply o left) ∷ k) e w c well related = applies o left v k e w c well related
-  given v (Needs Decide ∷ k) e w c well related = decides_truth v k e w c well related
-  given v (Needs (Store place) ∷ k) e w c well related = stores_at place v k e w c well related
-  given v (Needs (Pass f before cs) ∷ k) e w c well related = hands_on f before cs v k e w c well related
-  given v (Needs (Initialise n kind js) ∷ k) e w c well related = initialises n kind js v k e w c well related
-  given v (Needs (Choose s t) ∷ k) e w c well related = chooses s t v (c.active.slots (base_of source c.active.function) == 0) k e w c refl related
-  given v (Needs (Test a s) ∷ k) e w c well related = loops a s v (c.active.slots (base_of source c.active.function) == 0) k e w c refl related
-  given v (Needs Return ∷ k) e w c well (shared, facts, (is, holds, (loop, q, here, single, stack))) =
+  -- where the value stands in an operand
+  stands_given : (v : Kinded) (o : Operand) (k : List Entry) (e : Environment) (w : World) (c : Configuration) → IsWell (step source (Running (Given v) k e w)) → Stands v o k e w c
+      → ValueStack source c.active.function e.locals o c.active.next c.frames k → GoesBehind v k e w c
+  stands_given v o [] e w c well stands stack = absurd stack
+  stands_given v o (Needs (ConvertTo from to) ∷ k) e w c well stands stack = converts from to v o k e w c well stands stack
+  stands_given v o (Needs (Operate u) ∷ k) e w c well stands stack = operates u v o k e w c well stands stack
+  stands_given v o (Needs (Chain os) ∷ k) e w c well stands stack = chains os v o k e w c well stands stack
+  stands_given v o (Needs (Apply u left) ∷ k) e w c well (shared, facts, is, (is_left, holds)) (d, q, here, lands) =
+      applies u left v k e w c well shared facts (operands.Slot (top source c.active.function k), o, d, q, is_left, is, holds, here, lands)
+  stands_given v o (Needs Decide ∷ k) e w c well stands stack = decides_truth v o k e w c stands stack
+  stands_given v o (Needs (Store place) ∷ k) e w c well stands stack = stores_at place v o k e w c well stands stack
+  stands_given v o (Needs (Pass f before cs) ∷ k) e w c well stands stack = hands_on f before cs v o k e w c stands stack
+  stands_given v o (Needs (Initialise n kind js) ∷ k) e w c well stands stack = initialises n kind js v o k e w c well stands stack
+  stands_given v o (Needs (Choose s t) ∷ k) e w c well stands stack = chooses s t v (operand_word c.active.slots o == 0) o k e w c refl stands stack
+  stands_given v o (Needs (Test a s) ∷ k) e w c well stands stack = loops a s v (operand_word c.active.slots o == 0) o k e w c refl stands stack
+  stands_given v o (Needs Return ∷ k) e w c well (shared, facts, is, holds) (loop, q, s, there, here, single, stack) =
       silently source pages calls some_page (Running (Given v) (Needs Return ∷ k) e w) (Running (Returning (Some v)) k e w) (plain.Running c) refl
-      (shared, facts, (loop, q, base_of source c.active.function, here, is, single, stack))
+      (shared, facts, (loop, q, s, here, subst (λ x. Is v.value (operand_word c.active.slots x)) there is, single, stack))
       (omega arith)
-  given v (Discard ∷ k) e w c well (shared, facts, (is, holds, (loop, stack))) =
+  stands_given v o (Discard ∷ k) e w c well (shared, facts, is, holds) (loop, stack) =
       silently source pages calls some_page (Running (Given v) (Discard ∷ k) e w) (Running Proceeding k e w) (plain.Running c) refl
-      (shared, facts, inl (loop, stack))
+      (shared, behind_statement loop facts stack)
       (omega arith)
-  given v (Needs a ∷ k) e w c well (shared, facts, (is, holds, stack)) = absurd stack
-  given v (entry ∷ k) e w c well related = absurd (well refl)
+  stands_given v o (Needs a ∷ k) e w c well stands stack = absurd stack
+  stands_given v o (entry ∷ k) e w c well stands stack = absurd (well refl)
+
+  dropped_given : (v : Kinded) (k : List Entry) (e : Environment) (w : World) (c : Configuration) → SharedAt source calls w c → DataIn source c.active.slots k e w c
+      → DroppedStack source c.active.function c.active.next c.frames k → GoesBehind v k e w c
+  dropped_given v (Discard ∷ k) e w c shared facts (loop, stack) =
+      silently source pages calls some_page (Running (Given v) (Discard ∷ k) e w) (Running Proceeding k e w) (plain.Running c) refl
+      (shared, behind_statement loop facts stack)
+      (omega arith)
+  dropped_given v k e w c shared facts stack = absurd stack
+
+  ahead_given : (v : Kinded) (n old : ℕ) (k : List Entry) (e : Environment) (w : World) (c : Configuration) → IsWell (step source (Running (Given v) k e w)) → SharedAt source calls w c
+      → DataIn source (put c.active.slots n old) k e w c → n < base_of source c.active.function → Is v.value (c.active.slots n) → Holds c.active.slots (base_of source c.active.function) (held k)
+      → AheadStack source c.active.function e.locals n c.active.next c.frames k → GoesBehind v k e w c
+  ahead_given v n old (Needs (ConvertTo from to) ∷ k) e w c well shared facts below is holds (quiet, stack) =
+      converts_ahead from to v n k e w c well quiet is
+      (λ does.
+      silently source pages calls some_page (Running (Given v) (Needs (ConvertTo from to) ∷ k) e w) (Running (Given (of_kind to v.value)) k e w) (plain.Running c) does
+      (shared, ahead n (old, facts) below is holds stack)
+      (omega arith))
+  ahead_given v n old (Needs (Chain NoOperations) ∷ k) e w c well shared facts below is holds stack =
+      silently source pages calls some_page (Running (Given v) (Needs (Chain NoOperations) ∷ k) e w) (Running (Given v) k e w) (plain.Running c) refl
+      (shared, ahead n (old, facts) below is holds stack)
+      (omega arith)
+  ahead_given v n old (Needs (Store place) ∷ k) e w c well shared facts below is holds (object, place_is, found, hands) =
+      subst (λ p. GoesBehind v (Needs (Store p) ∷ k) e w c) (sym place_is)
+      (catches_up object n old v k e w c found (subst (λ p. IsWell (stored_at p v (Given v) k e w)) place_is well) shared facts is holds hands)
+  ahead_given v n old (Needs (Initialise number kind js) ∷ k) e w c well shared facts below is holds (loop, q, same, items, stack) =
+      initialises_ahead number old kind js v k e w c loop well shared
+      (subst (λ x. DataIn source (put c.active.slots x old) (Needs (Initialise number kind js) ∷ k) e w c) (sym same) facts)
+      (subst (λ x. x < base_of source c.active.function) (sym same) below) (subst (λ x. Is v.value (c.active.slots x)) (sym same) is) (q, items, stack)
+  ahead_given v n old k e w c well shared facts below is holds stack = absurd stack
+
+  left_given : (v : Kinded) (k : List Entry) (e : Environment) (w : World) (c : Configuration) → IsWell (step source (Running (Given v) k e w)) → SharedAt source calls w c → DataIn source c.active.slots k e w c
+      → ReadyAt source v e.locals c.active.function c.active.next c.active.slots c.frames k → GoesBehind v k e w c
+  left_given v (Needs (Apply u left) ∷ k) e w c well shared facts ready = applies u left v k e w c well shared facts ready
+  left_given v k e w c well shared facts ready = absurd ready
+
+  pub given : (v : Kinded) (k : List Entry) (e : Environment) (w : World) (c : Configuration) → IsStep source pages calls some_page (Given v) k e w c
+  given v k e w c well (shared, in_operand o facts is holds stack) = stands_given v o k e w c well (shared, facts, is, holds) stack
+  given v k e w c well (shared, nowhere facts stack) = dropped_given v k e w c shared facts stack
+  given v k e w c well (shared, ahead n (old, facts) below is holds stack) = ahead_given v n old k e w c well shared facts below is holds stack
+  given v k e w c well (shared, with_left facts ready) = left_given v k e w c well shared facts ready

@@ -2,14 +2,13 @@
 use Rattle.std.proofs.Common.{ℕ, suc, ◌+◌, List, [], ◌∷◌, Option, None, Some, length}
 use Rattle.cyc_types.specs.TypedTrees.{Expression, Number, Copy, Call, Unary, Binary, Assign, Converted, Convert, Arguments, NoArguments, MoreArguments, Operations, NoOperations, ThenCompute, ThenTest, Statement, Block, Empty, Evaluate, If, While, Break, Continue, Items, NoItems, MoreItems, Execute, Declare}
 use Rattle.cyc_types.specs.TypedTrees as typed
-use Rattle.cyc_meaning.specs.State.{Awaiting, Chain, Pass, Entry, Needs, Rest, Focus, Evaluating, Executing, Entering, Binding, State, Running}
+use Rattle.cyc_meaning.specs.State.{Awaiting, Chain, Pass, Initialise, Entry, Needs, Rest, Focus, Evaluating, Executing, Entering, Binding, State, Running}
 
--- An expression that begins with an instruction weighs nothing. One that begins with another weighs more than that and what
--- waits for it.
+-- An expression that is an operand may have no code. One that begins with another weighs more than that and what waits for it.
 abbrev mutual
   pub expression_weight : Expression → ℕ
-  expression_weight (Number n) = 0
-  expression_weight (Copy l t) = 0
+  expression_weight (Number n) = 1
+  expression_weight (Copy l t) = 1
   expression_weight (Call f cs t) = suc (arguments_weight cs)
   expression_weight (Unary o a) = suc (suc (expression_weight a))
   expression_weight (Binary a os t) = suc (suc (expression_weight a + operations_weight os))
@@ -55,6 +54,7 @@ abbrev mutual
 abbrev pub awaiting_weight : Awaiting → ℕ
 awaiting_weight (Chain os) = operations_weight os
 awaiting_weight (Pass f before cs) = arguments_weight cs
+awaiting_weight (Initialise number kind js) = suc (items_weight js)
 awaiting_weight a = 0
 
 abbrev pub entry_weight : Entry → ℕ

@@ -17,15 +17,18 @@ use Rattle.cyc_types.specs.Types as types
 use Rattle.cyc_types.specs.TypedTrees.{Lvalue, Local, Global, Expression, Number, Copy, Call, Unary, Binary, Assign, Converted, Convert, Arguments, NoArguments, MoreArguments, Operations, NoOperations, ThenCompute, ThenTest, type_of, Statement, Block, Empty, Evaluate, If, While, Return, Break, Continue, Items, NoItems, MoreItems, Execute, Declare, GlobalVariable, Function, Program}
 use Rattle.cyc_types.specs.Scopes.{Signature}
 use Rattle.cyc_types.specs.Numbered.{Numbering, signature_of, signatures_of, IsSignature, argument_count, IsWithin, IsNumbered, IsNumberedConverted, AreNumberedArguments, AreNumberedOperations, IsNumberedReturn, IsNumberedInitial, IsNumberedStatement, AreNumberedItems, numbering_of, AreNumberedFunctions, IsNumberedProgram}
+use Rattle.cyc_plain.specs.declared.instruction.Operand.{Operand}
 use Rattle.cyc_plain.specs.declared.instruction.Operand.TheVariants as operands
 use Rattle.cyc_plain.specs.declared.instruction.Instruction.{Instruction}
 use Rattle.cyc_plain.specs.declared.instruction.Instruction.TheVariants as instructions
 use Rattle.cyc_plain.specs.Program.{Routine, Program as PlainProgram, no_routine, routine_at}
 use Rattle.cyc_plain.specs.declared.limits.TheConstants.{MOST_GLOBALS}
-use Rattle.cyc_plain.specs.WellFormed.{IsInRange, IsRoutine, IsWellFormed, leaves}
+use Rattle.cyc_plain.specs.WellFormed.{IsOperand, IsInRange, IsRoutine, IsWellFormed, leaves}
+use Rattle.std.specs.Prelude.{if◌then◌else◌}
+use Rattle.cyc_meaning.specs.Operators.{null_exception, division_by_zero}
 use Rattle.cyc_meaning.specs.Values.{words_of_kind}
 use Rattle.cyc_meaning.specs.FrameCount.{result_words, operand_words, converted_words, argument_words, expression_need, converted_need, arguments_need, operations_need, initial_need, statement_need, items_need, words_of_all}
-use Rattle.cyc_lower.specs.Lowering.{jump_if_zero, slot_of, unary_operator, break_target, continue_target, conversion_code, operator_code, truth_code, load_code, store_code, call_code, test_code, expression_code, converted_code, arguments_code, operations_code, return_code, declaration_code, statement_code, items_code, first_temporary, results_of, lower_function, lower_global, lower_program}
+use Rattle.cyc_lower.specs.Lowering.{slot_of, unary_operator, binary_operator, operand_of, operand_or, code_unless, slot_or, code_unless_slot, left_with, left_of, value_slot, next_slot, slot_with, left_slot, value_operand, converted_operand, printed_operand, check_code, conversion_code, divisor_code, checked_code, operator_code, truth_code, load_code, low_byte, test_code, is_in, copy_code, expression_code, arguments_code, converted_code, converted_operand_code, printed_code, initial_code, assignment_code, operations_code, discarded_code, condition_code, failing_jump, break_target, continue_target, return_code, declaration_code, statement_code, items_code, first_temporary, results_of, lower_function, lower_global, lower_program}
 
 -- ---- lists
 
@@ -107,166 +110,327 @@ module _ (program : PlainProgram) (r : Routine) (b : Numbering) (locals : b.loca
   append : (x y : List Instruction) → AreIn x → AreIn y → AreIn (x ++ y)
   append x y first rest = all_append (IsInRange program r) x y first rest
 
-  conversion_in : (to : Kind) (p d : ℕ) → d < r.slots → p + length (conversion_code to p d) < length r.code → AreIn (conversion_code to p d)
-  conversion_in kinds.NonNull p d few short = ((few, tt, omega (arith, short)), (few, tt))
-  conversion_in to p d few short = tt
+  -- code that is left out where an operand is known
+  unless_in : (known : Option Operand) (x : List Instruction) (p : ℕ) → p + length (code_unless known x) < length r.code → (p + length x < length r.code → AreIn x) → AreIn (code_unless known x)
+  unless_in (Some o) x p short inside = tt
+  unless_in None x p short inside = inside short
 
-  operator_in : (o : Operator) (p d : ℕ) → suc d < r.slots → p + length (operator_code o p d) < length r.code → AreIn (operator_code o p d)
-  operator_in operators.Divide p d few short = ((few, tt, omega (arith, short)), (few, ((omega (arith, few), omega (arith, few), few), tt)))
-  operator_in operators.Remainder p d few short = ((few, tt, omega (arith, short)), (few, ((omega (arith, few), omega (arith, few), few), tt)))
-  operator_in o p d few short = ((omega (arith, few), omega (arith, few), few), tt)
+  unless_slot_in : (known : Option Operand) (x : List Instruction) (p : ℕ) → p + length (code_unless_slot known x) < length r.code → (p + length x < length r.code → AreIn x) → AreIn (code_unless_slot known x)
+  unless_slot_in (Some (operands.Slot n)) x p short inside = tt
+  unless_slot_in (Some (operands.Word n)) x p short inside = inside short
+  unless_slot_in None x p short inside = inside short
+
+  slot_in : (a : Expression) (t : ℕ) → IsNumbered b a → t < r.slots → value_slot a t < r.slots
+  slot_in (Assign (Local w n) c ty) t (within, numbered) few = omega (arith, within, locals)
+  slot_in a t numbered few = few
+
+  value_in : (a : Expression) (t : ℕ) → IsNumbered b a → t < r.slots → IsOperand r (value_operand a t)
+  value_in (Number n) t numbered few = tt
+  value_in (Copy (Local w n) ty) t within few = omega (arith, within, locals)
+  value_in (Assign (Local w n) c ty) t (within, numbered) few = omega (arith, within, locals)
+  value_in a t numbered few = few
+
+  returned_in : (a : Expression) (t : ℕ) → IsNumbered b a → t < r.slots → slot_or (operand_of a) t < r.slots
+  returned_in (Copy (Local w n) ty) t within few = omega (arith, within, locals)
+  returned_in a t numbered few = few
+
+  converted_value_in : (c : Converted) (t : ℕ) → IsNumberedConverted b c → t < r.slots → IsOperand r (converted_operand c t)
+  converted_value_in (Convert from to a) t numbered few = value_in a t numbered few
+
+  printed_value_in : (cs : Arguments) (o : Operand) (t : ℕ) → AreNumberedArguments b cs → IsOperand r o → t < r.slots → IsOperand r (printed_operand cs o t)
+  printed_value_in NoArguments o t numbered inside few = inside
+  printed_value_in (MoreArguments c cs) o t (first, rest) inside few = printed_value_in cs (converted_operand c t) t rest (converted_value_in c t first few) few
+
+  next_in : (os : Operations) (d t : ℕ) → d < r.slots → t < r.slots → next_slot os d t < r.slots
+  next_in NoOperations d t few room = few
+  next_in os d t few room = room
+
+  -- where operators follow, there is room for a value
+  abbrev HasRoom : Operations → ℕ → Type 0
+  HasRoom NoOperations t = Unit {0}
+  HasRoom os t = t < r.slots
+
+  has_room : (os : Operations) (ty : Ty) (t left : ℕ) → AreNumberedOperations b os → 1 ≤ left → t + operations_need os ty left ≤ r.slots → HasRoom os t
+  has_room NoOperations ty t left numbered some few = tt
+  has_room (ThenCompute o a os) ty t left numbered some few = omega (arith, few, some)
+  has_room (ThenTest o a os) ty t left numbered some few = omega (arith, few, some)
+  has_room os ty t left numbered some few = absurd numbered
+
+  slot_with_in : (known : Option Operand) (a : Expression) (t : ℕ) → IsNumbered b a → t < r.slots → slot_with known a t < r.slots
+  slot_with_in (Some o) a t numbered few = slot_in a t numbered few
+  slot_with_in None a t numbered few = few
+
+  left_with_in : (known : Option Operand) (a : Expression) (t : ℕ) → IsNumbered b a → t < r.slots → IsOperand r (operand_or (left_with known (operand_of a)) (slot_with known a t))
+  left_with_in (Some o) a t numbered few = value_in a t numbered few
+  left_with_in None a t numbered few = few
+
+  left_slot_in : (a : Expression) (os : Operations) (d t : ℕ) → IsNumbered b a → d < r.slots → HasRoom os t → left_slot a os d t < r.slots
+  left_slot_in a NoOperations d t numbered few room = few
+  left_slot_in a (ThenCompute o c os) d t numbered few room = slot_with_in (operand_of c) a t numbered room
+  left_slot_in a os d t numbered few room = room
+
+  left_in : (a : Expression) (os : Operations) (d t : ℕ) → IsNumbered b a → d < r.slots → HasRoom os t → IsOperand r (operand_or (left_of a os) (left_slot a os d t))
+  left_in a NoOperations d t numbered few room = few
+  left_in a (ThenCompute o c os) d t numbered few room = left_with_in (operand_of c) a t numbered room
+  left_in a os d t numbered few room = room
+
+  check_in : (tag : ℕ) (o : Operand) (p : ℕ) → IsOperand r o → p + 2 < length r.code → AreIn (check_code tag o p)
+  check_in tag o p inside short = ((inside, tt, short), (inside, tt))
+
+  conversion_in : (to : Kind) (o : Operand) (p : ℕ) → IsOperand r o → p + length (conversion_code to o p) < length r.code → AreIn (conversion_code to o p)
+  conversion_in kinds.NonNull o p inside short = check_in null_exception o p inside short
+  conversion_in to o p inside short = tt
+
+  divisor_in : (o : Operand) (p : ℕ) → IsOperand r o → p + length (divisor_code o p) < length r.code → AreIn (divisor_code o p)
+  divisor_in (operands.Word (suc n)) p inside short = tt
+  divisor_in (operands.Word zero) p inside short = check_in division_by_zero (operands.Word zero) p inside short
+  divisor_in (operands.Slot n) p inside short = check_in division_by_zero (operands.Slot n) p inside short
+
+  checked_in : (o : Operator) (l m : Operand) (p d : ℕ) → d < r.slots → IsOperand r l → IsOperand r m → p + length (checked_code o l m p d) < length r.code → AreIn (checked_code o l m p d)
+  checked_in o l m p d few left right short =
+      let front = divisor_code m p in
+      let back = instructions.Binary (binary_operator o) d l m ∷ [] in
+      append front back (divisor_in m p right (omega (arith, short, length-append front back))) ((few, left, right), tt)
+
+  operator_in : (o : Operator) (l m : Operand) (p d : ℕ) → d < r.slots → IsOperand r l → IsOperand r m → p + length (operator_code o l m p d) < length r.code → AreIn (operator_code o l m p d)
+  operator_in operators.Divide l m p d few left right short = checked_in operators.Divide l m p d few left right short
+  operator_in operators.Remainder l m p d few left right short = checked_in operators.Remainder l m p d few left right short
+  operator_in o l m p d few left right short = ((few, left, right), tt)
 
   load_in : (l : Lvalue) (d : ℕ) → IsWithin b l → d < r.slots → AreIn (load_code l d)
   load_in (Local w n) d within few = ((few, omega (arith, within, locals)), tt)
   load_in (Global n) d within few = ((few, omega (arith, within, globals)), tt)
 
-  store_in : (l : Lvalue) (d : ℕ) → IsWithin b l → d < r.slots → AreIn (store_code l d)
-  store_in (Local w n) d within few = ((omega (arith, within, locals), few), tt)
-  store_in (Global n) d within few = ((omega (arith, within, globals), few), tt)
+  copy_in : (is : Bool) (o : Operand) (d : ℕ) → IsOperand r o → d < r.slots → AreIn (if is then [] else instructions.Move d o ∷ [])
+  copy_in true o d inside few = tt
+  copy_in false o d inside few = ((few, inside), tt)
 
-  call_in : (f : Callee) (n : ℕ) (t : ValueType) (s : Signature) (d words : ℕ) → IsSignature b f s → n ≡ length s.parameters → t ≡ result_type s.result → n ≤ words → d + (words + result_words t) ≤ r.slots → AreIn (call_code f n d)
-  call_in callees.Putchar n t s d words signature many same enough few =
-      let one : n ≡ 1 = many ∙ ap (λ (x : Signature). length x.parameters) signature in
-      let gives : result_words t ≡ 1 = ap result_words (same ∙ ap (λ (x : Signature). result_type x.result) signature) in
-      let room : d + 2 ≤ r.slots = omega (arith, few, enough, one, gives) in
-      (omega (arith, room), ((omega (arith, room), tt), ((omega (arith, room), omega (arith, room), omega (arith, room)), tt)))
-  call_in callees.Getchar n t s d words signature many same enough few =
-      let gives : result_words t ≡ 1 = ap result_words (same ∙ ap (λ (x : Signature). result_type x.result) signature) in
-      (omega (arith, few, gives), tt)
-  call_in (callees.Function g) n t s d words signature many same enough few =
-      let f = known g s signature in
-      let gives : results_of s.result ≤ result_words t = omega (arith, results_words s.result, ap result_words same) in (
-        record {
-          function_in_range = f.there;
-          takes = many ∙ sym f.parameters;
-          arguments_in_range = omega (arith, few, enough);
-          result_in_range = omega (arith, few, f.results, gives);
-        },
-        tt,
-      )
-
-  test_in : (o : LogicalOperator) (operand : List Instruction) (p d : ℕ) → d < r.slots → p + length (test_code o operand p d) < length r.code → AreIn operand → AreIn (test_code o operand p d)
-  test_in logical.AndThen operand p d few short inside =
-      let long = length-append operand (truth_code d) in
-      ((few, tt, omega (arith, short, long)), append operand (truth_code d) inside ((few, few), ((few, few), tt)))
-  test_in logical.OrElse operand p d few short inside =
-      let long = length-append operand (truth_code d) in
-      ((few, tt, omega (arith, short, long)), append operand (truth_code d) inside ((few, few), ((few, few), tt)))
+  test_in : (o : LogicalOperator) (operand : List Instruction) (p d t : ℕ) → d < r.slots → t < r.slots → p + length (test_code o operand p d t) < length r.code → AreIn operand → AreIn (test_code o operand p d t)
+  test_in logical.AndThen operand p d t few room short inside =
+      let long = length-append operand (truth_code t d) in
+      ((room, tt, omega (arith, short, long)), append operand (truth_code t d) inside ((room, room), ((few, room), tt)))
+  test_in logical.OrElse operand p d t few room short inside =
+      let long = length-append operand (truth_code t d) in
+      ((room, tt, omega (arith, short, long)), append operand (truth_code t d) inside ((room, room), ((few, room), tt)))
 
   -- ---- expressions
 
   mutual
-    expression_in : (a : Expression) (p d : ℕ) → IsNumbered b a → d + expression_need a ≤ r.slots → p + length (expression_code a p d) < length r.code → AreIn (expression_code a p d)
-    expression_in (Number n) p d slice_get few short = ((omega (arith, few), tt), tt)
-    expression_in (Copy l t) p d slice_get few short = load_in l d slice_get (omega (arith, few, words_positive t))
-    expression_in (Call f cs t) p d (s, signature, many, same, slice_get) few short =
-        let front = arguments_code cs p d in
-        let back = call_code f (argument_count cs) d in
+    expression_in : (a : Expression) (p d t : ℕ) → IsNumbered b a → d < r.slots → t + expression_need a ≤ r.slots → p + length (expression_code a p d t) < length r.code → AreIn (expression_code a p d t)
+    expression_in (Number n) p d t numbered room few short = ((room, tt), tt)
+    expression_in (Copy l ty) p d t numbered room few short = load_in l d numbered room
+    expression_in (Call callees.Putchar cs ty) p d t (s, signature, many, same, numbered) room few short =
+        let o = printed_operand cs (operands.Slot t) t in
+        let front = printed_code cs p t in
+        let back = instructions.WriteByte o ∷ low_byte o d ∷ [] in
+        let gives : result_words ty ≡ 1 = ap result_words (same ∙ ap (λ (x : Signature). result_type x.result) signature) in
+        let inside = printed_value_in cs (operands.Slot t) t numbered (omega (arith, few, gives)) (omega (arith, few, gives)) in
+        append front back (printed_in cs p t t 0 numbered (omega (arith, few, gives)) (omega arith) (omega (arith, few)) (omega (arith, short, length-append front back)))
+        (inside, ((room, inside, tt), tt))
+    expression_in (Call callees.Getchar cs ty) p d t (s, signature, many, same, numbered) room few short =
+        let front = arguments_code cs p t in
+        let back = instructions.ReadByte d ∷ [] in
+        append front back (arguments_in cs p t t 0 numbered (omega arith) (omega (arith, few)) (omega (arith, few)) (omega (arith, short, length-append front back))) (room, tt)
+    expression_in (Call (callees.Function g) cs ty) p d t (s, signature, many, same, numbered) room few short =
+        let front = arguments_code cs p t in
+        let back = instructions.Call g t (argument_count cs) d ∷ [] in
+        let f = known g s signature in
+        append front back (arguments_in cs p t t 0 numbered (omega arith) (omega (arith, few)) (omega (arith, few)) (omega (arith, short, length-append front back))) (
+          record {
+            function_in_range = f.there;
+            takes = many ∙ sym f.parameters;
+            arguments_in_range = omega (arith, few, arguments_words cs);
+            result_in_range = omega (arith, room, f.results, results_few s.result);
+          },
+          tt,
+        )
+    expression_in (Unary o a) p d t numbered room few short =
+        let inner = expression_code a p (value_slot a t) t in
+        let front = code_unless (operand_of a) inner in
+        let back = instructions.Unary (unary_operator o) d (value_operand a t) ∷ [] in
+        let free : t < r.slots = omega (arith, few) in
         append front back
-        (arguments_in cs p d d 0 slice_get (omega arith) (omega (arith, few)) (omega (arith, few)) (omega (arith, short, length-append front back)))
-        (call_in f (argument_count cs) t s d (argument_words cs) signature many same (arguments_words cs) (omega (arith, few)))
-    expression_in (Unary o a) p d slice_get few short =
-        let front = expression_code a p d in
-        let back = instructions.Unary (unary_operator o) d (operands.Slot d) ∷ [] in
-        let room : d < r.slots = omega (arith, few) in
-        append front back (expression_in a p d slice_get (omega (arith, few)) (omega (arith, short, length-append front back))) ((room, room), tt)
-    expression_in (Binary a os t) p d (slice_get, rest) few short =
-        let front = expression_code a p d in
-        let back = operations_code os (p + length front) d in
-        append front back (expression_in a p d slice_get (omega (arith, few)) (omega (arith, short, length-append front back)))
-        (operations_in os t (p + length front) d (operand_words (type_of a)) rest (operand_positive (type_of a)) (omega (arith, few)) (omega (arith, short, length-append front back)))
-    expression_in (Assign l c t) p d (within, slice_get) few short =
-        let front = converted_code c p d in
-        let back = store_code l d in
-        append front back (converted_in c p d slice_get (omega (arith, few)) (omega (arith, few)) (omega (arith, short, length-append front back)))
-        (store_in l d within (omega (arith, few)))
-    expression_in a p d slice_get few short = absurd slice_get
+        (unless_in (operand_of a) inner p (omega (arith, short, length-append front back)) (λ less. expression_in a p (value_slot a t) t numbered (slot_in a t numbered free) (omega (arith, few)) less))
+        ((room, value_in a t numbered free), tt)
+    expression_in (Binary a os ty) p d t (numbered, rest) room few short =
+        let inner = expression_code a p (left_slot a os d t) t in
+        let front = code_unless (left_of a os) inner in
+        let back = operations_code os (p + length front) (operand_or (left_of a os) (left_slot a os d t)) d t in
+        let some = operand_positive (type_of a) in
+        let free = has_room os ty t (operand_words (type_of a)) rest some (omega (arith, few)) in
+        append front back
+        (unless_in (left_of a os) inner p (omega (arith, short, length-append front back)) (λ less. expression_in a p (left_slot a os d t) t numbered (left_slot_in a os d t numbered room free) (omega (arith, few)) less))
+        (operations_in os ty (p + length front) (operand_or (left_of a os) (left_slot a os d t)) d t (operand_words (type_of a)) rest room (left_in a os d t numbered room free) some (omega (arith, few)) (omega (arith, short, length-append front back)))
+    expression_in (Assign (Local w n) c ty) p d t (within, numbered) room few short =
+        let o = operands.Slot (slot_of n) in
+        let front = initial_code c p (slot_of n) t in
+        let back = copy_code o d in
+        let there : n < r.slots = omega (arith, within, locals) in
+        append front back (initial_in c p (slot_of n) t numbered there (omega (arith, few)) (omega (arith, few)) (omega (arith, short, length-append front back))) (copy_in (is_in o d) o d there room)
+    expression_in (Assign (Global n) c ty) p d t (within, numbered) room few short =
+        let o = converted_operand c t in
+        let front = converted_operand_code c p t in
+        let store = instructions.StoreGlobal n o ∷ [] in
+        let back = copy_code o d in
+        let inside = converted_value_in c t numbered (omega (arith, few)) in
+        append (front ++ store) back
+        (append front store (converted_operand_in c p t numbered (omega (arith, few)) (omega (arith, few)) (omega (arith, short, length-append (front ++ store) back, length-append front store))) ((omega (arith, within, globals), inside), tt))
+        (copy_in (is_in o d) o d inside room)
+    expression_in a p d t numbered room few short = absurd numbered
 
-    converted_in : (c : Converted) (p d : ℕ) → IsNumberedConverted b c → d < r.slots → d + converted_need c ≤ r.slots → p + length (converted_code c p d) < length r.code → AreIn (converted_code c p d)
-    converted_in (Convert from to a) p d slice_get room few short =
-        let front = expression_code a p d in
-        let back = conversion_code to (p + length front) d in
-        append front back (expression_in a p d slice_get few (omega (arith, short, length-append front back)))
-        (conversion_in to (p + length front) d room (omega (arith, short, length-append front back)))
+    initial_in : (c : Converted) (p d t : ℕ) → IsNumberedConverted b c → d < r.slots → t < r.slots → t + converted_need c ≤ r.slots → p + length (initial_code c p d t) < length r.code → AreIn (initial_code c p d t)
+    initial_in (Convert from kinds.NonNull a) p d t numbered room free few short =
+        let inner = expression_code a p (value_slot a t) t in
+        let o = value_operand a t in
+        let front = code_unless (operand_of a) inner in
+        let check = check_code null_exception o (p + length front) in
+        let move = instructions.Move d o ∷ [] in
+        let inside = value_in a t numbered free in
+        let long = length-append (front ++ check) move in
+        let long_front = length-append front check in
+        append (front ++ check) move
+        (append front check (unless_in (operand_of a) inner p (omega (arith, short, long, long_front)) (λ less. expression_in a p (value_slot a t) t numbered (slot_in a t numbered free) few less))
+        (check_in null_exception o (p + length front) inside (omega (arith, short, long, long_front)))) ((room, inside), tt)
+    initial_in (Convert from to a) p d t numbered room free few short = expression_in a p d t numbered room few short
+
+    converted_in : (c : Converted) (p t : ℕ) → IsNumberedConverted b c → t < r.slots → t + converted_need c ≤ r.slots → p + length (converted_code c p t) < length r.code → AreIn (converted_code c p t)
+    converted_in (Convert from to a) p t numbered room few short =
+        let front = expression_code a p t t in
+        let back = conversion_code to (operands.Slot t) (p + length front) in
+        append front back (expression_in a p t t numbered room few (omega (arith, short, length-append front back)))
+        (conversion_in to (operands.Slot t) (p + length front) room (omega (arith, short, length-append front back)))
+
+    converted_operand_in : (c : Converted) (p t : ℕ) → IsNumberedConverted b c → t < r.slots → t + converted_need c ≤ r.slots → p + length (converted_operand_code c p t) < length r.code → AreIn (converted_operand_code c p t)
+    converted_operand_in (Convert from to a) p t numbered room few short =
+        let inner = expression_code a p (value_slot a t) t in
+        let front = code_unless (operand_of a) inner in
+        let back = conversion_code to (value_operand a t) (p + length front) in
+        append front back
+        (unless_in (operand_of a) inner p (omega (arith, short, length-append front back)) (λ less. expression_in a p (value_slot a t) t numbered (slot_in a t numbered room) few less))
+        (conversion_in to (value_operand a t) (p + length front) (value_in a t numbered room) (omega (arith, short, length-append front back)))
+
+    -- the arguments of `putchar`, which all are evaluated with the same temporaries
+    printed_in : (cs : Arguments) (p t first before : ℕ) → AreNumberedArguments b cs → t < r.slots → t ≤ first + before → first + arguments_need cs before ≤ r.slots → p + length (printed_code cs p t) < length r.code → AreIn (printed_code cs p t)
+    printed_in NoArguments p t first before numbered room place few short = tt
+    printed_in (MoreArguments c cs) p t first before (numbered, rest) room place few short =
+        let front = converted_operand_code c p t in
+        let back = printed_code cs (p + length front) t in
+        append front back (converted_operand_in c p t numbered room (omega (arith, few, place)) (omega (arith, short, length-append front back)))
+        (printed_in cs (p + length front) t first (before + converted_words c) rest room (omega (arith, place)) (omega (arith, few)) (omega (arith, short, length-append front back)))
 
     -- the arguments begin at `first`, and those before have so many words
-    arguments_in : (cs : Arguments) (p d first before : ℕ) → AreNumberedArguments b cs → d ≤ first + before → first + (before + argument_words cs) ≤ r.slots → first + arguments_need cs before ≤ r.slots → p + length (arguments_code cs p d) < length r.code → AreIn (arguments_code cs p d)
-    arguments_in NoArguments p d first before slice_get place few needs short = tt
-    arguments_in (MoreArguments c cs) p d first before (slice_get, rest) place few needs short =
-        let front = converted_code c p d in
-        let back = arguments_code cs (p + length front) (suc d) in
+    arguments_in : (cs : Arguments) (p t first before : ℕ) → AreNumberedArguments b cs → t ≤ first + before → first + (before + argument_words cs) ≤ r.slots → first + arguments_need cs before ≤ r.slots → p + length (arguments_code cs p t) < length r.code → AreIn (arguments_code cs p t)
+    arguments_in NoArguments p t first before numbered place few needs short = tt
+    arguments_in (MoreArguments c cs) p t first before (numbered, rest) place few needs short =
+        let front = converted_code c p t in
+        let back = arguments_code cs (p + length front) (suc t) in
         append front back
-        (converted_in c p d slice_get (omega (arith, few, place, converted_positive c)) (omega (arith, needs, place)) (omega (arith, short, length-append front back)))
-        (arguments_in cs (p + length front) (suc d) first (before + converted_words c) rest (omega (arith, place, converted_positive c)) (omega (arith, few)) (omega (arith, needs)) (omega (arith, short, length-append front back)))
+        (converted_in c p t numbered (omega (arith, few, place, converted_positive c)) (omega (arith, needs, place)) (omega (arith, short, length-append front back)))
+        (arguments_in cs (p + length front) (suc t) first (before + converted_words c) rest (omega (arith, place, converted_positive c)) (omega (arith, few)) (omega (arith, needs)) (omega (arith, short, length-append front back)))
 
-    operations_in : (os : Operations) (t : Ty) (p d left : ℕ) → AreNumberedOperations b os → 1 ≤ left → d + operations_need os t left ≤ r.slots → p + length (operations_code os p d) < length r.code → AreIn (operations_code os p d)
-    operations_in NoOperations t p d left slice_get some few short = tt
-    operations_in (ThenCompute o a os) t p d left (slice_get, rest) some few short =
-        let operand = expression_code a p (suc d) in
-        let operator = operator_code o (p + length operand) d in
+    operations_in : (os : Operations) (ty : Ty) (p : ℕ) (l : Operand) (d t left : ℕ) → AreNumberedOperations b os → d < r.slots → IsOperand r l → 1 ≤ left → t + operations_need os ty left ≤ r.slots → p + length (operations_code os p l d t) < length r.code → AreIn (operations_code os p l d t)
+    operations_in NoOperations ty p l d t left numbered room inside some few short = tt
+    operations_in (ThenCompute o a os) ty p l d t left (numbered, rest) room inside some few short =
+        let inner = expression_code a p (value_slot a (suc t)) (suc t) in
+        let operand = code_unless (operand_of a) inner in
+        let next = next_slot os d t in
+        let m = value_operand a (suc t) in
+        let operator = operator_code o l m (p + length operand) next in
         let front = operand ++ operator in
-        let back = operations_code os (p + length front) d in
+        let back = operations_code os (p + length front) (operands.Slot next) d t in
         let long = length-append front back in
         let long_front = length-append operand operator in
+        let free : suc t < r.slots = omega (arith, few, some, operand_positive (type_of a), words_positive ty) in
+        let next_few = next_in os d t room (omega (arith, free)) in
         append front back
-        (append operand operator (expression_in a p (suc d) slice_get (omega (arith, few, some)) (omega (arith, short, long, long_front)))
-        (operator_in o (p + length operand) d (omega (arith, few, some, operand_positive (type_of a), words_positive t)) (omega (arith, short, long, long_front))))
-        (operations_in os t (p + length front) d (words_of t) rest (words_positive t) (omega (arith, few)) (omega (arith, short, long)))
-    operations_in (ThenTest o a os) t p d left (slice_get, rest) some few short =
-        let operand = expression_code a (p + 1) d in
-        let front = test_code o operand p d in
-        let back = operations_code os (p + length front) d in
+        (append operand operator
+        (unless_in (operand_of a) inner p (omega (arith, short, long, long_front)) (λ less. expression_in a p (value_slot a (suc t)) (suc t) numbered (slot_in a (suc t) numbered free) (omega (arith, few, some)) less))
+        (operator_in o l m (p + length operand) next next_few inside (value_in a (suc t) numbered free) (omega (arith, short, long, long_front))))
+        (operations_in os ty (p + length front) (operands.Slot next) d t (words_of ty) rest room next_few (words_positive ty) (omega (arith, few)) (omega (arith, short, long)))
+    operations_in (ThenTest o a os) ty p l d t left (numbered, rest) room inside some few short =
+        let operand = expression_code a (p + 1) t t in
+        let next = next_slot os d t in
+        let front = test_code o operand p next t in
+        let back = operations_code os (p + length front) (operands.Slot next) d t in
         let long = length-append front back in
-        let long_front = length-append operand (truth_code d) in
+        let long_front = length-append operand (truth_code t next) in
+        let free : t < r.slots = omega (arith, few, some) in
+        let next_few = next_in os d t room free in
         append front back
-        (test_in o operand p d (omega (arith, few, some)) (omega (arith, short, long)) (expression_in a (p + 1) d slice_get (omega (arith, few)) (omega (arith, short, long, long_front))))
-        (operations_in os t (p + length front) d (words_of t) rest (words_positive t) (omega (arith, few)) (omega (arith, short, long)))
-    operations_in os t p d left slice_get some few short = absurd slice_get
+        (test_in o operand p next t next_few free (omega (arith, short, long)) (expression_in a (p + 1) t t numbered free (omega (arith, few)) (omega (arith, short, long, long_front))))
+        (operations_in os ty (p + length front) (operands.Slot next) d t (words_of ty) rest room next_few (words_positive ty) (omega (arith, few)) (omega (arith, short, long)))
+    operations_in os ty p l d t left numbered room inside some few short = absurd numbered
+
+  assignment_in : (l : Lvalue) (c : Converted) (p t : ℕ) → IsWithin b l → IsNumberedConverted b c → t < r.slots → t + converted_need c ≤ r.slots → p + length (assignment_code l c p t) < length r.code → AreIn (assignment_code l c p t)
+  assignment_in (Local w n) c p t within numbered free few short = initial_in c p (slot_of n) t numbered (omega (arith, within, locals)) free few short
+  assignment_in (Global n) c p t within numbered free few short =
+      let front = converted_operand_code c p t in
+      let store = instructions.StoreGlobal n (converted_operand c t) ∷ [] in
+      append front store (converted_operand_in c p t numbered free few (omega (arith, short, length-append front store))) ((omega (arith, within, globals), converted_value_in c t numbered free), tt)
+
+  discarded_in : (a : Expression) (p t : ℕ) → IsNumbered b a → t + expression_need a < r.slots → p + length (discarded_code a p t) < length r.code → AreIn (discarded_code a p t)
+  discarded_in (Call callees.Putchar cs ty) p t (s, signature, many, same, numbered) few short =
+      let front = printed_code cs p t in
+      let back = instructions.WriteByte (printed_operand cs (operands.Slot t) t) ∷ [] in
+      append front back (printed_in cs p t t 0 numbered (omega (arith, few)) (omega arith) (omega (arith, few)) (omega (arith, short, length-append front back)))
+      (printed_value_in cs (operands.Slot t) t numbered (omega (arith, few)) (omega (arith, few)), tt)
+  discarded_in (Assign l c ty) p t (within, numbered) few short = assignment_in l c p t within numbered (omega (arith, few)) (omega (arith, few)) short
+  discarded_in a p t numbered few short = unless_in (operand_of a) (expression_code a p t t) p short (λ less. expression_in a p t t numbered (omega (arith, few)) (omega (arith, few)) less)
 
   -- ---- statements
 
-  return_in : (v : Option Converted) (p d : ℕ) → IsNumberedReturn b b.result v → d + initial_need v < r.slots → p + length (return_code v p d) < length r.code → AreIn (return_code v p d)
-  return_in None p d slice_get few short = (omega (arith, few, results), tt)
-  return_in (Some c) p d slice_get few short =
-      let front = converted_code c p d in
-      let back = instructions.Return d ∷ [] in
-      append front back (converted_in c p d (value_of b.result slice_get) (omega (arith, few)) (omega (arith, few)) (omega (arith, short, length-append front back))) (omega (arith, few, results), tt)
-    where
-      value_of : (result : Option Ty) → IsNumberedReturn b result (Some c) → IsNumberedConverted b c
-      value_of None slice_get = absurd slice_get
-      value_of (Some t) slice_get = slice_get
+  condition_in : (a : Expression) (p t : ℕ) → IsNumbered b a → t + expression_need a < r.slots → p + length (condition_code a p t) < length r.code → AreIn (condition_code a p t)
+  condition_in a p t numbered few short =
+      unless_in (operand_of a) (expression_code a p (value_slot a t) t) p short (λ less. expression_in a p (value_slot a t) t numbered (slot_in a t numbered (omega (arith, few))) (omega (arith, few)) less)
 
-  declaration_in : (n : ℕ) (v : Option Converted) (p d : ℕ) → n < b.locals → IsNumberedInitial b v → d + initial_need v < r.slots → p + length (declaration_code n v p d) < length r.code → AreIn (declaration_code n v p d)
-  declaration_in n None p d within slice_get few short = tt
-  declaration_in n (Some c) p d within slice_get few short =
-      let front = converted_code c p d in
-      let back = instructions.Move (slot_of n) (operands.Slot d) ∷ [] in
-      append front back (converted_in c p d slice_get (omega (arith, few)) (omega (arith, few)) (omega (arith, short, length-append front back))) ((omega (arith, within, locals), omega (arith, few)), tt)
+  return_in : (v : Option Converted) (p t : ℕ) → IsNumberedReturn b b.result v → t + initial_need v < r.slots → p + length (return_code v p t) < length r.code → AreIn (return_code v p t)
+  return_in None p t numbered few short = (omega (arith, few, results), tt)
+  return_in (Some (Convert from to a)) p t numbered few short =
+      let s = slot_or (operand_of a) t in
+      let inner = expression_code a p t t in
+      let front = code_unless_slot (operand_of a) inner in
+      let conversion = conversion_code to (operands.Slot s) (p + length front) in
+      let back = instructions.Return s ∷ [] in
+      let long = length-append (front ++ conversion) back in
+      let long_front = length-append front conversion in
+      let is = value_of b.result numbered in
+      let there = returned_in a t is (omega (arith, few)) in
+      append (front ++ conversion) back
+      (append front conversion (unless_slot_in (operand_of a) inner p (omega (arith, short, long, long_front)) (λ less. expression_in a p t t is (omega (arith, few)) (omega (arith, few)) less))
+      (conversion_in to (operands.Slot s) (p + length front) there (omega (arith, short, long, long_front)))) (omega (arith, there, results), tt)
+    where
+      value_of : (result : Option Ty) → IsNumberedReturn b result (Some (Convert from to a)) → IsNumbered b a
+      value_of None numbered = absurd numbered
+      value_of (Some ty) numbered = numbered
+
+  declaration_in : (n : ℕ) (v : Option Converted) (p t : ℕ) → n < b.locals → IsNumberedInitial b v → t + initial_need v < r.slots → p + length (declaration_code n v p t) < length r.code → AreIn (declaration_code n v p t)
+  declaration_in n None p t within numbered few short = tt
+  declaration_in n (Some c) p t within numbered few short = initial_in c p (slot_of n) t numbered (omega (arith, within, locals)) (omega (arith, few)) (omega (arith, few)) short
 
   mutual
-    statement_in : (s : Statement) (in_loop : Bool) (p loop d : ℕ) → IsNumberedStatement b in_loop s → (in_loop ≡ true → loop + 2 < length r.code) → d + statement_need s < r.slots → p + length (statement_code s p loop d) < length r.code → AreIn (statement_code s p loop d)
-    statement_in (Block n js) in_loop p loop d (few_regions, slice_get) around few short = items_in js in_loop p loop d slice_get around few short
-    statement_in Empty in_loop p loop d slice_get around few short = tt
-    statement_in (Evaluate a) in_loop p loop d slice_get around few short = expression_in a p d slice_get (omega (arith, few)) short
-    statement_in (If a s t) in_loop p loop d (numbered_a, numbered_s, numbered_t) around few short =
-        let condition = expression_code a p d in
+    statement_in : (s : Statement) (in_loop : Bool) (p loop t : ℕ) → IsNumberedStatement b in_loop s → (in_loop ≡ true → loop + 2 < length r.code) → t + statement_need s < r.slots → p + length (statement_code s p loop t) < length r.code → AreIn (statement_code s p loop t)
+    statement_in (Block n js) in_loop p loop t (few_regions, numbered) around few short = items_in js in_loop p loop t numbered around few short
+    statement_in Empty in_loop p loop t numbered around few short = tt
+    statement_in (Evaluate a) in_loop p loop t numbered around few short = discarded_in a p t numbered few short
+    statement_in (If a s u) in_loop p loop t (numbered_a, numbered_s, numbered_u) around few short =
+        let condition = condition_code a p t in
         let m = p + length condition in
-        let then_code = statement_code s (m + 1) loop d in
-        let q = m + 1 + length then_code in
-        let else_code = statement_code t (q + 1) loop d in
-        let jump_first = jump_if_zero d (q + 1) ∷ then_code in
-        let jump_second = instructions.Jump (q + 1 + length else_code) ∷ else_code in
+        let first = statement_code s (m + 1) loop t in
+        let q = m + 1 + length first in
+        let second = statement_code u (q + 1) loop t in
+        let jump_first = failing_jump a t (q + 1) ∷ first in
+        let jump_second = instructions.Jump (q + 1 + length second) ∷ second in
         let long = length-append (condition ++ jump_first) jump_second in
         let long_front = length-append condition jump_first in
         append (condition ++ jump_first) jump_second
-        (append condition jump_first (expression_in a p d numbered_a (omega (arith, few)) (omega (arith, short, long, long_front)))
-        ((omega (arith, few), tt, omega (arith, short, long, long_front)), statement_in s in_loop (m + 1) loop d numbered_s around (omega (arith, few)) (omega (arith, short, long, long_front))))
-        (omega (arith, short, long, long_front), statement_in t in_loop (q + 1) loop d numbered_t around (omega (arith, few)) (omega (arith, short, long, long_front)))
-    statement_in (While w a s) in_loop p loop d (numbered_a, numbered_s) around few short =
-        let condition = expression_code a (p + 2) d in
+        (append condition jump_first (condition_in a p t numbered_a (omega (arith, few)) (omega (arith, short, long, long_front)))
+        ((value_in a t numbered_a (omega (arith, few)), tt, omega (arith, short, long, long_front)), statement_in s in_loop (m + 1) loop t numbered_s around (omega (arith, few)) (omega (arith, short, long, long_front))))
+        (omega (arith, short, long, long_front), statement_in u in_loop (q + 1) loop t numbered_u around (omega (arith, few)) (omega (arith, short, long, long_front)))
+    statement_in (While w a s) in_loop p loop t (numbered_a, numbered_s) around few short =
+        let condition = condition_code a (p + 2) t in
         let m = p + 2 + length condition in
-        let body = statement_code s (m + 1) p d in
-        let test = jump_if_zero d (break_target p) ∷ body in
+        let body = statement_code s (m + 1) p t in
+        let test = failing_jump a t (break_target p) ∷ body in
         let again = instructions.Jump (continue_target p) ∷ [] in
         let long = length-append (condition ++ test) again in
         let long_front = length-append condition test in (
@@ -274,31 +438,31 @@ module _ (program : PlainProgram) (r : Routine) (b : Numbering) (locals : b.loca
           (
             omega (arith, short, long, long_front),
             append (condition ++ test) again
-                (append condition test (expression_in a (p + 2) d numbered_a (omega (arith, few)) (omega (arith, short, long, long_front)))
-                ((omega (arith, few), tt, omega (arith, short, long, long_front)), statement_in s true (m + 1) p d numbered_s (λ inside. omega (arith, short, long, long_front)) (omega (arith, few)) (omega (arith, short, long, long_front))))
+                (append condition test (condition_in a (p + 2) t numbered_a (omega (arith, few)) (omega (arith, short, long, long_front)))
+                ((value_in a t numbered_a (omega (arith, few)), tt, omega (arith, short, long, long_front)), statement_in s true (m + 1) p t numbered_s (λ inside. omega (arith, short, long, long_front)) (omega (arith, few)) (omega (arith, short, long, long_front))))
                 (omega (arith, short, long, long_front), tt),
           ),
         )
-    statement_in (Return v) in_loop p loop d slice_get around few short = return_in v p d slice_get few short
-    statement_in Break in_loop p loop d slice_get around few short = (omega (arith, around slice_get), tt)
-    statement_in Continue in_loop p loop d slice_get around few short = (omega (arith, around slice_get), tt)
-    statement_in s in_loop p loop d slice_get around few short = absurd slice_get
+    statement_in (Return v) in_loop p loop t numbered around few short = return_in v p t numbered few short
+    statement_in Break in_loop p loop t numbered around few short = (omega (arith, around numbered), tt)
+    statement_in Continue in_loop p loop t numbered around few short = (omega (arith, around numbered), tt)
+    statement_in s in_loop p loop t numbered around few short = absurd numbered
 
-    items_in : (js : Items) (in_loop : Bool) (p loop d : ℕ) → AreNumberedItems b in_loop js → (in_loop ≡ true → loop + 2 < length r.code) → d + items_need js < r.slots → p + length (items_code js p loop d) < length r.code → AreIn (items_code js p loop d)
-    items_in NoItems in_loop p loop d slice_get around few short = tt
-    items_in (MoreItems (Execute s) js) in_loop p loop d (slice_get, rest) around few short =
-        let front = statement_code s p loop d in
-        let back = items_code js (p + length front) loop d in
+    items_in : (js : Items) (in_loop : Bool) (p loop t : ℕ) → AreNumberedItems b in_loop js → (in_loop ≡ true → loop + 2 < length r.code) → t + items_need js < r.slots → p + length (items_code js p loop t) < length r.code → AreIn (items_code js p loop t)
+    items_in NoItems in_loop p loop t numbered around few short = tt
+    items_in (MoreItems (Execute s) js) in_loop p loop t (numbered, rest) around few short =
+        let front = statement_code s p loop t in
+        let back = items_code js (p + length front) loop t in
         let long = length-append front back in
-        append front back (statement_in s in_loop p loop d slice_get around (omega (arith, few)) (omega (arith, short, long)))
-        (items_in js in_loop (p + length front) loop d rest around (omega (arith, few)) (omega (arith, short, long)))
-    items_in (MoreItems (Declare n t v) js) in_loop p loop d (within, slice_get, rest) around few short =
-        let front = declaration_code n v p d in
-        let back = items_code js (p + length front) loop d in
+        append front back (statement_in s in_loop p loop t numbered around (omega (arith, few)) (omega (arith, short, long)))
+        (items_in js in_loop (p + length front) loop t rest around (omega (arith, few)) (omega (arith, short, long)))
+    items_in (MoreItems (Declare n ty v) js) in_loop p loop t (within, numbered, rest) around few short =
+        let front = declaration_code n v p t in
+        let back = items_code js (p + length front) loop t in
         let long = length-append front back in
-        append front back (declaration_in n v p d within slice_get (omega (arith, few)) (omega (arith, short, long)))
-        (items_in js in_loop (p + length front) loop d rest around (omega (arith, few)) (omega (arith, short, long)))
-    items_in js in_loop p loop d slice_get around few short = absurd slice_get
+        append front back (declaration_in n v p t within numbered (omega (arith, few)) (omega (arith, short, long)))
+        (items_in js in_loop (p + length front) loop t rest around (omega (arith, few)) (omega (arith, short, long)))
+    items_in js in_loop p loop t numbered around few short = absurd numbered
 
 -- ---- functions
 

@@ -107,7 +107,7 @@ module _ (source : Program) (pages calls : ℕ) (some_page : 1 ≤ pages) (stand
         globals_many source.globals,
         λ number v few has. globals_start source.globals number v has,
       )
-      tt (λ m end. (end, tt))
+      tt (λ m end. (_, end, tt))
 
   from_start : (h : Option Function) (input : List ℕ) → slice_get source.functions source.main ≡ h → 1 ≤ calls
       → (status_in (status_of (called h [] (Main ∷ []) (first_world source input))) ≡ Failed → ⊥)

@@ -1,5 +1,7 @@
 -- A lowered program has words wherever its source has.
-use Rattle.std.proofs.Common.{ℕ, suc, ◌+◌, List, [], ◌∷◌, ◌++◌, length, map, Option, None, Some, All, arith}
+use Rattle.std.proofs.Common.{ℕ, zero, suc, ◌+◌, Bool, true, false, List, [], ◌∷◌, ◌++◌, length, map, Option, None, Some, All, arith}
+use Rattle.std.specs.Prelude.{if◌then◌else◌}
+use Rattle.cyc_meaning.specs.Operators.{null_exception, division_by_zero}
 use Rattle.std.specs.List.{AllByRecursion}
 use Rattle.cyc_words.specs.Word.{IsWord}
 use Rattle.cyc_types.specs.declared.typed.Kind.{Kind}
@@ -12,11 +14,13 @@ use Rattle.cyc_types.specs.declared.typed.LogicalOperator.{LogicalOperator}
 use Rattle.cyc_types.specs.declared.typed.LogicalOperator.TheVariants as logical
 use Rattle.cyc_types.specs.TypedTrees.{Lvalue, Local, Global, Expression, Number, Copy, Call, Unary, Binary, Assign, Converted, Convert, Arguments, NoArguments, MoreArguments, Operations, NoOperations, ThenCompute, ThenTest, Statement, Block, Empty, Evaluate, If, While, Return, Break, Continue, Items, NoItems, MoreItems, Execute, Declare, Constant, Word, Null, GlobalVariable, Function, Program}
 use Rattle.cyc_types.specs.Numbered.{argument_count}
+use Rattle.cyc_plain.specs.declared.instruction.Operand.{Operand}
+use Rattle.cyc_plain.specs.declared.instruction.Operand.TheVariants as operands
 use Rattle.cyc_plain.specs.declared.instruction.Instruction.{Instruction}
 use Rattle.cyc_plain.specs.declared.instruction.Instruction.TheVariants as instructions
-use Rattle.cyc_plain.specs.WellFormed.{HasWord, HasWords}
+use Rattle.cyc_plain.specs.WellFormed.{IsOfWord, HasWord, HasWords}
 use Rattle.cyc_lower.specs.Words.{IsOfWords, IsOfWordsConverted, AreOfWordsArguments, AreOfWordsOperations, IsOfWordsInitial, IsOfWordsStatement, AreOfWordsItems, IsOfWordsConstant, AreOfWordsGlobals, AreOfWordsFunctions, IsOfWordsProgram}
-use Rattle.cyc_lower.specs.Lowering.{conversion_code, operator_code, truth_code, load_code, store_code, call_code, test_code, expression_code, converted_code, arguments_code, operations_code, return_code, declaration_code, statement_code, items_code, first_temporary, initial_word, lower_function, lower_global, lower_program}
+use Rattle.cyc_lower.specs.Lowering.{slot_of, unary_operator, binary_operator, operand_of, operand_or, code_unless, slot_or, code_unless_slot, left_with, left_of, value_slot, next_slot, slot_with, left_slot, value_operand, converted_operand, printed_operand, check_code, conversion_code, divisor_code, checked_code, operator_code, truth_code, load_code, low_byte, test_code, is_in, copy_code, expression_code, arguments_code, converted_code, converted_operand_code, printed_code, initial_code, assignment_code, operations_code, discarded_code, condition_code, failing_jump, break_target, continue_target, return_code, declaration_code, statement_code, items_code, first_temporary, initial_word, lower_function, lower_global, lower_program}
 use Rattle.cyc_lower.proofs.WellFormed.{all_append, all_of}
 
 abbrev HaveWords : List Instruction → Type 0
@@ -25,108 +29,214 @@ HaveWords code = AllByRecursion HasWord code
 append : (x y : List Instruction) → HaveWords x → HaveWords y → HaveWords (x ++ y)
 append x y first rest = all_append HasWord x y first rest
 
-conversion_words : (to : Kind) (p d : ℕ) → HaveWords (conversion_code to p d)
-conversion_words kinds.NonNull p d = ((tt, omega arith), ((omega arith, tt), tt))
-conversion_words to p d = tt
+-- ---- operands
 
-operator_words : (o : Operator) (p d : ℕ) → HaveWords (operator_code o p d)
-operator_words operators.Divide p d = ((tt, omega arith), ((omega arith, tt), ((tt, tt), tt)))
-operator_words operators.Remainder p d = ((tt, omega arith), ((omega arith, tt), ((tt, tt), tt)))
-operator_words o p d = ((tt, tt), tt)
+unless_words : (known : Option Operand) (x : List Instruction) → HaveWords x → HaveWords (code_unless known x)
+unless_words (Some o) x words = tt
+unless_words None x words = words
+
+unless_slot_words : (known : Option Operand) (x : List Instruction) → HaveWords x → HaveWords (code_unless_slot known x)
+unless_slot_words (Some (operands.Slot n)) x words = tt
+unless_slot_words (Some (operands.Word n)) x words = words
+unless_slot_words None x words = words
+
+known_word : (a : Expression) (slot : ℕ) → IsOfWords a → IsOfWord (operand_or (operand_of a) slot)
+known_word (Number n) slot word = word
+known_word (Copy (Local w n) ty) slot words = tt
+known_word a slot words = tt
+
+converted_word : (c : Converted) (t : ℕ) → IsOfWordsConverted c → IsOfWord (converted_operand c t)
+converted_word (Convert from to a) t words = known_word a (value_slot a t) words
+
+printed_word : (cs : Arguments) (o : Operand) (t : ℕ) → AreOfWordsArguments cs → IsOfWord o → IsOfWord (printed_operand cs o t)
+printed_word NoArguments o t words word = word
+printed_word (MoreArguments c cs) o t (first, rest) word = printed_word cs (converted_operand c t) t rest (converted_word c t first)
+
+left_with_word : (known : Option Operand) (a : Expression) (slot : ℕ) → IsOfWords a → IsOfWord (operand_or (left_with known (operand_of a)) slot)
+left_with_word (Some o) a slot words = known_word a slot words
+left_with_word None a slot words = tt
+
+left_word : (a : Expression) (os : Operations) (slot : ℕ) → IsOfWords a → IsOfWord (operand_or (left_of a os) slot)
+left_word a NoOperations slot words = tt
+left_word a (ThenCompute o b os) slot words = left_with_word (operand_of b) a slot words
+left_word a os slot words = tt
+
+-- ---- expressions
+
+check_words : (tag : ℕ) (o : Operand) (p : ℕ) → IsWord tag → IsOfWord o → HaveWords (check_code tag o p)
+check_words tag o p fits word = ((word, omega arith), ((fits, word), tt))
+
+conversion_words : (to : Kind) (o : Operand) (p : ℕ) → IsOfWord o → HaveWords (conversion_code to o p)
+conversion_words kinds.NonNull o p word = check_words null_exception o p (omega arith) word
+conversion_words to o p word = tt
+
+divisor_words : (o : Operand) (p : ℕ) → IsOfWord o → HaveWords (divisor_code o p)
+divisor_words (operands.Word (suc n)) p word = tt
+divisor_words (operands.Word zero) p word = check_words division_by_zero (operands.Word zero) p (omega arith) word
+divisor_words (operands.Slot n) p word = check_words division_by_zero (operands.Slot n) p (omega arith) word
+
+checked_words : (o : Operator) (l r : Operand) (p d : ℕ) → IsOfWord l → IsOfWord r → HaveWords (checked_code o l r p d)
+checked_words o l r p d left right = append (divisor_code r p) _ (divisor_words r p right) ((left, right), tt)
+
+operator_words : (o : Operator) (l r : Operand) (p d : ℕ) → IsOfWord l → IsOfWord r → HaveWords (operator_code o l r p d)
+operator_words operators.Divide l r p d left right = checked_words operators.Divide l r p d left right
+operator_words operators.Remainder l r p d left right = checked_words operators.Remainder l r p d left right
+operator_words o l r p d left right = ((left, right), tt)
 
 load_words : (l : Lvalue) (d : ℕ) → HaveWords (load_code l d)
 load_words (Local w n) d = (tt, tt)
 load_words (Global n) d = (tt, tt)
 
-store_words : (l : Lvalue) (d : ℕ) → HaveWords (store_code l d)
-store_words (Local w n) d = (tt, tt)
-store_words (Global n) d = (tt, tt)
+copy_words : (is : Bool) (o : Operand) (d : ℕ) → IsOfWord o → HaveWords (if is then [] else instructions.Move d o ∷ [])
+copy_words true o d word = tt
+copy_words false o d word = (word, tt)
 
-call_words : (f : Callee) (n d : ℕ) → HaveWords (call_code f n d)
-call_words callees.Putchar n d = (tt, (omega arith, ((tt, tt), tt)))
-call_words callees.Getchar n d = (tt, tt)
-call_words (callees.Function g) n d = (tt, tt)
-
-test_words : (o : LogicalOperator) (operand : List Instruction) (p d : ℕ) → HaveWords operand → HaveWords (test_code o operand p d)
-test_words logical.AndThen operand p d all = ((tt, omega arith), append operand (truth_code d) all (tt, (tt, tt)))
-test_words logical.OrElse operand p d all = ((tt, omega arith), append operand (truth_code d) all (tt, (tt, tt)))
+test_words : (o : LogicalOperator) (operand : List Instruction) (p d t : ℕ) → HaveWords operand → HaveWords (test_code o operand p d t)
+test_words logical.AndThen operand p d t all = ((tt, omega arith), append operand (truth_code t d) all (tt, (tt, tt)))
+test_words logical.OrElse operand p d t all = ((tt, omega arith), append operand (truth_code t d) all (tt, (tt, tt)))
 
 mutual
-  expression_words : (a : Expression) (p d : ℕ) → IsOfWords a → HaveWords (expression_code a p d)
-  expression_words (Number n) p d word = (word, tt)
-  expression_words (Copy l t) p d words = load_words l d
-  expression_words (Call f cs t) p d words = append (arguments_code cs p d) (call_code f (argument_count cs) d) (arguments_words cs p d words) (call_words f (argument_count cs) d)
-  expression_words (Unary o a) p d words = append (expression_code a p d) _ (expression_words a p d words) (tt, tt)
-  expression_words (Binary a os t) p d (first, rest) =
-      let q = p + length (expression_code a p d) in
-      append (expression_code a p d) (operations_code os q d) (expression_words a p d first) (operations_words os q d rest)
-  expression_words (Assign l c t) p d words = append (converted_code c p d) (store_code l d) (converted_words c p d words) (store_words l d)
-  expression_words a p d words = absurd words
+  expression_words : (a : Expression) (p d t : ℕ) → IsOfWords a → HaveWords (expression_code a p d t)
+  expression_words (Number n) p d t word = (word, tt)
+  expression_words (Copy l ty) p d t words = load_words l d
+  expression_words (Call callees.Putchar cs ty) p d t words =
+      let byte = printed_word cs (operands.Slot t) t words tt in
+      append (printed_code cs p t) _ (printed_words cs p t words) (byte, ((byte, omega arith), tt))
+  expression_words (Call callees.Getchar cs ty) p d t words = append (arguments_code cs p t) _ (arguments_words cs p t words) (tt, tt)
+  expression_words (Call (callees.Function n) cs ty) p d t words = append (arguments_code cs p t) _ (arguments_words cs p t words) (tt, tt)
+  expression_words (Unary o a) p d t words =
+      let inner = expression_code a p (value_slot a t) t in
+      append (code_unless (operand_of a) inner) _ (unless_words (operand_of a) inner (expression_words a p (value_slot a t) t words)) (known_word a (value_slot a t) words, tt)
+  expression_words (Binary a os ty) p d t (first, rest) =
+      let inner = expression_code a p (left_slot a os d t) t in
+      let front = code_unless (left_of a os) inner in
+      let l = operand_or (left_of a os) (left_slot a os d t) in
+      append front (operations_code os (p + length front) l d t) (unless_words (left_of a os) inner (expression_words a p (left_slot a os d t) t first))
+      (operations_words os (p + length front) l d t (left_word a os (left_slot a os d t) first) rest)
+  expression_words (Assign (Local w n) c ty) p d t words =
+      let o = operands.Slot (slot_of n) in
+      append (initial_code c p (slot_of n) t) (copy_code o d) (initial_words c p (slot_of n) t words) (copy_words (is_in o d) o d tt)
+  expression_words (Assign (Global n) c ty) p d t words =
+      let o = converted_operand c t in
+      let front = converted_operand_code c p t in
+      let word = converted_word c t words in
+      append (front ++ instructions.StoreGlobal n o ∷ []) (copy_code o d) (append front _ (converted_operand_words c p t words) (word, tt)) (copy_words (is_in o d) o d word)
+  expression_words a p d t words = absurd words
 
-  converted_words : (c : Converted) (p d : ℕ) → IsOfWordsConverted c → HaveWords (converted_code c p d)
-  converted_words (Convert from to a) p d words =
-      let q = p + length (expression_code a p d) in
-      append (expression_code a p d) (conversion_code to q d) (expression_words a p d words) (conversion_words to q d)
+  initial_words : (c : Converted) (p d t : ℕ) → IsOfWordsConverted c → HaveWords (initial_code c p d t)
+  initial_words (Convert from kinds.NonNull a) p d t words =
+      let inner = expression_code a p (value_slot a t) t in
+      let front = code_unless (operand_of a) inner in
+      let o = value_operand a t in
+      let word = known_word a (value_slot a t) words in
+      append (front ++ check_code null_exception o (p + length front)) _
+      (append front _ (unless_words (operand_of a) inner (expression_words a p (value_slot a t) t words)) (check_words null_exception o (p + length front) (omega arith) word)) (word, tt)
+  initial_words (Convert from to a) p d t words = expression_words a p d t words
 
-  arguments_words : (cs : Arguments) (p d : ℕ) → AreOfWordsArguments cs → HaveWords (arguments_code cs p d)
-  arguments_words NoArguments p d words = tt
-  arguments_words (MoreArguments c cs) p d (first, rest) =
-      let q = p + length (converted_code c p d) in
-      append (converted_code c p d) (arguments_code cs q (suc d)) (converted_words c p d first) (arguments_words cs q (suc d) rest)
+  converted_words : (c : Converted) (p t : ℕ) → IsOfWordsConverted c → HaveWords (converted_code c p t)
+  converted_words (Convert from to a) p t words =
+      let q = p + length (expression_code a p t t) in
+      append (expression_code a p t t) (conversion_code to (operands.Slot t) q) (expression_words a p t t words) (conversion_words to (operands.Slot t) q tt)
 
-  operations_words : (os : Operations) (p d : ℕ) → AreOfWordsOperations os → HaveWords (operations_code os p d)
-  operations_words NoOperations p d words = tt
-  operations_words (ThenCompute o a os) p d (first, rest) =
-      let operand = expression_code a p (suc d) in
-      let operator = operator_code o (p + length operand) d in
+  converted_operand_words : (c : Converted) (p t : ℕ) → IsOfWordsConverted c → HaveWords (converted_operand_code c p t)
+  converted_operand_words (Convert from to a) p t words =
+      let inner = expression_code a p (value_slot a t) t in
+      let front = code_unless (operand_of a) inner in
+      let o = value_operand a t in
+      append front (conversion_code to o (p + length front)) (unless_words (operand_of a) inner (expression_words a p (value_slot a t) t words))
+      (conversion_words to o (p + length front) (known_word a (value_slot a t) words))
+
+  printed_words : (cs : Arguments) (p t : ℕ) → AreOfWordsArguments cs → HaveWords (printed_code cs p t)
+  printed_words NoArguments p t words = tt
+  printed_words (MoreArguments c cs) p t (first, rest) =
+      let q = p + length (converted_operand_code c p t) in
+      append (converted_operand_code c p t) (printed_code cs q t) (converted_operand_words c p t first) (printed_words cs q t rest)
+
+  arguments_words : (cs : Arguments) (p t : ℕ) → AreOfWordsArguments cs → HaveWords (arguments_code cs p t)
+  arguments_words NoArguments p t words = tt
+  arguments_words (MoreArguments c cs) p t (first, rest) =
+      let q = p + length (converted_code c p t) in
+      append (converted_code c p t) (arguments_code cs q (suc t)) (converted_words c p t first) (arguments_words cs q (suc t) rest)
+
+  operations_words : (os : Operations) (p : ℕ) (l : Operand) (d t : ℕ) → IsOfWord l → AreOfWordsOperations os → HaveWords (operations_code os p l d t)
+  operations_words NoOperations p l d t left words = tt
+  operations_words (ThenCompute o a os) p l d t left (first, rest) =
+      let inner = expression_code a p (value_slot a (suc t)) (suc t) in
+      let operand = code_unless (operand_of a) inner in
+      let next = next_slot os d t in
+      let operator = operator_code o l (value_operand a (suc t)) (p + length operand) next in
       let q = p + length (operand ++ operator) in
-      append (operand ++ operator) (operations_code os q d)
-      (append operand operator (expression_words a p (suc d) first) (operator_words o (p + length operand) d)) (operations_words os q d rest)
-  operations_words (ThenTest o a os) p d (first, rest) =
-      let operand = expression_code a (p + 1) d in
-      let q = p + length (test_code o operand p d) in
-      append (test_code o operand p d) (operations_code os q d) (test_words o operand p d (expression_words a (p + 1) d first)) (operations_words os q d rest)
-  operations_words os p d words = absurd words
+      append (operand ++ operator) (operations_code os q (operands.Slot next) d t)
+      (append operand operator (unless_words (operand_of a) inner (expression_words a p (value_slot a (suc t)) (suc t) first))
+      (operator_words o l (value_operand a (suc t)) (p + length operand) next left (known_word a (value_slot a (suc t)) first)))
+      (operations_words os q (operands.Slot next) d t tt rest)
+  operations_words (ThenTest o a os) p l d t left (first, rest) =
+      let operand = expression_code a (p + 1) t t in
+      let next = next_slot os d t in
+      let q = p + length (test_code o operand p next t) in
+      append (test_code o operand p next t) (operations_code os q (operands.Slot next) d t) (test_words o operand p next t (expression_words a (p + 1) t t first))
+      (operations_words os q (operands.Slot next) d t tt rest)
+  operations_words os p l d t left words = absurd words
 
-return_words : (v : Option Converted) (p d : ℕ) → IsOfWordsInitial v → HaveWords (return_code v p d)
-return_words None p d words = (tt, tt)
-return_words (Some c) p d words = append (converted_code c p d) _ (converted_words c p d words) (tt, tt)
+assignment_words : (l : Lvalue) (c : Converted) (p t : ℕ) → IsOfWordsConverted c → HaveWords (assignment_code l c p t)
+assignment_words (Local w n) c p t words = initial_words c p (slot_of n) t words
+assignment_words (Global n) c p t words = append (converted_operand_code c p t) _ (converted_operand_words c p t words) (converted_word c t words, tt)
 
-declaration_words : (n : ℕ) (v : Option Converted) (p d : ℕ) → IsOfWordsInitial v → HaveWords (declaration_code n v p d)
-declaration_words n None p d words = tt
-declaration_words n (Some c) p d words = append (converted_code c p d) _ (converted_words c p d words) (tt, tt)
+discarded_words : (a : Expression) (p t : ℕ) → IsOfWords a → HaveWords (discarded_code a p t)
+discarded_words (Call callees.Putchar cs ty) p t words = append (printed_code cs p t) _ (printed_words cs p t words) (printed_word cs (operands.Slot t) t words tt, tt)
+discarded_words (Assign l c ty) p t words = assignment_words l c p t words
+discarded_words a p t words = unless_words (operand_of a) (expression_code a p t t) (expression_words a p t t words)
+
+-- ---- statements
+
+condition_words : (a : Expression) (p t : ℕ) → IsOfWords a → HaveWords (condition_code a p t)
+condition_words a p t words = unless_words (operand_of a) (expression_code a p (value_slot a t) t) (expression_words a p (value_slot a t) t words)
+
+return_words : (v : Option Converted) (p t : ℕ) → IsOfWordsInitial v → HaveWords (return_code v p t)
+return_words None p t words = (tt, tt)
+return_words (Some (Convert from to a)) p t words =
+    let inner = expression_code a p t t in
+    let front = code_unless_slot (operand_of a) inner in
+    let s = slot_or (operand_of a) t in
+    let conversion = conversion_code to (operands.Slot s) (p + length front) in
+    append (front ++ conversion) _
+    (append front conversion (unless_slot_words (operand_of a) inner (expression_words a p t t words)) (conversion_words to (operands.Slot s) (p + length front) tt)) (tt, tt)
+
+declaration_words : (n : ℕ) (v : Option Converted) (p t : ℕ) → IsOfWordsInitial v → HaveWords (declaration_code n v p t)
+declaration_words n None p t words = tt
+declaration_words n (Some c) p t words = initial_words c p (slot_of n) t words
 
 mutual
-  statement_words : (s : Statement) (p loop d : ℕ) → IsOfWordsStatement s → HaveWords (statement_code s p loop d)
-  statement_words (Block r js) p loop d words = items_words js p loop d words
-  statement_words Empty p loop d words = tt
-  statement_words (Evaluate a) p loop d words = expression_words a p d words
-  statement_words (If a s t) p loop d (first, second, third) =
-      let condition = expression_code a p d in
+  statement_words : (s : Statement) (p loop t : ℕ) → IsOfWordsStatement s → HaveWords (statement_code s p loop t)
+  statement_words (Block r js) p loop t words = items_words js p loop t words
+  statement_words Empty p loop t words = tt
+  statement_words (Evaluate a) p loop t words = discarded_words a p t words
+  statement_words (If a s u) p loop t (first, second, third) =
+      let condition = condition_code a p t in
       let m = p + length condition in
-      let then_code = statement_code s (m + 1) loop d in
-      let q = m + 1 + length then_code in
-      append (condition ++ _ ∷ then_code) (_ ∷ statement_code t (q + 1) loop d)
-      (append condition (_ ∷ then_code) (expression_words a p d first) ((tt, omega arith), statement_words s (m + 1) loop d second)) (tt, statement_words t (q + 1) loop d third)
-  statement_words (While w a s) p loop d (first, second) =
-      let condition = expression_code a (p + 2) d in
+      let first_code = statement_code s (m + 1) loop t in
+      let q = m + 1 + length first_code in
+      append (condition ++ _ ∷ first_code) (_ ∷ statement_code u (q + 1) loop t)
+      (append condition (_ ∷ first_code) (condition_words a p t first) ((known_word a (value_slot a t) first, omega arith), statement_words s (m + 1) loop t second)) (tt, statement_words u (q + 1) loop t third)
+  statement_words (While w a s) p loop t (first, second) =
+      let condition = condition_code a (p + 2) t in
       let m = p + 2 + length condition in
-      let body = statement_code s (m + 1) p d in
-      (tt, (tt, append (condition ++ _ ∷ body) _ (append condition (_ ∷ body) (expression_words a (p + 2) d first) ((tt, omega arith), statement_words s (m + 1) p d second)) (tt, tt)))
-  statement_words (Return v) p loop d words = return_words v p d words
-  statement_words Break p loop d words = (tt, tt)
-  statement_words Continue p loop d words = (tt, tt)
-  statement_words s p loop d words = absurd words
+      let body = statement_code s (m + 1) p t in
+      (tt, (tt, append (condition ++ _ ∷ body) _ (append condition (_ ∷ body) (condition_words a (p + 2) t first) ((known_word a (value_slot a t) first, omega arith), statement_words s (m + 1) p t second)) (tt, tt)))
+  statement_words (Return v) p loop t words = return_words v p t words
+  statement_words Break p loop t words = (tt, tt)
+  statement_words Continue p loop t words = (tt, tt)
+  statement_words s p loop t words = absurd words
 
-  items_words : (js : Items) (p loop d : ℕ) → AreOfWordsItems js → HaveWords (items_code js p loop d)
-  items_words NoItems p loop d words = tt
-  items_words (MoreItems (Execute s) js) p loop d (first, rest) =
-      let q = p + length (statement_code s p loop d) in
-      append (statement_code s p loop d) (items_code js q loop d) (statement_words s p loop d first) (items_words js q loop d rest)
-  items_words (MoreItems (Declare n t v) js) p loop d (first, rest) =
-      let q = p + length (declaration_code n v p d) in
-      append (declaration_code n v p d) (items_code js q loop d) (declaration_words n v p d first) (items_words js q loop d rest)
-  items_words js p loop d words = absurd words
+  items_words : (js : Items) (p loop t : ℕ) → AreOfWordsItems js → HaveWords (items_code js p loop t)
+  items_words NoItems p loop t words = tt
+  items_words (MoreItems (Execute s) js) p loop t (first, rest) =
+      let q = p + length (statement_code s p loop t) in
+      append (statement_code s p loop t) (items_code js q loop t) (statement_words s p loop t first) (items_words js q loop t rest)
+  items_words (MoreItems (Declare n ty v) js) p loop t (first, rest) =
+      let q = p + length (declaration_code n v p t) in
+      append (declaration_code n v p t) (items_code js q loop t) (declaration_words n v p t first) (items_words js q loop t rest)
+  items_words js p loop t words = absurd words
 
 functions_words : (hs : List Function) → AreOfWordsFunctions hs → AllByRecursion (λ r. All HasWord r.code) (map lower_function hs)
 functions_words [] words = tt

@@ -1,5 +1,5 @@
 -- What the code that emits says of itself: what it adds to the code made so far.
-use Rattle.std.specs.Prelude.{◌≡◌, ℕ, suc, ◌+◌, ◌^◌, ◌≤◌, List, ◌++◌, length, max, Option, Some, option_map, Result, OnOk, slice_get}
+use Rattle.std.specs.Prelude.{◌≡◌, ℕ, suc, ◌+◌, ◌^◌, ◌≤◌, ◌<◌, Bool, false, is_some, None, IfOk, List, [], ◌∷◌, ◌++◌, length, max, Option, Some, option_map, Result, OnOk, slice_get}
 use Rattle.std.specs.declared.alloc.AllocError.{AllocError}
 use Rattle.cyc_syntax.specs.Trees.{Declaration}
 use Rattle.cyc_types.specs.declared.typed.Operation.{Operation}
@@ -7,11 +7,14 @@ use Rattle.cyc_types.specs.declared.typed.Operation.TheVariants as operation
 use Rattle.cyc_types.specs.declared.typed.Item.{Item}
 use Rattle.cyc_types.specs.declared.typed.Item.TheVariants as item
 use Rattle.cyc_types.specs.Types.{Ty, words_of, ValueType}
-use Rattle.cyc_types.specs.TypedTrees.{Expression, Arguments, Statement, Function, Program, type_of}
+use Rattle.cyc_types.specs.TypedTrees.{Expression, Converted, Convert, Arguments, Operations, ThenCompute, Statement, Function, Program, type_of}
 use Rattle.cyc_types.specs.TypingRules.{IsTypedProgram}
 use Rattle.cyc_types.specs.TypedTreeView.{view_expression, view_converted, view_statement}
+use Rattle.cyc_plain.specs.declared.instruction.Operand.{Operand}
+use Rattle.cyc_plain.specs.declared.instruction.Operand.TheVariants.{Slot}
 use Rattle.cyc_plain.specs.declared.instruction.Instruction.{Instruction}
-use Rattle.cyc_lower.specs.Lowering.{expression_code, compute_code, test_code, while_code, statement_code, declaration_code}
+use Rattle.cyc_plain.specs.declared.instruction.Instruction.TheVariants.{WriteByte}
+use Rattle.cyc_lower.specs.Lowering.{operand_of, code_unless, slot_or, code_unless_slot, printed_operand, conversion_code, printed_code, left_of, value_slot, left_slot, value_operand, expression_code, compute_code, test_code, condition_code, failing_jump, while_code, statement_code, declaration_code}
 use Rattle.cyc_meaning.specs.FrameCount.{result_words, operand_words, argument_words, arguments_need, expression_need, initial_need, statement_need, frame_count}
 use Rattle.cyc_lower.specs.declared.emitter.Emitter.{Emitter}
 
@@ -19,25 +22,65 @@ use Rattle.cyc_lower.specs.declared.emitter.Emitter.{Emitter}
 abbrev pub Appends : {T : Type 0} → Result T AllocError → (old new : Emitter) → List Instruction → Type 0
 Appends result old new code = OnOk result (new.code.items ≡ old.code.items ++ code)
 
+-- the same, and this is answered
+abbrev pub Gives : {T : Type 0} → T → Result T AllocError → (old new : Emitter) → List Instruction → Type 0
+Gives answer result old new code = IfOk result (λ given. (given ≡ answer) × (new.code.items ≡ old.code.items ++ code))
+
 -- Slots are numbers that a word holds: a function has fewer locals than this, and of its temporaries no more are in use than
 -- there are instructions before.
 abbrev pub most_locals : ℕ
 most_locals = 2 ^ 32
 
--- one operator of a chain with its right operand, where the left one stands in d
-abbrev pub operation_code : Operation → (p d : ℕ) → List Instruction
-operation_code (operation.Compute o e) p d = compute_code o (expression_code (view_expression e) p (suc d)) p d
-operation_code (operation.Test o e) p d = test_code o (expression_code (view_expression e) (p + 1) d) p d
+-- the code of an expression that is an operand
+abbrev pub value_code : Expression → (p t : ℕ) → List Instruction
+value_code a p t = code_unless (operand_of a) (expression_code a p (value_slot a t) t)
+
+-- `putchar` of its argument
+abbrev pub print_code : Arguments → (p t : ℕ) → List Instruction
+print_code cs p t = printed_code cs p t ++ WriteByte (printed_operand cs (Slot t) t) ∷ []
+
+-- a value that is returned, converted, and its slot
+abbrev pub converted_slot : Converted → (t : ℕ) → ℕ
+converted_slot (Convert from to a) t = slot_or (operand_of a) t
+
+abbrev pub converted_slot_code : Converted → (p t : ℕ) → List Instruction
+converted_slot_code (Convert from to a) p t =
+    code_unless_slot (operand_of a) (expression_code a p t t)
+    ++ conversion_code to (Slot (slot_or (operand_of a) t)) (p + length (code_unless_slot (operand_of a) (expression_code a p t t)))
+
+-- what brings the left operand of a chain
+abbrev pub left_code : Expression → Operations → (p d t : ℕ) → List Instruction
+left_code a os p d t = code_unless (left_of a os) (expression_code a p (left_slot a os d t) t)
+
+-- the first of these operators has an operand without code on its right
+abbrev pub takes_operand : Operations → Bool
+takes_operand (ThenCompute o b os) = is_some (operand_of b)
+takes_operand os = false
+
+-- where operators begin, the first temporary is not too high
+abbrev pub HasRoom : Operations → (t many : ℕ) → Type 0
+HasRoom (ThenCompute o b os) t many = operand_of b ≡ None → t < most_locals + many
+HasRoom os t many = t ≤ most_locals + many
+
+abbrev pub HasRoomFor : Operation → (t many : ℕ) → Type 0
+HasRoomFor (operation.Compute o e) t many = operand_of (view_expression e) ≡ None → t < most_locals + many
+HasRoomFor (operation.Test o e) t many = t ≤ most_locals + many
+
+-- one operator of a chain with its right operand, where the left one is l
+abbrev pub operation_code : Operation → (p : ℕ) → (l : Operand) → (d t : ℕ) → List Instruction
+operation_code (operation.Compute o e) p l d t =
+    compute_code o l (value_operand (view_expression e) (suc t)) (value_code (view_expression e) p (suc t)) p d
+operation_code (operation.Test o e) p l d t = test_code o (expression_code (view_expression e) (p + 1) t t) p d t
 
 -- one item of a block
-abbrev pub item_code : Item → (p loop d : ℕ) → List Instruction
-item_code (item.Execute s) p loop d = statement_code (view_statement s) p loop d
-item_code (item.Local n t v) p loop d = declaration_code n (option_map view_converted v) p d
+abbrev pub item_code : Item → (p loop t : ℕ) → List Instruction
+item_code (item.Execute s) p loop t = statement_code (view_statement s) p loop t
+item_code (item.Local n ty v) p loop t = declaration_code n (option_map view_converted v) p t
 
 -- a loop
-abbrev pub loop_code : Expression → Statement → (p d : ℕ) → List Instruction
-loop_code a s p d =
-    while_code (expression_code a (p + 2) d) (statement_code s (p + 2 + length (expression_code a (p + 2) d) + 1) p d) p d
+abbrev pub loop_code : Expression → Statement → (p t : ℕ) → List Instruction
+loop_code a s p t =
+    while_code (condition_code a (p + 2) t) (failing_jump a t) (statement_code s (p + 2 + length (condition_code a (p + 2) t) + 1) p t) p
 
 -- So many words a frame has at most, where its function is one of a program that is short enough to be read.
 abbrev pub most_frame_count : ℕ

@@ -1,9 +1,10 @@
--- The plain program of a typed program, as a function of it. An expression leaves its value in a slot that is given, and
--- uses those behind it for its operands. The code of a construct has absolute places, so it is made for a place.
+-- The plain program of a typed program, as a function of it. The code of a construct has absolute places, so it is made
+-- for a place p. An expression brings its value to a slot d by its last instruction, so d may be the slot of a local that
+-- is read on the way. Else it writes to the slots from t on alone. Numbers and locals are operands where they are used.
 --
 -- Here each value is one word. It has code for the int language; a form that is not built has a constant in its place, which nothing
 -- runs.
-use Rattle.std.specs.Prelude.{ℕ, suc, ◌+◌, List, [], ◌∷◌, ◌++◌, length, map, Option, None, Some}
+use Rattle.std.specs.Prelude.{ℕ, suc, ◌+◌, ◌==◌, Bool, false, if◌then◌else◌, List, [], ◌∷◌, ◌++◌, length, map, Option, None, Some}
 use Rattle.cyc_words.specs.declared.span.Span.{Span}
 use Rattle.cyc_syntax.specs.Symbols.{Place}
 use Rattle.cyc_types.specs.declared.typed.Kind.{Kind}
@@ -24,6 +25,7 @@ use Rattle.cyc_plain.specs.declared.instruction.UnaryOperator.TheVariants as pla
 use Rattle.cyc_plain.specs.declared.instruction.BinaryOperator.{BinaryOperator as PlainBinary}
 use Rattle.cyc_plain.specs.declared.instruction.BinaryOperator.TheVariants as plain_binary
 use Rattle.cyc_plain.specs.declared.instruction.Comparison.TheVariants as comparisons
+use Rattle.cyc_plain.specs.declared.instruction.Operand.{Operand}
 use Rattle.cyc_plain.specs.declared.instruction.Operand.TheVariants as operands
 use Rattle.cyc_plain.specs.declared.instruction.Instruction.{Instruction}
 use Rattle.cyc_plain.specs.declared.instruction.Instruction.TheVariants as instructions
@@ -64,113 +66,245 @@ binary_operator operators.Multiply = plain_binary.Multiply
 binary_operator operators.Divide = plain_binary.Divide
 binary_operator operators.Remainder = plain_binary.Remainder
 
+-- ---- operands
+
+-- what an expression is without code: a number, or a local
+abbrev pub operand_of : Expression → Option Operand
+operand_of (Number n) = Some (operands.Word n)
+operand_of (Copy (Local p n) t) = Some (operands.Slot (slot_of n))
+operand_of a = None
+
+-- where the value is: in that operand, or in the slot to which the code brings it
+abbrev pub operand_or : Option Operand → (slot : ℕ) → Operand
+operand_or (Some o) slot = o
+operand_or None slot = operands.Slot slot
+
+abbrev pub code_unless : Option Operand → List Instruction → List Instruction
+code_unless (Some o) code = []
+code_unless None code = code
+
+-- the same where only a slot will do
+abbrev pub slot_or : Option Operand → (slot : ℕ) → ℕ
+slot_or (Some (operands.Slot n)) slot = n
+slot_or o slot = slot
+
+abbrev pub code_unless_slot : Option Operand → List Instruction → List Instruction
+code_unless_slot (Some (operands.Slot n)) code = []
+code_unless_slot o code = code
+
+-- A left operand is taken without code only where the right one is too: so nothing between can assign it.
+abbrev pub left_with : (right left : Option Operand) → Option Operand
+left_with (Some o) left = left
+left_with None left = None
+
+abbrev pub left_of : Expression → Operations → Option Operand
+left_of a (ThenCompute o b os) = left_with (operand_of b) (operand_of a)
+left_of a os = None
+
+-- The slot for the value of an expression that is an operand: an assigned local has its value already.
+abbrev pub value_slot : Expression → (t : ℕ) → ℕ
+value_slot (Assign (Local w n) c ty) t = slot_of n
+value_slot a t = t
+
+-- the slot for the value of all before these operators: the destination where none is left
+abbrev pub next_slot : Operations → (d t : ℕ) → ℕ
+next_slot NoOperations d t = d
+next_slot os d t = t
+
+-- the slot for the value of a left operand
+abbrev pub slot_with : (right : Option Operand) → Expression → (t : ℕ) → ℕ
+slot_with (Some o) a t = value_slot a t
+slot_with None a t = t
+
+abbrev pub left_slot : Expression → Operations → (d t : ℕ) → ℕ
+left_slot a NoOperations d t = d
+left_slot a (ThenCompute o b os) d t = slot_with (operand_of b) a t
+left_slot a os d t = t
+
+-- where the value of an expression that is an operand stands
+abbrev pub value_operand : Expression → (t : ℕ) → Operand
+value_operand a t = operand_or (operand_of a) (value_slot a t)
+
+abbrev pub converted_operand : Converted → (t : ℕ) → Operand
+converted_operand (Convert from to a) t = value_operand a t
+
+-- the byte that `putchar` prints, which is its only argument
+abbrev pub printed_operand : Arguments → Operand → (t : ℕ) → Operand
+printed_operand NoArguments o t = o
+printed_operand (MoreArguments c cs) o t = printed_operand cs (converted_operand c t) t
+
 -- ---- expressions
 
--- jumps where the word in a slot is 0, and where it is another
-abbrev pub jump_if_zero : (d target : ℕ) → Instruction
-jump_if_zero d target = instructions.Branch comparisons.Equal (operands.Slot d) (operands.Word 0) target
+-- jumps where a word is 0, and where it is another
+abbrev pub jump_if_zero : Operand → (target : ℕ) → Instruction
+jump_if_zero o target = instructions.Branch comparisons.Equal o (operands.Word 0) target
 
-abbrev pub jump_if_nonzero : (d target : ℕ) → Instruction
-jump_if_nonzero d target = instructions.Branch comparisons.NotEqual (operands.Slot d) (operands.Word 0) target
+abbrev pub jump_if_nonzero : Operand → (target : ℕ) → Instruction
+jump_if_nonzero o target = instructions.Branch comparisons.NotEqual o (operands.Word 0) target
 
--- a division stands behind a test of the right operand, which is the 0 that the exception tells where it fails
-abbrev pub checked_code : Operator → (p d : ℕ) → List Instruction
-checked_code o p d =
-    jump_if_nonzero (suc d) (p + 2)
-    ∷ instructions.Uncaught division_by_zero (operands.Slot (suc d))
-    ∷ instructions.Binary (binary_operator o) d (operands.Slot d) (operands.Slot (suc d))
-    ∷ []
+-- where a word is 0, an exception is raised, which tells that 0
+abbrev pub check_code : (tag : ℕ) → Operand → (p : ℕ) → List Instruction
+check_code tag o p = jump_if_nonzero o (p + 2) ∷ instructions.Uncaught tag o ∷ []
 
--- Where a value may not be null it is tested. It is the 0 that the exception tells where it fails.
-abbrev pub conversion_code : (to : Kind) → (p d : ℕ) → List Instruction
-conversion_code kinds.NonNull p d =
-    jump_if_nonzero d (p + 2) ∷ instructions.Uncaught null_exception (operands.Slot d) ∷ []
-conversion_code to p d = []
+-- a value that may not be null is tested
+abbrev pub conversion_code : (to : Kind) → Operand → (p : ℕ) → List Instruction
+conversion_code kinds.NonNull o p = check_code null_exception o p
+conversion_code to o p = []
 
--- the operator applied to d and the slot behind it
-abbrev pub operator_code : Operator → (p d : ℕ) → List Instruction
-operator_code operators.Divide p d = checked_code operators.Divide p d
-operator_code operators.Remainder p d = checked_code operators.Remainder p d
-operator_code o p d = instructions.Binary (binary_operator o) d (operands.Slot d) (operands.Slot (suc d)) ∷ []
+-- a divisor is tested, but a number other than 0
+abbrev pub divisor_code : Operand → (p : ℕ) → List Instruction
+divisor_code (operands.Word (suc n)) p = []
+divisor_code o p = check_code division_by_zero o p
 
--- where the value in d decides, the next operand is jumped over
-abbrev pub test_jump : LogicalOperator → (d target : ℕ) → Instruction
-test_jump logical.AndThen d target = jump_if_zero d target
-test_jump logical.OrElse d target = jump_if_nonzero d target
+abbrev pub checked_code : Operator → (l r : Operand) → (p d : ℕ) → List Instruction
+checked_code o l r p d = divisor_code r p ++ instructions.Binary (binary_operator o) d l r ∷ []
+
+abbrev pub operator_code : Operator → (l r : Operand) → (p d : ℕ) → List Instruction
+operator_code operators.Divide l r p d = checked_code operators.Divide l r p d
+operator_code operators.Remainder l r p d = checked_code operators.Remainder l r p d
+operator_code o l r p d = instructions.Binary (binary_operator o) d l r ∷ []
+
+-- where the value in t decides, the next operand is jumped over
+abbrev pub test_jump : LogicalOperator → (t target : ℕ) → Instruction
+test_jump logical.AndThen t target = jump_if_zero (operands.Slot t) target
+test_jump logical.OrElse t target = jump_if_nonzero (operands.Slot t) target
 
 -- 0 stays 0, and any other word becomes 1
-abbrev pub truth_code : ℕ → List Instruction
-truth_code d = instructions.Unary plain_unary.Not d (operands.Slot d) ∷ instructions.Unary plain_unary.Not d (operands.Slot d) ∷ []
+abbrev pub truth_code : (t d : ℕ) → List Instruction
+truth_code t d =
+    instructions.Unary plain_unary.Not t (operands.Slot t)
+    ∷ instructions.Unary plain_unary.Not d (operands.Slot t)
+    ∷ []
 
 -- the value of a place
 abbrev pub load_code : Lvalue → (d : ℕ) → List Instruction
 load_code (Local p n) d = instructions.Move d (operands.Slot (slot_of n)) ∷ []
 load_code (Global n) d = instructions.LoadGlobal d n ∷ []
 
--- a place gets the value in d, which stays there
-abbrev pub store_code : Lvalue → (d : ℕ) → List Instruction
-store_code (Local p n) d = instructions.Move (slot_of n) (operands.Slot d) ∷ []
-store_code (Global n) d = instructions.StoreGlobal n (operands.Slot d) ∷ []
-
--- a call of so many arguments, which stand in the slots from d on
-abbrev pub call_code : Callee → (arguments d : ℕ) → List Instruction
-call_code callees.Putchar arguments d =
-    instructions.WriteByte (operands.Slot d)
-    ∷ instructions.Move (suc d) (operands.Word 255)
-    ∷ instructions.Binary plain_binary.And d (operands.Slot d) (operands.Slot (suc d))
-    ∷ []
-call_code callees.Getchar arguments d = instructions.ReadByte d ∷ []
-call_code (callees.Function n) arguments d = instructions.Call n d arguments d ∷ []
+-- the low 8 bits of what was printed
+abbrev pub low_byte : Operand → (d : ℕ) → Instruction
+low_byte o d = instructions.Binary plain_binary.And d o (operands.Word 255)
 
 -- an operator with its right operand, whose code stands at place p
-abbrev pub compute_code : Operator → (operand : List Instruction) → (p d : ℕ) → List Instruction
-compute_code o operand p d = operand ++ operator_code o (p + length operand) d
+abbrev pub compute_code : Operator → (l r : Operand) → (operand : List Instruction) → (p d : ℕ) → List Instruction
+compute_code o l r operand p d = operand ++ operator_code o l r (p + length operand) d
 
 -- a test at place p with its right operand, whose code stands behind the jump
-abbrev pub test_code : LogicalOperator → (operand : List Instruction) → (p d : ℕ) → List Instruction
-test_code o operand p d = test_jump o d (p + 1 + length operand) ∷ operand ++ truth_code d
+abbrev pub test_code : LogicalOperator → (operand : List Instruction) → (p d t : ℕ) → List Instruction
+test_code o operand p d t = test_jump o t (p + 1 + length operand) ∷ operand ++ truth_code t d
 
--- The code of an expression that begins at place p and leaves its value in slot d.
+-- a value comes to a slot, where it is not there yet
+abbrev pub is_in : Operand → (d : ℕ) → Bool
+is_in (operands.Slot n) d = n == d
+is_in (operands.Word n) d = false
+
+abbrev pub copy_code : Operand → (d : ℕ) → List Instruction
+copy_code o d = if is_in o d then [] else instructions.Move d o ∷ []
+
+-- The code of an expression that begins at place p and brings its value to slot d, with temporaries from slot t on.
 abbrev mutual
-  pub expression_code : Expression → (p d : ℕ) → List Instruction
-  expression_code (Number n) p d = instructions.Move d (operands.Word n) ∷ []
-  expression_code (Copy l t) p d = load_code l d
-  expression_code (Call f cs t) p d = arguments_code cs p d ++ call_code f (argument_count cs) d
-  expression_code (Unary o a) p d = expression_code a p d ++ instructions.Unary (unary_operator o) d (operands.Slot d) ∷ []
-  expression_code (Binary a os t) p d = expression_code a p d ++ operations_code os (p + length (expression_code a p d)) d
-  expression_code (Assign l c t) p d = converted_code c p d ++ store_code l d
-  expression_code a p d = instructions.Move d (operands.Word 0) ∷ []
-
-  pub converted_code : Converted → (p d : ℕ) → List Instruction
-  converted_code (Convert from to a) p d = expression_code a p d ++ conversion_code to (p + length (expression_code a p d)) d
+  pub expression_code : Expression → (p d t : ℕ) → List Instruction
+  expression_code (Number n) p d t = instructions.Move d (operands.Word n) ∷ []
+  expression_code (Copy l ty) p d t = load_code l d
+  expression_code (Call callees.Putchar cs ty) p d t =
+      printed_code cs p t
+      ++ instructions.WriteByte (printed_operand cs (operands.Slot t) t)
+      ∷ low_byte (printed_operand cs (operands.Slot t) t) d
+      ∷ []
+  expression_code (Call callees.Getchar cs ty) p d t = arguments_code cs p t ++ instructions.ReadByte d ∷ []
+  expression_code (Call (callees.Function n) cs ty) p d t =
+      arguments_code cs p t ++ instructions.Call n t (argument_count cs) d ∷ []
+  expression_code (Unary o a) p d t =
+      code_unless (operand_of a) (expression_code a p (value_slot a t) t)
+      ++ instructions.Unary (unary_operator o) d (value_operand a t)
+      ∷ []
+  expression_code (Binary a os ty) p d t =
+      code_unless (left_of a os) (expression_code a p (left_slot a os d t) t)
+      ++ operations_code os (p + length (code_unless (left_of a os) (expression_code a p (left_slot a os d t) t)))
+      (operand_or (left_of a os) (left_slot a os d t)) d t
+  expression_code (Assign (Local w n) c ty) p d t = initial_code c p (slot_of n) t ++ copy_code (operands.Slot (slot_of n)) d
+  expression_code (Assign (Global n) c ty) p d t =
+      (converted_operand_code c p t ++ instructions.StoreGlobal n (converted_operand c t) ∷ []) ++ copy_code (converted_operand c t) d
+  expression_code a p d t = instructions.Move d (operands.Word 0) ∷ []
 
   -- each argument comes into the slot behind that of the one before
-  pub arguments_code : Arguments → (p d : ℕ) → List Instruction
-  arguments_code NoArguments p d = []
-  arguments_code (MoreArguments c cs) p d = converted_code c p d ++ arguments_code cs (p + length (converted_code c p d)) (suc d)
+  pub arguments_code : Arguments → (p t : ℕ) → List Instruction
+  arguments_code NoArguments p t = []
+  arguments_code (MoreArguments c cs) p t = converted_code c p t ++ arguments_code cs (p + length (converted_code c p t)) (suc t)
 
-  -- the left operand stands in d
-  pub operations_code : Operations → (p d : ℕ) → List Instruction
-  operations_code NoOperations p d = []
-  operations_code (ThenCompute o a os) p d =
-      compute_code o (expression_code a p (suc d)) p d
-      ++ operations_code os (p + length (compute_code o (expression_code a p (suc d)) p d)) d
-  operations_code (ThenTest o a os) p d =
-      test_code o (expression_code a (p + 1) d) p d
-      ++ operations_code os (p + length (test_code o (expression_code a (p + 1) d) p d)) d
-  operations_code os p d = []
+  -- the value comes to slot t and is converted there
+  pub converted_code : Converted → (p t : ℕ) → List Instruction
+  converted_code (Convert from to a) p t =
+      expression_code a p t t ++ conversion_code to (operands.Slot t) (p + length (expression_code a p t t))
+
+  -- the value is converted where it is
+  pub converted_operand_code : Converted → (p t : ℕ) → List Instruction
+  converted_operand_code (Convert from to a) p t =
+      code_unless (operand_of a) (expression_code a p (value_slot a t) t)
+      ++ conversion_code to (value_operand a t) (p + length (code_unless (operand_of a) (expression_code a p (value_slot a t) t)))
+
+  -- the arguments of `putchar`, of which there is one
+  pub printed_code : Arguments → (p t : ℕ) → List Instruction
+  printed_code NoArguments p t = []
+  printed_code (MoreArguments c cs) p t =
+      converted_operand_code c p t ++ printed_code cs (p + length (converted_operand_code c p t)) t
+
+  -- Slot d gets the value. It is the last that happens, and nothing can be raised behind it.
+  pub initial_code : Converted → (p d t : ℕ) → List Instruction
+  initial_code (Convert from kinds.NonNull a) p d t =
+      code_unless (operand_of a) (expression_code a p (value_slot a t) t)
+      ++ check_code null_exception (value_operand a t) (p + length (code_unless (operand_of a) (expression_code a p (value_slot a t) t)))
+      ++ instructions.Move d (value_operand a t)
+      ∷ []
+  initial_code (Convert from to a) p d t = expression_code a p d t
+
+  -- The left operand is l. It is t where an operator is a test, or where the right operand has code.
+  pub operations_code : Operations → (p : ℕ) → (l : Operand) → (d t : ℕ) → List Instruction
+  operations_code NoOperations p l d t = []
+  operations_code (ThenCompute o b os) p l d t =
+      compute_code o l (value_operand b (suc t)) (code_unless (operand_of b) (expression_code b p (value_slot b (suc t)) (suc t))) p (next_slot os d t)
+      ++ operations_code os
+      (p + length (compute_code o l (value_operand b (suc t)) (code_unless (operand_of b) (expression_code b p (value_slot b (suc t)) (suc t))) p (next_slot os d t)))
+      (operands.Slot (next_slot os d t)) d t
+  operations_code (ThenTest o b os) p l d t =
+      test_code o (expression_code b (p + 1) t t) p (next_slot os d t) t
+      ++ operations_code os (p + length (test_code o (expression_code b (p + 1) t t) p (next_slot os d t) t)) (operands.Slot (next_slot os d t)) d t
+  operations_code os p l d t = []
+
+-- an assignment, and the operand where its value stands then
+abbrev pub assignment_code : Lvalue → Converted → (p t : ℕ) → List Instruction
+assignment_code (Local w n) c p t = initial_code c p (slot_of n) t
+assignment_code (Global n) c p t = converted_operand_code c p t ++ instructions.StoreGlobal n (converted_operand c t) ∷ []
+
+abbrev pub assigned_operand : Lvalue → Converted → (t : ℕ) → Operand
+assigned_operand (Local w n) c t = operands.Slot (slot_of n)
+assigned_operand (Global n) c t = converted_operand c t
+
+-- the code of an expression whose value nobody wants
+abbrev pub discarded_code : Expression → (p t : ℕ) → List Instruction
+discarded_code (Call callees.Putchar cs ty) p t =
+    printed_code cs p t ++ instructions.WriteByte (printed_operand cs (operands.Slot t) t) ∷ []
+discarded_code (Assign l c ty) p t = assignment_code l c p t
+discarded_code a p t = code_unless (operand_of a) (expression_code a p t t)
 
 -- ---- statements
 
+-- a condition, whose code stands before the jump that is taken where it fails
+abbrev pub condition_code : Expression → (p t : ℕ) → List Instruction
+condition_code a p t = code_unless (operand_of a) (expression_code a p (value_slot a t) t)
+
+abbrev pub failing_jump : Expression → (t target : ℕ) → Instruction
+failing_jump a t target = jump_if_zero (value_operand a t) target
+
 -- A branch whose condition stands at place p, the first statement behind the jump over it, and the other behind the jump
 -- to the end.
-abbrev pub if_code : (condition then otherwise : List Instruction) → (p d : ℕ) → List Instruction
-if_code condition then otherwise p d =
+abbrev pub if_code : (condition : List Instruction) → (jump : ℕ → Instruction) → (first second : List Instruction) → (p : ℕ) → List Instruction
+if_code condition jump first second p =
     condition
-    ++ jump_if_zero d (p + length condition + 1 + length then + 1)
-    ∷ then
-    ++ instructions.Jump (p + length condition + 1 + length then + 1 + length otherwise)
-    ∷ otherwise
+    ++ jump (p + length condition + 1 + length first + 1)
+    ∷ first
+    ++ instructions.Jump (p + length condition + 1 + length first + 1 + length second)
+    ∷ second
 
 -- A loop begins with two jumps: one over the other, to its condition, and one to its end. So a break, which jumps to the
 -- second, and a continue, which jumps to the condition, have targets that are known before the body's code is made.
@@ -180,50 +314,56 @@ break_target loop = loop + 1
 abbrev pub continue_target : (loop : ℕ) → ℕ
 continue_target loop = loop + 2
 
-abbrev pub while_code : (condition body : List Instruction) → (p d : ℕ) → List Instruction
-while_code condition body p d =
+abbrev pub while_code : (condition : List Instruction) → (jump : ℕ → Instruction) → (body : List Instruction) → (p : ℕ) → List Instruction
+while_code condition jump body p =
     instructions.Jump (continue_target p)
     ∷ instructions.Jump (p + 2 + length condition + 1 + length body + 1)
     ∷ condition
-    ++ jump_if_zero d (break_target p)
+    ++ jump (break_target p)
     ∷ body
     ++ instructions.Jump (continue_target p)
     ∷ []
 
-abbrev pub return_code : Option Converted → (p d : ℕ) → List Instruction
-return_code None p d = instructions.Return d ∷ []
-return_code (Some c) p d = converted_code c p d ++ instructions.Return d ∷ []
+-- a value is returned from a slot: that of a local, or t
+abbrev pub return_code : Option Converted → (p t : ℕ) → List Instruction
+return_code None p t = instructions.Return t ∷ []
+return_code (Some (Convert from to a)) p t =
+    code_unless_slot (operand_of a) (expression_code a p t t)
+    ++ conversion_code to (operands.Slot (slot_or (operand_of a) t)) (p + length (code_unless_slot (operand_of a) (expression_code a p t t)))
+    ++ instructions.Return (slot_or (operand_of a) t)
+    ∷ []
 
 -- a local with an initial value gets it
-abbrev pub declaration_code : (number : ℕ) → Option Converted → (p d : ℕ) → List Instruction
-declaration_code n None p d = []
-declaration_code n (Some c) p d = converted_code c p d ++ instructions.Move (slot_of n) (operands.Slot d) ∷ []
+abbrev pub declaration_code : (number : ℕ) → Option Converted → (p t : ℕ) → List Instruction
+declaration_code n None p t = []
+declaration_code n (Some c) p t = initial_code c p (slot_of n) t
 
--- The code of a statement that begins at place p, with the place where the loop round it begins and the slot for values.
+-- The code of a statement that begins at place p, with the place where the loop round it begins and the first slot for
+-- temporaries.
 abbrev mutual
-  pub statement_code : Statement → (p loop d : ℕ) → List Instruction
-  statement_code (Block r js) p loop d = items_code js p loop d
-  statement_code Empty p loop d = []
-  statement_code (Evaluate a) p loop d = expression_code a p d
-  statement_code (If a s t) p loop d =
-      if_code (expression_code a p d)
-      (statement_code s (p + length (expression_code a p d) + 1) loop d)
-      (statement_code t (p + length (expression_code a p d) + 1 + length (statement_code s (p + length (expression_code a p d) + 1) loop d) + 1) loop d)
-      p d
-  statement_code (While w a s) p loop d =
-      while_code (expression_code a (p + 2) d) (statement_code s (p + 2 + length (expression_code a (p + 2) d) + 1) p d) p d
-  statement_code (Return v) p loop d = return_code v p d
-  statement_code Break p loop d = instructions.Jump (break_target loop) ∷ []
-  statement_code Continue p loop d = instructions.Jump (continue_target loop) ∷ []
-  statement_code s p loop d = []
+  pub statement_code : Statement → (p loop t : ℕ) → List Instruction
+  statement_code (Block r js) p loop t = items_code js p loop t
+  statement_code Empty p loop t = []
+  statement_code (Evaluate a) p loop t = discarded_code a p t
+  statement_code (If a s u) p loop t =
+      if_code (condition_code a p t) (failing_jump a t)
+      (statement_code s (p + length (condition_code a p t) + 1) loop t)
+      (statement_code u (p + length (condition_code a p t) + 1 + length (statement_code s (p + length (condition_code a p t) + 1) loop t) + 1) loop t)
+      p
+  statement_code (While w a s) p loop t =
+      while_code (condition_code a (p + 2) t) (failing_jump a t) (statement_code s (p + 2 + length (condition_code a (p + 2) t) + 1) p t) p
+  statement_code (Return v) p loop t = return_code v p t
+  statement_code Break p loop t = instructions.Jump (break_target loop) ∷ []
+  statement_code Continue p loop t = instructions.Jump (continue_target loop) ∷ []
+  statement_code s p loop t = []
 
-  pub items_code : Items → (p loop d : ℕ) → List Instruction
-  items_code NoItems p loop d = []
-  items_code (MoreItems (Execute s) js) p loop d =
-      statement_code s p loop d ++ items_code js (p + length (statement_code s p loop d)) loop d
-  items_code (MoreItems (Declare n t v) js) p loop d =
-      declaration_code n v p d ++ items_code js (p + length (declaration_code n v p d)) loop d
-  items_code (MoreItems j js) p loop d = items_code js p loop d
+  pub items_code : Items → (p loop t : ℕ) → List Instruction
+  items_code NoItems p loop t = []
+  items_code (MoreItems (Execute s) js) p loop t =
+      statement_code s p loop t ++ items_code js (p + length (statement_code s p loop t)) loop t
+  items_code (MoreItems (Declare n ty v) js) p loop t =
+      declaration_code n v p t ++ items_code js (p + length (declaration_code n v p t)) loop t
+  items_code (MoreItems j js) p loop t = items_code js p loop t
 
 -- ---- programs
 

@@ -1,7 +1,7 @@
 //! Code that is being made.
 ghost use Rattle.std.specs.Prelude.{◌≡◌, ◌<◌, [], ◌∷◌, ◌++◌, length, set, IfOk};
 ghost use Rattle.cyc_types.specs.TypedTreeView.{view_lvalue};
-ghost use Rattle.cyc_lower.specs.Lowering.{jump_if_zero, load_code, store_code};
+ghost use Rattle.cyc_lower.specs.Lowering.{jump_if_zero, load_code};
 ghost use Rattle.cyc_lower.specs.Emission.{Appends};
 
 use crate::operators::jump_if_zero;
@@ -65,13 +65,13 @@ impl Emitter {
         self.patch(place, Instruction::Jump { target });
     }
 
-    /// The same where the value in a slot is 0.
-    pub(crate) fn jump_here_if_zero(&mut self, place: usize, slot: usize)
+    /// The same where a word is 0.
+    pub(crate) fn jump_here_if_zero(&mut self, place: usize, condition: Operand)
         requires { place < length self.old.code.items }
-        ensures { self.new.code.items ≡ set self.old.code.items place (jump_if_zero slot (length self.old.code.items)) }
+        ensures { self.new.code.items ≡ set self.old.code.items place (jump_if_zero condition (length self.old.code.items)) }
     {
         let target = self.place();
-        self.patch(place, jump_if_zero(slot, target));
+        self.patch(place, jump_if_zero(condition, target));
     }
 
     /// The value of a place comes into a slot.
@@ -86,22 +86,6 @@ impl Emitter {
             Lvalue::Global { number } => Instruction::LoadGlobal {
                 destination: slot,
                 global: number,
-            },
-        })
-    }
-
-    /// A place gets what is in a slot.
-    pub(crate) fn store(&mut self, target: Lvalue, slot: usize) -> Result<(), AllocError>
-        ensures { Appends result self.old self.new (store_code (view_lvalue target) slot) }
-    {
-        self.emit(match target {
-            Lvalue::Local { number, .. } => Instruction::Move {
-                destination: number,
-                source: Operand::Slot { number: slot },
-            },
-            Lvalue::Global { number } => Instruction::StoreGlobal {
-                global: number,
-                source: Operand::Slot { number: slot },
             },
         })
     }

@@ -1,15 +1,18 @@
-//! The code of expressions. Each method adds its code behind what there is, and leaves the value in the slot that it is given;
-//! the slots behind it are free.
-ghost use Rattle.std.specs.Prelude.{◌≡◌, ◌+◌, ◌<◌, ◌≤◌, length};
-ghost use Rattle.cyc_types.specs.declared.typed.Callee.TheVariants as callees;
-ghost use Rattle.cyc_types.specs.TypedTreeView.{view_expression, view_converted, arguments_of, operations_of};
-ghost use Rattle.cyc_lower.specs.Lowering.{conversion_code, checked_code, operator_code, truth_code, call_code, expression_code, converted_code, arguments_code, operations_code};
-ghost use Rattle.cyc_lower.specs.Emission.{Appends, most_locals, operation_code};
+//! The code of expressions. Each method adds its code behind what there is. A value comes to a slot by the last instruction;
+//! else only the slots from `free` on are written, and those of locals that are assigned.
+ghost use Rattle.std.specs.Prelude.{◌≡◌, ◌+◌, ◌<◌, ◌≤◌, None, length};
+ghost use Rattle.cyc_types.specs.Types.{Void};
+ghost use Rattle.cyc_types.specs.TypedTreeView.{view_expression, view_converted, view_lvalue, arguments_of, operations_of};
+ghost use Rattle.cyc_types.specs.TypedTrees.{Call};
+ghost use Rattle.cyc_plain.specs.declared.instruction.Operand.TheVariants as operands;
+ghost use Rattle.cyc_lower.specs.Lowering.{operand_of, operand_or, slot_or, code_unless_slot, left_of, left_slot, value_operand, converted_operand, printed_operand, check_code, conversion_code, divisor_code, operator_code, truth_code, copy_code, expression_code, arguments_code, converted_code, converted_operand_code, printed_code, initial_code, assignment_code, assigned_operand, operations_code, discarded_code};
+ghost use Rattle.cyc_lower.specs.Emission.{Appends, Gives, HasRoom, HasRoomFor, most_locals, value_code, print_code, converted_slot, converted_slot_code, left_code, operation_code};
 
 use crate::emitter::Emitter;
+use crate::operands::{is_in, operand_of, takes_operand, value_slot};
 use crate::operators::{binary_operator, jump_if_nonzero, test_jump, unary_operator};
 use cyc_plain::{BinaryOperator, Instruction, Operand, UnaryOperator};
-use cyc_types::typed::{Callee, Converted, Expr, Kind, Operation, Operator};
+use cyc_types::typed::{Callee, Converted, Expr, Kind, Lvalue, Operation, Operator};
 use std::alloc::AllocError;
 
 /// The exceptions that are raised, by their tags.
@@ -18,112 +21,96 @@ const NULL_EXCEPTION: u32 = 1;
 const DIVISION_BY_ZERO: u32 = 4;
 
 impl Emitter {
-    /// A division of the value in a slot by that in the slot behind it, which is tested before.
-    fn checked(&mut self, operator: Operator, slot: usize) -> Result<(), AllocError>
-        requires { slot < most_locals + length self.old.code.items }
-        ensures { Appends result self.old self.new (checked_code operator (length self.old.code.items) slot) }
+    /// Where a word is 0, an exception is raised, which tells that 0.
+    fn check(&mut self, tag: u32, value: Operand) -> Result<(), AllocError>
+        ensures { Appends result self.old self.new (check_code tag value (length self.old.code.items)) }
     {
-        let right = slot + 1;
         let behind = self.place() + 2;
-        self.emit(jump_if_nonzero(right, behind))?;
-        self.emit(Instruction::Uncaught {
-            tag: DIVISION_BY_ZERO,
-            value: Operand::Slot { number: right },
-        })?;
+        self.emit(jump_if_nonzero(value, behind))?;
+        self.emit(Instruction::Uncaught { tag, value })
+    }
+
+    /// A conversion of a value where it is: where it may not be null, it is tested.
+    fn conversion(&mut self, to: Kind, value: Operand) -> Result<(), AllocError>
+        ensures { Appends result self.old self.new (conversion_code to value (length self.old.code.items)) }
+    {
+        if matches!(to, Kind::NonNull) {
+            return self.check(NULL_EXCEPTION, value);
+        }
+        Ok(())
+    }
+
+    /// A divisor is tested, but a number other than 0.
+    fn divisor(&mut self, value: Operand) -> Result<(), AllocError>
+        ensures { Appends result self.old self.new (divisor_code value (length self.old.code.items)) }
+    {
+        match value {
+            Operand::Word { word: 0 } | Operand::Slot { .. } => self.check(DIVISION_BY_ZERO, value),
+            Operand::Word { .. } => Ok(()),
+        }
+    }
+
+    /// An operator on two operands.
+    fn operator(
+        &mut self,
+        operator: Operator,
+        left: Operand,
+        right: Operand,
+        slot: usize,
+    ) -> Result<(), AllocError>
+        ensures { Appends result self.old self.new (operator_code operator left right (length self.old.code.items) slot) }
+    {
+        if matches!(operator, Operator::Divide | Operator::Remainder) {
+            self.divisor(right)?;
+        }
         self.emit(Instruction::Binary {
             operator: binary_operator(operator),
             destination: slot,
-            left: Operand::Slot { number: slot },
-            right: Operand::Slot { number: right },
+            left,
+            right,
         })
     }
 
-    /// An operator on the value in a slot and that in the slot behind it.
-    fn operator(&mut self, operator: Operator, slot: usize) -> Result<(), AllocError>
-        requires { slot < most_locals + length self.old.code.items }
-        ensures { Appends result self.old self.new (operator_code operator (length self.old.code.items) slot) }
+    /// The truth of the word in `free`: 0 stays 0, and any other word becomes 1.
+    fn truth(&mut self, free: usize, slot: usize) -> Result<(), AllocError>
+        ensures { Appends result self.old self.new (truth_code free slot) }
     {
-        match operator {
-            Operator::Divide | Operator::Remainder => self.checked(operator, slot),
-            _ => self.emit(Instruction::Binary {
-                operator: binary_operator(operator),
-                destination: slot,
-                left: Operand::Slot { number: slot },
-                right: Operand::Slot { number: slot + 1 },
-            }),
-        }
-    }
-
-    /// 0 stays 0, and any other word becomes 1.
-    fn truth(&mut self, slot: usize) -> Result<(), AllocError>
-        ensures { Appends result self.old self.new (truth_code slot) }
-    {
-        let not = Instruction::Unary {
+        let operand = Operand::Slot { number: free };
+        self.emit(Instruction::Unary {
+            operator: UnaryOperator::Not,
+            destination: free,
+            operand,
+        })?;
+        self.emit(Instruction::Unary {
             operator: UnaryOperator::Not,
             destination: slot,
-            operand: Operand::Slot { number: slot },
-        };
-        self.emit(not)?;
-        self.emit(not)
+            operand,
+        })
     }
 
-    /// A conversion of the value in a slot: where it may not be null, it is tested.
-    fn conversion(&mut self, to: Kind, slot: usize) -> Result<(), AllocError>
-        ensures { Appends result self.old self.new (conversion_code to (length self.old.code.items) slot) }
+    /// A value comes to a slot, where it is not there yet.
+    fn copy(&mut self, source: Operand, slot: usize) -> Result<(), AllocError>
+        ensures { Appends result self.old self.new (copy_code source slot) }
     {
-        if !matches!(to, Kind::NonNull) {
+        if is_in(source, slot) {
             return Ok(());
         }
-        let behind = self.place() + 2;
-        self.emit(jump_if_nonzero(slot, behind))?;
-        self.emit(Instruction::Uncaught {
-            tag: NULL_EXCEPTION,
-            value: Operand::Slot { number: slot },
-        })
-    }
-
-    /// `putchar` of the value in a slot, and its low 8 bits.
-    fn putchar(&mut self, slot: usize) -> Result<(), AllocError>
-        requires { slot ≤ most_locals + length self.old.code.items }
-        ensures { Appends result self.old self.new (call_code callees.Putchar 0 slot) }
-    {
-        let mask = slot + 1;
-        self.emit(Instruction::WriteByte {
-            source: Operand::Slot { number: slot },
-        })?;
         self.emit(Instruction::Move {
-            destination: mask,
-            source: Operand::Word { word: 255 },
-        })?;
-        self.emit(Instruction::Binary {
-            operator: BinaryOperator::And,
             destination: slot,
-            left: Operand::Slot { number: slot },
-            right: Operand::Slot { number: mask },
+            source,
         })
     }
 
-    /// A call whose arguments stand in the slots from this one on.
-    fn call(&mut self, callee: Callee, count: usize, slot: usize) -> Result<(), AllocError>
-        requires { slot ≤ most_locals + length self.old.code.items }
-        ensures { Appends result self.old self.new (call_code callee count slot) }
-    {
-        match callee {
-            Callee::Putchar => self.putchar(slot),
-            Callee::Getchar => self.emit(Instruction::ReadByte { destination: slot }),
-            Callee::Function { number } => self.emit(Instruction::Call {
-                function: number,
-                arguments: slot,
-                count,
-                result: slot,
-            }),
-        }
-    }
-
+    /// The value of an expression comes to a slot.
     #[cycle(expression)]
-    pub(crate) fn expression(&mut self, value: &Expr, slot: usize) -> Result<(), AllocError>
-        requires { slot ≤ most_locals + length self.old.code.items }
-        ensures { Appends result self.old self.new (expression_code (view_expression value.now) (length self.old.code.items) slot) }
+    pub(crate) fn expression(
+        &mut self,
+        value: &Expr,
+        slot: usize,
+        free: usize,
+    ) -> Result<(), AllocError>
+        requires { free ≤ most_locals + length self.old.code.items }
+        ensures { Appends result self.old self.new (expression_code (view_expression value.now) (length self.old.code.items) slot free) }
     {
         match value {
             Expr::Number { value } => self.emit(Instruction::Move {
@@ -135,36 +122,92 @@ impl Emitter {
                 callee,
                 arguments,
                 ..
-            } => {
-                self.arguments(arguments, slot)?;
-                self.call(*callee, arguments.len(), slot)
-            }
+            } => self.call(*callee, arguments, slot, free),
             Expr::Unary { operator, operand } => {
-                self.expression(operand, slot)?;
+                let operand = self.operand(operand, free)?;
                 self.emit(Instruction::Unary {
                     operator: unary_operator(*operator),
                     destination: slot,
-                    operand: Operand::Slot { number: slot },
+                    operand,
                 })
             }
             Expr::Binary { first, rest, .. } => {
-                self.expression(first, slot)?;
-                self.operations(rest, slot)
+                let left = self.left(first, rest, slot, free)?;
+                self.operations(rest, left, slot, free)
             }
             Expr::Assign { target, value, .. } => {
-                self.converted(value, slot)?;
-                self.store(*target, slot)
+                let assigned = self.assignment(*target, value, free)?;
+                self.copy(assigned, slot)
             }
         }
     }
 
+    /// An expression is an operand: it has no code, or its code brings the value to a slot.
     #[cycle(expression)]
-    pub(crate) fn converted(&mut self, value: &Converted, slot: usize) -> Result<(), AllocError>
-        requires { slot ≤ most_locals + length self.old.code.items }
-        ensures { Appends result self.old self.new (converted_code (view_converted value.now) (length self.old.code.items) slot) }
+    pub(crate) fn operand(&mut self, value: &Expr, free: usize) -> Result<Operand, AllocError>
+        requires { operand_of (view_expression value.now) ≡ None → free ≤ most_locals + length self.old.code.items }
+        ensures { Gives (value_operand (view_expression value.now) free) result self.old self.new (value_code (view_expression value.now) (length self.old.code.items) free) }
     {
-        self.expression(&value.value, slot)?;
-        self.conversion(value.to, slot)
+        match operand_of(value) {
+            Some(known) => Ok(known),
+            None => {
+                let slot = value_slot(value, free);
+                self.expression(value, slot, free)?;
+                Ok(Operand::Slot { number: slot })
+            }
+        }
+    }
+
+    /// A call, whose result comes to a slot.
+    #[cycle(expression)]
+    fn call(
+        &mut self,
+        callee: Callee,
+        arguments: &[Converted],
+        slot: usize,
+        free: usize,
+    ) -> Result<(), AllocError>
+        requires { free ≤ most_locals + length self.old.code.items }
+        ensures { Appends result self.old self.new (expression_code (Call callee (arguments_of arguments.now) Void) (length self.old.code.items) slot free) }
+    {
+        match callee {
+            Callee::Putchar => {
+                let byte = self.print(arguments, free)?;
+                self.emit(Instruction::Binary {
+                    operator: BinaryOperator::And,
+                    destination: slot,
+                    left: byte,
+                    right: Operand::Word { word: 255 },
+                })
+            }
+            Callee::Getchar => {
+                self.arguments(arguments, free)?;
+                self.emit(Instruction::ReadByte { destination: slot })
+            }
+            Callee::Function { number } => {
+                self.arguments(arguments, free)?;
+                self.emit(Instruction::Call {
+                    function: number,
+                    arguments: free,
+                    count: arguments.len(),
+                    result: slot,
+                })
+            }
+        }
+    }
+
+    /// `putchar` of its only argument.
+    #[cycle(expression)]
+    fn print(&mut self, arguments: &[Converted], free: usize) -> Result<Operand, AllocError>
+        requires { free ≤ most_locals + length self.old.code.items }
+        ensures { Gives (printed_operand (arguments_of arguments.now) (operands.Slot free) free) result self.old self.new (print_code (arguments_of arguments.now) (length self.old.code.items) free) }
+    {
+        let mut byte = Operand::Slot { number: free };
+        for argument in arguments {
+            byte = self.converted_operand(argument, free)?;
+        }
+        self.emit(Instruction::WriteByte { source: byte })?;
+        Ok(byte)
     }
 
     /// Each argument comes into the slot behind that of the one before.
@@ -175,43 +218,212 @@ impl Emitter {
     {
         let mut slot = first;
         for argument in arguments {
-            self.converted(argument, slot)?;
+            self.expression(&argument.value, slot, slot)?;
+            self.conversion(argument.to, Operand::Slot { number: slot })?;
             slot += 1;
         }
         Ok(())
     }
 
-    /// One operator of a chain with its right operand, where the left one stands in the slot.
+    /// A value that is converted where it is.
     #[cycle(expression)]
-    fn operation(&mut self, operation: &Operation, slot: usize) -> Result<(), AllocError>
-        requires { slot < most_locals + length self.old.code.items }
-        ensures { Appends result self.old self.new (operation_code operation.now (length self.old.code.items) slot) }
+    fn converted_operand(&mut self, value: &Converted, free: usize) -> Result<Operand, AllocError>
+        requires { free ≤ most_locals + length self.old.code.items }
+        ensures { Gives (converted_operand (view_converted value.now) free) result self.old self.new (converted_operand_code (view_converted value.now) (length self.old.code.items) free) }
     {
-        match operation {
-            Operation::Compute { operator, operand } => {
-                self.expression(operand, slot + 1)?;
-                self.operator(*operator, slot)
+        let operand = self.operand(&value.value, free)?;
+        self.conversion(value.to, operand)?;
+        Ok(operand)
+    }
+
+    /// A slot gets a converted value, behind all that may be raised.
+    #[cycle(expression)]
+    pub(crate) fn initial(
+        &mut self,
+        value: &Converted,
+        slot: usize,
+        free: usize,
+    ) -> Result<(), AllocError>
+        requires { free ≤ most_locals + length self.old.code.items }
+        ensures { Appends result self.old self.new (initial_code (view_converted value.now) (length self.old.code.items) slot free) }
+    {
+        if matches!(value.to, Kind::NonNull) {
+            let source = self.converted_operand(value, free)?;
+            return self.emit(Instruction::Move {
+                destination: slot,
+                source,
+            });
+        }
+        self.expression(&value.value, slot, free)
+    }
+
+    /// An assignment, and where its value stands then.
+    #[cycle(expression)]
+    fn assignment(
+        &mut self,
+        target: Lvalue,
+        value: &Converted,
+        free: usize,
+    ) -> Result<Operand, AllocError>
+        requires { free ≤ most_locals + length self.old.code.items }
+        ensures { Gives (assigned_operand (view_lvalue target) (view_converted value.now) free) result self.old self.new (assignment_code (view_lvalue target) (view_converted value.now) (length self.old.code.items) free) }
+    {
+        match target {
+            Lvalue::Local { number, .. } => {
+                self.initial(value, number, free)?;
+                Ok(Operand::Slot { number })
             }
-            Operation::Test { operator, operand } => {
-                let jump = self.place();
-                self.emit(test_jump(*operator, slot, 0))?;
-                self.expression(operand, slot)?;
-                let behind = self.place();
-                self.patch(jump, test_jump(*operator, slot, behind));
-                self.truth(slot)
+            Lvalue::Global { number } => {
+                let source = self.converted_operand(value, free)?;
+                self.emit(Instruction::StoreGlobal {
+                    global: number,
+                    source,
+                })?;
+                Ok(source)
             }
         }
     }
 
-    /// The rest of a chain.
+    /// The left operand of a chain, which may be without code where the right one is.
     #[cycle(expression)]
-    fn operations(&mut self, operations: &[Operation], slot: usize) -> Result<(), AllocError>
-        requires { slot < most_locals + length self.old.code.items }
-        ensures { Appends result self.old self.new (operations_code (operations_of operations.now) (length self.old.code.items) slot) }
+    fn left(
+        &mut self,
+        first: &Expr,
+        rest: &[Operation],
+        slot: usize,
+        free: usize,
+    ) -> Result<Operand, AllocError>
+        requires { free ≤ most_locals + length self.old.code.items }
+        ensures { Gives (operand_or (left_of (view_expression first.now) (operations_of rest.now)) (left_slot (view_expression first.now) (operations_of rest.now) slot free)) result self.old self.new (left_code (view_expression first.now) (operations_of rest.now) (length self.old.code.items) slot free) }
     {
+        if takes_operand(rest) {
+            return self.operand(first, free);
+        }
+        let to = if rest.is_empty() { slot } else { free };
+        self.expression(first, to, free)?;
+        Ok(Operand::Slot { number: to })
+    }
+
+    /// One operator of a chain with its right operand. What it gives comes to a slot.
+    #[cycle(expression)]
+    fn operation(
+        &mut self,
+        operation: &Operation,
+        left: Operand,
+        slot: usize,
+        free: usize,
+    ) -> Result<(), AllocError>
+        requires low { free ≤ most_locals + length self.old.code.items }
+        requires room { HasRoomFor operation.now free (length self.old.code.items) }
+        ensures { Appends result self.old self.new (operation_code operation.now (length self.old.code.items) left slot free) }
+    {
+        match operation {
+            Operation::Compute { operator, operand } => {
+                let right = self.operand(operand, free + 1)?;
+                self.operator(*operator, left, right, slot)
+            }
+            Operation::Test { operator, operand } => {
+                let jump = self.place();
+                self.emit(test_jump(*operator, free, 0))?;
+                self.expression(operand, free, free)?;
+                let behind = self.place();
+                self.patch(jump, test_jump(*operator, free, behind));
+                self.truth(free, slot)
+            }
+        }
+    }
+
+    /// A chain, from its first operator on. What the last one gives comes to a slot.
+    #[cycle(expression)]
+    fn operations(
+        &mut self,
+        operations: &[Operation],
+        first: Operand,
+        slot: usize,
+        free: usize,
+    ) -> Result<(), AllocError>
+        requires low { free ≤ most_locals + length self.old.code.items }
+        requires room { HasRoom (operations_of operations.now) free (length self.old.code.items) }
+        ensures { Appends result self.old self.new (operations_code (operations_of operations.now) (length self.old.code.items) first slot free) }
+    {
+        let mut left = first;
+        let mut behind = operations.len();
         for operation in operations {
-            self.operation(operation, slot)?;
+            behind -= 1;
+            let to = if behind == 0 { slot } else { free };
+            self.operation(operation, left, to, free)?;
+            left = Operand::Slot { number: to };
         }
         Ok(())
+    }
+
+    /// A call whose value nobody wants.
+    fn discarded_call(
+        &mut self,
+        callee: Callee,
+        arguments: &[Converted],
+        free: usize,
+    ) -> Result<(), AllocError>
+        requires { free ≤ most_locals + length self.old.code.items }
+        ensures { Appends result self.old self.new (discarded_code (Call callee (arguments_of arguments.now) Void) (length self.old.code.items) free) }
+    {
+        match callee {
+            Callee::Putchar => {
+                self.print(arguments, free)?;
+                Ok(())
+            }
+            Callee::Getchar => self.call(callee, arguments, free, free),
+            Callee::Function { .. } => self.call(callee, arguments, free, free),
+        }
+    }
+
+    /// An expression whose value nobody wants.
+    pub(crate) fn discarded(&mut self, value: &Expr, free: usize) -> Result<(), AllocError>
+        requires { free ≤ most_locals + length self.old.code.items }
+        ensures { Appends result self.old self.new (discarded_code (view_expression value.now) (length self.old.code.items) free) }
+    {
+        match value {
+            Expr::Call {
+                callee,
+                arguments,
+                ..
+            } => self.discarded_call(*callee, arguments, free),
+            Expr::Assign { target, value, .. } => {
+                self.assignment(*target, value, free)?;
+                Ok(())
+            }
+            Expr::Number { .. } | Expr::Copy { .. } | Expr::Unary { .. } | Expr::Binary { .. } => {
+                self.operand(value, free)?;
+                Ok(())
+            }
+        }
+    }
+
+    /// A value that is to be in a slot: in that of a local, or in `free`.
+    pub(crate) fn in_slot(&mut self, value: &Expr, free: usize) -> Result<usize, AllocError>
+        requires { free ≤ most_locals + length self.old.code.items }
+        ensures { Gives (slot_or (operand_of (view_expression value.now)) free) result self.old self.new (code_unless_slot (operand_of (view_expression value.now)) (expression_code (view_expression value.now) (length self.old.code.items) free free)) }
+    {
+        match operand_of(value) {
+            Some(Operand::Slot { number }) => Ok(number),
+            Some(Operand::Word { .. }) | None => {
+                self.expression(value, free, free)?;
+                Ok(free)
+            }
+        }
+    }
+
+    /// A value that is returned, converted, and its slot.
+    pub(crate) fn converted_slot(
+        &mut self,
+        value: &Converted,
+        free: usize,
+    ) -> Result<usize, AllocError>
+        requires { free ≤ most_locals + length self.old.code.items }
+        ensures { Gives (converted_slot (view_converted value.now) free) result self.old self.new (converted_slot_code (view_converted value.now) (length self.old.code.items) free) }
+    {
+        let slot = self.in_slot(&value.value, free)?;
+        self.conversion(value.to, Operand::Slot { number: slot })?;
+        Ok(slot)
     }
 }

@@ -9,6 +9,7 @@ mod expressions;
 mod frame_count;
 mod functions;
 mod limits;
+mod operands;
 mod operators;
 mod program;
 mod statements;

@@ -38,38 +38,35 @@ pub(crate) fn binary_operator(operator: typed::Operator) -> BinaryOperator
     }
 }
 
-/// A jump where the word in a slot is 0.
-pub(crate) fn jump_if_zero(condition: usize, target: usize) -> Instruction
+/// A jump where a word is 0.
+pub(crate) fn jump_if_zero(condition: Operand, target: usize) -> Instruction
     ensures { result ≡ jump_if_zero condition target }
 {
     Instruction::Branch {
         comparison: Comparison::Equal,
-        left: Operand::Slot { number: condition },
+        left: condition,
         right: Operand::Word { word: 0 },
         target,
     }
 }
 
-/// A jump where the word in a slot is not 0.
-pub(crate) fn jump_if_nonzero(condition: usize, target: usize) -> Instruction
+/// A jump where a word is not 0.
+pub(crate) fn jump_if_nonzero(condition: Operand, target: usize) -> Instruction
     ensures { result ≡ jump_if_nonzero condition target }
 {
     Instruction::Branch {
         comparison: Comparison::NotEqual,
-        left: Operand::Slot { number: condition },
+        left: condition,
         right: Operand::Word { word: 0 },
         target,
     }
 }
 
 /// The jump over an operand that `&&` or `||` leaves out where the value in this slot decides.
-pub(crate) fn test_jump(
-    operator: typed::LogicalOperator,
-    condition: usize,
-    target: usize,
-) -> Instruction
-    ensures { result ≡ test_jump operator condition target }
+pub(crate) fn test_jump(operator: typed::LogicalOperator, slot: usize, target: usize) -> Instruction
+    ensures { result ≡ test_jump operator slot target }
 {
+    let condition = Operand::Slot { number: slot };
     match operator {
         typed::LogicalOperator::AndThen => jump_if_zero(condition, target),
         typed::LogicalOperator::OrElse => jump_if_nonzero(condition, target),

@@ -6,20 +6,21 @@ ghost use Rattle.cyc_lower.specs.Emission.{Appends, most_locals, item_code, loop
 
 use crate::emitter::Emitter;
 use crate::operators::jump_if_zero;
-use cyc_plain::{Instruction, Operand};
+use cyc_plain::Instruction;
 use cyc_types::typed::{Converted, Expr, Item, Stmt};
 use std::alloc::AllocError;
 
 impl Emitter {
-    /// A return, which leaves its value in the slot.
-    fn returned(&mut self, value: &Option<Converted>, slot: usize) -> Result<(), AllocError>
-        requires { slot ≤ most_locals + length self.old.code.items }
-        ensures { Appends result self.old self.new (return_code (option_map view_converted value.now) (length self.old.code.items) slot) }
+    /// A return of a value in a slot.
+    fn returned(&mut self, value: &Option<Converted>, free: usize) -> Result<(), AllocError>
+        requires { free ≤ most_locals + length self.old.code.items }
+        ensures { Appends result self.old self.new (return_code (option_map view_converted value.now) (length self.old.code.items) free) }
     {
-        if let Some(value) = value {
-            self.converted(value, slot)?;
-        }
-        self.emit(Instruction::Return { value: slot })
+        let from = match value {
+            Some(value) => self.converted_slot(value, free)?,
+            None => free,
+        };
+        self.emit(Instruction::Return { value: from })
     }
 
     /// The declaration of a local, which gets its initial value if it has one.
@@ -27,19 +28,15 @@ impl Emitter {
         &mut self,
         number: usize,
         value: &Option<Converted>,
-        slot: usize,
+        free: usize,
     ) -> Result<(), AllocError>
-        requires { slot ≤ most_locals + length self.old.code.items }
-        ensures { Appends result self.old self.new (declaration_code number (option_map view_converted value.now) (length self.old.code.items) slot) }
+        requires { free ≤ most_locals + length self.old.code.items }
+        ensures { Appends result self.old self.new (declaration_code number (option_map view_converted value.now) (length self.old.code.items) free) }
     {
         let Some(value) = value else {
             return Ok(());
         };
-        self.converted(value, slot)?;
-        self.emit(Instruction::Move {
-            destination: number,
-            source: Operand::Slot { number: slot },
-        })
+        self.initial(value, number, free)
     }
 
     /// A jump to the end of the loop that begins at this place, by the second of its two jumps.
@@ -61,16 +58,16 @@ impl Emitter {
     /// A loop begins with two jumps, one over the other to its condition, and one to its end. So the targets of a `break` and of
     /// a `continue` are known before the body's code is made.
     #[cycle(statement)]
-    fn looped(&mut self, body: &Stmt, condition: &Expr, slot: usize) -> Result<(), AllocError>
-        requires { slot ≤ most_locals + length self.old.code.items }
-        ensures { Appends result self.old self.new (loop_code (view_expression condition.now) (view_statement body.now) (length self.old.code.items) slot) }
+    fn looped(&mut self, body: &Stmt, condition: &Expr, free: usize) -> Result<(), AllocError>
+        requires { free ≤ most_locals + length self.old.code.items }
+        ensures { Appends result self.old self.new (loop_code (view_expression condition.now) (view_statement body.now) (length self.old.code.items) free) }
     {
         let head = self.place();
         self.continued(head)?;
         let leaving = self.reserve()?;
-        self.expression(condition, slot)?;
-        self.emit(jump_if_zero(slot, leaving))?;
-        self.statement(body, head, slot)?;
+        let operand = self.operand(condition, free)?;
+        self.emit(jump_if_zero(operand, leaving))?;
+        self.statement(body, head, free)?;
         self.continued(head)?;
         self.jump_here(leaving);
         Ok(())
@@ -78,26 +75,26 @@ impl Emitter {
 
     /// A statement in the loop that begins at this place, if one is around it.
     #[cycle(statement)]
-    fn statement(&mut self, statement: &Stmt, head: usize, slot: usize) -> Result<(), AllocError>
-        requires slots { slot ≤ most_locals + length self.old.code.items }
+    fn statement(&mut self, statement: &Stmt, head: usize, free: usize) -> Result<(), AllocError>
+        requires slots { free ≤ most_locals + length self.old.code.items }
         requires begun { head ≤ length self.old.code.items }
-        ensures { Appends result self.old self.new (statement_code (view_statement statement.now) (length self.old.code.items) head slot) }
+        ensures { Appends result self.old self.new (statement_code (view_statement statement.now) (length self.old.code.items) head free) }
     {
         match statement {
-            Stmt::Block { items, .. } => self.items(items, head, slot),
+            Stmt::Block { items, .. } => self.items(items, head, free),
             Stmt::Empty => Ok(()),
-            Stmt::Evaluate { value } => self.expression(value, slot),
+            Stmt::Evaluate { value } => self.discarded(value, free),
             Stmt::If {
                 condition,
                 then,
                 otherwise,
             } => {
-                self.expression(condition, slot)?;
+                let operand = self.operand(condition, free)?;
                 let over_then = self.reserve()?;
-                self.statement(then, head, slot)?;
+                self.statement(then, head, free)?;
                 let over_otherwise = self.reserve()?;
-                self.jump_here_if_zero(over_then, slot);
-                self.statement(otherwise, head, slot)?;
+                self.jump_here_if_zero(over_then, operand);
+                self.statement(otherwise, head, free)?;
                 self.jump_here(over_otherwise);
                 Ok(())
             }
@@ -105,22 +102,22 @@ impl Emitter {
                 condition,
                 body,
                 ..
-            } => self.looped(body, condition, slot),
-            Stmt::Return { value } => self.returned(value, slot),
+            } => self.looped(body, condition, free),
+            Stmt::Return { value } => self.returned(value, free),
             Stmt::Break => self.broken(head),
             Stmt::Continue => self.continued(head),
         }
     }
 
     #[cycle(statement)]
-    fn item(&mut self, item: &Item, head: usize, slot: usize) -> Result<(), AllocError>
-        requires slots { slot ≤ most_locals + length self.old.code.items }
+    fn item(&mut self, item: &Item, head: usize, free: usize) -> Result<(), AllocError>
+        requires slots { free ≤ most_locals + length self.old.code.items }
         requires begun { head ≤ length self.old.code.items }
-        ensures { Appends result self.old self.new (item_code item.now (length self.old.code.items) head slot) }
+        ensures { Appends result self.old self.new (item_code item.now (length self.old.code.items) head free) }
     {
         match item {
-            Item::Execute { statement } => self.statement(statement, head, slot),
-            Item::Local { number, value, .. } => self.declaration(*number, value, slot),
+            Item::Execute { statement } => self.statement(statement, head, free),
+            Item::Local { number, value, .. } => self.declaration(*number, value, free),
         }
     }
 
@@ -130,14 +127,14 @@ impl Emitter {
         &mut self,
         items: &[Item],
         head: usize,
-        slot: usize,
+        free: usize,
     ) -> Result<(), AllocError>
-        requires slots { slot ≤ most_locals + length self.old.code.items }
+        requires slots { free ≤ most_locals + length self.old.code.items }
         requires begun { head ≤ length self.old.code.items }
-        ensures { Appends result self.old self.new (items_code (items_of items.now) (length self.old.code.items) head slot) }
+        ensures { Appends result self.old self.new (items_code (items_of items.now) (length self.old.code.items) head free) }
     {
         for item in items {
-            self.item(item, head, slot)?;
+            self.item(item, head, free)?;
         }
         Ok(())
     }

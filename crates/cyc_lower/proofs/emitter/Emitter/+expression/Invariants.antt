@@ -1,6 +1,8 @@
-use Rattle.std.specs.Prelude.{◌+◌, ◌≤◌, length}
-use Rattle.cyc_lower.specs.Emission.{most_locals}
-use Rattle.cyc_lower.proofs.Emitting.{Remains, all_arguments, all_operations}
+use Rattle.std.specs.Prelude.{◌≡◌, ◌+◌, ◌≤◌, length, drop}
+use Rattle.cyc_types.specs.TypedTreeView.{operations_of}
+use Rattle.cyc_plain.specs.declared.instruction.Operand.TheVariants as operands
+use Rattle.cyc_lower.specs.Emission.{most_locals, HasRoom}
+use Rattle.cyc_lower.proofs.Emitting.{Remains, all_arguments, all_printed, all_operations, PrintedLeft}
 use Rattle.cyc_lower.proofs.emitter.Emitter.+expression.Given as goal
 
 abbrev pub invariant-arguments-loop-argument : goal.invariant-arguments-loop-argument
@@ -8,7 +10,15 @@ invariant-arguments-loop-argument l =
     Remains all_arguments l.fn.self.code.items l.arguments l.fn.first l.argument-index l.self.code.items l.slot
     × (l.slot ≤ most_locals + length l.self.code.items)
 
+abbrev pub invariant-print-loop-argument : goal.invariant-print-loop-argument
+invariant-print-loop-argument l =
+    Remains (all_printed l.free) l.fn.self.code.items l.arguments (operands.Slot l.free) l.argument-index l.self.code.items l.byte
+    × PrintedLeft l.arguments l.argument-index l.byte l.free
+    × (l.free ≤ most_locals + length l.self.code.items)
+
 abbrev pub invariant-operations-loop-operation : goal.invariant-operations-loop-operation
 invariant-operations-loop-operation l =
-    Remains all_operations l.fn.self.code.items l.operations l.fn.slot l.operation-index l.self.code.items l.slot
-    × (l.slot + 1 ≤ most_locals + length l.self.code.items)
+    Remains (all_operations l.slot l.free) l.fn.self.code.items l.operations l.fn.first l.operation-index l.self.code.items l.left
+    × (l.behind + l.operation-index ≡ length l.operations)
+    × (l.free ≤ most_locals + length l.self.code.items)
+    × HasRoom (operations_of (drop l.operation-index l.operations)) l.free (length l.self.code.items)

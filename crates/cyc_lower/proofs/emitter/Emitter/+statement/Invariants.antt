@@ -6,5 +6,5 @@ use Rattle.cyc_lower.proofs.emitter.Emitter.+statement.Given as goal
 
 abbrev pub invariant-items-loop-item : goal.invariant-items-loop-item
 invariant-items-loop-item l =
-    Remains (all_items l.head) l.fn.self.code.items l.items l.fn.slot l.item-index l.self.code.items l.slot
-    × (l.slot ≤ most_locals + length l.self.code.items) × (l.head ≤ length l.self.code.items)
+    Remains (all_items l.head) l.fn.self.code.items l.items l.fn.free l.item-index l.self.code.items l.free
+    × (l.free ≤ most_locals + length l.self.code.items) × (l.head ≤ length l.self.code.items)

@@ -1,0 +1,59 @@
+//! Where the values of expressions stand.
+ghost use Rattle.std.specs.Prelude.{◌≡◌};
+ghost use Rattle.cyc_types.specs.TypedTreeView.{view_expression, operations_of};
+ghost use Rattle.cyc_lower.specs.Lowering.{operand_of, value_slot, is_in};
+ghost use Rattle.cyc_lower.specs.Emission.{takes_operand};
+
+use cyc_plain::Operand;
+use cyc_types::typed::{Expr, Lvalue, Operation};
+
+/// What an expression is without code: a number, or a local.
+pub(crate) fn operand_of(value: &Expr) -> Option<Operand>
+    ensures { result ≡ operand_of (view_expression value.now) }
+{
+    match value {
+        Expr::Number { value } => Some(Operand::Word { word: *value }),
+        Expr::Copy { source, .. } => match *source {
+            Lvalue::Local { number, .. } => Some(Operand::Slot { number }),
+            Lvalue::Global { .. } => None,
+        },
+        Expr::Call { .. } | Expr::Unary { .. } | Expr::Binary { .. } | Expr::Assign { .. } => None,
+    }
+}
+
+/// The slot for the value of an expression that is an operand: an assigned local has it already.
+pub(crate) fn value_slot(value: &Expr, free: usize) -> usize
+    ensures { result ≡ value_slot (view_expression value.now) free }
+{
+    match value {
+        Expr::Assign { target, .. } => match *target {
+            Lvalue::Local { number, .. } => number,
+            Lvalue::Global { .. } => free,
+        },
+        Expr::Number { .. }
+        | Expr::Copy { .. }
+        | Expr::Call { .. }
+        | Expr::Unary { .. }
+        | Expr::Binary { .. } => free,
+    }
+}
+
+/// Whether the first of these operators has an operand without code on its right.
+pub(crate) fn takes_operand(operations: &[Operation]) -> bool
+    ensures { result ≡ takes_operand (operations_of operations.now) }
+{
+    match operations.first() {
+        Some(Operation::Compute { operand, .. }) => operand_of(operand).is_some(),
+        Some(Operation::Test { .. }) | None => false,
+    }
+}
+
+/// Whether the value in an operand is in this slot.
+pub(crate) fn is_in(source: Operand, slot: usize) -> bool
+    ensures { result ≡ is_in source slot }
+{
+    match source {
+        Operand::Slot { number } => number == slot,
+        Operand::Word { .. } => false,
+    }
+}
