@@ -9,7 +9,6 @@ use Rattle.cyc_words.specs.declared.span.Span.{Span}
 use Rattle.cyc_syntax.specs.Symbols.{Place}
 use Rattle.cyc_types.specs.declared.typed.Kind.{Kind}
 use Rattle.cyc_types.specs.declared.typed.Kind.TheVariants as kinds
-use Rattle.cyc_types.specs.declared.typed.Callee.{Callee}
 use Rattle.cyc_types.specs.declared.typed.Callee.TheVariants as callees
 use Rattle.cyc_types.specs.declared.typed.UnaryOperator.{UnaryOperator}
 use Rattle.cyc_types.specs.declared.typed.UnaryOperator.TheVariants as unary

@@ -1,11 +1,10 @@
-use Rattle.std.proofs.Common.{◌≡◌, ℕ, suc, ◌+◌, ◌-◌, ◌∷◌, [], ◌++◌, List, drop, length, set, refl, ap, sym, subst, ◌∙◌, arith}
+use Rattle.std.proofs.Common.{◌≡◌, ℕ, suc, ◌+◌, ◌-◌, ◌++◌, List, drop, length, set, refl, ap, sym, subst, ◌∙◌, arith}
 use Rattle.std.proofs.lemmas.Result.{on_ok_weaker}
 use borrow.Author.Rules.{rules, get_or_read}
 use Rattle.cyc_types.specs.declared.ty.Ty.TheFolds as types
 use Rattle.cyc_types.specs.declared.typed.Expr.TheFolds as expressions
 use Rattle.cyc_types.specs.declared.typed.Operation.{Operation}
-use Rattle.cyc_types.specs.TypedTreeView.{view_expression, view_converted, operations_of}
-use Rattle.cyc_plain.specs.declared.instruction.Operand.{Operand}
+use Rattle.cyc_types.specs.TypedTreeView.{view_expression, operations_of}
 use Rattle.cyc_plain.specs.declared.instruction.Operand.TheVariants as operands
 use Rattle.cyc_plain.specs.declared.instruction.Instruction.{Instruction}
 use Rattle.cyc_lower.specs.Lowering.{expression_code, conversion_code, test_jump, next_slot}
