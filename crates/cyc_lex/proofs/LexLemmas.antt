@@ -36,18 +36,6 @@ pub record IsReadUpTo (text : List ℕ) (tokens : List CodeToken) (start : ℕ) 
   pub behind : IsBehind place (take start text)
   pub inside : start ≤ length text
 
-pub nothing_read : (text : List ℕ) → IsReadUpTo text [] 0 (record { line = 1; column = 1 })
-nothing_read text = record {
-  parts = [];
-  cut = refl;
-  front = refl;
-  views = refl;
-  within = record { count = omega arith; numbers = λ k d less. absurd (omega arith) };
-  lie = λ k d less. absurd (omega arith);
-  behind = record { line = refl; column = refl };
-  inside = omega arith;
-}
-
 -- so many tokens are read at most
 pub tokens_within : (text : List ℕ) (tokens : List CodeToken) (start : ℕ) (place : Span) → IsReadUpTo text tokens start place → length tokens ≤ max_tokens
 tokens_within text tokens start place done =
@@ -157,12 +145,3 @@ module _ (text : List ℕ) (tokens : List CodeToken) (start len : ℕ) (place ne
           behind = next_behind;
           inside = inside;
         }
-
--- the end of the text
-pub all_read : (text : List ℕ) (tokens : List CodeToken) (start : ℕ) (place : Span) → IsReadUpTo text tokens start place → length text ≤ start
-    → length text ≤ max_bytes → IsAccepted text (map (token_of text) tokens)
-all_read text tokens start place done end short = record {
-  short = short;
-  rule = (done.parts, subst (IsCut done.parts text) (drop_all start text end) done.cut, sym done.views);
-  within = subst IsWithinLimits (sym done.views) done.within;
-}

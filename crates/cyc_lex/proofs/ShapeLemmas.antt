@@ -66,14 +66,6 @@ read_at m s text n start within spelled bound = record {
       omega (arith, size, small);
 }
 
--- no piece stands at the head of a text, where no front has this shape
-pub unread : (s : Start) (text : List ℕ) → start_of (get_or text 0 0) ≡ s → 0 < length text
-    → ((front rest : List ℕ) → text ≡ front ++ rest → Shape s front → ⊥) → FailsHere codes_of.UnknownByte text
-unread s text start within none = (
-  λ empty. absurd (omega (arith, ap length empty)),
-  λ m front rest whole spelled. none front rest whole (subst (λ t. Shape t front) start (front_shape m text front rest whole spelled)),
-)
-
 -- runs of one class
 
 -- the bytes of a run pass, and no front that passes is longer
