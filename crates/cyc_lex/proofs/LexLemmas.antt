@@ -2,7 +2,7 @@
 use Rattle.std.proofs.Common.{◌≡◌, ◌≢◌, ℕ, ◌+◌, ◌-◌, ◌<◌, ◌≤◌, ⊎_elim, Option, Some, None, List, [], ◌∷◌, ◌++◌, length, take, drop, map, refl, sym, ap, subst, ◌∙◌, append-nil, arith}
 use Rattle.std.specs.Prelude.{All, slice_range}
 use Rattle.std.proofs.lemmas.Bool.{cases_lt}
-use Rattle.std.proofs.lemmas.List.{take-append-drop, length-drop, length_push, length-map, drop-drop, drop_all, map_push}
+use Rattle.std.proofs.lemmas.List.{take-append-drop, length-drop, length_push, length-map, drop-drop, map_push}
 use Rattle.std.proofs.Math.Seq.{take-add}
 use Rattle.std.proofs.lemmas.List.Elements.{All-push, All-append, All-cons, All-nil}
 use Rattle.cyc_words.specs.declared.span.Span.{Span}
@@ -10,11 +10,10 @@ use Rattle.cyc_syntax.specs.declared.tokens.Token.{Token as CodeToken}
 use Rattle.cyc_syntax.specs.declared.tokens.TokenKind.{TokenKind}
 use Rattle.cyc_syntax.specs.Spelling.{Piece, Lexeme, Space, Comment, OpenComment, SpellsToken}
 use Rattle.cyc_syntax.specs.Tokens.{kind_of, token_of}
-use Rattle.cyc_syntax.specs.TokenRule.{IsRead, Part, IsCut, bytes_of, part_tokens, tokens_of, IsSmall, IsWithinLimits, LiesIn, line_behind, column_behind, max_bytes, max_tokens}
+use Rattle.cyc_syntax.specs.TokenRule.{IsRead, Part, IsCut, bytes_of, part_tokens, tokens_of, IsSmall, IsWithinLimits, LiesIn, line_behind, column_behind, max_tokens}
 use Rattle.cyc_syntax.proofs.CutLemmas.{piece_nonempty, IsCut-push, bytes_of-push, tokens_of-append}
 use Rattle.cyc_lex.specs.Found.{IsReadAs, IsFound}
 use Rattle.cyc_syntax.specs.Place.{IsBehind}
-use Rattle.cyc_lex.specs.Refusals.{IsAccepted}
 
 -- a piece that was found has bytes
 pub found_some : (text : List ℕ) (kind : Option TokenKind) (len : ℕ) → IsFound text kind len → 0 < len
