@@ -90,6 +90,14 @@ opened_closed = refl
 closed_twice : end (closed (execute (FreeKey (move 0 (Key Heap))) ∷ [])) ≡ IsDead
 closed_twice = refl
 
+-- int *p = NULL; { region<`a> h; p = rnew(h) 1; } ufree(p);
+closed_region's_freed : long_end (program (
+    define 0 star (null_as star)
+    ∷ Execute (block (DeclareRegion 2 1 ∷ execute (set 0 star (convert at star (new (by 1) at (Number 1)))) ∷ []))
+    ∷ execute (FreeUnique (variable 0 star))
+    ∷ [])) ≡ IsDead
+closed_region's_freed = refl
+
 -- ---- what fits nothing
 
 -- int x; return x;

@@ -24,7 +24,7 @@ use Rattle.cyc_meaning.specs.Places.{arrives, follows, follows_member, member_of
 use Rattle.cyc_meaning.specs.Swaps.{finds_right_object, finds_right, finds_left_object, swaps, swap_content, swap_loaded, swap_loaded_at, step_swapping}
 use Rattle.cyc_meaning.specs.Allocation.{blanks_of, filled, makes_of, makes_plain, blanks, begun, makes_array, step_beginning, step_repeating, fills_element, makes, makes_by, most_words}
 use Rattle.cyc_meaning.specs.Exceptions.{throws, throws_value, catches, step_catching}
-use Rattle.cyc_meaning.specs.Regions.{is_dynamic, step_naming, closing_lexical, opened_by, opens_with, closes_dynamic, closes_with, frees_owned, frees_object, frees}
+use Rattle.cyc_meaning.specs.Regions.{is_dynamic, step_naming, closing_lexical, opened_by, opens_with, closes_dynamic, closes_with, frees_in_region, frees_owned, frees_object, frees}
 use Rattle.cyc_meaning.specs.Step.{values_of, called, step_calling, step_binding, passes, assigned, addressed, counts, step_evaluating, decided, tested, awaits_right, chained, tells, applies_pointer, chosen, looped, converts, initialises, supplied, step_given, step_executing, declares, continues_with, step_proceeding, step_breaking, step_continuing, returned, ends_with, main_returned, step_returning, step_throwing, stepped}
 use Rattle.cyc_meaning.specs.Step as steps
 use Rattle.cyc_meaning.specs.Effects.{Changes, Keeps, Opens, Closes, Makes, MakesIn, MakesUnique, Frees, Writes, Prints, Reads, printed_of, printed_by, read_of, read_by, calls_after}
@@ -266,11 +266,16 @@ closing_with : (key : Value) (stack : List Entry) (e : Environment) (w : World) 
 closing_with (Key region) stack e w = closing_dynamic (region_at w region) region stack e w refl
 closing_with value stack e w = Fails
 
+freeing_in_region : (a : Access Region) (stack : List Entry) (e : Environment) (w : World) → Silent true stack e w (frees_in_region a w)
+freeing_in_region (Found r) stack e w = Fails
+freeing_in_region Closed stack e w = Dies (λ h. refl)
+freeing_in_region Missing stack e w = Fails
+
 freeing_owned : (o : Option Object) (number : ℕ) (stack : List Entry) (e : Environment) (w : World) → slice_get w.objects number ≡ o → Silent true stack e w (frees_object o number stack e w)
 freeing_owned (Some x) number stack e w there = go x.owner refl
   where
     go : (owner : Owner) → x.owner ≡ owner → Silent true stack e w (frees_owned owner number x stack e w)
-    go (InRegion region) is = Fails
+    go (InRegion region) is = freeing_in_region (region_at w region) stack e w
     go (Unique true) is = Goes refl (Frees number x there is) (λ h. h)
     go (Unique false) is = Dies (λ h. refl)
 freeing_owned None number stack e w there = Fails

@@ -75,9 +75,15 @@ aliased number lent items operand stack e w = Running (Naming number operand ite
 
 -- ---- unique objects that are given back
 
+-- what a region owns is no unique object, and is dead where the region is closed
+abbrev pub frees_in_region : Access Region → World → State
+frees_in_region (Found r) w = wrong w
+frees_in_region Closed w = dead w
+frees_in_region Missing w = wrong w
+
 -- `ufree` gives back a whole unique object, whatever the index of a fat pointer to it. That of null does nothing.
 abbrev pub frees_owned : Owner → (number : ℕ) → Object → List Entry → Environment → World → State
-frees_owned (InRegion region) number x stack e w = wrong w
+frees_owned (InRegion region) number x stack e w = frees_in_region (region_at w region) w
 frees_owned (Unique true) number x stack e w = Running Proceeding stack e (freed w number x)
 frees_owned (Unique false) number x stack e w = dead w
 
