@@ -27,6 +27,7 @@ try:
 cases: build
 	@sh tests/tools.sh
 	@python3 tests/run.py
+	@python3 tests/run.py --whole
 	@python3 tests/codes.py
 	@python3 tests/documents.py
 	@python3 tests/examples.py

@@ -39,6 +39,7 @@ sh tests/tools.sh || echo "tests/tools.sh: a tool of the suite could not be inst
 add "proofs" rt ci
 add "self tests" python3 tests/self_test.py
 add "command line" python3 tests/run.py
+add "whole language" python3 tests/run.py --whole
 add "codes" python3 tests/codes.py
 add "documents" python3 tests/documents.py
 add "examples" python3 tests/examples.py

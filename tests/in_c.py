@@ -127,11 +127,11 @@ class Writer:
         return str(expression.value)
 
     def expression_variable(self, expression):
-        return self.temporary(variable(expression))
+        return self.temporary(name_of(expression))
 
     def expression_assign(self, expression):
         value = self.expression(expression.value)
-        self.put(f"{variable(expression.target)} = {value};")
+        self.put(f"{name_of(expression.target)} = {value};")
         return value
 
     def expression_unary(self, expression):
@@ -171,7 +171,7 @@ class Writer:
         return self.temporary(call)
 
 
-def variable(expression):
+def name_of(expression):
     return ("g_" if expression.slot is None else "v_") + expression.name
 
 
@@ -183,8 +183,8 @@ def head_of(function):
 def text_in_c(program):
     """The whole program in C."""
     lines = [HEAD]
-    for name, value in program.globals.items():
-        lines.append(f"static int32_t g_{name} = {'LEAST' if value == -(2**31) else value};")
+    for name, variable in program.globals.items():
+        lines.append(f"static int32_t g_{name} = {'LEAST' if variable.value == -(2**31) else variable.value};")
     functions = list(program.functions.values())
     lines += [head_of(function) + ";" for function in functions]
     for function in functions:
@@ -206,9 +206,7 @@ def main():
         path = reference.options_of(sys.argv[2:])[0]
         resource.setrlimit(resource.RLIMIT_STACK, (ROOM, ROOM))
         os.execv(os.path.abspath(path), sys.argv[2:])
-    line, status = reference.with_room(lambda: reference.answer(sys.argv[1:], build))
-    print(line, file=sys.stderr)
-    sys.exit(status)
+    reference.main(build)
 
 
 if __name__ == "__main__":

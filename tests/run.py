@@ -1,9 +1,11 @@
 #!/usr/bin/env python3
 """Runs the built program on the cases in tests/cases and says which of them it fails.
 
-    python3 tests/run.py [--program PATH] [FILE.cases ..]
+    python3 tests/run.py [--program PATH] [--whole] [FILE.cases ..]
 
-The last line is `N passed, M failed`. A case is a few lines; tests/README.md has the format.
+The last line is `N passed, M failed`. A case is a few lines; tests/README.md has the format. With --whole the cases are those of
+the whole language, in tests/whole: a case passes too where the program says that something it needs is not built yet, and how
+many do is said.
 """
 import os
 import re
@@ -15,6 +17,7 @@ import tempfile
 import suite
 
 CASES = os.path.join(suite.HERE, "cases")
+WHOLE = os.path.join(suite.HERE, "whole")
 # The file that holds the text of a line `? LINE | TEXT`.
 TEXT_FILE = "text.cyc"
 
@@ -289,10 +292,14 @@ def run_step(step, folder, program):
             os.close(output)
 
 
-def faults_of_step(step, folder, program):
+class NotBuilt(Exception):
+    """The program says that something a case needs is not built yet."""
+
+
+def faults_of_step(step, folder, program, act):
     """What a step does otherwise than expected, in words."""
     try:
-        done = run_step(step, folder, program)
+        done = act(step, folder, program)
     except subprocess.TimeoutExpired:
         return [f"took longer than {suite.SECONDS} seconds"]
     faults = []
@@ -301,6 +308,8 @@ def faults_of_step(step, folder, program):
         if wanted != got:
             faults.append(suite.difference(what, wanted, got))
 
+    if step.is_program and step.last != suite.NOT_BUILT and suite.last_line(done.stderr or b"") == suite.NOT_BUILT:
+        raise NotBuilt
     if step.status is not None:
         wanted = f"{step.status} {step.last}".strip()
         last = "" if "err" in step.closed else suite.last_line(done.stderr)
@@ -316,13 +325,14 @@ def faults_of_step(step, folder, program):
     return faults
 
 
-def faults_of(case, program):
+def faults_of(case, program, act=run_step):
+    """What a case does otherwise than expected, where `act` runs its steps."""
     faults = []
     with tempfile.TemporaryDirectory(prefix="cyclone-case-") as folder:
         for action in case.actions:
             if isinstance(action, Step):
                 name = "> " if action.is_program else "$ "
-                for fault in faults_of_step(action, folder, program):
+                for fault in faults_of_step(action, folder, program, act):
                     faults.append(f"line {action.line}: {name}{shlex.join(action.words)}\n{fault}")
             else:
                 fault = action(folder)
@@ -331,14 +341,32 @@ def faults_of(case, program):
     return faults
 
 
+def case_files(folder):
+    return sorted(os.path.join(folder, name) for name in os.listdir(folder) if name.endswith(".cases"))
+
+
 def main():
     parser = suite.command_line(__doc__)
+    parser.add_argument("--whole", action="store_true")
     parser.add_argument("files", nargs="*")
     options = parser.parse_args()
-    files = options.files or sorted(os.path.join(CASES, name) for name in os.listdir(CASES) if name.endswith(".cases"))
+    files = options.files or case_files(WHOLE if options.whole else CASES)
     cases = [case for path in files for case in Reader(path).read()]
     program = suite.program_of(options, len(cases))
-    suite.try_each(cases, lambda case: f"{case.place}: {case.name}", lambda case: faults_of(case, program))
+    unbuilt = []
+
+    def faults(case):
+        try:
+            return faults_of(case, program)
+        except NotBuilt:
+            unbuilt.append(case)
+            return [] if options.whole else [f"the program says {suite.NOT_BUILT}"]
+
+    suite.try_each(cases, lambda case: f"{case.place}: {case.name}", faults, lambda: said_of(unbuilt))
+
+
+def said_of(unbuilt):
+    return f"{len(unbuilt)} of the cases need what is not built yet" if unbuilt else None
 
 
 if __name__ == "__main__":

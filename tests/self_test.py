@@ -1,12 +1,23 @@
 #!/usr/bin/env python3
-"""Tries the tests' own tools: the suite's runner, on a stand-in for the program, passes and fails what it should; and the table of
-what the gate costs, on looks at processes that are written here, has the sums worked by hand."""
+"""Tries the tests' own tools: the suite's runner, on a stand-in for the program, passes and fails what it should; the table of what
+the gate costs, on looks at processes that are written here, has the sums worked by hand; and the reference answers the cases of the
+whole language, in tests/whole, as they say.
+
+    python3 tests/self_test.py [TEXTS.json]
+
+A file of texts with their verdicts, a list of objects with `text` and `expect`, is held against the reference too.
+"""
+import contextlib
+import json
 import os
 import subprocess
 import sys
 import tempfile
 
 import gate_table
+import reference
+import run
+import suite
 
 HERE = os.path.dirname(os.path.abspath(__file__))
 
@@ -200,11 +211,42 @@ def is_runner_right(folder):
     return is_right
 
 
+def answered(step, folder, _):
+    """What the reference says, in this process, where the program would be run."""
+    with contextlib.chdir(folder):
+        output, line, status = reference.answer(step.words, lambda: step.input)
+    return subprocess.CompletedProcess(step.words, status, output, (line + "\n").encode("latin-1"))
+
+
+def is_case_right(case):
+    faults = run.faults_of(case, "the reference", answered)
+    for fault in faults:
+        print(f"{case.place}: {case.name}\n{fault}")
+    return not faults
+
+
+def is_text_right(case):
+    """Whether the reference refuses a text as it should, with the limits of an image too."""
+    try:
+        reference.Program(case["text"]).hold_to_sizes()
+        verdict = "done"
+    except reference.Refused as refused:
+        verdict = str(refused)
+    if verdict != case["expect"]:
+        print(suite.difference(suite.shown(case["text"]), case["expect"], verdict))
+    return verdict == case["expect"]
+
+
 def main():
+    cases = [case for path in run.case_files(run.WHOLE) for case in run.Reader(path).read()]
+    texts = []
+    if len(sys.argv) > 1:
+        with open(sys.argv[1], encoding="utf-8") as file:
+            texts = json.load(file)
     with tempfile.TemporaryDirectory() as folder:
         right = [is_runner_right(folder), is_table_right()]
-    print(f"{right.count(True)} passed, {right.count(False)} failed")
-    sys.exit(0 if all(right) else 1)
+    right += reference.with_room(lambda: [is_case_right(case) for case in cases] + [is_text_right(case) for case in texts])
+    suite.end(right.count(True), right.count(False))
 
 
 if __name__ == "__main__":
