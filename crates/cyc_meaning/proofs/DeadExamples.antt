@@ -4,12 +4,13 @@ use Rattle.std.proofs.Common.{◌≡◌, ℕ, List, [], ◌∷◌, None, pos, re
 use Rattle.cyc_words.specs.Ending.{Returned}
 use Rattle.cyc_types.specs.declared.region.Region.TheVariants.{Heap}
 use Rattle.cyc_types.specs.declared.typed.Kind.TheVariants as kinds
+use Rattle.cyc_types.specs.declared.typed.Callee.TheVariants as callees
 use Rattle.cyc_types.specs.declared.typed.PointerOperator.TheVariants as pointers
-use Rattle.cyc_types.specs.Types.{Int, Handle, Key}
-use Rattle.cyc_types.specs.TypedTrees.{Expression, Number, NullPointer, Counter, Load, AddressOf, FreeUnique, FreeKey, AsUnique, OnHeap, ByHandle, Placement, Swap, CellSide, Execute, Declare, DeclareRegion, OpenRegion, DeclareKey, Program}
+use Rattle.cyc_types.specs.Types.{Int, Handle, Key, Value}
+use Rattle.cyc_types.specs.TypedTrees.{Expression, Number, NullPointer, Counter, Call, MoreArguments, NoArguments, Load, AddressOf, FreeUnique, FreeKey, AsUnique, OnHeap, ByHandle, Placement, Swap, CellSide, Execute, Declare, DeclareRegion, DeclareAlias, OpenRegion, DeclareKey, Program}
 use Rattle.cyc_types.specs.TypedTrees as typed
 use Rattle.cyc_meaning.specs.State.{HasEnded, IsDead, IsWrong}
-use Rattle.cyc_meaning.proofs.ExampleTrees.{here, local, execute, return, declare, block, program, end, long_end, star, at, fat, own, convert, null_as, variable, move, peek, target, put, set, new, array, apply, define, side}
+use Rattle.cyc_meaning.proofs.ExampleTrees.{here, local, execute, return, declare, block, while, function, procedure, call_void, program, program_with, end, long_end, star, at, fat, own, own_fat, convert, null_as, variable, move, peek, target, element, put, set, new, array, apply, define, side}
 
 -- ---- unique objects
 
@@ -46,6 +47,38 @@ freed_and_compared_with_null_value = refl
 -- the address of a freed cell is no access
 freed_and_located : end (freed (return (apply (typed.AddressOfCell (target own (peek 0 own)) at) pointers.ThinIsNull NullPointer Int) ∷ [])) ≡ HasEnded (Returned (pos 0))
 freed_and_located = refl
+
+-- void eat(int @`U p){ ufree(p); } int @`U u = rnew(unique_region) 5; eat(u); return *u;
+eaten_and_read : end (program_with (procedure (own ∷ []) (execute (FreeUnique (move 0 own)) ∷ []) ∷ []) (
+    define 0 own (convert own own (new AsUnique own (Number 5)))
+    ∷ call_void 1 (convert own own (move 0 own))
+    ∷ return (Load (target own (peek 0 own)))
+    ∷ [])) ≡ IsDead
+eaten_and_read = refl
+
+-- int @`U u = rnew(unique_region) 1; while (1) { ufree(u); }
+freed_in_a_loop : end (program (
+    define 0 own (convert own own (new AsUnique own (Number 1)))
+    ∷ while (Number 1) (block (execute (FreeUnique (move 0 own)) ∷ []))
+    ∷ [])) ≡ IsDead
+freed_in_a_loop = refl
+
+-- int eat(int ?`U p){ ufree(p); return 1; } int ?`U u = rnew(unique_region) {for i < 2 : i}; u[0] = eat(u);
+eaten_under_a_place : long_end (program_with (function (own_fat ∷ []) (execute (FreeUnique (move 0 own_fat)) ∷ return (Number 1) ∷ []) ∷ []) (
+    define 0 own_fat (convert own_fat own_fat (array AsUnique own_fat (Number 2) (Counter 0)))
+    ∷ execute (put (element (peek 0 own_fat) (Number 0)) (Call (callees.Function 1) (MoreArguments (convert own_fat own_fat (move 0 own_fat)) NoArguments) (Value Int)))
+    ∷ return (Number 0)
+    ∷ [])) ≡ IsDead
+eaten_under_a_place = refl
+
+-- int @`U u = rnew(unique_region) 5; let alias <`a> int @`a x = u; ufree(u); return *x;
+freed_under_an_alias : end (program (
+    define 0 own (convert own own (new AsUnique own (Number 5)))
+    ∷ DeclareAlias 1 1 at here 0
+    ∷ execute (FreeUnique (move 0 own))
+    ∷ return (Load (target at (variable 1 at)))
+    ∷ [])) ≡ IsDead
+freed_under_an_alias = refl
 
 -- ---- variables
 
@@ -90,6 +123,38 @@ opened_closed = refl
 closed_twice : end (closed (execute (FreeKey (move 0 (Key Heap))) ∷ [])) ≡ IsDead
 closed_twice = refl
 
+-- let NewDynamicRegion{<`k> k} = new_ukey(); int *`k p = NULL; { region<`k> h = open(k); p = rnew(h) 1; } free_ukey(k);
+-- int @q = new 1; int *z = NULL;
+abbrev stale : List typed.Item → Program
+stale after = program (
+    DeclareKey 1 0
+    ∷ define 1 star (null_as star)
+    ∷ Execute (block (OpenRegion 1 2 here 0 ∷ execute (set 1 star (convert at star (new (by 2) at (Number 1)))) ∷ []))
+    ∷ execute (FreeKey (move 0 (Key Heap)))
+    ∷ define 3 at (convert at at (new OnHeap at (Number 1)))
+    ∷ define 4 star (null_as star)
+    ∷ after)
+
+-- p == p, p == q and q != p are dead; p == z and z != p are not, and the answers are that they differ
+stale_compared_with_itself : long_end (stale (return (apply (variable 1 star) pointers.EqualThin (variable 1 star) Int) ∷ [])) ≡ IsDead
+stale_compared_with_itself = refl
+
+stale_compared : long_end (stale (return (apply (variable 1 star) pointers.EqualThin (variable 3 at) Int) ∷ [])) ≡ IsDead
+stale_compared = refl
+
+compared_with_stale : long_end (stale (return (apply (variable 3 at) pointers.NotEqualThin (variable 1 star) Int) ∷ [])) ≡ IsDead
+compared_with_stale = refl
+
+stale_compared_with_null_value : long_end (stale (return (apply (variable 1 star) pointers.EqualThin (variable 4 star) Int) ∷ [])) ≡ HasEnded (Returned (pos 0))
+stale_compared_with_null_value = refl
+
+null_value_compared_with_stale : long_end (stale (return (apply (variable 4 star) pointers.NotEqualThin (variable 1 star) Int) ∷ [])) ≡ HasEnded (Returned (pos 1))
+null_value_compared_with_stale = refl
+
+-- *p = 2;
+stale_assigned : long_end (stale (execute (put (target star (variable 1 star)) (Number 2)) ∷ [])) ≡ IsDead
+stale_assigned = refl
+
 -- int *p = NULL; { region<`a> h; p = rnew(h) 1; } ufree(p);
 closed_region's_freed : long_end (program (
     define 0 star (null_as star)
@@ -128,3 +193,15 @@ wrong_kind_compared = refl
 -- `ufree` of an object in a region
 free_of_a_region's : end (program (execute (FreeUnique (new OnHeap at (Number 1))) ∷ [])) ≡ IsWrong
 free_of_a_region's = refl
+
+-- int f(int a){ return a; } called without its argument
+argument_is_missing : end (program_with (function (Int ∷ []) (return (local 0) ∷ []) ∷ []) (return (Call (callees.Function 1) NoArguments (Value Int)) ∷ [])) ≡ IsWrong
+argument_is_missing = refl
+
+-- `int x = 1; int *p = NULL; x :=: p;`
+wrong_kind_swapped : end (program (declare 0 (Number 1) ∷ define 1 star (null_as star) ∷ Execute (Swap (side 0 Int) (side 1 star)) ∷ [])) ≡ IsWrong
+wrong_kind_swapped = refl
+
+-- a lexical region's handle is no key, and a lexical region is not opened by one
+handle_as_key : end (program (DeclareRegion 1 0 ∷ OpenRegion 1 1 here 0 ∷ [])) ≡ IsWrong
+handle_as_key = refl

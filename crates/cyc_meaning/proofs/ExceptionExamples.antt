@@ -5,10 +5,10 @@ use Rattle.cyc_words.specs.Ending.{Returned, Uncaught, Full}
 use Rattle.cyc_types.specs.declared.typed.UnaryOperator.TheVariants as unary
 use Rattle.cyc_types.specs.declared.typed.Operator.TheVariants as operators
 use Rattle.cyc_types.specs.Types.{Int}
-use Rattle.cyc_types.specs.TypedTrees.{Expression, Number, Counter, Unary, If, Evaluate, Block, Empty, Throw, Case, OnHeap, NoClauses, Items, Execute, Function, Program}
+use Rattle.cyc_types.specs.TypedTrees.{Expression, Number, Counter, Unary, If, Evaluate, Block, Empty, Throw, Load, Case, OnHeap, NoClauses, Items, Execute, Function, Program}
 use Rattle.cyc_types.specs.TypedTrees as typed
 use Rattle.cyc_meaning.specs.State.{HasEnded}
-use Rattle.cyc_meaning.proofs.ExampleTrees.{int, local, two, assign, print, call, items, execute, return, declare, block, while, function, program, program_with, end, printed, long_end, long_printed, end_within, printed_within, fat, convert, array, define, when, try_to, case, otherwise, throw}
+use Rattle.cyc_meaning.proofs.ExampleTrees.{int, local, two, assign, print, call, items, execute, return, declare, block, while, function, program, program_with, end, printed, long_end, long_printed, end_within, printed_within, star, at, fat, convert, null_as, variable, target, new, array, define, when, try_to, case, otherwise, throw}
 
 -- int m = -2147483647 - 1; int d = -1; int z = 0; if (m / d == m) putchar(65); if (m % d == 0) putchar(66);
 -- try putchar(1 / z); catch { case &Div_zero: putchar(67); } return 0;
@@ -125,3 +125,121 @@ full_with_one_page = refl
 
 full_with_one_page_printed : printed_within 1 2 stops_twice ≡ 120 ∷ []
 full_with_one_page_printed = refl
+
+-- throw new Div_zero; one of the language's own
+own_exception : end (program (throw 4 None ∷ [])) ≡ HasEnded (Uncaught 4 (pos 0))
+own_exception = refl
+
+-- int @f(int n){ int *p = NULL; try return p; catch { case &Null_Exception: putchar(65); } return new n; } return *f(7);
+-- what is returned is converted in its own `try`
+abbrev converted_in_try : Program
+converted_in_try = program_with (function (Int ∷ []) (
+    define 1 star (null_as star)
+    ∷ try_to (typed.Return (Some (convert star at (variable 1 star)))) (case 1 (execute (print (Number 65)) ∷ []) NoClauses)
+    ∷ Execute (typed.Return (Some (convert at at (new OnHeap at (local 0)))))
+    ∷ []) ∷ []) (return (Load (target at (call 1 (Number 7 ∷ [])))) ∷ [])
+
+converted_in_try_ends : end converted_in_try ≡ HasEnded (Returned (pos 7))
+converted_in_try_ends = refl
+
+converted_in_try_prints : printed converted_in_try ≡ 65 ∷ []
+converted_in_try_prints = refl
+
+-- int i = 0; try { while (1) { try { i = i + 1; if (i != 3) continue; break; } catch { default: putchar(88); } } throw new A; }
+-- catch { case &A: putchar(65); } return i;
+abbrev left_by_jumps : Program
+left_by_jumps = program (
+    declare 0 (Number 0)
+    ∷ try_to (block (
+    while (Number 1) (block (
+    try_to (block (
+    execute (assign 0 (two (local 0) operators.Add (Number 1)))
+    ∷ Execute (If (two (local 0) operators.NotEqual (Number 3)) typed.Continue Empty)
+    ∷ Execute typed.Break
+    ∷ [])) (otherwise (execute (print (Number 88)) ∷ []))
+    ∷ []))
+    ∷ throw 5 None
+    ∷ [])) (case 5 (execute (print (Number 65)) ∷ []) NoClauses)
+    ∷ return (local 0)
+    ∷ [])
+
+left_by_jumps_ends : long_end left_by_jumps ≡ HasEnded (Returned (pos 3))
+left_by_jumps_ends = refl
+
+left_by_jumps_prints : long_printed left_by_jumps ≡ 65 ∷ []
+left_by_jumps_prints = refl
+
+-- int f(){ try return 1; catch { default: return 2; } } try { f(); throw new A; } catch { case &A: putchar(65); } return f();
+abbrev left_by_return : Program
+left_by_return = program_with (function [] (try_to (typed.Return (Some (int (Number 1)))) (otherwise (return (Number 2) ∷ [])) ∷ []) ∷ []) (
+    try_to (block (execute (call 1 []) ∷ throw 5 None ∷ [])) (case 5 (execute (print (Number 65)) ∷ []) NoClauses)
+    ∷ return (call 1 [])
+    ∷ [])
+
+left_by_return_ends : end left_by_return ≡ HasEnded (Returned (pos 1))
+left_by_return_ends = refl
+
+left_by_return_prints : printed left_by_return ≡ 65 ∷ []
+left_by_return_prints = refl
+
+-- try { try throw new A; catch { case &A: throw new B(3); case &B(v): return 1; } } catch { case &B(v): return v + 4; } return 0;
+thrown_beside_a_clause : end (program (
+    try_to (block (
+    try_to (Throw 5 None) (case 5 (throw 6 (Some (Number 3)) ∷ []) (Case 6 (Some 0) 2 (items (return (Number 1) ∷ [])) NoClauses))
+    ∷ [])) (Case 6 (Some 1) 2 (items (return (two (local 1) operators.Add (Number 4)) ∷ [])) NoClauses)
+    ∷ return (Number 0)
+    ∷ [])) ≡ HasEnded (Returned (pos 7))
+thrown_beside_a_clause = refl
+
+-- int d(int n){ if (n == 0) throw new E; return d(n - 1); }
+-- int i = 0; while (i != 2) { try d(1); catch { case &E: putchar(65); } i = i + 1; } return d(0) + 1;
+abbrev thrown_often : Program
+thrown_often = program_with (function (Int ∷ []) (
+    Execute (If (two (local 0) operators.Equal (Number 0)) (Throw 5 None) Empty)
+    ∷ return (call 1 (two (local 0) operators.Subtract (Number 1) ∷ []))
+    ∷ []) ∷ []) (
+    declare 0 (Number 0)
+    ∷ while (two (local 0) operators.NotEqual (Number 2)) (block (
+    try_to (Evaluate (call 1 (Number 1 ∷ []))) (case 5 (execute (print (Number 65)) ∷ []) NoClauses)
+    ∷ execute (assign 0 (two (local 0) operators.Add (Number 1)))
+    ∷ []))
+    ∷ return (two (call 1 (Number 0 ∷ [])) operators.Add (Number 1))
+    ∷ [])
+
+thrown_often_ends : end_within 1 3 thrown_often ≡ HasEnded (Uncaught 5 (pos 0))
+thrown_often_ends = refl
+
+thrown_often_prints : printed_within 1 3 thrown_often ≡ 65 ∷ 65 ∷ []
+thrown_often_prints = refl
+
+thrown_often_full : end_within 1 2 thrown_often ≡ HasEnded Full
+thrown_often_full = refl
+
+thrown_often_full_prints : printed_within 1 2 thrown_often ≡ []
+thrown_often_full_prints = refl
+
+-- int f(int n){ try return f(n + 1); catch { default: putchar(88); return 0; } } putchar(65); return f(0);
+-- want of calls is no exception
+abbrev endless : Program
+endless = program_with (function (Int ∷ []) (
+    try_to (typed.Return (Some (int (call 1 (two (local 0) operators.Add (Number 1) ∷ []))))) (otherwise (execute (print (Number 88)) ∷ return (Number 0) ∷ []))
+    ∷ []) ∷ []) (execute (print (Number 65)) ∷ return (call 1 (Number 0 ∷ [])) ∷ [])
+
+endless_is_full : end_within 1 5 endless ≡ HasEnded Full
+endless_is_full = refl
+
+endless_prints : printed_within 1 5 endless ≡ 65 ∷ []
+endless_prints = refl
+
+-- int f(int a, int b){ throw new E(a * 10 + b); }
+-- int s = 1; try { s = 2 + f(3, s + f(1, 2)); } catch { case &E(v): s = s + v; } return s; what waits for a value is dropped
+waiting_is_dropped : end (program_with (function (Int ∷ Int ∷ []) (
+    throw 5 (Some (two (two (local 0) operators.Multiply (Number 10)) operators.Add (local 1)))
+    ∷ []) ∷ []) (
+    declare 0 (Number 1)
+    ∷ try_to (block (
+    execute (assign 0 (two (Number 2) operators.Add (call 1 (Number 3 ∷ two (local 0) operators.Add (call 1 (Number 1 ∷ Number 2 ∷ [])) ∷ []))))
+    ∷ [])) (Case 5 (Some 1) 2 (items (execute (assign 0 (two (local 0) operators.Add (local 1))) ∷ [])) NoClauses)
+    ∷ return (local 0)
+    ∷ [])) ≡ HasEnded (Returned (pos 13))
+waiting_is_dropped = refl

@@ -3,17 +3,19 @@ use Rattle.std.proofs.Common.{◌≡◌, [], ◌∷◌, pos, refl}
 use Rattle.cyc_words.specs.Ending.{Returned, Uncaught}
 use Rattle.cyc_types.specs.declared.typed.Kind.TheVariants as kinds
 use Rattle.cyc_types.specs.declared.typed.UnaryOperator.TheVariants as unary
+use Rattle.cyc_types.specs.declared.typed.Callee.TheVariants as callees
 use Rattle.cyc_types.specs.declared.typed.Operator.TheVariants as operators
 use Rattle.cyc_types.specs.declared.typed.PointerOperator.TheVariants as pointers
 use Rattle.cyc_types.specs.Types.{Ty, Int, Pointer, Struct, Value}
 use Rattle.cyc_syntax.specs.declared.tree.PointerKind.TheVariants as marks
 use Rattle.cyc_types.specs.declared.region.Region.TheVariants.{Heap}
-use Rattle.cyc_types.specs.TypedTrees.{Expression, Number, NullPointer, Counter, Load, AddressOf, AddressOfCell, NumberOfElements, Unary, New, Member, OnHeap, Fields, Array, Convert, MoreArguments, NoArguments, StructType, Program, NoClauses}
+use Rattle.cyc_types.specs.TypedTrees.{Expression, Number, NullPointer, Counter, Call, Load, AddressOf, AddressOfCell, NumberOfElements, Unary, New, Member, OnHeap, Fields, Array, Convert, MoreArguments, NoArguments, Element, StructType, Program, NoClauses}
 use Rattle.cyc_types.specs.TypedTrees as typed
 use Rattle.cyc_meaning.specs.Values.{Int as Word}
-use Rattle.cyc_meaning.specs.State.{InRegion, HasEnded, IsWrong, Running, Beginning, Throwing, no_locals, first_world}
+use Rattle.cyc_meaning.specs.State.{InRegion, HasEnded, IsWrong, Running, Beginning, Throwing, no_locals, first_world, status_of}
+use Rattle.cyc_meaning.specs.Run.{run}
 use Rattle.cyc_meaning.specs.Allocation.{makes_array}
-use Rattle.cyc_meaning.proofs.ExampleTrees.{here, int, local, two, print, execute, return, declare, program, end, long_end, long_printed, printed, star, at, fat, convert, null_as, variable, target, element, apply, put, new, array, define, try_to, case}
+use Rattle.cyc_meaning.proofs.ExampleTrees.{here, int, local, two, assign, print, execute, return, declare, function, program, program_with, end, long_end, long_printed, printed, star, at, fat, convert, null_as, variable, target, element, apply, put, set, new, array, define, when, try_to, case}
 
 -- ---- `new` and places
 
@@ -76,6 +78,64 @@ other_shape : end (with_struct (program (
     ∷ return (Load x)
     ∷ []))) ≡ IsWrong
 other_shape = refl
+
+-- struct P *p = NULL; p->x = putchar(65); return 0; a field's checks come before the right side
+abbrev p_star : Ty
+p_star = Pointer marks.Nullable (Struct 0 []) Heap
+
+abbrev field_of_null : Program
+field_of_null = with_struct (program (
+    define 0 p_star (null_as p_star)
+    ∷ execute (put (Member kinds.Nullable (variable 0 p_star) 0 0 Int) (print (Number 65)))
+    ∷ return (Number 0)
+    ∷ []))
+
+field_of_null_ends : end field_of_null ≡ HasEnded (Uncaught 1 (pos 0))
+field_of_null_ends = refl
+
+field_of_null_prints : printed field_of_null ≡ []
+field_of_null_prints = refl
+
+-- struct S { int a; int ?p; int b; }; struct S @s = new S{1, new {for i < 2 : i + 7}, 3}; s->p[1] = s->p[1] + 1;
+-- return s->b * 100 + s->p[1] * 10 + s->a; fields of one word and of three
+abbrev second : typed.Dereference
+second = element (Load (Member kinds.NonNull (variable 0 p) 0 1 fat)) (Number 1)
+
+fields_of_all_sizes : long_end (record (program (
+    define 0 p (convert p p (New OnHeap (Fields (
+    MoreArguments (int (Number 1))
+    (MoreArguments (convert fat fat (array OnHeap fat (Number 2) (two (Counter 0) operators.Add (Number 7))))
+    (MoreArguments (int (Number 3)) NoArguments)))) p))
+    ∷ execute (put second (two (Load second) operators.Add (Number 1)))
+    ∷ return (two
+    (two (two (Load (Member kinds.NonNull (variable 0 p) 0 2 Int)) operators.Multiply (Number 100)) operators.Add (two (Load second) operators.Multiply (Number 10)))
+    operators.Add (Load (Member kinds.NonNull (variable 0 p) 0 0 Int)))
+    ∷ [])) {
+      structs = record { parameters = 0; fields = Int ∷ fat ∷ Int ∷ [] } ∷ [];
+    }) ≡ HasEnded (Returned (pos 391))
+fields_of_all_sizes = refl
+
+-- int *p = new 1; int *q = p; *p = *(p = new 5) + 1; return *q * 10 + *p; a place that was found stays that cell
+found_place_stays : long_end (program (
+    define 0 star (convert at star (new OnHeap at (Number 1)))
+    ∷ define 1 star (convert star star (variable 0 star))
+    ∷ execute (put (target star (variable 0 star)) (two (Load (target star (set 0 star (convert at star (new OnHeap at (Number 5)))))) operators.Add (Number 1)))
+    ∷ return (two (two (Load (target star (variable 1 star))) operators.Multiply (Number 10)) operators.Add (Load (target star (variable 0 star))))
+    ∷ [])) ≡ HasEnded (Returned (pos 65))
+found_place_stays = refl
+
+-- int second(int @a, int b){ return b; } int *p = NULL; return second(p, putchar(65)); an argument is converted before the next one
+abbrev null_argument : Program
+null_argument = program_with (function (at ∷ Int ∷ []) (return (local 1) ∷ []) ∷ []) (
+    define 0 star (null_as star)
+    ∷ return (Call (callees.Function 1) (MoreArguments (convert star at (variable 0 star)) (MoreArguments (int (print (Number 65))) NoArguments)) (Value Int))
+    ∷ [])
+
+null_argument_ends : end null_argument ≡ HasEnded (Uncaught 1 (pos 0))
+null_argument_ends = refl
+
+null_argument_prints : printed null_argument ≡ []
+null_argument_prints = refl
 
 -- ---- fat pointers
 
@@ -140,6 +200,94 @@ one_element = refl
 no_element : end (program (define 0 fat (convert at fat (new OnHeap at (Number 5))) ∷ return (NumberOfElements (apply (variable 0 fat) pointers.AddFat (Number 1) fat)) ∷ [])) ≡ HasEnded (Returned (pos 0))
 no_element = refl
 
+-- int ?p = new {for i < 3 : i}; int ?q = &p[1]; putchar(48 + numelts(q)); putchar(48 + q[0]); return q[1];
+-- the address of an element has one element
+abbrev address_of_element : Program
+address_of_element = program (
+    define 0 fat (convert fat fat (array OnHeap fat (Number 3) (Counter 0)))
+    ∷ define 1 fat (convert at fat (AddressOfCell (element (variable 0 fat) (Number 1)) at))
+    ∷ execute (print (two (Number 48) operators.Add (NumberOfElements (variable 1 fat))))
+    ∷ execute (print (two (Number 48) operators.Add (Load (element (variable 1 fat) (Number 0)))))
+    ∷ return (Load (element (variable 1 fat) (Number 1)))
+    ∷ [])
+
+address_of_element_ends : long_end address_of_element ≡ HasEnded (Uncaught 2 (pos 0))
+address_of_element_ends = refl
+
+address_of_element_prints : long_printed address_of_element ≡ 49 ∷ 49 ∷ []
+address_of_element_prints = refl
+
+-- int ?p = new {for i < 3 : 5 + i}; int ?q = p - 1; putchar(48 + numelts(q)); putchar(48 + q[1]); putchar(48 + numelts(p + 3));
+-- putchar(48 + numelts(p + 4)); return *q;
+abbrev out_of_bounds : Program
+out_of_bounds = program (
+    define 0 fat (convert fat fat (array OnHeap fat (Number 3) (two (Number 5) operators.Add (Counter 0))))
+    ∷ define 1 fat (convert fat fat (apply (variable 0 fat) pointers.SubtractFat (Number 1) fat))
+    ∷ execute (print (two (Number 48) operators.Add (NumberOfElements (variable 1 fat))))
+    ∷ execute (print (two (Number 48) operators.Add (Load (element (variable 1 fat) (Number 1)))))
+    ∷ execute (print (two (Number 48) operators.Add (NumberOfElements (apply (variable 0 fat) pointers.AddFat (Number 3) fat))))
+    ∷ execute (print (two (Number 48) operators.Add (NumberOfElements (apply (variable 0 fat) pointers.AddFat (Number 4) fat))))
+    ∷ return (Load (target fat (variable 1 fat)))
+    ∷ [])
+
+out_of_bounds_ends : long_end out_of_bounds ≡ HasEnded (Uncaught 2 (pos 0))
+out_of_bounds_ends = refl
+
+out_of_bounds_prints : long_printed out_of_bounds ≡ 48 ∷ 53 ∷ 48 ∷ 48 ∷ []
+out_of_bounds_prints = refl
+
+-- int ?p = NULL; p = p + 1; int ?e = new {for i < 0 : 1}; if (e + 7) putchar(65); return (p == NULL) * 10 + numelts(p) + !p;
+-- arithmetic leaves null null, and an index out of bounds is not null
+abbrev moved_null : Program
+moved_null = program (
+    define 0 fat (null_as fat)
+    ∷ execute (set 0 fat (convert fat fat (apply (variable 0 fat) pointers.AddFat (Number 1) fat)))
+    ∷ define 1 fat (convert fat fat (array OnHeap fat (Number 0) (Number 1)))
+    ∷ when (apply (variable 1 fat) pointers.AddFat (Number 7) fat) (print (Number 65))
+    ∷ return (two
+    (two (two (apply (variable 0 fat) pointers.FatIsNull NullPointer Int) operators.Multiply (Number 10)) operators.Add (NumberOfElements (variable 0 fat)))
+    operators.Add (Unary unary.Not (variable 0 fat)))
+    ∷ [])
+
+moved_null_ends : long_end moved_null ≡ HasEnded (Returned (pos 11))
+moved_null_ends = refl
+
+moved_null_prints : long_printed moved_null ≡ 65 ∷ []
+moved_null_prints = refl
+
+-- int ?p = new {for i < 3 : i + 4}; int *q = NULL; int ?r = (q = p + 1); return numelts(r) * 10 + r[0];
+-- an assignment's value is what was stored: a thin pointer, of one element
+thinned_and_fat_again : long_end (program (
+    define 0 fat (convert fat fat (array OnHeap fat (Number 3) (two (Counter 0) operators.Add (Number 4))))
+    ∷ define 1 star (null_as star)
+    ∷ define 2 fat (convert star fat (set 1 star (convert fat star (apply (variable 0 fat) pointers.AddFat (Number 1) fat))))
+    ∷ return (two (two (NumberOfElements (variable 2 fat)) operators.Multiply (Number 10)) operators.Add (Load (element (variable 2 fat) (Number 0))))
+    ∷ [])) ≡ HasEnded (Returned (pos 15))
+thinned_and_fat_again = refl
+
+-- int ??m = new {for i < 3 : new {for j < 3 : i * 10 + j}}; int ?@c = &m[1]; *c = m[2]; m[1][0] = 9;
+-- return m[2][0] * 100 + m[1][2] + numelts(*c + 1);
+abbrev fats : Ty
+fats = Pointer marks.Fat fat Heap
+
+abbrev at_fat : Ty
+at_fat = Pointer marks.NonNull fat Heap
+
+abbrev row : Expression → typed.Dereference
+row i = Element (variable 0 fats) i fat
+
+arrays_of_arrays : status_of (run (program (
+    define 0 fats (convert fats fats (New OnHeap (Array 0 (Number 3) kinds.Fat (
+    New OnHeap (Array 1 (Number 3) kinds.Int (two (two (Counter 0) operators.Multiply (Number 10)) operators.Add (Counter 1))) fat)) fats))
+    ∷ define 1 at_fat (convert at_fat at_fat (AddressOfCell (row (Number 1)) at_fat))
+    ∷ execute (typed.Store (typed.Target kinds.NonNull (variable 1 at_fat) fat) (convert fat fat (Load (row (Number 2)))) (Value fat))
+    ∷ execute (put (element (Load (row (Number 1))) (Number 0)) (Number 9))
+    ∷ return (two
+    (two (two (Load (element (Load (row (Number 2))) (Number 0))) operators.Multiply (Number 100)) operators.Add (Load (element (Load (row (Number 1))) (Number 2))))
+    operators.Add (NumberOfElements (apply (Load (typed.Target kinds.NonNull (variable 1 at_fat) fat)) pointers.AddFat (Number 1) fat)))
+    ∷ [])) [] 900) ≡ HasEnded (Returned (pos 924))
+arrays_of_arrays = refl
+
 -- ---- how long an array may be
 
 -- int n = -1; new {for i < n : 1};
@@ -156,6 +304,43 @@ array_of_too_many_words = refl
 
 array_of_enough_words : makes_array (InRegion 0) 0 kinds.Fat NullPointer (Word 333) [] no_locals (first_world (program []) []) ≡ Running (Beginning (InRegion 0) 333 0 kinds.Fat NullPointer) [] no_locals (first_world (program []) [])
 array_of_enough_words = refl
+
+-- the words are counted as a whole number: 1,431,655,766 fat pointers would have 2 words in 32 bits
+array_that_would_wrap : makes_array (InRegion 0) 0 kinds.Fat NullPointer (Word 1431655766) [] no_locals (first_world (program []) []) ≡ Running (Throwing 3 0) [] no_locals (first_world (program []) [])
+array_that_would_wrap = refl
+
+-- int n = 2; int ?p = new {for i < n : (n = 9) + i}; return numelts(p) * 100 + p[1] + n; the length is evaluated once
+length_is_evaluated_once : long_end (program (
+    declare 0 (Number 2)
+    ∷ define 1 fat (convert fat fat (array OnHeap fat (local 0) (two (assign 0 (Number 9)) operators.Add (Counter 0))))
+    ∷ return (two
+    (two (two (NumberOfElements (variable 1 fat)) operators.Multiply (Number 100)) operators.Add (Load (element (variable 1 fat) (Number 1))))
+    operators.Add (local 0))
+    ∷ [])) ≡ HasEnded (Returned (pos 219))
+length_is_evaluated_once = refl
+
+-- int ?p = new {for i < 0 : 1}; try putchar(p[0]); catch { case &Array_bounds: putchar(97); } int n = -1;
+-- try p = new {for i < n : 1}; catch { case &Array_size: putchar(98); } p = new {for i < 4 : 1};
+-- try p = new {for i < 1001 : 1}; catch { case &Array_size: putchar(99); } return numelts(p);
+abbrev ones : Expression → Expression
+ones count = set 0 fat (convert fat fat (array OnHeap fat count (Number 1)))
+
+abbrev caught_sizes : Program
+caught_sizes = program (
+    define 0 fat (convert fat fat (array OnHeap fat (Number 0) (Number 1)))
+    ∷ try_to (typed.Evaluate (print (Load (element (variable 0 fat) (Number 0))))) (case 2 (execute (print (Number 97)) ∷ []) NoClauses)
+    ∷ declare 1 (Unary unary.Negate (Number 1))
+    ∷ try_to (typed.Evaluate (ones (local 1))) (case 3 (execute (print (Number 98)) ∷ []) NoClauses)
+    ∷ execute (ones (Number 4))
+    ∷ try_to (typed.Evaluate (ones (Number 1001))) (case 3 (execute (print (Number 99)) ∷ []) NoClauses)
+    ∷ return (NumberOfElements (variable 0 fat))
+    ∷ [])
+
+caught_sizes_end : long_end caught_sizes ≡ HasEnded (Returned (pos 4))
+caught_sizes_end = refl
+
+caught_sizes_print : long_printed caught_sizes ≡ 97 ∷ 98 ∷ 99 ∷ []
+caught_sizes_print = refl
 
 -- int ?p = new {for i < 0 : 1}; return numelts(p) + (p == NULL); it is not null
 empty_array : end (program (define 0 fat (convert fat fat (array OnHeap fat (Number 0) (Number 1))) ∷ return (two (NumberOfElements (variable 0 fat)) operators.Add (apply (variable 0 fat) pointers.FatIsNull NullPointer Int)) ∷ [])) ≡ HasEnded (Returned (pos 0))

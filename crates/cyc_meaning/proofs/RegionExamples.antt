@@ -1,14 +1,15 @@
 -- Worked examples of regions and keys, each proved by computation. What each gives is said by the language's rules.
-use Rattle.std.proofs.Common.{◌≡◌, ℕ, List, [], ◌∷◌, Some, pos, refl}
+use Rattle.std.proofs.Common.{◌≡◌, ℕ, List, [], ◌∷◌, Some, None, pos, refl}
 use Rattle.cyc_words.specs.Ending.{Returned, Full}
 use Rattle.cyc_types.specs.declared.region.Region.TheVariants.{Heap}
+use Rattle.cyc_types.specs.declared.typed.Callee.TheVariants as callees
 use Rattle.cyc_types.specs.declared.typed.Operator.TheVariants as operators
 use Rattle.cyc_types.specs.declared.typed.PointerOperator.TheVariants as pointers
-use Rattle.cyc_types.specs.Types.{Int, Handle, Key}
-use Rattle.cyc_types.specs.TypedTrees.{Expression, Number, NullPointer, HeapRegion, Load, FreeKey, If, Throw, Empty, Evaluate, Block, Case, NoClauses, ByHandle, Placement, Execute, DeclareRegion, OpenRegion, DeclareKey, Function, Program}
+use Rattle.cyc_types.specs.Types.{Int, Handle, Key, Value}
+use Rattle.cyc_types.specs.TypedTrees.{Expression, Number, NullPointer, HeapRegion, AddressOf, Call, MoreArguments, NoArguments, Load, FreeKey, If, Throw, Empty, Evaluate, Block, Case, NoClauses, ByHandle, Placement, Execute, DeclareRegion, OpenRegion, DeclareKey, Function, Program}
 use Rattle.cyc_types.specs.TypedTrees as typed
 use Rattle.cyc_meaning.specs.State.{HasEnded}
-use Rattle.cyc_meaning.proofs.ExampleTrees.{here, local, two, assign, print, call, items, execute, return, declare, block, function, program, program_with, end, long_end, long_printed, end_within, star, at, convert, null_as, variable, move, target, put, set, new, apply, define, try_to, otherwise}
+use Rattle.cyc_meaning.proofs.ExampleTrees.{here, local, two, assign, print, call, items, execute, return, declare, block, while, function, program, program_with, end, long_end, long_printed, end_within, star, at, convert, null_as, variable, move, target, put, set, new, apply, define, when, try_to, case, otherwise}
 
 abbrev handle : ℕ → Expression
 handle number = variable number (Handle Heap)
@@ -23,6 +24,20 @@ free_key number = execute (FreeKey (move number (Key Heap)))
 -- int @p = rnew(heap_region) 4; return *p;
 in_the_heap : end (program (define 0 at (convert at at (new (ByHandle HeapRegion) at (Number 4))) ∷ return (Load (target at (variable 0 at))) ∷ [])) ≡ HasEnded (Returned (pos 4))
 in_the_heap = refl
+
+-- ---- regions of blocks
+
+-- int *keep(int *p, int *q){ return p; } int x = 3; { int y = 4; int *p = keep(&x, &y); return *p; }
+kept : end (program_with (function (star ∷ star ∷ []) (Execute (typed.Return (Some (convert star star (variable 0 star)))) ∷ []) ∷ []) (
+    declare 0 (Number 3)
+    ∷ Execute (block (
+    declare 1 (Number 4)
+    ∷ define 2 star (convert star star (Call (callees.Function 1) (
+    MoreArguments (convert at star (AddressOf (typed.Local here 0) at)) (MoreArguments (convert at star (AddressOf (typed.Local here 1) at)) NoArguments)) (Value star)))
+    ∷ return (Load (target star (variable 2 star)))
+    ∷ []))
+    ∷ [])) ≡ HasEnded (Returned (pos 3))
+kept = refl
 
 -- ---- lexical regions
 
@@ -118,3 +133,39 @@ opened_twice : long_end (program (
     ∷ return (Load (target star (variable 1 star)))
     ∷ [])) ≡ HasEnded (Returned (pos 9))
 opened_twice = refl
+
+-- int n = 0; int s = 0; while (n != 2) { let NewDynamicRegion{<`k> k} = new_ukey(); int *`k p = NULL;
+-- { region<`k> h = open(k); p = rnew(h) n; } free_ukey(k); if (p == NULL) s = s + 1; n = n + 1; } return s;
+abbrev keys_in_turn : Program
+keys_in_turn = program (
+    declare 0 (Number 0)
+    ∷ declare 1 (Number 0)
+    ∷ while (two (local 0) operators.NotEqual (Number 2)) (block (
+    DeclareKey 2 2
+    ∷ define 3 star (null_as star)
+    ∷ Execute (block (OpenRegion 2 4 here 2 ∷ execute (set 3 star (convert at star (new (by 4) at (local 0)))) ∷ []))
+    ∷ free_key 2
+    ∷ when (apply (variable 3 star) pointers.ThinIsNull NullPointer Int) (assign 1 (two (local 1) operators.Add (Number 1)))
+    ∷ execute (assign 0 (two (local 0) operators.Add (Number 1)))
+    ∷ []))
+    ∷ return (local 1)
+    ∷ [])
+
+-- what `free_ukey` gives back is there for the next one
+keys_in_turn_end : end_within 2 1 keys_in_turn ≡ HasEnded (Returned (pos 0))
+keys_in_turn_end = refl
+
+keys_in_turn_full : end_within 1 1 keys_in_turn ≡ HasEnded Full
+keys_in_turn_full = refl
+
+-- let NewDynamicRegion{<`k> k} = new_ukey(); int *`k p = NULL; { region<`k> h = open(k); p = rnew(h) 9; }
+-- try { region<`k> h = open(k); throw new E; } catch { case &E: ; } region<`k> h = open(k); return *p; a throw closes no dynamic region
+thrown_past_a_key : long_end (program (
+    DeclareKey 1 0
+    ∷ define 1 star (null_as star)
+    ∷ Execute (block (OpenRegion 1 2 here 0 ∷ execute (set 1 star (convert at star (new (by 2) at (Number 9)))) ∷ []))
+    ∷ try_to (block (OpenRegion 1 3 here 0 ∷ Execute (Throw 5 None) ∷ [])) (case 5 [] NoClauses)
+    ∷ OpenRegion 1 4 here 0
+    ∷ return (Load (target star (variable 1 star)))
+    ∷ [])) ≡ HasEnded (Returned (pos 9))
+thrown_past_a_key = refl

@@ -2,15 +2,18 @@
 use Rattle.std.proofs.Common.{◌≡◌, ℕ, [], ◌∷◌, Some, None, pos, refl}
 use Rattle.cyc_words.specs.Ending.{Returned}
 use Rattle.cyc_types.specs.declared.typed.Kind.TheVariants as kinds
+use Rattle.cyc_types.specs.declared.typed.Callee.TheVariants as callees
 use Rattle.cyc_types.specs.declared.typed.Operator.TheVariants as operators
-use Rattle.cyc_types.specs.Types.{Int, Void}
-use Rattle.cyc_types.specs.TypedTrees.{Expression, Number, NullPointer, Counter, Load, FreeUnique, NumberOfElements, Assign, AsUnique, OnHeap, Swap, VariableSide, CellSide, Null, Execute, DeclareAlias, Function, Program}
+use Rattle.cyc_syntax.specs.declared.tree.PointerKind.TheVariants as marks
+use Rattle.cyc_types.specs.declared.region.Region.TheVariants.{Heap}
+use Rattle.cyc_types.specs.Types.{Ty, Int, Pointer, Void, Value}
+use Rattle.cyc_types.specs.TypedTrees.{Expression, Number, NullPointer, Counter, Call, MoreArguments, NoArguments, New, Plain, Load, FreeUnique, NumberOfElements, Assign, AsUnique, OnHeap, Swap, VariableSide, CellSide, Null, Execute, DeclareAlias, Function, Program}
 use Rattle.cyc_types.specs.TypedTrees as typed
 use Rattle.std.specs.Prelude.{Option, slice_get}
 use Rattle.cyc_meaning.specs.State.{HasEnded, Object, World, Running, Proceeding, no_locals, first_world, demand}
 use Rattle.cyc_meaning.specs.Objects.{made_unique, freed}
 use Rattle.cyc_meaning.specs.Allocation.{blanks}
-use Rattle.cyc_meaning.proofs.ExampleTrees.{here, local, two, print, execute, return, declare, block, procedure, program, program_with, end, long_end, printed, star, at, fat, own_star, own, own_fat, convert, null_as, variable, move, peek, target, element, put, new, array, define, side, call_void}
+use Rattle.cyc_meaning.proofs.ExampleTrees.{here, local, two, print, call, execute, return, declare, block, function, procedure, program, program_with, end, long_end, printed, star, at, fat, own_star, own, own_fat, convert, null_as, variable, move, peek, target, element, put, new, array, define, side, call_void}
 
 -- void eat(int @`U p){ ufree(p); }
 abbrev eat : Function
@@ -38,6 +41,13 @@ unique_array : long_end (program (
     ∷ return (local 1)
     ∷ [])) ≡ HasEnded (Returned (pos 2))
 unique_array = refl
+
+-- int *`U make(int n){ return rnew(unique_region) n; } int *`U u = make(6); return *u;
+unique_result : end (program_with (function (Int ∷ []) (Execute (typed.Return (Some (convert own own_star (new AsUnique own (local 0))))) ∷ []) ∷ []) (
+    define 0 own_star (convert own_star own_star (call 1 (Number 6 ∷ [])))
+    ∷ return (Load (target own_star (peek 0 own_star)))
+    ∷ [])) ≡ HasEnded (Returned (pos 6))
+unique_result = refl
 
 -- ---- swaps
 
@@ -74,6 +84,32 @@ swapped_cells = refl
 -- int x = 5; x :=: x; return x;
 swapped_with_itself : end (program (declare 0 (Number 5) ∷ Execute (Swap (side 0 Int) (side 0 Int)) ∷ return (local 0) ∷ [])) ≡ HasEnded (Returned (pos 5))
 swapped_with_itself = refl
+
+-- int @p = new 3; *p :=: *p; return *p;
+swapped_with_itself_in_a_cell : end (program (
+    define 0 at (convert at at (new OnHeap at (Number 3)))
+    ∷ Execute (Swap (CellSide (target at (variable 0 at))) (CellSide (target at (variable 0 at))))
+    ∷ return (Load (target at (variable 0 at)))
+    ∷ [])) ≡ HasEnded (Returned (pos 3))
+swapped_with_itself_in_a_cell = refl
+
+-- int @`U @eat(int @`U u, int @`U @q){ ufree(u); return q; }
+-- int @`U u = rnew(unique_region) 1; int @`U @q = new rnew(unique_region) 2; u :=: *eat(u, q); return *u;
+-- both places are found before either is read, and a pointer to what is freed may be moved
+abbrev at_own : Ty
+at_own = Pointer marks.NonNull own Heap
+
+swapped_behind_a_free : long_end (program_with (function (own ∷ at_own ∷ []) (
+    execute (FreeUnique (move 0 own))
+    ∷ Execute (typed.Return (Some (convert at_own at_own (variable 1 at_own))))
+    ∷ []) ∷ []) (
+    define 0 own (convert own own (new AsUnique own (Number 1)))
+    ∷ define 1 at_own (convert at_own at_own (New OnHeap (Plain kinds.NonNull (new AsUnique own (Number 2))) at_own))
+    ∷ Execute (Swap (side 0 own) (CellSide (typed.Target kinds.NonNull (
+    Call (callees.Function 1) (MoreArguments (convert own own (move 0 own)) (MoreArguments (convert at_own at_own (variable 1 at_own)) NoArguments)) (Value at_own)) own)))
+    ∷ return (Load (target own (peek 0 own)))
+    ∷ [])) ≡ HasEnded (Returned (pos 2))
+swapped_behind_a_free = refl
 
 -- the left place's checks come before the right place is evaluated: *n :=: p[putchar(65)] for null n
 swap_checks_left_first : printed (program (
