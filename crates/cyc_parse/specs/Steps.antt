@@ -32,13 +32,6 @@ one_of begins item = if_starts begins (item >>= (λ x. pure (Some x))) (pure Non
 unfoldable pub freed_key : ℕ → Parser Expression
 freed_key room = advance >>= (λ p. sign (suc room) signs.LeftParen >> identifier room >>= (λ k. sign room signs.RightParen >> pure (FreeKey p k)))
 
--- the bracket that closes behind an expression, and behind an index
-unfoldable pub closed : ℕ → Expression → Parser Expression
-closed room e = sign room signs.RightParen >> pure e
-
-unfoldable pub indexed : ℕ → Expression → Parser (Option (Postfixes → Postfixes))
-indexed room e = sign room signs.RightBracket >> pure (Some (ThenIndex e))
-
 unfoldable pub bracketed : ℕ → Nested → Parser Expression
 bracketed room inner = advance >>= (λ p. inner.expression >>= (λ e. sign room signs.RightParen >> pure (Bracketed p e)))
 
