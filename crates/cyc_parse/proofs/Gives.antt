@@ -614,9 +614,6 @@ sees_limit_gives s why {ts = ts} opened k = test_gives (sees s) (λ e. limit_giv
 
 -- ---- what begins with a symbol
 
-pub possible_of : {A : Type 0} {Q : A → Yield → List Symbol → Type 0} {u : Terminal} {p : Place} → Opened Q u p → Possible Q
-possible_of o = record { value = o.value; leaves = o.leaf ∷ o.behind; post = o.post }
-
 pub opened_at : {A : Type 0} {Q : A → Yield → List Symbol → Type 0} (d : ℕ) (u : Terminal) (p : Place) (x : A) (behind : Yield) → Q x (leaf_at d u p ∷ behind) [] → Opened Q u p
 opened_at d u p x behind post = record { value = x; leaf = leaf_at d u p; behind = behind; terminal = refl; place = refl; post = post }
 

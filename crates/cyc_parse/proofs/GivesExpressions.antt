@@ -8,10 +8,10 @@ use Rattle.cyc_syntax.specs.declared.tokens.Sign.TheVariants as signs
 use Rattle.cyc_syntax.specs.declared.tree.PrefixOperator.TheVariants as prefixes
 use Rattle.cyc_syntax.specs.declared.tree.BinaryOperator.{BinaryOperator}
 use Rattle.cyc_syntax.specs.declared.tree.BinaryOperator.TheVariants as operators
-use Rattle.cyc_syntax.specs.Symbols.{Place, Terminal, Identifier, Word, Mark, Symbol}
+use Rattle.cyc_syntax.specs.Symbols.{Terminal, Identifier, Word, Mark, Symbol}
 use Rattle.cyc_syntax.specs.Symbols as terminals
 use Rattle.cyc_syntax.specs.Trees.{Named, Expression, NumberOfElements, FreeUnique, Prefixed, New, RegionNew, Assign, Plain, MoreExpressions, Postfixes, NoPostfixes, ThenIndex, ThenField, Operations, NoOperations, ThenOperation}
-use Rattle.cyc_syntax.specs.Yields.{Leaf, Yield, operator_sign}
+use Rattle.cyc_syntax.specs.Yields.{Yield, operator_sign}
 use Rattle.cyc_syntax.specs.Yields as yields
 use Rattle.cyc_syntax.specs.Grammar.{level, is_primary, IsExpression, IsInitial, AreExpressions, ArePostfixes, AreOperations, IsSomeExpression, max_nesting, max_items}
 use Rattle.cyc_parse.specs.Parsing.{Parser, TooDeep, TooLong, next, bind, refuse_item, opens_regions}

@@ -7,7 +7,7 @@ use Rattle.cyc_syntax.specs.declared.tree.PointerKind.{PointerKind}
 use Rattle.cyc_syntax.specs.declared.tree.PointerKind.TheVariants as pointers
 use Rattle.cyc_syntax.specs.Symbols.{Place, Terminal, RegionName, Word, Mark, Symbol}
 use Rattle.cyc_syntax.specs.Trees.{Named, BaseType, Int, Struct, Handle, Key}
-use Rattle.cyc_syntax.specs.Yields.{Leaf, Yield, item_number, mark_sign}
+use Rattle.cyc_syntax.specs.Yields.{Yield, item_number, mark_sign}
 use Rattle.cyc_syntax.specs.Yields as yields
 use Rattle.cyc_syntax.specs.Grammar.{IsNonempty, max_nesting, max_items}
 use Rattle.cyc_parse.specs.Parsing.{Parser, TooLong, next, begins_region, region_name, region_list, more_items, separated, regions}

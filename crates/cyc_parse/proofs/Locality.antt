@@ -19,9 +19,6 @@ pub record IsSuffix (left ts : List Symbol) : Type 0 where
 pub whole : (ts : List Symbol) → IsSuffix ts ts
 whole ts = record { before = []; are = refl }
 
-pub behind_front : (front ts : List Symbol) → IsSuffix ts (front ++ ts)
-behind_front front ts = record { before = front; are = refl }
-
 pub suffix_of_suffix : {left mid ts : List Symbol} → IsSuffix left mid → IsSuffix mid ts → IsSuffix left ts
 suffix_of_suffix {left = left} h k = record { before = k.before ++ h.before; are = k.are ∙ ap (λ (w : List Symbol). k.before ++ w) h.are ∙ sym (append_assoc k.before h.before left) }
 

@@ -7,7 +7,7 @@ use Rattle.cyc_syntax.specs.declared.tree.PrefixOperator.TheVariants as prefixes
 use Rattle.cyc_syntax.specs.Symbols.{Place, Terminal, Identifier, RegionName, Word, Mark, Symbol}
 use Rattle.cyc_syntax.specs.Symbols as terminals
 use Rattle.cyc_syntax.specs.Trees.{Expression, Prefixed, New, Initial, Postfixes, NoPostfixes}
-use Rattle.cyc_syntax.specs.Yields.{Leaf, Yield, prefix_sign}
+use Rattle.cyc_syntax.specs.Yields.{Yield}
 use Rattle.cyc_syntax.specs.Yields as yields
 use Rattle.cyc_syntax.specs.Grammar.{is_primary, IsExpression, IsInitial}
 use Rattle.cyc_parse.specs.Parsing.{Parser, pure, sees, is_sign, bind, choose}

@@ -6,7 +6,7 @@ use Rattle.cyc_syntax.specs.declared.tree.BinaryOperator.{BinaryOperator}
 use Rattle.cyc_syntax.specs.declared.tree.BinaryOperator.TheVariants as operators
 use Rattle.cyc_syntax.specs.Symbols.{Place, Terminal, Mark, RegionName, Symbol}
 use Rattle.cyc_syntax.specs.Trees.{Expression, Binary, Operations, NoOperations, ThenOperation}
-use Rattle.cyc_syntax.specs.Yields.{Leaf, Yield, operator_sign}
+use Rattle.cyc_syntax.specs.Yields.{Yield, operator_sign}
 use Rattle.cyc_syntax.specs.Yields as yields
 use Rattle.cyc_syntax.specs.Grammar.{max_nesting, max_items, level, IsSomeOperation}
 use Rattle.cyc_parse.specs.Parsing.{Parser, Outcome, and_then, pure, next, starts, begins_region, opens_regions, is_sign, bind}

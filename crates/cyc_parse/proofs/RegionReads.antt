@@ -4,7 +4,7 @@ use Rattle.std.specs.List.{AllByRecursion}
 use Rattle.cyc_syntax.specs.declared.tokens.Sign.TheVariants as signs
 use Rattle.cyc_syntax.specs.Symbols.{RegionName, Mark, Symbol}
 use Rattle.cyc_syntax.specs.Trees.{Named}
-use Rattle.cyc_syntax.specs.Yields.{Leaf, Yield}
+use Rattle.cyc_syntax.specs.Yields.{Yield}
 use Rattle.cyc_syntax.specs.Yields as yields
 use Rattle.cyc_syntax.specs.Grammar.{max_nesting}
 use Rattle.cyc_parse.specs.Parsing.{next, sees_terminal, starts, begins_region, regions, region_name, region_list, opens_regions}

@@ -4,10 +4,10 @@ use Rattle.cyc_syntax.specs.declared.tokens.Keyword.{Keyword}
 use Rattle.cyc_syntax.specs.declared.tokens.Keyword.TheVariants as words
 use Rattle.cyc_syntax.specs.declared.tokens.Sign.{Sign}
 use Rattle.cyc_syntax.specs.declared.tokens.Sign.TheVariants as signs
-use Rattle.cyc_syntax.specs.Symbols.{Place, Terminal, Identifier, RegionName, Word, Mark, Symbol}
+use Rattle.cyc_syntax.specs.Symbols.{Terminal, Identifier, RegionName, Word, Mark}
 use Rattle.cyc_syntax.specs.Symbols as terminals
 use Rattle.cyc_syntax.specs.Trees.{Statement, Block, Labelled, Empty, Evaluate, Swap, If, IfElse, While, Return, Break, Continue, Throw, Try, Braces, Item, Execute, Local, Region, Alias, DynamicRegion}
-use Rattle.cyc_syntax.specs.Yields.{Leaf, Yield}
+use Rattle.cyc_syntax.specs.Yields.{Yield}
 use Rattle.cyc_syntax.specs.Yields as yields
 use Rattle.cyc_parse.specs.Types.{begins_type, is_type_word}
 use Rattle.cyc_parse.specs.Expressions.{begins_expression, begins_by_word, begins_by_sign}

@@ -6,7 +6,7 @@ use Rattle.cyc_syntax.specs.declared.tree.PointerKind.{PointerKind}
 use Rattle.cyc_syntax.specs.declared.tree.PointerKind.TheVariants as pointers
 use Rattle.cyc_syntax.specs.Symbols.{Place, Terminal, Identifier, RegionName, Word, Mark, Symbol}
 use Rattle.cyc_syntax.specs.Trees.{Named, Pointer, BaseType, Int, Struct, Handle, Key, WrittenType}
-use Rattle.cyc_syntax.specs.Yields.{Leaf, Yield, mark_sign}
+use Rattle.cyc_syntax.specs.Yields.{mark_sign}
 use Rattle.cyc_syntax.specs.Yields as yields
 use Rattle.cyc_syntax.specs.Grammar.{max_nesting, max_items}
 use Rattle.cyc_parse.specs.Parsing.{pure, next, sees, sees_terminal, starts, begins_region}

@@ -2,7 +2,7 @@
 use Rattle.std.specs.Prelude.{ℕ, zero, suc, Bool, true, false, List, [], ◌∷◌, length, Option, Some, None, is_some, Result}
 use Rattle.cyc_syntax.specs.declared.tokens.Keyword.TheVariants as words
 use Rattle.cyc_syntax.specs.declared.tokens.Sign.TheVariants as signs
-use Rattle.cyc_syntax.specs.Symbols.{Place, Terminal, Identifier, Word, Mark, Symbol}
+use Rattle.cyc_syntax.specs.Symbols.{Place, Terminal, Word, Mark, Symbol}
 use Rattle.cyc_syntax.specs.Symbols as terminals
 use Rattle.cyc_syntax.specs.Trees.{Named, Struct, WrittenType, Member, Constructor, GlobalValue, Positive, Negative, Byte, NullPointer, Constraint, ParameterList, Void, Listed, Parameters, Declaration, StructType, Exceptions, Global, Function}
 use Rattle.cyc_parse.specs.Parsing.{Parser, Refusal, Unexpected, TooLong, ◌>>=◌, ◌>>◌, pure, refuse, inside, choose, advance, take, if_starts, if_sees, is_word, separated, begins_region, regions, sign, word, identifier, region_name, identifier_name}

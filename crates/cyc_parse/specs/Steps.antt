@@ -1,17 +1,18 @@
 -- Parts of the parser that are functions of their own in the code, and one step of each list that the code reads in a
 -- loop: the next item, if the list goes on.
-use Rattle.std.specs.Prelude.{ℕ, suc, Bool, Option, Some, None}
+use Rattle.std.specs.Prelude.{ℕ, suc, Bool, false, nat_le, Option, Some, None}
 use Rattle.cyc_syntax.specs.declared.tokens.Sign.TheVariants as signs
+use Rattle.cyc_syntax.specs.declared.tree.BinaryOperator.{BinaryOperator}
 use Rattle.cyc_syntax.specs.declared.tree.PrefixOperator.{PrefixOperator}
 use Rattle.cyc_syntax.specs.declared.tree.Operation.{Operation}
-use Rattle.cyc_syntax.specs.Grammar.{max_items}
-use Rattle.cyc_syntax.specs.Symbols.{Terminal}
+use Rattle.cyc_syntax.specs.Grammar.{level, max_items}
+use Rattle.cyc_syntax.specs.Symbols.{Terminal, Mark}
 use Rattle.cyc_syntax.specs.Trees.{Declaration, Pointer, Expression, Bracketed, FreeKey, Prefixed, New, RegionNew, Postfixes, ThenIndex, ThenField, Operations, ThenOperation}
 use Rattle.cyc_syntax.specs.TreeView.{place_of_span, view_expression}
 use Rattle.cyc_parse.specs.Parsing.{Parser, ◌>>=◌, ◌>>◌, pure, if_sees, if_starts, choose, advance, sign, identifier}
 use Rattle.cyc_parse.specs.Types.{mark_at, optional_region}
 use Rattle.cyc_parse.specs.Declarations.{declaration}
-use Rattle.cyc_parse.specs.Expressions.{Nested, operator_at, chained, binary_of, operations, climb, postfixes, unary}
+use Rattle.cyc_parse.specs.Expressions.{Nested, binary_operator, operator_at, chained, binary_of, operations, climb, postfixes, unary}
 
 -- an item behind a comma
 unfoldable pub after_comma : {A : Type 0} → ℕ → Parser A → Parser (Option A)
@@ -31,13 +32,6 @@ one_of begins item = if_starts begins (item >>= (λ x. pure (Some x))) (pure Non
 
 unfoldable pub freed_key : ℕ → Parser Expression
 freed_key room = advance >>= (λ p. sign (suc room) signs.LeftParen >> identifier room >>= (λ k. sign room signs.RightParen >> pure (FreeKey p k)))
-
--- the bracket that closes behind an expression, and behind an index
-unfoldable pub closed : ℕ → Expression → Parser Expression
-closed room e = sign room signs.RightParen >> pure e
-
-unfoldable pub indexed : ℕ → Expression → Parser (Option (Postfixes → Postfixes))
-indexed room e = sign room signs.RightBracket >> pure (Some (ThenIndex e))
 
 unfoldable pub bracketed : ℕ → Nested → Parser Expression
 bracketed room inner = advance >>= (λ p. inner.expression >>= (λ e. sign room signs.RightParen >> pure (Bracketed p e)))
@@ -60,6 +54,15 @@ one_postfix room inner =
     if_sees signs.LeftBracket (sign (suc room) signs.LeftBracket >> inner.expression >>= (λ e. sign room signs.RightBracket >> pure (Some (ThenIndex e))))
     (if_sees signs.Arrow (sign (suc room) signs.Arrow >> identifier (suc room) >>= (λ x. pure (Some (ThenField x))))
     (pure None))
+
+-- the next symbol is a binary operator of one of the levels up to this one
+abbrev pub is_within : ℕ → Option BinaryOperator → Bool
+is_within most None = false
+is_within most (Some o) = nat_le (level o) most
+
+abbrev pub has_operator : ℕ → Option Terminal → Bool
+has_operator most (Some (Mark s)) = is_within most (binary_operator s)
+has_operator most _ = false
 
 -- an operand of the operators of the level above this one
 abbrev pub operand : ℕ → Nested → ℕ → Parser Expression

@@ -1,11 +1,11 @@
 //! The parser of expressions: chains of binary operators by their levels, from the tightest. A function with `room`
 //! reads at a level of nesting below which so many are left.
-ghost use Rattle.std.specs.Prelude.{◌≡◌, suc, map, option_map, [], Ok};
-ghost use Rattle.cyc_syntax.specs.TreeView.{place_of_span, view_name, view_expression, view_initial, expressions_of, postfixes_of, operations_of, then_postfix};
+ghost use Rattle.std.specs.Prelude.{◌≡◌, ◌<◌, suc, true, map, option_map, [], Ok};
+ghost use Rattle.cyc_syntax.specs.TreeView.{view_name, view_expression, view_initial, expressions_of, postfixes_of, operations_of, then_postfix};
 ghost use Rattle.cyc_parse.specs.Boxes.{view_boxed, view_boxed_initial};
 ghost use Rattle.cyc_parse.specs.Code.{Gives};
 ghost use Rattle.cyc_parse.specs.Parsing.{next, starts, separated, more_items, opens_regions};
-ghost use Rattle.cyc_parse.specs.Steps.{after_comma, one_postfix, one_operation, then_operation, prefixed, created, created_in, freed_key, bracketed, with_chain, operand, one_level};
+ghost use Rattle.cyc_parse.specs.Steps.{after_comma, one_postfix, one_operation, then_operation, prefixed, created, created_in, freed_key, bracketed, with_chain, has_operator, operand, one_level};
 ghost use Rattle.cyc_syntax.specs.Grammar.{level};
 ghost use Rattle.cyc_syntax.specs.Trees.{NoPostfixes, NoOperations, Call, Plain, Fields};
 ghost use Rattle.cyc_parse.specs.Expressions.{binary_operator, chained, binary_of, nested, begins_expression, begins_initial, operator_at, operations, climb, group, arguments, from_name, primary, postfixes, with_postfixes, unary, assignment, binary, expression, values, fields, initial_from_name, array, initial};
@@ -468,6 +468,20 @@ impl<'a> Parser<'a> {
         }
     }
 
+    /// Whether the next symbol is a binary operator of one of the levels up to this one.
+    fn has_operator(&self, most: u32) -> bool
+        ensures value { result ≡ has_operator most (next self.now) }
+        ensures some { result ≡ true → 0 < most }
+    {
+        let Some(Terminal::Mark(sign)) = self.next() else {
+            return false;
+        };
+        match binary_operator(sign) {
+            Some(operator) => level(operator) <= u64::from(most),
+            None => false,
+        }
+    }
+
     #[cycle(expression)]
     #[tactic(auto, unfolding(crate::specs::Steps::one_operation, crate::specs::Steps::operand, crate::specs::Parsing::choose, crate::specs::Parsing::bind))]
     fn parse_operation(&mut self, room: u32, below: u32) -> Result<Option<Operation>, Stop>
@@ -511,9 +525,10 @@ impl<'a> Parser<'a> {
         Ok(operations)
     }
 
-    /// Goes on from a first operand by the operators of the levels up to this one.
+    /// Goes on from a first operand by the operators of the levels up to this one. Where none of them comes next, no level
+    /// is tried.
     #[cycle(expression)]
-    #[tactic(auto, using(crate::proofs::Levels::climb_step, crate::proofs::Levels::climb_none), unfolding(crate::specs::Steps::one_level))]
+    #[tactic(auto, using(crate::proofs::Levels::climb_step, crate::proofs::Levels::climb_stops), unfolding(crate::specs::Steps::one_level))]
     pub(crate) fn climb(
         &mut self,
         room: u32,
@@ -522,7 +537,7 @@ impl<'a> Parser<'a> {
     ) -> Result<Box<Expr>, Stop>
         ensures { Gives view_boxed result (climb (unary room (nested room)) level (view_boxed first) self.old) self.new }
     {
-        if level == 0 {
+        if !self.has_operator(level) {
             return Ok(first);
         }
         self.climb_level(room, level - 1, first)
@@ -698,7 +713,8 @@ fn binary_operator(sign: Sign) -> Option<BinaryOperator>
 
 /// The level of an operator, from the tightest.
 fn level(operator: BinaryOperator) -> u64
-    ensures { result ≡ level operator }
+    ensures value { result ≡ level operator }
+    ensures some { 0 < result }
 {
     match operator {
         BinaryOperator::Multiply | BinaryOperator::Divide | BinaryOperator::Remainder => 1,
