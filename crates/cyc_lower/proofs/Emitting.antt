@@ -175,6 +175,8 @@ one_operation_more : (d t : ℕ) (o : Operation) (os : List Operation) (p : ℕ)
     → all_operations d t (o ∷ os) p l ≡ one_operation d t o os p l ++ all_operations d t os (p + length (one_operation d t o os p l)) (next_operation d t o os l)
 one_operation_more d t (operation.Compute o e) os p l = refl
 one_operation_more d t (operation.Test o e) os p l = refl
+one_operation_more d t (operation.Pointer o e) os p l = refl
+one_operation_more d t (operation.PointerPeek n o e) os p l = refl
 
 pub operations_lower : (d t : ℕ) → Lowers (all_operations d t) (one_operation d t) (next_operation d t)
 operations_lower d t = record { none = λ p l. refl; more = one_operation_more d t }
@@ -183,6 +185,8 @@ operations_lower d t = record { none = λ p l. refl; more = one_operation_more d
 next_slot_some : (o : Operation) (os : List Operation) (d t : ℕ) → next_slot (operations_of (o ∷ os)) d t ≡ t
 next_slot_some (operation.Compute o e) os d t = refl
 next_slot_some (operation.Test o e) os d t = refl
+next_slot_some (operation.Pointer o e) os d t = refl
+next_slot_some (operation.PointerPeek n o e) os d t = refl
 
 pub slot_behind : (os : List Operation) (d t : ℕ) → 0 < length os → next_slot (operations_of os) d t ≡ t
 slot_behind [] d t some = absurd (omega (arith, some))
@@ -326,6 +330,8 @@ left_plain : (a : Expression) (os : List Operation) (d t to : ℕ) → takes_ope
     → (left_of a (operations_of os) ≡ None) × (to ≡ left_slot a (operations_of os) d t)
 left_plain a [] d t to plain none some = (refl, none refl)
 left_plain a (operation.Test o e ∷ os) d t to plain none some = (refl, some (omega arith))
+left_plain a (operation.Pointer o e ∷ os) d t to plain none some = (refl, some (omega arith))
+left_plain a (operation.PointerPeek n o e ∷ os) d t to plain none some = (refl, some (omega arith))
 left_plain a (operation.Compute o e ∷ os) d t to plain none some = by (operand_of (view_expression e)) plain
   where
     by : (k : Option Operand) → is_some k ≡ false → (left_with k (operand_of a) ≡ None) × (to ≡ slot_with k a t)
@@ -369,6 +375,8 @@ made_compute value o e old m1 m2 l r d t is r_is e1 e2 =
 operates_longer : (x : Operation) (p : ℕ) (l : Operand) (d t : ℕ) → 0 < length (operation_code x p l d t)
 operates_longer (operation.Compute o e) p l d t = behind (value_code (view_expression e) p (suc t)) _ (operates o l (value_operand (view_expression e) (suc t)) (p + length (value_code (view_expression e) p (suc t))) d)
 operates_longer (operation.Test o e) p l d t = omega arith
+operates_longer (operation.Pointer o e) p l d t = omega arith
+operates_longer (operation.PointerPeek n o e) p l d t = omega arith
 
 room_everywhere : (os : Operations) (t many : ℕ) → t < most_locals + many → HasRoom os t many
 room_everywhere NoOperations t many low = omega (arith, low)
@@ -384,6 +392,8 @@ room_after x os old new l d t low is =
 room_first : (x : Operation) (os : List Operation) (t many : ℕ) → HasRoom (operations_of (x ∷ os)) t many → HasRoomFor x t many
 room_first (operation.Compute o e) os t many room = room
 room_first (operation.Test o e) os t many room = room
+room_first (operation.Pointer o e) os t many room = room
+room_first (operation.PointerPeek n o e) os t many room = room
 
 pub room_here : (xs : List Operation) (i : ℕ) (x : Operation) (t many : ℕ) → i < length xs → x ≡ get_or xs i x → HasRoom (operations_of (drop i xs)) t many → HasRoomFor x t many
 room_here xs i x t many inside at room =

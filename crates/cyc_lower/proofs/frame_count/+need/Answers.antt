@@ -9,14 +9,14 @@ use Rattle.cyc_meaning.specs.FrameCount.{expression_need, operations_need}
 use Rattle.cyc_lower.proofs.NeedsFound.{call_needs, binary_needs}
 use Rattle.cyc_lower.proofs.frame_count.+need.Goals as goal
 
-pub expression_need-call_need-requires : goal.expression_need-call_need-requires
-expression_need-call_need-requires t c =
+pub expression_need-operands_need-requires : goal.expression_need-operands_need-requires
+expression_need-operands_need-requires t c =
     let e = call_needs c.args.value.now c.in-Call.callee c.in-Call.arguments c.in-Call.result c.in-Call.is c.deref.result.now c.deref.ensures.value in
     (search (rules, types.the_lemmas, expressions.the_lemmas, get_or_read), omega (arith, e, c.requires))
 
 pub expression_need-returns-in-Call : goal.expression_need-returns-in-Call
 expression_need-returns-in-Call t c =
-    c.call_need.ensures ∙ sym (call_needs c.args.value.now c.in-Call.callee c.in-Call.arguments c.in-Call.result c.in-Call.is c.deref.result.now c.deref.ensures.value)
+    c.operands_need.ensures ∙ sym (call_needs c.args.value.now c.in-Call.callee c.in-Call.arguments c.in-Call.result c.in-Call.is c.deref.result.now c.deref.ensures.value)
 
 pub expression_need-operations_need-need-requires : goal.expression_need-operations_need-need-requires
 expression_need-operations_need-need-requires t c =
