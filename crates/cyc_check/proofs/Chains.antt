@@ -56,6 +56,8 @@ pub onto_operations : (os : List Operation) → onto put_operation (λ f rest. f
 onto_operations [] = refl
 onto_operations (operation.Compute o e ∷ os) = ap (typed.ThenCompute o (view.view_expression e)) (onto_operations os)
 onto_operations (operation.Test o e ∷ os) = ap (typed.ThenTest o (view.view_expression e)) (onto_operations os)
+onto_operations (operation.Pointer o e ∷ os) = ap (typed.ThenPointer o (view.view_expression e)) (onto_operations os)
+onto_operations (operation.PointerPeek n o e ∷ os) = ap (typed.ThenPointerPeek n o (view.view_expression e)) (onto_operations os)
 
 -- ---- an expression of its parts, where the code holds copies of them
 

@@ -5,6 +5,7 @@ use Rattle.cyc_syntax.specs.declared.tree.Member.{Member as MemberCode}
 use Rattle.cyc_syntax.specs.Symbols.{Place}
 use Rattle.cyc_syntax.specs.TreeView.{view_member}
 use Rattle.cyc_syntax.specs.Trees.{Named, WrittenType, Statement, Block, Empty, Evaluate, If, IfElse, While, Return, Break, Continue, Body, Braces, Items, NoItems, MoreItems, Execute, Local}
+use Rattle.cyc_types.specs.declared.region.Region.{Region}
 use Rattle.cyc_types.specs.declared.ty.Ty.{Ty as TyCode}
 use Rattle.cyc_types.specs.declared.ty.Ty.TheVariants as code
 use Rattle.cyc_types.specs.TypeView.{view_ty}
@@ -17,8 +18,8 @@ use Rattle.cyc_types.specs.Rules.{Checked, Derives, run}
 use Rattle.cyc_types.proofs.RuleLaws.{answers_tree}
 use Rattle.cyc_check.specs.Code.{ints}
 
-abbrev pub function_at : Named → Place → typed.Items → List Ty → List Ty → Option Ty → ℕ → typed.Function
-function_at x q js ps ls o k = record { name = x.name; place = x.place; parameters = ps; result = o; variables = 0; effect = []; constraints = []; locals = ls; region = 0; regions = k; body = js; end = q }
+abbrev pub function_at : Named → Place → typed.Items → List Region → List (Region × Region) → List Ty → List Ty → Option Ty → ℕ → typed.Function
+function_at x q js es cs ps ls o k = record { name = x.name; place = x.place; parameters = ps; result = o; variables = 0; effect = es; constraints = cs; locals = ls; region = 0; regions = k; body = js; end = q }
 
 ints-append : (n : ℕ) → ints n ++ Int ∷ [] ≡ ints (suc n)
 ints-append zero = refl
@@ -73,16 +74,18 @@ parameter_types [] = refl
 parameter_types (m ∷ ms) = ap (λ ts. Int ∷ ts) (parameter_types ms)
 
 -- a function by the numbers of what it declares
-pub function_by : (r : Option WrittenType) (x : Named) (ms : List MemberCode) (is : Items) (q : Place) (g : Scope) (js : typed.Items) (ps ls : List Ty) (o : Option Ty) (n k : ℕ)
-    → run (rule_items g is) ≡ Ok js → ps ≡ ints (length ms) → ls ≡ ints (n - length ms) → o ≡ result_of r → n ≡ length ms + item_locals is → k ≡ 1 + item_blocks is
-    → function_at x q js ps ls o k ≡ function_of r x (map view_member ms) is q js
-function_by r x ms is q g js ps ls o n k h p l e a b =
+pub function_by : (r : Option WrittenType) (x : Named) (ms : List MemberCode) (is : Items) (q : Place) (g : Scope) (js : typed.Items) (es : List Region) (cs : List (Region × Region)) (ps ls : List Ty) (o : Option Ty) (n k : ℕ)
+    → run (rule_items g is) ≡ Ok js → es ≡ [] → cs ≡ [] → ps ≡ ints (length ms) → ls ≡ ints (n - length ms) → o ≡ result_of r → n ≡ length ms + item_locals is → k ≡ 1 + item_blocks is
+    → function_at x q js es cs ps ls o k ≡ function_of r x (map view_member ms) is q js
+function_by r x ms is q g js es cs ps ls o n k h none alone p l e a b =
     let count : n - length ms ≡ item_locals is = omega (arith, a) in
     let regions : k ≡ suc (item_blocks is) = omega (arith, b) in
-    ap (λ (ts : List Ty). function_at x q js ts ls o k) (p ∙ sym (parameter_types ms))
-    ∙ ap (λ (ts : List Ty). function_at x q js (types_of (map view_member ms)) ts o k) (l ∙ ap ints count ∙ sym (body_types g is js h))
-    ∙ ap (λ (t : Option Ty). function_at x q js (types_of (map view_member ms)) (item_types js) t k) e
-    ∙ ap (λ (m : ℕ). function_at x q js (types_of (map view_member ms)) (item_types js) (result_of r) m) regions
+    ap (λ (rs : List Region). function_at x q js rs cs ps ls o k) none
+    ∙ ap (λ (rs : List (Region × Region)). function_at x q js [] rs ps ls o k) alone
+    ∙ ap (λ (ts : List Ty). function_at x q js [] [] ts ls o k) (p ∙ sym (parameter_types ms))
+    ∙ ap (λ (ts : List Ty). function_at x q js [] [] (types_of (map view_member ms)) ts o k) (l ∙ ap ints count ∙ sym (body_types g is js h))
+    ∙ ap (λ (t : Option Ty). function_at x q js [] [] (types_of (map view_member ms)) (item_types js) t k) e
+    ∙ ap (λ (m : ℕ). function_at x q js [] [] (types_of (map view_member ms)) (item_types js) (result_of r) m) regions
 
 pub same_ok : {A : Type 0} (a b : A) → ◌≡◌ {A = Checked A} (Ok a) (Ok b) → b ≡ a
 same_ok a b e = sym (ap (λ (r : Checked _). elim r [ Ok x ↦ x | Err f ↦ a ]) e)

@@ -1,7 +1,7 @@
 -- What the code has to do with the rules: what its functions give.
 use Rattle.std.specs.Prelude.{◌≡◌, ℕ, zero, suc, Bool, true, false, List, [], ◌∷◌, Option, Some, None, Result, Ok, Err}
 use Rattle.std.specs.declared.boxed.Box.{Box}
-use Rattle.std.specs.declared.alloc.Global.{Global as Heap}
+use Rattle.std.specs.declared.alloc.Global.{Global}
 use Rattle.cyc_words.specs.declared.fault.Fault.{Fault}
 use Rattle.cyc_words.specs.Fault.{memory_fault}
 use Rattle.cyc_types.specs.declared.typed.Kind.TheVariants as kinds
@@ -10,7 +10,8 @@ use Rattle.cyc_types.specs.declared.typed.Stmt.{Stmt}
 use Rattle.cyc_types.specs.declared.typed.Converted.{Converted as ConvertedCode}
 use Rattle.cyc_types.specs.declared.typed.Operation.{Operation}
 use Rattle.cyc_types.specs.declared.typed.Operation.TheVariants as operation
-use Rattle.cyc_types.specs.Types.{Ty, Int, ValueType, Void, Null, Value}
+use Rattle.cyc_types.specs.declared.region.Region.TheVariants.{Heap}
+use Rattle.cyc_types.specs.Types.{Ty, Int, Handle, ValueType, Void, Null, Value}
 use Rattle.cyc_types.specs.TypeView.{view_ty}
 use Rattle.cyc_types.specs.TypedTrees as typed
 use Rattle.cyc_types.specs.TypedTreeView as view
@@ -56,15 +57,16 @@ abbrev pub view_given : Given → ValueType
 view_given given.Void = Void
 view_given given.Null = Null
 view_given given.Int = Value Int
+view_given given.HeapHandle = Value (Handle Heap)
 view_given (given.Value t) = Value (view_ty t.now)
 
 -- ---- nodes
 
 -- in boxes
-abbrev pub view_boxed : Box Expr Heap → typed.Expression
+abbrev pub view_boxed : Box Expr Global → typed.Expression
 view_boxed b = view.view_expression b.value
 
-abbrev pub view_boxed_statement : Box Stmt Heap → typed.Statement
+abbrev pub view_boxed_statement : Box Stmt Global → typed.Statement
 view_boxed_statement b = view.view_statement b.value
 
 -- what an argument converts
@@ -80,3 +82,5 @@ AreOfInts (c ∷ cs) = (view.view_converted c ≡ typed.Convert kinds.Int kinds.
 abbrev pub put_operation : Operation → typed.Operations → typed.Operations
 put_operation (operation.Compute o e) = typed.ThenCompute o (view.view_expression e)
 put_operation (operation.Test o e) = typed.ThenTest o (view.view_expression e)
+put_operation (operation.Pointer o e) = typed.ThenPointer o (view.view_expression e)
+put_operation (operation.PointerPeek n o e) = typed.ThenPointerPeek n o (view.view_expression e)

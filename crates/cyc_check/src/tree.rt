@@ -44,6 +44,8 @@ fn typed_tree(alloc: Global, tree: &Tree) -> Result<TypedTree, Stop>
     let functions = functions_of(alloc, &declared, declarations)?;
     let globals = globals_of(alloc, declarations)?;
     Ok(TypedTree {
+        structs: Vec::new(alloc),
+        exceptions: Vec::new(alloc),
         globals,
         functions,
         main: function_number(main, declarations),

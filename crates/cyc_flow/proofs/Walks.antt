@@ -22,7 +22,7 @@ pub record Steps {X A : Type 0} (keep_all : List X → A → Kept) (after_all : 
   pub none_kept : (f : A) → keep_all [] f ≡ Ok tt
   pub none_after : (f : A) → after_all [] f ≡ f
   pub kept : (x : X) (xs : List X) (f : A) → keep_all (x ∷ xs) f ≡ and_then (keep_one x f) (λ u. keep_all xs (after_one x f))
-  pub follows : (x : X) (xs : List X) (f : A) → after_all (x ∷ xs) f ≡ after_all xs (after_one x f)
+  pub follows : (x : X) (xs : List X) (f : A) → keep_one x f ≡ Ok tt → after_all (x ∷ xs) f ≡ after_all xs (after_one x f)
 
 -- what the rest of the list leads to from here is what the whole leads to from the start
 pub record Remains {X A : Type 0} (keep_all : List X → A → Kept) (after_all : List X → A → A) (xs : List X) (i : ℕ) (start now : A) : Type 0 where
@@ -40,7 +40,7 @@ module _ {X A : Type 0} (keep_all : List X → A → Kept) (after_all : List X �
       let v : keep_all (drop i xs) now ≡ keep_all (drop (i + 1) xs) (after_one x now)
       = ap (λ (ys : List X). keep_all ys now) d ∙ steps.kept x (drop (i + 1) xs) now ∙ ap (λ (o : Kept). and_then o (λ u. keep_all (drop (i + 1) xs) (after_one x now))) k in
       let a : after_all (drop i xs) now ≡ after_all (drop (i + 1) xs) (after_one x now)
-      = ap (λ (ys : List X). after_all ys now) d ∙ steps.follows x (drop (i + 1) xs) now in
+      = ap (λ (ys : List X). after_all ys now) d ∙ steps.follows x (drop (i + 1) xs) now k in
       record {
         verdict = ap (keep_all (drop (i + 1) xs)) b ∙ sym v ∙ r.verdict;
         behind = ap (after_all (drop (i + 1) xs)) b ∙ sym a ∙ r.behind;
@@ -81,7 +81,7 @@ abbrev pub after_one_passed : ConvertedCode → State → State
 after_one_passed c = after_converted (view_converted c)
 
 pub arguments_steps : Steps keep_passed after_passed keep_one_passed after_one_passed
-arguments_steps = record { none_kept = λ f. refl; none_after = λ f. refl; kept = λ c cs f. refl; follows = λ c cs f. refl }
+arguments_steps = record { none_kept = λ f. refl; none_after = λ f. refl; kept = λ c cs f. refl; follows = λ c cs f k. refl }
 
 abbrev pub keep_operated : List Operation → State → Kept
 keep_operated os = keep_operations (operations_of os)
@@ -92,10 +92,14 @@ after_operated os = after_operations (operations_of os)
 operation_kept : (o : Operation) (os : List Operation) (f : State) → keep_operated (o ∷ os) f ≡ and_then (keep_operation o f) (λ u. keep_operated os (after_operation o f))
 operation_kept (operation.Compute o e) os f = refl
 operation_kept (operation.Test o e) os f = refl
+operation_kept (operation.Pointer o e) os f = refl
+operation_kept (operation.PointerPeek n o e) os f = refl
 
-operation_follows : (o : Operation) (os : List Operation) (f : State) → after_operated (o ∷ os) f ≡ after_operated os (after_operation o f)
-operation_follows (operation.Compute o e) os f = refl
-operation_follows (operation.Test o e) os f = refl
+operation_follows : (o : Operation) (os : List Operation) (f : State) → keep_operation o f ≡ Ok tt → after_operated (o ∷ os) f ≡ after_operated os (after_operation o f)
+operation_follows (operation.Compute o e) os f k = refl
+operation_follows (operation.Test o e) os f k = refl
+operation_follows (operation.Pointer o e) os f k = absurd (cc)
+operation_follows (operation.PointerPeek n o e) os f k = absurd (cc)
 
 pub operations_steps : Steps keep_operated after_operated keep_operation after_operation
 operations_steps = record { none_kept = λ f. refl; none_after = λ f. refl; kept = operation_kept; follows = operation_follows }
@@ -117,19 +121,27 @@ after_one_executed i p = (after_item (view_item i) p.0, meet p.1 (breaks_of_item
 item_kept : (l : Option Loop) (i : ItemCode) (is : List ItemCode) (p : State × State) → keep_executed l (i ∷ is) p ≡ and_then (keep_one_executed l i p) (λ u. keep_executed l is (after_one_executed i p))
 item_kept l (item.Execute s) is p = refl
 item_kept l (item.Local n t v) is p = refl
+item_kept l (item.Region r n) is p = refl
+item_kept l (item.Open r n s k) is p = refl
+item_kept l (item.Alias r n t s m) is p = refl
+item_kept l (item.DynamicRegion r n) is p = refl
 
-item_follows : (i : ItemCode) (is : List ItemCode) (p : State × State) → after_executed (i ∷ is) p ≡ after_executed is (after_one_executed i p)
-item_follows (item.Execute s) is p =
+item_follows : (l : Option Loop) (i : ItemCode) (is : List ItemCode) (p : State × State) → keep_one_executed l i p ≡ Ok tt → after_executed (i ∷ is) p ≡ after_executed is (after_one_executed i p)
+item_follows l (item.Execute s) is p k =
     ap (λ (b : State). (after_items (items_of is) (after_statement (view_statement s) p.0), b)) (sym (meet_assoc p.1 (breaks_of (view_statement s) p.0) (item_breaks (items_of is) (after_statement (view_statement s) p.0))))
-item_follows (item.Local n t v) is p =
+item_follows l (item.Local n t v) is p k =
     ap (λ (b : State). (after_items (items_of is) (after_declaration n (option_map view_converted v) p.0), meet b (item_breaks (items_of is) (after_declaration n (option_map view_converted v) p.0)))) (sym (meet_unreached p.1))
+item_follows l (item.Region r n) is p k = absurd (cc)
+item_follows l (item.Open r n s m) is p k = absurd (cc)
+item_follows l (item.Alias r n t s m) is p k = absurd (cc)
+item_follows l (item.DynamicRegion r n) is p k = absurd (cc)
 
 pub items_steps : (l : Option Loop) → Steps (keep_executed l) after_executed (keep_one_executed l) after_one_executed
 items_steps l = record {
   none_kept = λ p. refl;
   none_after = λ p. ap (λ (b : State). (p.0, b)) (meet_unreached p.1);
   kept = item_kept l;
-  follows = item_follows;
+  follows = item_follows l;
 }
 
 -- ---- the functions of a program

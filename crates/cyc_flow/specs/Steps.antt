@@ -14,10 +14,12 @@ use Rattle.cyc_flow.specs.Code.{view_state}
 abbrev pub keep_operation : Operation → State → Kept
 keep_operation (operation.Compute o e) f = keep (view_expression e) f
 keep_operation (operation.Test o e) f = keep (view_expression e) f
+keep_operation o f = Err not_built
 
 abbrev pub after_operation : Operation → State → State
 after_operation (operation.Compute o e) f = after (view_expression e) f
 after_operation (operation.Test o e) f = meet f (after (view_expression e) f)
+after_operation o f = f
 
 abbrev pub view_loop : LoopCode → Loop
 view_loop l = record { place = place_of_span l.span; head = view_state l.head }

@@ -10,7 +10,7 @@ ghost use Rattle.cyc_flow.specs.Code.{view_state, Allows, Gives};
 ghost use Rattle.cyc_flow.specs.Steps.{keep_operation, after_operation};
 
 use crate::state::{Fullness, State, meet};
-use crate::stop::Stop;
+use crate::stop::{Stop, not_built};
 use cyc_types::typed::{Converted, Expr, Lvalue, Operation};
 use cyc_words::{Code, Fault, Span};
 use std::alloc::Global;
@@ -71,6 +71,7 @@ impl State {
                 let state = self.convert(alloc, value)?;
                 state.write(*target)
             }
+            _ => Err(not_built()),
         }
     }
 
@@ -106,6 +107,7 @@ impl State {
                 let behind = self.evaluate(alloc, operand)?;
                 Ok(meet(before, behind))
             }
+            _ => Err(not_built()),
         }
     }
 

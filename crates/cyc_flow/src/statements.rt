@@ -2,7 +2,7 @@
 
 use crate::expressions::refusal;
 use crate::state::{State, meet};
-use crate::stop::Stop;
+use crate::stop::{Stop, not_built};
 use cyc_types::typed::{Item, Stmt};
 use cyc_words::{Code, Span};
 use std::alloc::Global;
@@ -121,6 +121,7 @@ impl Walk {
             Stmt::Return { value } => Ok(state.return_value(self.alloc, value)?),
             Stmt::Break => Ok(self.break_loop(state)),
             Stmt::Continue => Ok(Walk::continue_loop(around, state)?),
+            _ => Err(not_built()),
         }
     }
 
@@ -137,6 +138,7 @@ impl Walk {
         match item {
             Item::Execute { statement } => self.check_statement(around, statement, state),
             Item::Local { number, value, .. } => Ok(state.declare(self.alloc, *number, value)?),
+            _ => Err(not_built()),
         }
     }
 

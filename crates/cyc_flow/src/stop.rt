@@ -1,9 +1,10 @@
 //! Why a check stops.
 ghost use Rattle.std.specs.Prelude.{◌≡◌};
-ghost use Rattle.cyc_flow.specs.declared.stop.Stop.TheVariants.{Memory};
+ghost use Rattle.cyc_types.specs.Rules.{not_built};
+ghost use Rattle.cyc_flow.specs.declared.stop.Stop.TheVariants.{Memory, Refused};
 ghost use Rattle.cyc_flow.specs.Code.{fault_of};
 
-use cyc_words::Fault;
+use cyc_words::{Code, Fault};
 use std::alloc::AllocError;
 
 #[derive(Clone, Copy, Debug, PartialEq, Eq)]
@@ -30,4 +31,11 @@ impl From<Stop> for Fault {
             Stop::Refused(fault) => fault,
         }
     }
+}
+
+/// The refusal of a form that has no flow rule yet.
+pub(crate) fn not_built() -> Stop
+    ensures { result ≡ Refused not_built }
+{
+    Stop::Refused(Fault::new(Code::NotBuiltYet, 1, 1))
 }

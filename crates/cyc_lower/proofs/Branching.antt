@@ -34,9 +34,16 @@ one_item head j js p t = item_code j p head t
 abbrev pub next_item : ItemCode → List ItemCode → ℕ → ℕ
 next_item j js t = t
 
+nothing_more : (head : ℕ) (js : List ItemCode) (p t : ℕ) → all_items head js p t ≡ all_items head js (p + 0) t
+nothing_more head js p t = ap (λ (q : ℕ). all_items head js q t) (omega arith)
+
 one_item_more : (head : ℕ) (j : ItemCode) (js : List ItemCode) (p t : ℕ) → all_items head (j ∷ js) p t ≡ one_item head j js p t ++ all_items head js (p + length (one_item head j js p t)) t
 one_item_more head (item.Execute s) js p t = refl
 one_item_more head (item.Local n ty v) js p t = refl
+one_item_more head (item.Region r n) js p t = nothing_more head js p t
+one_item_more head (item.Open r n s k) js p t = nothing_more head js p t
+one_item_more head (item.Alias r n ty s m) js p t = nothing_more head js p t
+one_item_more head (item.DynamicRegion r n) js p t = nothing_more head js p t
 
 pub items_lower : (head : ℕ) → Lowers (all_items head) (one_item head) next_item
 items_lower head = record { none = λ p t. refl; more = one_item_more head }

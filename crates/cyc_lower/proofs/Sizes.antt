@@ -10,7 +10,7 @@ use Rattle.cyc_types.specs.declared.typed.Operator.{Operator}
 use Rattle.cyc_types.specs.declared.typed.Operator.TheVariants as operators
 use Rattle.cyc_types.specs.declared.typed.LogicalOperator.{LogicalOperator}
 use Rattle.cyc_types.specs.declared.typed.LogicalOperator.TheVariants as logical
-use Rattle.cyc_types.specs.TypedTrees.{Lvalue, Local, Global, Expression, Number, Copy, Call, Unary, Binary, Assign, Converted, Convert, Arguments, NoArguments, MoreArguments, Operations, NoOperations, ThenCompute, ThenTest, Statement, Block, Empty, Evaluate, If, While, Return, Break, Continue, Items, NoItems, MoreItems, Execute, Declare, Function}
+use Rattle.cyc_types.specs.TypedTrees.{Lvalue, Local, Global, Expression, Number, Copy, Call, Unary, Binary, Assign, Converted, Convert, Arguments, NoArguments, MoreArguments, Operations, NoOperations, ThenCompute, ThenTest, ThenPointer, ThenPointerPeek, Statement, Block, Empty, Evaluate, If, While, Return, Break, Continue, Items, NoItems, MoreItems, Execute, Declare, Function}
 use Rattle.cyc_types.specs.Numbered.{argument_count}
 use Rattle.cyc_types.proofs.WeightLemmas.{some_token}
 use Rattle.cyc_types.specs.Weight.{expression_weight, converted_weight, arguments_weight, more_arguments_weight, operations_weight, else_weight, statement_weight, items_weight, function_weight}
@@ -171,7 +171,12 @@ mutual
       let front = test_code o operand p next t in
       let q = p + length front in
       omega (arith, both front (operations_code os q (operands.Slot next) d t), test_size o operand p next t, expression_size a (p + 1) t t, operations_size os q (operands.Slot next) d t)
-  operations_size os p l d t = omega arith
+  operations_size (ThenPointer o a os) p l d t =
+      let next = next_slot os d t in
+      omega (arith, cons (instructions.Move next (operands.Word 0)) (operations_code os (p + 1) (operands.Slot next) d t), operations_size os (p + 1) (operands.Slot next) d t)
+  operations_size (ThenPointerPeek n o a os) p l d t =
+      let next = next_slot os d t in
+      omega (arith, cons (instructions.Move next (operands.Word 0)) (operations_code os (p + 1) (operands.Slot next) d t), operations_size os (p + 1) (operands.Slot next) d t)
 
 assignment_size : (l : Lvalue) (c : Converted) (p t : ℕ) → code_size (assignment_code l c p t) ≤ 3 * converted_weight c + 3
 assignment_size (Local w n) c p t = initial_size c p (slot_of n) t

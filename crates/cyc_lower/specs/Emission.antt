@@ -6,16 +6,16 @@ use Rattle.cyc_types.specs.declared.typed.Operation.{Operation}
 use Rattle.cyc_types.specs.declared.typed.Operation.TheVariants as operation
 use Rattle.cyc_types.specs.declared.typed.Item.{Item}
 use Rattle.cyc_types.specs.declared.typed.Item.TheVariants as item
-use Rattle.cyc_types.specs.Types.{Ty, words_of, ValueType}
+use Rattle.cyc_types.specs.Types.{Ty, words_of}
 use Rattle.cyc_types.specs.TypedTrees.{Expression, Converted, Convert, Arguments, Operations, ThenCompute, Statement, Function, Program, type_of}
 use Rattle.cyc_types.specs.TypingRules.{IsTypedProgram}
 use Rattle.cyc_types.specs.TypedTreeView.{view_expression, view_converted, view_statement}
 use Rattle.cyc_plain.specs.declared.instruction.Operand.{Operand}
-use Rattle.cyc_plain.specs.declared.instruction.Operand.TheVariants.{Slot}
+use Rattle.cyc_plain.specs.declared.instruction.Operand.TheVariants.{Slot, Word}
 use Rattle.cyc_plain.specs.declared.instruction.Instruction.{Instruction}
-use Rattle.cyc_plain.specs.declared.instruction.Instruction.TheVariants.{WriteByte}
+use Rattle.cyc_plain.specs.declared.instruction.Instruction.TheVariants.{Move, WriteByte}
 use Rattle.cyc_lower.specs.Lowering.{operand_of, code_unless, slot_or, code_unless_slot, printed_operand, conversion_code, printed_code, left_of, value_slot, left_slot, value_operand, expression_code, compute_code, test_code, condition_code, failing_jump, while_code, statement_code, declaration_code}
-use Rattle.cyc_meaning.specs.FrameCount.{result_words, operand_words, argument_words, arguments_need, expression_need, initial_need, statement_need, frame_count}
+use Rattle.cyc_meaning.specs.FrameCount.{operand_words, argument_words, arguments_need, expression_need, initial_need, statement_need, kept_by, frame_count}
 use Rattle.cyc_lower.specs.declared.emitter.Emitter.{Emitter}
 
 -- this code is added behind what there was
@@ -64,18 +64,20 @@ HasRoom os t many = t ≤ most_locals + many
 
 abbrev pub HasRoomFor : Operation → (t many : ℕ) → Type 0
 HasRoomFor (operation.Compute o e) t many = operand_of (view_expression e) ≡ None → t < most_locals + many
-HasRoomFor (operation.Test o e) t many = t ≤ most_locals + many
+HasRoomFor o t many = t ≤ most_locals + many
 
 -- one operator of a chain with its right operand, where the left one is l
 abbrev pub operation_code : Operation → (p : ℕ) → (l : Operand) → (d t : ℕ) → List Instruction
 operation_code (operation.Compute o e) p l d t =
     compute_code o l (value_operand (view_expression e) (suc t)) (value_code (view_expression e) p (suc t)) p d
 operation_code (operation.Test o e) p l d t = test_code o (expression_code (view_expression e) (p + 1) t t) p d t
+operation_code o p l d t = Move d (Word 0) ∷ []
 
 -- one item of a block
 abbrev pub item_code : Item → (p loop t : ℕ) → List Instruction
 item_code (item.Execute s) p loop t = statement_code (view_statement s) p loop t
 item_code (item.Local n ty v) p loop t = declaration_code n (option_map view_converted v) p t
+item_code i p loop t = []
 
 -- a loop
 abbrev pub loop_code : Expression → Statement → (p t : ℕ) → List Instruction
@@ -86,9 +88,9 @@ loop_code a s p t =
 abbrev pub most_frame_count : ℕ
 most_frame_count = 2 ^ 32
 
--- the need of a call, by its arguments and the type of its result
-abbrev pub call_need : Arguments → ValueType → ℕ
-call_need cs t = max (argument_words cs + result_words t) (arguments_need cs 0)
+-- the need of operands behind so many words, where what is made of them has so many itself
+abbrev pub operands_need : Arguments → (before own : ℕ) → ℕ
+operands_need cs before own = max (before + argument_words cs + own) (arguments_need cs before)
 
 -- the need of one operator of a chain of this type with its right operand, where the left one has so many words
 abbrev pub operation_need : Operation → Ty → (left : ℕ) → ℕ
@@ -96,11 +98,22 @@ operation_need (operation.Compute o e) t left =
     max (left + operand_words (type_of (view_expression e)) + words_of t) (left + expression_need (view_expression e))
 operation_need (operation.Test o e) t left =
     max (left + operand_words (type_of (view_expression e)) + words_of t) (left + expression_need (view_expression e))
+operation_need (operation.Pointer o e) t left =
+    max (left + operand_words (type_of (view_expression e)) + words_of t) (left + expression_need (view_expression e))
+operation_need (operation.PointerPeek n o e) t left =
+    max (left + operand_words (type_of (view_expression e)) + words_of t) (left + expression_need (view_expression e))
 
 -- the need of one item of a block
 abbrev pub item_need : Item → ℕ
 item_need (item.Execute s) = statement_need (view_statement s)
 item_need (item.Local n t v) = initial_need (option_map view_converted v)
+item_need i = 0
+
+-- what one item of a block keeps beside the variables
+abbrev pub kept_by_item : Item → ℕ
+kept_by_item (item.Execute s) = kept_by (view_statement s)
+kept_by_item (item.Region r n) = 1
+kept_by_item i = 0
 
 -- ---- programs
 

@@ -17,7 +17,7 @@ use Rattle.cyc_types.specs.declared.typed.Operator.TheVariants as operators
 use Rattle.cyc_types.specs.declared.typed.LogicalOperator.{LogicalOperator}
 use Rattle.cyc_types.specs.declared.typed.LogicalOperator.TheVariants as logical
 use Rattle.cyc_types.specs.Types.{Ty}
-use Rattle.cyc_types.specs.TypedTrees.{Lvalue, Local, Global, Expression, Number, Copy, Call, Unary, Binary, Assign, Converted, Convert, Arguments, NoArguments, MoreArguments, Operations, NoOperations, ThenCompute, ThenTest, Statement, Block, Empty, Evaluate, If, While, Return, Break, Continue, Items, NoItems, MoreItems, Execute, Declare, Constant, Word, Null, GlobalVariable, Function, Program}
+use Rattle.cyc_types.specs.TypedTrees.{Lvalue, Local, Global, Expression, Number, Copy, Call, Unary, Binary, Assign, Converted, Convert, Arguments, NoArguments, MoreArguments, Operations, NoOperations, ThenCompute, ThenTest, ThenPointer, ThenPointerPeek, Statement, Block, Empty, Evaluate, If, While, Return, Break, Continue, Items, NoItems, MoreItems, Execute, Declare, Constant, Word, Null, GlobalVariable, Function, Program}
 use Rattle.cyc_types.specs.Numbered.{argument_count}
 use Rattle.cyc_plain.specs.declared.instruction.UnaryOperator.{UnaryOperator as PlainUnary}
 use Rattle.cyc_plain.specs.declared.instruction.UnaryOperator.TheVariants as plain_unary
@@ -268,7 +268,10 @@ abbrev mutual
   operations_code (ThenTest o b os) p l d t =
       test_code o (expression_code b (p + 1) t t) p (next_slot os d t) t
       ++ operations_code os (p + length (test_code o (expression_code b (p + 1) t t) p (next_slot os d t) t)) (operands.Slot (next_slot os d t)) d t
-  operations_code os p l d t = []
+  operations_code (ThenPointer o b os) p l d t =
+      instructions.Move (next_slot os d t) (operands.Word 0) ∷ operations_code os (p + 1) (operands.Slot (next_slot os d t)) d t
+  operations_code (ThenPointerPeek n o b os) p l d t =
+      instructions.Move (next_slot os d t) (operands.Word 0) ∷ operations_code os (p + 1) (operands.Slot (next_slot os d t)) d t
 
 -- an assignment, and the operand where its value stands then
 abbrev pub assignment_code : Lvalue → Converted → (p t : ℕ) → List Instruction

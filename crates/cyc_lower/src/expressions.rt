@@ -1,10 +1,11 @@
 //! The code of expressions. Each method adds its code behind what there is. A value comes to a slot by the last instruction;
 //! else only the slots from `free` on are written, and those of locals that are assigned.
-ghost use Rattle.std.specs.Prelude.{◌≡◌, ◌+◌, ◌<◌, ◌≤◌, None, length};
+ghost use Rattle.std.specs.Prelude.{◌≡◌, ◌+◌, ◌<◌, ◌≤◌, [], ◌∷◌, None, length};
 ghost use Rattle.cyc_types.specs.Types.{Void};
 ghost use Rattle.cyc_types.specs.TypedTreeView.{view_expression, view_converted, view_lvalue, arguments_of, operations_of};
 ghost use Rattle.cyc_types.specs.TypedTrees.{Call};
 ghost use Rattle.cyc_plain.specs.declared.instruction.Operand.TheVariants as operands;
+ghost use Rattle.cyc_plain.specs.declared.instruction.Instruction.TheVariants as instructions;
 ghost use Rattle.cyc_lower.specs.Lowering.{operand_of, operand_or, slot_or, code_unless_slot, left_of, left_slot, value_operand, converted_operand, printed_operand, check_code, conversion_code, divisor_code, operator_code, truth_code, copy_code, expression_code, arguments_code, converted_code, converted_operand_code, printed_code, initial_code, assignment_code, assigned_operand, operations_code, discarded_code};
 ghost use Rattle.cyc_lower.specs.Emission.{Appends, Gives, HasRoom, HasRoomFor, most_locals, value_code, print_code, converted_slot, converted_slot_code, left_code, operation_code};
 
@@ -101,6 +102,16 @@ impl Emitter {
         })
     }
 
+    /// What stands for a form that is not built yet, and is never run.
+    fn missing(&mut self, slot: usize) -> Result<(), AllocError>
+        ensures { Appends result self.old self.new (instructions.Move slot (operands.Word 0) ∷ []) }
+    {
+        self.emit(Instruction::Move {
+            destination: slot,
+            source: Operand::Word { word: 0 },
+        })
+    }
+
     /// The value of an expression comes to a slot.
     #[cycle(expression)]
     pub(crate) fn expression(
@@ -139,6 +150,7 @@ impl Emitter {
                 let assigned = self.assignment(*target, value, free)?;
                 self.copy(assigned, slot)
             }
+            _ => self.missing(slot),
         }
     }
 
@@ -330,6 +342,7 @@ impl Emitter {
                 self.patch(jump, test_jump(*operator, free, behind));
                 self.truth(free, slot)
             }
+            Operation::Pointer { .. } | Operation::PointerPeek { .. } => self.missing(slot),
         }
     }
 
@@ -392,7 +405,7 @@ impl Emitter {
                 self.assignment(*target, value, free)?;
                 Ok(())
             }
-            Expr::Number { .. } | Expr::Copy { .. } | Expr::Unary { .. } | Expr::Binary { .. } => {
+            _ => {
                 self.operand(value, free)?;
                 Ok(())
             }

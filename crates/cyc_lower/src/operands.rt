@@ -17,7 +17,7 @@ pub(crate) fn operand_of(value: &Expr) -> Option<Operand>
             Lvalue::Local { number, .. } => Some(Operand::Slot { number }),
             Lvalue::Global { .. } => None,
         },
-        Expr::Call { .. } | Expr::Unary { .. } | Expr::Binary { .. } | Expr::Assign { .. } => None,
+        _ => None,
     }
 }
 
@@ -30,11 +30,7 @@ pub(crate) fn value_slot(value: &Expr, free: usize) -> usize
             Lvalue::Local { number, .. } => number,
             Lvalue::Global { .. } => free,
         },
-        Expr::Number { .. }
-        | Expr::Copy { .. }
-        | Expr::Call { .. }
-        | Expr::Unary { .. }
-        | Expr::Binary { .. } => free,
+        _ => free,
     }
 }
 
@@ -44,7 +40,7 @@ pub(crate) fn takes_operand(operations: &[Operation]) -> bool
 {
     match operations.first() {
         Some(Operation::Compute { operand, .. }) => operand_of(operand).is_some(),
-        Some(Operation::Test { .. }) | None => false,
+        _ => false,
     }
 }
 

@@ -106,6 +106,8 @@ impl Emitter {
             Stmt::Return { value } => self.returned(value, free),
             Stmt::Break => self.broken(head),
             Stmt::Continue => self.continued(head),
+            // These are not built yet, and never run.
+            Stmt::Swap { .. } | Stmt::Throw { .. } | Stmt::Try { .. } => Ok(()),
         }
     }
 
@@ -118,6 +120,7 @@ impl Emitter {
         match item {
             Item::Execute { statement } => self.statement(statement, head, free),
             Item::Local { number, value, .. } => self.declaration(*number, value, free),
+            _ => Ok(()),
         }
     }
 

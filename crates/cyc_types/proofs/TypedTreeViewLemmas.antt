@@ -1,24 +1,27 @@
 -- The view of a typed node with lists of nodes, by the lists that its `Vec`s hold.
-use Rattle.std.proofs.Common.{◌≡◌, ℕ, refl, ap, ◌∙◌}
+use Rattle.std.proofs.Common.{◌≡◌, ℕ, List, [], ◌∷◌, Option, None, Some, refl, sym, ap, ◌∙◌}
 use Rattle.std.specs.declared.vec.Vec.{Vec}
 use Rattle.std.specs.declared.boxed.Box.{Box}
 use Rattle.std.specs.declared.alloc.Global.{Global as Heap}
 use Rattle.cyc_types.specs.declared.ty.Ty.{Ty as TyCode}
 use Rattle.cyc_types.specs.declared.typed.Callee.{Callee}
 use Rattle.cyc_types.specs.declared.typed.Expr.{Expr, Row_of-Converted, end_of-Converted, more_of-Converted, items-the_row-Converted, Row_of-Operation, end_of-Operation, more_of-Operation, items-the_row-Operation}
-use Rattle.cyc_types.specs.declared.typed.Expr.TheBlock.{hidden-the_row-Converted-0, items_hidden-the_row-Converted-0, hidden-the_row-Operation-1, items_hidden-the_row-Operation-1}
+use Rattle.cyc_types.specs.declared.typed.Dereference.TheBlock.{hidden-the_row-Converted-0, items_hidden-the_row-Converted-0, hidden-the_row-Operation-1, items_hidden-the_row-Operation-1}
 use Rattle.cyc_types.specs.declared.typed.Expr.TheVariants as expr
+use Rattle.cyc_types.specs.declared.typed.Initial.TheVariants as initial
 use Rattle.cyc_types.specs.declared.typed.Converted.{Converted as ConvertedCode}
 use Rattle.cyc_types.specs.declared.typed.Operation.{Operation}
 use Rattle.cyc_types.specs.declared.typed.Operation.TheVariants as operation
-use Rattle.cyc_types.specs.declared.typed.Stmt.{Row_of-Item, end_of-Item, more_of-Item, items-the_row-Item}
-use Rattle.cyc_types.specs.declared.typed.Item.TheBlock.{hidden-the_row-Item-0, items_hidden-the_row-Item-0}
-use Rattle.cyc_types.specs.declared.typed.Stmt.TheVariants as stmt
+use Rattle.cyc_types.specs.declared.typed.Stmt.{Stmt, Row_of-Item, end_of-Item, more_of-Item, items-the_row-Item, Row_of-Clause, end_of-Clause, more_of-Clause, items-the_row-Clause}
+use Rattle.cyc_types.specs.declared.typed.Item.TheBlock.{hidden-the_row-Item-0, items_hidden-the_row-Item-0, shown-the_row-Item-0, items_shown-the_row-Item-0, back-Stmt-Try-2, hidden-the_row-Clause-1, items_hidden-the_row-Clause-1}
 use Rattle.cyc_types.specs.declared.typed.Item.{Item as ItemCode}
+use Rattle.cyc_types.specs.declared.typed.Body.{Body}
+use Rattle.cyc_types.specs.declared.typed.Clause.{Clause}
+use Rattle.cyc_types.specs.declared.typed.Stmt.TheVariants as stmt
 use Rattle.cyc_types.specs.declared.typed.ValueType.{ValueType as ValueTypeCode}
 use Rattle.cyc_types.specs.TypeView.{view_ty, view_value_type}
-use Rattle.cyc_types.specs.TypedTrees.{Call, Binary, Convert, MoreArguments, ThenCompute, ThenTest, Block, MoreItems}
-use Rattle.cyc_types.specs.TypedTreeView.{view_expression, view_arguments, view_operations, arguments_of, operations_of, view_statement, view_items, view_item, items_of}
+use Rattle.cyc_types.specs.TypedTrees.{Call, Binary, Convert, Fields, MoreArguments, ThenCompute, ThenTest, ThenPointer, ThenPointerPeek, Block, Try, Items, MoreItems, Clauses, Default, Case}
+use Rattle.cyc_types.specs.TypedTreeView.{view_expression, view_initial, view_arguments, view_operations, arguments_of, operations_of, view_statement, view_items, view_item, view_clauses, view_default, items_of, default_of, clauses_of}
 
 view_arguments-items : {m : _} (row : Row_of-Converted m) → view_arguments row ≡ arguments_of (items-the_row-Converted m row)
 view_arguments-items end_of-Converted = refl
@@ -31,6 +34,8 @@ view_operations-items : {m : _} (row : Row_of-Operation m) → view_operations r
 view_operations-items end_of-Operation = refl
 view_operations-items (more_of-Operation (operation.Compute o e) row) = ap (ThenCompute o (view_expression e)) (view_operations-items row)
 view_operations-items (more_of-Operation (operation.Test o e) row) = ap (ThenTest o (view_expression e)) (view_operations-items row)
+view_operations-items (more_of-Operation (operation.Pointer o e) row) = ap (ThenPointer o (view_expression e)) (view_operations-items row)
+view_operations-items (more_of-Operation (operation.PointerPeek n o e) row) = ap (ThenPointerPeek n o (view_expression e)) (view_operations-items row)
 
 pub operations_view : (v : Vec Operation Heap) → view_operations (hidden-the_row-Operation-1 v) ≡ operations_of v.items
 operations_view v = view_operations-items (hidden-the_row-Operation-1 v) ∙ ap operations_of (items_hidden-the_row-Operation-1 v)
@@ -42,6 +47,22 @@ view_items-items (more_of-Item i row) = ap (MoreItems (view_item i)) (view_items
 pub items_view : (v : Vec ItemCode Heap) → view_items (hidden-the_row-Item-0 v) ≡ items_of v.items
 items_view v = view_items-items (hidden-the_row-Item-0 v) ∙ ap items_of (items_hidden-the_row-Item-0 v)
 
+shown_view : (shape : _) (is : Row_of-Item _) → view_items is ≡ items_of (shown-the_row-Item-0 shape is).items
+shown_view shape is = view_items-items is ∙ ap items_of (sym (items_shown-the_row-Item-0 shape is))
+
+view_clauses-items : {m : _} (row : Row_of-Clause m) (default : Clauses) → view_clauses row default ≡ clauses_of (items-the_row-Clause m row) default
+view_clauses-items end_of-Clause default = refl
+view_clauses-items (more_of-Clause e n r shape is row) default =
+    ap (λ (items : Items). Case e n r items (view_clauses row default)) (shown_view shape is)
+    ∙ ap (Case e n r (items_of (shown-the_row-Item-0 shape is).items)) (view_clauses-items row default)
+
+pub clauses_view : (v : Vec Clause Heap) (default : Clauses) → view_clauses (hidden-the_row-Clause-1 v) default ≡ clauses_of v.items default
+clauses_view v default = view_clauses-items (hidden-the_row-Clause-1 v) default ∙ ap (λ (cs : List Clause). clauses_of cs default) (items_hidden-the_row-Clause-1 v)
+
+default_view : (d : Option Body) → view_default (back-Stmt-Try-2 d) ≡ default_of d
+default_view None = refl
+default_view (Some b) = ap (Default b.region) (items_view b.items)
+
 -- ---- of each node that has one
 
 pub view_call : (f : Callee) (v : Vec ConvertedCode Heap) (t : ValueTypeCode) → view_expression (expr.Call f v t) ≡ Call f (arguments_of v.items) (view_value_type t)
@@ -52,3 +73,9 @@ view_binary b v t = ap (λ os. Binary (view_expression b.value) os (view_ty t)) 
 
 pub view_block : (r : ℕ) (v : Vec ItemCode Heap) → view_statement (stmt.Block r v) ≡ Block r (items_of v.items)
 view_block r v = ap (Block r) (items_view v)
+
+pub view_fields : (v : Vec ConvertedCode Heap) → view_initial (initial.Fields v) ≡ Fields (arguments_of v.items)
+view_fields v = ap Fields (arguments_view v)
+
+pub view_try : (b : Box Stmt Heap) (v : Vec Clause Heap) (d : Option Body) → view_statement (stmt.Try b v d) ≡ Try (view_statement b.value) (clauses_of v.items (default_of d))
+view_try b v d = ap (Try (view_statement b.value)) (clauses_view v (view_default (back-Stmt-Try-2 d)) ∙ ap (clauses_of v.items) (default_view d))

@@ -2,16 +2,17 @@
 
 use crate::Region;
 use cyc_syntax::PointerKind;
-use smallvec::SmallVec;
 use std::alloc::{AllocError, Global};
+use std::rc::{Rc, RcSlice};
 
-/// A type in which each region stands: a formed type of the subset, or a struct as the target of a pointer.
+/// A type in which each region stands: a formed type of the subset, or a struct as the target of a pointer. What it is made of is
+/// shared by all that has the type, so that having it once more takes no memory.
 #[derive(Drop)]
 pub enum Ty {
     Int,
     Pointer {
         kind: PointerKind,
-        target: Box<Ty>,
+        target: Rc<Ty>,
         region: Region,
     },
     /// `region_t<..>`
@@ -25,7 +26,7 @@ pub enum Ty {
     /// The struct of this number with its region arguments, one for each of its region parameters.
     Struct {
         number: usize,
-        regions: SmallVec<Region, 2>,
+        regions: RcSlice<Region>,
     },
 }
 
@@ -70,9 +71,33 @@ impl Ty {
                     number: other_number,
                     regions: other_regions,
                 },
-            ) => *number == *other_number && regions.as_slice() == other_regions.as_slice(),
+            ) => *number == *other_number && **regions == **other_regions,
             _ => false,
         }
+    }
+
+    /// The same type, which shares what it is made of.
+    pub fn share(&self) -> Result<Ty, AllocError>
+        ensures { IfOk result (λ ty. view_ty ty ≡ view_ty self.now) }
+    {
+        Ok(match self {
+            Ty::Int => Ty::Int,
+            Ty::Pointer {
+                kind,
+                target,
+                region,
+            } => Ty::Pointer {
+                kind: *kind,
+                target: target.clone()?,
+                region: *region,
+            },
+            Ty::Handle { region } => Ty::Handle { region: *region },
+            Ty::Key { region } => Ty::Key { region: *region },
+            Ty::Struct { number, regions } => Ty::Struct {
+                number: *number,
+                regions: regions.clone()?,
+            },
+        })
     }
 
     /// The type with each region variable replaced by the region at its number in `map`; a variable past the end of `map` stays.
@@ -89,7 +114,7 @@ impl Ty {
                 let target = target.substituted(alloc, map)?;
                 Ty::Pointer {
                     kind: *kind,
-                    target: Box::new(alloc, target)?,
+                    target: Rc::new(alloc, target)?,
                     region: region.substituted(map),
                 }
             }
@@ -101,7 +126,7 @@ impl Ty {
             },
             Ty::Struct { number, regions } => Ty::Struct {
                 number: *number,
-                regions: all_substituted(alloc, regions.as_slice(), map)?,
+                regions: all_substituted(alloc, regions, map)?,
             },
         })
     }
@@ -121,6 +146,7 @@ impl Ty {
 }
 
 ghost use Rattle.std.specs.Prelude.{◌≡◌, IfOk, map};
+ghost use Rattle.std.specs.Rc.{rc_slice_items};
 ghost use Rattle.cyc_types.specs.Regions.{substituted_region};
 
 /// Each region of a list substituted.
@@ -128,12 +154,12 @@ fn all_substituted(
     alloc: Global,
     regions: &[Region],
     replacements: &[Region],
-) -> Result<SmallVec<Region, 2>, AllocError>
-    ensures { IfOk result (λ all. all.items ≡ map (substituted_region replacements.now) regions.now) }
+) -> Result<RcSlice<Region>, AllocError>
+    ensures { IfOk result (λ all. rc_slice_items all ≡ map (substituted_region replacements.now) regions.now) }
 {
-    let mut all = SmallVec::new(alloc);
+    let mut all = Vec::with_capacity(alloc, regions.len())?;
     for region in regions {
         all.push(region.substituted(replacements))?;
     }
-    Ok(all)
+    RcSlice::from_vec(all)
 }

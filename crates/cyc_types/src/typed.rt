@@ -1,11 +1,12 @@
 //! The typed tree: what the checker makes of an abstract syntax tree, and what every later phase reads.
 //!
 //! Each name is resolved to a number: a local by its number in its function, in order of declaration and the parameters first, a
-//! global and a function by its number in the program. Reading a place, assigning it and later taking its address are nodes of their
-//! own, each conversion stands where it happens, and brackets are gone: nobody needs an environment of names or the type of an
-//! operand to say what a tree does. Chains of operators are lists, so that a tree is no deeper than the one that it was made of.
+//! struct, an exception, a global and a function by its number in the program. What a variable's value is used for and what an
+//! operator works on are told apart by the nodes, each conversion stands where it happens, and brackets are gone: nobody needs an
+//! environment of names or the type of an operand to say what a tree does. Chains of operators are lists, so that a tree is no deeper
+//! than the one that it was made of. Rare and large parts are in boxes, so that a node is small.
 
-use crate::Ty;
+use crate::{Region, Ty};
 use cyc_syntax::Name;
 use cyc_words::Span;
 
@@ -114,10 +115,56 @@ pub enum Expr {
     Number {
         value: u32,
     },
-    /// The value of a place, which stays there.
+    /// `NULL`
+    NullPointer,
+    /// `heap_region`
+    HeapRegion,
+    /// The variable of a `for`, by how many are around that one: it is no place.
+    Counter {
+        level: usize,
+    },
+    /// The value of a variable, which stays there.
     Copy {
         source: Lvalue,
         of_type: Ty,
+    },
+    /// The value of a local that is a unique pointer or a key, which leaves the local empty.
+    Move {
+        span: Span,
+        number: usize,
+        of_type: Ty,
+    },
+    /// The value of a local that is a unique pointer, only to look through it or to compare it: it stays there.
+    Peek {
+        span: Span,
+        number: usize,
+        of_type: Ty,
+    },
+    /// The value in a cell that a pointer leads to.
+    Load {
+        source: Box<Dereference>,
+    },
+    /// The address of a variable, with the type of the pointer.
+    AddressOf {
+        place: Lvalue,
+        of_type: Ty,
+    },
+    /// The address of a cell that a pointer leads to, with the type of the pointer.
+    AddressOfCell {
+        place: Box<Dereference>,
+        of_type: Ty,
+    },
+    /// `numelts`
+    NumberOfElements {
+        pointer: Box<Expr>,
+    },
+    /// `ufree`
+    FreeUnique {
+        pointer: Box<Expr>,
+    },
+    /// `free_ukey`
+    FreeKey {
+        key: Box<Expr>,
     },
     /// With the type of its result, if it has one.
     Call {
@@ -129,17 +176,89 @@ pub enum Expr {
         operator: UnaryOperator,
         operand: Box<Expr>,
     },
-    /// Operands joined by operators that group to the left, at least one.
+    /// Operands joined by operators that group to the left, at least one, and the type of the whole, which each of its results has.
     Binary {
         first: Box<Expr>,
         rest: Vec<Operation>,
         of_type: Ty,
     },
-    /// With the type of its value, if it has one.
+    /// The assignment of a variable, with the type of its value, if it has one: that of a unique pointer or of a key has none.
     Assign {
         target: Lvalue,
         value: Box<Converted>,
         result: ValueType,
+    },
+    /// The same of a cell that a pointer leads to.
+    Store {
+        target: Box<Dereference>,
+        value: Box<Converted>,
+        result: ValueType,
+    },
+    /// `new` and `rnew`: a new object, and the type of the pointer to it.
+    New {
+        placement: Placement,
+        initial: Box<Initial>,
+        of_type: Ty,
+    },
+}
+
+/// A place that a pointer leads to, with the type of what is there.
+#[cycle(expression)]
+#[derive(Drop)]
+pub enum Dereference {
+    /// `*e`, of a pointer of this kind.
+    Target {
+        kind: Kind,
+        pointer: Expr,
+        of_type: Ty,
+    },
+    /// `e->f`, by the number of the struct and that of the field in it.
+    Member {
+        kind: Kind,
+        pointer: Expr,
+        number: usize,
+        field: usize,
+        of_type: Ty,
+    },
+    /// `e[i]`
+    Element {
+        pointer: Expr,
+        index: Expr,
+        of_type: Ty,
+    },
+}
+
+/// Where a new object is made.
+#[cycle(expression)]
+#[derive(Drop)]
+pub enum Placement {
+    /// `new`
+    OnHeap,
+    /// `rnew(unique_region)`
+    AsUnique,
+    /// `rnew(e)`, by the handle of a region.
+    ByHandle { handle: Box<Expr> },
+}
+
+/// What a new object holds.
+#[cycle(expression)]
+#[derive(Drop)]
+pub enum Initial {
+    /// A value of this kind.
+    Plain {
+        kind: Kind,
+        value: Expr,
+    },
+    /// The fields of a struct, in order.
+    Fields {
+        values: Vec<Converted>,
+    },
+    /// `{for i < length : element}`, where the variable is the counter of this level, with elements of this kind.
+    Array {
+        level: usize,
+        length: Expr,
+        kind: Kind,
+        element: Expr,
     },
 }
 
@@ -156,6 +275,7 @@ pub struct Converted {
 #[cycle(expression)]
 #[derive(Drop)]
 pub enum Operation {
+    /// It computes with two ints.
     Compute {
         operator: Operator,
         operand: Expr,
@@ -165,12 +285,30 @@ pub enum Operation {
         operator: LogicalOperator,
         operand: Expr,
     },
+    /// The left operand is a pointer, or `NULL`.
+    Pointer {
+        operator: PointerOperator,
+        operand: Expr,
+    },
+    /// The left operand is a peek of this local, which must stay as it is while the right one is evaluated.
+    PointerPeek {
+        number: usize,
+        operator: PointerOperator,
+        operand: Expr,
+    },
+}
+
+/// One side of a swap: a variable with its type, or a cell that a pointer leads to.
+#[derive(Drop)]
+pub enum Side {
+    Variable { place: Lvalue, of_type: Ty },
+    Cell { place: Box<Dereference> },
 }
 
 #[cycle(statement)]
 #[derive(Drop)]
 pub enum Stmt {
-    /// A block, with the number of its region in its function.
+    /// A block, labelled or not, with the number of its region in its function.
     Block {
         region: usize,
         items: Vec<Item>,
@@ -178,6 +316,10 @@ pub enum Stmt {
     Empty,
     Evaluate {
         value: Expr,
+    },
+    Swap {
+        left: Side,
+        right: Side,
     },
     /// Where no `else` is written, the other statement is empty.
     If {
@@ -196,6 +338,35 @@ pub enum Stmt {
     },
     Break,
     Continue,
+    /// An exception by its number, with its int if it has one.
+    Throw {
+        tag: usize,
+        value: Option<Expr>,
+    },
+    /// The clauses of a catch, and the default clause behind them, if there is one.
+    Try {
+        body: Box<Stmt>,
+        clauses: Vec<Clause>,
+        default: Option<Body>,
+    },
+}
+
+/// The items of a clause, with the number of their region in the function.
+#[cycle(statement)]
+#[derive(Drop)]
+pub struct Body {
+    pub region: usize,
+    pub items: Vec<Item>,
+}
+
+/// A clause for the exception of this number, and the local that gets its int, if one does.
+#[cycle(statement)]
+#[derive(Drop)]
+pub struct Clause {
+    pub tag: usize,
+    pub number: Option<usize>,
+    pub region: usize,
+    pub items: Vec<Item>,
 }
 
 #[cycle(statement)]
@@ -209,6 +380,31 @@ pub enum Item {
         number: usize,
         of_type: Ty,
         value: Option<Converted>,
+    },
+    /// A lexical region to the end of the block, by its number in its function; the local of this number is its handle.
+    Region {
+        region: usize,
+        number: usize,
+    },
+    /// The same of the region that a local is the key of, with the place of the key's name.
+    Open {
+        region: usize,
+        number: usize,
+        span: Span,
+        key: usize,
+    },
+    /// A local that shares the unique object of another to the end of the block, with the place of the other's name.
+    Alias {
+        region: usize,
+        number: usize,
+        of_type: Ty,
+        span: Span,
+        source: usize,
+    },
+    /// A dynamic region, and the local that is its key.
+    DynamicRegion {
+        region: usize,
+        number: usize,
     },
 }
 
@@ -226,7 +422,16 @@ pub struct Global {
     pub value: Constant,
 }
 
-/// A function with its body. Its locals are numbered from 0: first its parameters, then what its body declares.
+#[derive(Drop)]
+pub struct StructType {
+    /// The number of its region parameters.
+    pub parameters: usize,
+    /// The types of its fields, in order. A region parameter is the region variable of its number.
+    pub fields: Vec<Ty>,
+}
+
+/// A function with its body. Its locals are numbered from 0: first its parameters, then what its body declares, in order. So are its
+/// regions: first its own, then those that its parameters name, then those that its body declares, in order.
 #[derive(Drop)]
 pub struct Function {
     pub name: Name,
@@ -234,6 +439,12 @@ pub struct Function {
     pub parameters: Vec<Ty>,
     /// A `void` function has none.
     pub result: Option<Ty>,
+    /// How many regions its parameters name.
+    pub variables: usize,
+    /// The regions that must be live where it is called.
+    pub effect: Vec<Region>,
+    /// Pairs of regions of which the first outlives the second.
+    pub constraints: Vec<(Region, Region)>,
     /// The types of what the body declares.
     pub locals: Vec<Ty>,
     /// The number of its own region, in which its parameters and the body's own variables live.
@@ -245,9 +456,12 @@ pub struct Function {
     pub end: Span,
 }
 
-/// A program in which all names are resolved and all types agree. Globals and functions have the numbers of their places here.
+/// A program in which all names are resolved and all types agree. Structs, globals and functions have the numbers of their places here.
 #[derive(Drop)]
 pub struct TypedTree {
+    pub structs: Vec<StructType>,
+    /// Of each exception that is declared, whether it has an int.
+    pub exceptions: Vec<bool>,
     pub globals: Vec<Global>,
     pub functions: Vec<Function>,
     /// The number of the function `main`.
