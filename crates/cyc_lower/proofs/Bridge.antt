@@ -6,19 +6,21 @@ use Rattle.cyc_meaning.specs.Operators.{null_exception, division_by_zero}
 use Rattle.cyc_types.specs.declared.typed.Kind.{Kind}
 use Rattle.cyc_types.specs.declared.typed.Kind.TheVariants as kinds
 use Rattle.cyc_types.specs.declared.typed.Callee.TheVariants as callees
+use Rattle.cyc_types.specs.declared.typed.UnaryOperator.TheVariants as unary
 use Rattle.cyc_types.specs.declared.typed.Operator.{Operator}
 use Rattle.cyc_types.specs.declared.typed.Operator.TheVariants as operators
 use Rattle.cyc_types.specs.Types.{Ty}
 use Rattle.cyc_types.specs.TypedTrees.{Lvalue, Local, Global, Expression, Number, Copy, Call, Unary, Binary, Assign, Converted, Convert, Arguments, NoArguments, MoreArguments, Operations, NoOperations, ThenCompute, ThenTest, Statement, Block, Empty, Evaluate, If, While, Return, Break, Continue, Items, NoItems, MoreItems, Execute, Declare, Function, Program}
 use Rattle.cyc_types.specs.Scopes.{Signature}
 use Rattle.cyc_types.specs.Numbered.{Numbering, argument_count, IsWithin, IsNumbered, IsNumberedConverted, AreNumberedArguments, AreNumberedOperations, IsNumberedReturn, IsNumberedInitial, IsNumberedStatement, AreNumberedItems, numbering_of, signatures_of, AreNumberedFunctions, IsNumberedProgram}
+use Rattle.cyc_plain.specs.declared.instruction.Comparison.{Comparison}
 use Rattle.cyc_plain.specs.declared.instruction.Operand.{Operand}
 use Rattle.cyc_plain.specs.declared.instruction.Operand.TheVariants as operands
 use Rattle.cyc_plain.specs.declared.instruction.Instruction.{Instruction}
 use Rattle.cyc_plain.specs.declared.instruction.Instruction.TheVariants as instructions
 use Rattle.cyc_plain.specs.Program.{Routine, no_routine, routine_at}
-use Rattle.cyc_lower.specs.Lowering.{slot_of, operand_of, operand_or, code_unless, slot_or, code_unless_slot, left_with, left_of, value_slot, next_slot, slot_with, left_slot, value_operand, converted_operand, printed_operand, jump_if_nonzero, check_code, conversion_code, divisor_code, checked_code, operator_code, truth_code, load_code, low_byte, test_code, is_in, copy_code, expression_code, arguments_code, converted_code, converted_operand_code, printed_code, initial_code, assignment_code, assigned_operand, operations_code, discarded_code, condition_code, failing_jump, break_target, continue_target, return_code, declaration_code, statement_code, items_code, function_code, first_temporary, results_of, lower_function, lower_program}
-use Rattle.cyc_lower.proofs.Stands.{At, HasAt, has_front, has_back, has_all, OperandBy, CheckAt, ConversionAt, DivisorAt, CheckedAt, OperatorAt, LoadAt, CopyBy, ExpressionAt, InitialAt, ConvertedAt, ConvertedOperandAt, PrintedAt, ArgumentsAt, OperationsAt, ValueAt, AssignmentAt, DiscardedAt, ReturnedAt, ReturnAt, DeclarationAt, StatementAt, ItemsAt}
+use Rattle.cyc_lower.specs.Lowering.{slot_of, operand_of, operand_or, code_unless, slot_or, code_unless_slot, left_with, left_of, value_slot, next_slot, slot_with, left_slot, value_operand, converted_operand, printed_operand, jump_if_nonzero, check_code, conversion_code, divisor_code, checked_code, operator_code, truth_code, load_code, low_byte, test_code, is_in, copy_code, expression_code, arguments_code, converted_code, converted_operand_code, printed_code, initial_code, assignment_code, assigned_operand, operations_code, discarded_code, failing_comparison, compared_or, compared_of, first_operand, first_code, second_code, pair_code, condition_code, condition_of, failing_jump, break_target, continue_target, return_code, declaration_code, statement_code, items_code, function_code, first_temporary, results_of, lower_function, lower_program}
+use Rattle.cyc_lower.proofs.Stands.{At, HasAt, has_front, has_back, has_all, OperandBy, CheckAt, ConversionAt, DivisorAt, CheckedAt, OperatorAt, LoadAt, CopyBy, ExpressionAt, InitialAt, ConvertedAt, ConvertedOperandAt, PrintedAt, ArgumentsAt, OperationsAt, PairAt, ConditionAt, AssignmentAt, DiscardedAt, ReturnedAt, ReturnAt, DeclarationAt, StatementAt, ItemsAt}
 use Rattle.cyc_lower.proofs.Relation.{bounds_in, bounds_at}
 use Rattle.cyc_lower.proofs.Calls.{FunctionsStand}
 
@@ -251,10 +253,34 @@ module _ (code : List Instruction) (b : Numbering) where
   discarded_stands a t p q numbered end has =
       (operand_or (operand_of a) t, operand_by (operand_of a) _ (expression_code a p t t) t p q end has (λ e h. expression_stands a t t p q numbered e h))
 
-  -- an expression that is an operand
-  value_stands : (a : Expression) (t p q : ℕ) → IsNumbered b a → p + length (condition_code a p t) ≡ q → HasAt code p (condition_code a p t) → ValueAt code b a t (value_operand a t) p q
-  value_stands a t p q numbered end has =
-      operand_by (operand_of a) _ (expression_code a p (value_slot a t) t) (value_slot a t) p q end has (λ e h. expression_stands a (value_slot a t) t p q numbered e h)
+  -- two operands that are compared
+  pair_stands : (a c : Expression) (t p q : ℕ) → IsNumbered b a → IsNumbered b c → p + length (pair_code a c p t) ≡ q → HasAt code p (pair_code a c p t)
+      → PairAt code b a c (first_operand a c t) (value_operand c (suc t)) t p q
+  pair_stands a c t p q numbered_a numbered_c end has =
+      let slot = slot_with (operand_of c) a t in
+      let front = first_code a c p t in
+      let m = p + length front in
+      let back = second_code c m t in (
+        m,
+        operand_by (left_with (operand_of c) (operand_of a)) _ (expression_code a p slot t) slot p m refl (has_front code p front back has) (λ e h. expression_stands a slot t p m numbered_a e h),
+        right_by (operand_of c) (first_operand a c t ≡ operands.Slot t) _ (expression_code c m (value_slot c (suc t)) (suc t)) (value_slot c (suc t)) m q (left_first (operand_of c) a t)
+            (cut p q front back end) (has_back code p front back has) (λ e h. expression_stands c (value_slot c (suc t)) (suc t) m q numbered_c e h),
+      )
+
+  compared_numbered : (a : Expression) → IsNumbered b a → IsNumbered b (compared_of a).left × IsNumbered b (compared_of a).right
+  compared_numbered (Unary unary.Not a) numbered = (numbered, tt)
+  compared_numbered (Binary a (ThenCompute o c NoOperations) ty) (first, (second, none)) = by (failing_comparison o)
+    where
+      by : (f : Option Comparison) → IsNumbered b (compared_or f a c (Binary a (ThenCompute o c NoOperations) ty)).left × IsNumbered b (compared_or f a c (Binary a (ThenCompute o c NoOperations) ty)).right
+      by (Some failing) = (first, second)
+      by None = ((first, (second, none)), tt)
+  compared_numbered a numbered = (numbered, tt)
+
+  condition_stands : (a : Expression) (t p q : ℕ) → IsNumbered b a → p + length (condition_code a p t) ≡ q → HasAt code p (condition_code a p t)
+      → ConditionAt code b a (condition_of a t).left (condition_of a t).right t p q
+  condition_stands a t p q numbered end has =
+      let (first, second) = compared_numbered a numbered in
+      pair_stands (compared_of a).left (compared_of a).right t p q first second end has
 
   -- ---- statements
 
@@ -302,17 +328,18 @@ module _ (code : List Instruction) (b : Numbering) where
         let first = statement_code s (m + 1) loop t in
         let r = m + 1 + length first in
         let second = statement_code u (r + 1) loop t in
-        let jump_first = failing_jump a t (r + 1) ∷ first in
+        let jump_first = failing_jump (condition_of a t) (r + 1) ∷ first in
         let jump_second = instructions.Jump (r + 1 + length second) ∷ second in
         let front = condition ++ jump_first in
         let long : length front ≡ length condition + suc (length first) = length-append condition jump_first in
         let (jump, has_first) = has_back code p condition jump_first (has_front code p front jump_second has) in
         let (over, has_second) = subst (λ x. HasAt code x jump_second) (let e : p + length front ≡ r = omega (arith, long) in e) (has_back code p front jump_second has) in
         let end_is : r + 1 + length second ≡ q = omega (arith, cut p q front jump_second end, long) in (
-          value_operand a t,
+          (condition_of a t).left,
+          (condition_of a t).right,
           m,
           r,
-          value_stands a t p m numbered_a refl (has_front code p condition jump_first (has_front code p front jump_second has)),
+          condition_stands a t p m numbered_a refl (has_front code p condition jump_first (has_front code p front jump_second has)),
           jump,
           statement_stands s in_loop loop t (m + 1) r numbered_s refl has_first,
           subst (λ x. At code r (instructions.Jump x)) end_is over,
@@ -323,7 +350,7 @@ module _ (code : List Instruction) (b : Numbering) where
         let m = p + 2 + length condition in
         let body = statement_code s (m + 1) p t in
         let r = m + 1 + length body in
-        let test = failing_jump a t (break_target p) ∷ body in
+        let test = failing_jump (condition_of a t) (break_target p) ∷ body in
         let again = instructions.Jump (continue_target p) ∷ [] in
         let (enter, (leave, inner)) = has in
         let inner_has = subst (λ x. HasAt code x ((condition ++ test) ++ again)) (let e : p + 1 + 1 ≡ p + 2 = omega arith in e) inner in
@@ -333,12 +360,13 @@ module _ (code : List Instruction) (b : Numbering) where
         let (jump, has_body) = has_back code (p + 2) condition test front_has in
         let (back, none) = has_back code (p + 2) (condition ++ test) again inner_has in
         let end_is : r + 1 ≡ q = omega (arith, end, long, all) in (
-          value_operand a t,
+          (condition_of a t).left,
+          (condition_of a t).right,
           m,
           r,
           enter,
           subst (λ x. At code (p + 1) (instructions.Jump x)) end_is leave,
-          value_stands a t (p + 2) m numbered_a refl (has_front code (p + 2) condition test front_has),
+          condition_stands a t (p + 2) m numbered_a refl (has_front code (p + 2) condition test front_has),
           jump,
           statement_stands s true p t (m + 1) r numbered_s refl has_body,
           subst (λ x. At code x (instructions.Jump (continue_target p))) (let e : p + 2 + length (condition ++ test) ≡ r = omega (arith, long) in e) back,

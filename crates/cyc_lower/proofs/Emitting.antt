@@ -31,7 +31,7 @@ use Rattle.cyc_plain.specs.declared.instruction.Operand.{Operand}
 use Rattle.cyc_plain.specs.declared.instruction.Operand.TheVariants as operands
 use Rattle.cyc_plain.specs.declared.instruction.Instruction.{Instruction}
 use Rattle.cyc_plain.specs.declared.instruction.Instruction.TheVariants as instructions
-use Rattle.cyc_lower.specs.Lowering.{slot_of, operand_of, operand_or, code_unless, left_with, left_of, slot_with, left_slot, low_byte, value_operand, next_slot, converted_operand, printed_operand, divisor_code, operator_code, load_code, compute_code, test_jump, truth_code, test_code, copy_code, expression_code, arguments_code, converted_code, converted_operand_code, printed_code, initial_code, assignment_code, assigned_operand, operations_code, discarded_code}
+use Rattle.cyc_lower.specs.Lowering.{slot_of, operand_of, operand_or, code_unless, left_with, left_of, slot_with, left_slot, low_byte, value_operand, next_slot, converted_operand, printed_operand, divisor_code, operator_code, load_code, compute_code, test_jump, truth_code, test_code, copy_code, expression_code, arguments_code, converted_code, converted_operand_code, printed_code, initial_code, assignment_code, assigned_operand, operations_code, discarded_code, binary_operator}
 use Rattle.cyc_lower.specs.Emission.{most_locals, value_code, print_code, left_code, takes_operand, HasRoom, HasRoomFor, operation_code}
 
 -- ---- no expression is without code
@@ -47,8 +47,8 @@ loads (Local p n) d = omega arith
 loads (Global n) d = omega arith
 
 operates : (o : Operator) (l r : Operand) (p d : ℕ) → 0 < length (operator_code o l r p d)
-operates operators.Divide l r p d = behind (divisor_code r p) _ (omega arith)
-operates operators.Remainder l r p d = behind (divisor_code r p) _ (omega arith)
+operates operators.Divide l r p d = behind _ (instructions.Binary (binary_operator operators.Divide) d l r ∷ []) (omega arith)
+operates operators.Remainder l r p d = behind _ (instructions.Binary (binary_operator operators.Remainder) d l r ∷ []) (omega arith)
 operates o l r p d = omega arith
 
 computes : (o : Operator) (b : Expression) (os : Operations) (p : ℕ) (l : Operand) (d t : ℕ) → 0 < length (operations_code (ThenCompute o b os) p l d t)

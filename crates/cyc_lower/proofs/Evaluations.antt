@@ -7,11 +7,14 @@ use Rattle.cyc_types.specs.declared.typed.Callee.{Callee}
 use Rattle.cyc_types.specs.declared.typed.Callee.TheVariants as callees
 use Rattle.cyc_types.specs.declared.typed.Kind.{Kind}
 use Rattle.cyc_types.specs.declared.typed.Kind.TheVariants as kinds
+use Rattle.cyc_types.specs.declared.typed.UnaryOperator.TheVariants as unary
 use Rattle.cyc_types.specs.declared.typed.Operator.{Operator}
 use Rattle.cyc_types.specs.Types.{Ty, ValueType}
 use Rattle.cyc_types.specs.TypedTrees.{Lvalue, Local, Global, Expression, Number, Copy, Call, Unary, Binary, Assign, Converted, Convert, Arguments, NoArguments, MoreArguments, Operations, NoOperations, ThenCompute, ThenTest, Function, Program}
 use Rattle.cyc_types.specs.TypedTrees as typed
 use Rattle.cyc_types.specs.Numbered.{argument_count}
+use Rattle.cyc_plain.specs.declared.instruction.Comparison.{Comparison}
+use Rattle.cyc_plain.specs.declared.instruction.Comparison.TheVariants as comparisons
 use Rattle.cyc_plain.specs.declared.instruction.Operand.{Operand}
 use Rattle.cyc_plain.specs.declared.instruction.Operand.TheVariants as operands
 use Rattle.cyc_plain.specs.declared.instruction.Instruction.{Instruction}
@@ -21,12 +24,12 @@ use Rattle.cyc_plain.specs.Step.{operand_word, with_slots, advanced}
 use Rattle.cyc_plain.proofs.SlotLaws.{put-same}
 use Rattle.cyc_meaning.specs.Values.{Value, Int, Thin, Operand as Kinded, kind_of}
 use Rattle.cyc_meaning.specs.SourceMachine.{status_in}
-use Rattle.cyc_meaning.specs.State.{status_of, World, Environment, ConvertTo, Operate, Chain, Apply, Store, Pass, Entry, Needs, Discard, Focus, Evaluating, Given, Running}
+use Rattle.cyc_meaning.specs.State.{status_of, World, Environment, ConvertTo, Operate, Chain, Apply, Store, Pass, Choose, Test, Entry, Needs, Discard, Focus, Evaluating, Given, Running}
 use Rattle.cyc_meaning.specs.Step.{object_of, assigned, passes, step}
-use Rattle.cyc_lower.specs.Lowering.{slot_of, operand_of, value_slot, left_with, slot_with}
+use Rattle.cyc_lower.specs.Lowering.{slot_of, failing_comparison, operand_of, value_slot, left_with, slot_with, compared_or, compared_of}
 use Rattle.cyc_lower.proofs.Weights.{weight, stack_weight, expression_weight, arguments_weight}
-use Rattle.cyc_lower.proofs.Stands.{At, CopyBy, CopyAt, OperandBy, ConversionAt, ExpressionAt, ArgumentsAt, OperationsAt, ValueAt, AssignmentAt, PrintedAt, DiscardedAt}
-use Rattle.cyc_lower.proofs.Relation.{Is, height, Holds, held, contents, callers, Lands, in_temporary, in_local, drops, leaves, copies, Prints, prints_only, gives_byte, DataIn, SharedAt, CallAt, ValueStack, DroppedStack, AheadStack, LandsStack, HandsOnStack, PrintsStack, RightAt, EvaluatingAt, as_operand, into_slot, for_effect, as_right, in_operand, ahead, with_left, Related, Matches, code_of, bounds_in, bounds_at, base_of, top}
+use Rattle.cyc_lower.proofs.Stands.{At, CopyBy, CopyAt, OperandBy, ConversionAt, ExpressionAt, ArgumentsAt, OperationsAt, ValueAt, PairAt, ConditionAt, AssignmentAt, PrintedAt, DiscardedAt}
+use Rattle.cyc_lower.proofs.Relation.{Is, height, Holds, held, contents, callers, Lands, in_temporary, in_local, drops, leaves, copies, Prints, prints_only, gives_byte, DataIn, SharedAt, CallAt, to_slot, to_jump, ValueStack, ConditionStack, DroppedStack, AheadStack, LandsStack, HandsOnStack, PrintsStack, RightAt, EvaluatingAt, as_operand, into_slot, for_effect, as_right, as_condition, in_operand, ahead, with_left, Related, Matches, code_of, bounds_in, bounds_at, base_of, top}
 use Rattle.cyc_lower.proofs.Data.{height-least, Holds-put, Holds-local, data_put, data_put_back}
 use Rattle.cyc_lower.proofs.Accesses.{IsWell, is_loaded}
 use Rattle.cyc_lower.proofs.Matched.{IsMatched, silently, one}
@@ -245,16 +248,16 @@ module _ (source : Program) (pages calls : ℕ) (some_page : 1 ≤ pages) where
   comes (Call (callees.Function n) cs t) k e w c d q known (m, at, here, end) lands = calls_out (callees.Function n) cs t k e w c d m q known at (here, end) lands
   comes (Unary o a) k e w c d q (well, shared, facts, holds) (r, m, at_a, at, end) lands =
       silently source pages calls some_page (Running (Evaluating (Unary o a)) k e w) (Running (Evaluating a) (Needs (Operate o) ∷ k) e w) (plain.Running c) refl
-      (shared, facts, as_operand r m at_a holds (d, at, lands_at c.active.function e.locals d (m + 1) q c.frames k end lands))
+      (shared, facts, as_operand r m at_a holds (to_slot (d, at, lands_at c.active.function e.locals d (m + 1) q c.frames k end lands)))
       (omega arith)
   comes (Binary a NoOperations t) k e w c d q (well, shared, facts, holds) (l, m, (is, at_a), (is_there, end)) lands =
       silently source pages calls some_page (Running (Evaluating (Binary a NoOperations t)) k e w) (Running (Evaluating a) (Needs (Chain NoOperations) ∷ k) e w) (plain.Running c) refl
       (shared, facts, into_slot d m at_a holds (lands_at c.active.function e.locals d m q c.frames k end lands))
       (omega arith)
   comes (Binary a (ThenCompute o b os) t) k e w c d q known (l, m, at_a, at) lands =
-      chain_begins (operand_of b) a (ThenCompute o b os) t k e w c l m known at_a (d, q, at, lands)
+      chain_begins (operand_of b) a (ThenCompute o b os) t k e w c l m known at_a (to_slot (d, q, at, lands))
   comes (Binary a (ThenTest o b os) t) k e w c d q known (l, m, at_a, at) lands =
-      chain_begins None a (ThenTest o b os) t k e w c l m known at_a (d, q, at, lands)
+      chain_begins None a (ThenTest o b os) t k e w c l m known at_a (to_slot (d, q, at, lands))
   comes (Binary a os t) k e w c d q known (l, m, at_a, at) lands = absurd at
   comes (Assign (Local p n) (Convert from to a) t) k e w c d q known (o, m, at, copy) lands = assigns (Local p n) from to a t k e w c (object_of e (Local p n)) o m refl known at (copies d q copy lands)
   comes (Assign (Global n) (Convert from to a) t) k e w c d q known (o, m, at, copy) lands = assigns (Global n) from to a t k e w c (object_of e (Global n)) o m refl known at (copies d q copy lands)
@@ -318,15 +321,54 @@ module _ (source : Program) (pages calls : ℕ) (some_page : 1 ≤ pages) where
   -- a right operand without code, with the left one beside it
   beside_left : (a : Expression) (k : List Entry) (e : Environment) (w : World) (c : Configuration) → IsWell (step source (Running (Evaluating a) k e w)) → SharedAt source calls w c → DataIn source c.active.slots k e w c
       → RightAt source a e.locals c.active.function c.active.next c.active.slots c.frames k → IsBegun a k e w c
-  beside_left a (Needs (Apply u left) ∷ k) e w c well shared facts (l, r, d, q, known, is_left, holds, at, lands) =
+  beside_left a (Needs (Apply u left) ∷ k) e w c well shared facts (l, r, known, is_left, holds, applied) =
       let found = reads a r (Needs (Apply u left) ∷ k) e w c known well facts in
       silently source pages calls some_page (Running (Evaluating a) (Needs (Apply u left) ∷ k) e w) (Running (Given found.value) (Needs (Apply u left) ∷ k) e w) (plain.Running c) found.gives
-      (shared, with_left facts (l, r, d, q, is_left, found.is, holds, at, lands))
+      (shared, with_left facts (l, r, is_left, found.is, holds, applied))
       (omega (arith, found.some))
   beside_left a k e w c well shared facts right = absurd right
+
+  -- a value that is tested
+  tested_value : (g : ℕ) (locals : ℕ → Option ℕ) (o : Operand) (p : ℕ) (frames : List Frame) (k : List Entry) → ConditionStack source g comparisons.Equal o (operands.Word 0) p frames k → ValueStack source g locals o p frames k
+  tested_value g locals o p frames (Needs (Chain NoOperations) ∷ k) stack = tested_value g locals o p frames k stack
+  tested_value g locals o p frames (Needs (Choose s t) ∷ k) stack = stack
+  tested_value g locals o p frames (Needs (Test a s) ∷ k) stack = stack
+  tested_value g locals o p frames k stack = absurd stack
+
+  -- what stands behind two operands, of which the second has no code
+  alone : (g : ℕ) (failing : Comparison) (l r : Operand) (p q : ℕ) (frames : List Frame) (k : List Entry) → r ≡ operands.Word 0 → p ≡ q
+      → ConditionStack source g failing l r q frames k → ConditionStack source g failing l (operands.Word 0) p frames k
+  alone g failing l r p q frames k is end stack =
+      subst (λ x. ConditionStack source g failing l x p frames k) is (subst (λ x. ConditionStack source g failing l r x frames k) (sym end) stack)
+
+  not_zero : (a : Expression) (k : List Entry) (e : Environment) (w : World) (c : Configuration) (l r : Operand) (q : ℕ) → At_step a k e w c
+      → PairAt (code_of source c.active.function) (bounds_at source c.active.function) a (Number 0) l r (top source c.active.function k) c.active.next q
+      → ConditionStack source c.active.function comparisons.Equal l r q c.frames k → IsBegun a k e w c
+  not_zero a k e w c l r q known (m, at_a, (is, end)) stack =
+      operand a k e w c l m known at_a (tested_value c.active.function e.locals l m c.frames k (alone c.active.function comparisons.Equal l r m q c.frames k is end stack))
+
+  compares : (f : Option Comparison) (o : Operator) (a b : Expression) (t : Ty) (k : List Entry) (e : Environment) (w : World) (c : Configuration) (l r : Operand) (q : ℕ) → failing_comparison o ≡ f
+      → At_step (Binary a (ThenCompute o b NoOperations) t) k e w c
+      → PairAt (code_of source c.active.function) (bounds_at source c.active.function) (compared_or f a b (Binary a (ThenCompute o b NoOperations) t)).left
+      (compared_or f a b (Binary a (ThenCompute o b NoOperations) t)).right l r (top source c.active.function k) c.active.next q
+      → ConditionStack source c.active.function (compared_or f a b (Binary a (ThenCompute o b NoOperations) t)).failing l r q c.frames k → IsBegun (Binary a (ThenCompute o b NoOperations) t) k e w c
+  compares (Some failing) o a b t k e w c l r q is known (m, at_a, at_b) stack =
+      chain_begins (operand_of b) a (ThenCompute o b NoOperations) t k e w c l m known at_a (to_jump (failing, r, q, (is, at_b), stack))
+  compares None o a b t k e w c l r q is known at stack = not_zero (Binary a (ThenCompute o b NoOperations) t) k e w c l r q known at stack
+
+  condition : (a : Expression) (k : List Entry) (e : Environment) (w : World) (c : Configuration) (l r : Operand) (q : ℕ) → At_step a k e w c
+      → ConditionAt (code_of source c.active.function) (bounds_at source c.active.function) a l r (top source c.active.function k) c.active.next q
+      → ConditionStack source c.active.function (compared_of a).failing l r q c.frames k → IsBegun a k e w c
+  condition (Unary unary.Not a) k e w c l r q (well, shared, facts, holds) (m, at_a, (is, end)) stack =
+      silently source pages calls some_page (Running (Evaluating (Unary unary.Not a)) k e w) (Running (Evaluating a) (Needs (Operate unary.Not) ∷ k) e w) (plain.Running c) refl
+      (shared, facts, as_operand l m at_a holds (to_jump (refl, alone c.active.function comparisons.NotEqual l r m q c.frames k is end stack)))
+      (omega arith)
+  condition (Binary a (ThenCompute o b NoOperations) t) k e w c l r q known at stack = compares (failing_comparison o) o a b t k e w c l r q refl known at stack
+  condition a k e w c l r q known at stack = not_zero a k e w c l r q known at stack
 
   pub evaluating : (a : Expression) (k : List Entry) (e : Environment) (w : World) (c : Configuration) → IsStep (Evaluating a) k e w c
   evaluating a k e w c well (shared, facts, as_operand o q at holds stack) = operand a k e w c o q (well, shared, facts, holds) at stack
   evaluating a k e w c well (shared, facts, into_slot d q at holds lands) = comes a k e w c d q (well, shared, facts, holds) at lands
   evaluating a k e w c well (shared, facts, for_effect q at holds stack) = for_its_effect a k e w c q (well, shared, facts, holds) at stack
   evaluating a k e w c well (shared, facts, as_right right) = beside_left a k e w c well shared facts right
+  evaluating a k e w c well (shared, facts, as_condition l r q at holds stack) = condition a k e w c l r q (well, shared, facts, holds) at stack

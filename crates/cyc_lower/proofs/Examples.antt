@@ -7,7 +7,7 @@ use Rattle.cyc_types.specs.declared.typed.Kind.TheVariants as kinds
 use Rattle.cyc_types.specs.declared.typed.Callee.{Callee}
 use Rattle.cyc_types.specs.declared.typed.Callee.TheVariants.{Putchar, Getchar, Function as Calls}
 use Rattle.cyc_types.specs.declared.typed.UnaryOperator.TheVariants as unary
-use Rattle.cyc_types.specs.declared.typed.Operator.TheVariants.{Equal, NotEqual, Greater, Add, Subtract, Multiply, Divide, Remainder}
+use Rattle.cyc_types.specs.declared.typed.Operator.TheVariants.{Equal, NotEqual, Less, Greater, Add, Subtract, Multiply, Divide, Remainder}
 use Rattle.cyc_types.specs.declared.typed.LogicalOperator.TheVariants.{AndThen, OrElse}
 use Rattle.cyc_types.specs.Types.{Ty, Int, Pointer, Value}
 use Rattle.cyc_types.specs.TypedTrees.{Local, Global, Expression, Number, Copy, Call, Unary, Binary, Assign, Converted, Convert, Arguments, NoArguments, MoreArguments, Operations, NoOperations, ThenCompute, ThenTest, Statement, Block, Empty, Evaluate, If, While, Return, Break, Continue, Items, NoItems, MoreItems, Execute, Declare, Word, Null, Function, Program}
@@ -18,6 +18,7 @@ use Rattle.cyc_plain.specs.declared.instruction.Operand.TheVariants.{Slot, Word 
 use Rattle.cyc_plain.specs.declared.instruction.Instruction.TheVariants.{Move, Jump}
 use Rattle.cyc_plain.specs.declared.instruction.Instruction.TheVariants as instructions
 use Rattle.cyc_plain.specs.declared.instruction.BinaryOperator.TheVariants as plain_binary
+use Rattle.cyc_plain.specs.declared.instruction.Comparison.TheVariants as comparisons
 use Rattle.cyc_words.specs.Simulation.{Status, Ended}
 use Rattle.cyc_words.specs.Simulation as simulation
 use Rattle.cyc_plain.specs.State.{State, output_of, status_of}
@@ -273,6 +274,19 @@ branch_code : code_of_body (all (If (local 0) (Evaluate (two (local 0) (ThenComp
     ∷ Jump 5
     ∷ instructions.Return 2 ∷ []
 branch_code = refl
+
+-- a condition that compares is one jump, and so is one that negates
+compared_code : code_of_body (all (If (two (local 0) (ThenCompute Less (local 1) NoOperations)) (returns (local 0)) Empty ∷ [])) ≡
+    instructions.Branch comparisons.GreaterOrEqual (Slot 0) (Slot 1) 3
+    ∷ instructions.Return 0
+    ∷ Jump 3
+    ∷ instructions.Return 2 ∷ []
+compared_code = refl
+
+negated_code : code_of_body (all (While nowhere (Unary unary.Not (local 0)) Break ∷ [])) ≡
+    Jump 2 ∷ Jump 5 ∷ instructions.Branch comparisons.NotEqual (Slot 0) (Constant 0) 1 ∷ Jump 1 ∷ Jump 2
+    ∷ instructions.Return 2 ∷ []
+negated_code = refl
 
 -- a local gets a sum by one instruction, and a byte is printed by one
 direct_code : code_of_body (all (Evaluate (sets 0 (two (local 0) (ThenCompute Add (Number 1) NoOperations))) ∷ Evaluate (call Putchar (local 1 ∷ [])) ∷ [])) ≡

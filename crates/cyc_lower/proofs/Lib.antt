@@ -15,6 +15,7 @@ pub mod Values
 pub mod Evaluations
 pub mod Accesses
 pub mod Branching
+pub mod Conditions
 pub mod Calls
 pub mod StatementSteps
 pub mod Whole

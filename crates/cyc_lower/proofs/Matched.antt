@@ -5,8 +5,11 @@ use Rattle.std.specs.List.{AllByRecursion}
 use Rattle.std.proofs.lemmas.Bool.{le-leb, and_from}
 use Rattle.cyc_words.specs.Ending.{Ending, Full}
 use Rattle.cyc_types.specs.declared.typed.Callee.TheVariants as callees
+use Rattle.cyc_types.specs.declared.typed.Operator.{Operator}
 use Rattle.cyc_types.specs.TypedTrees.{Expression, NoOperations, Program}
 use Rattle.cyc_meaning.specs.Values.{Operand as Kinded}
+use Rattle.cyc_plain.specs.declared.instruction.Comparison.{Comparison}
+use Rattle.cyc_plain.specs.declared.instruction.Comparison.TheVariants as comparisons
 use Rattle.cyc_plain.specs.declared.instruction.Operand.{Operand}
 use Rattle.cyc_plain.specs.declared.instruction.Operand.TheVariants as operands
 use Rattle.cyc_plain.specs.declared.instruction.Instruction.{Instruction}
@@ -23,11 +26,11 @@ use Rattle.cyc_words.specs.Demand.{demand_of}
 use Rattle.cyc_meaning.specs.State.{World, Environment, ConvertTo, Operate, Chain, Apply, Decide, Store, Pass, Initialise, Choose, Test, Return, Entry, Needs, Discard, Rest, Join, Loop, CloseRegion, Caller, Main, counted, calls_in, Focus, Evaluating, Given, Executing, Proceeding, Calling, Entering, Binding, Breaking, Continuing, Returning, Throwing, State, Running, Ended, Dead, Wrong, output_of, input_of, status_of}
 use Rattle.cyc_meaning.specs.Step.{step}
 use Rattle.cyc_meaning.specs.Run.{is_within, limited_step}
-use Rattle.cyc_lower.specs.Lowering.{lower_program}
+use Rattle.cyc_lower.specs.Lowering.{compared_of, lower_program}
 use Rattle.cyc_meaning.specs.SourceMachine.{status_in, source_machine}
 use Rattle.cyc_lower.proofs.Weights.{weight}
 use Rattle.cyc_lower.proofs.Stands.{At}
-use Rattle.cyc_lower.proofs.Relation.{IsPlainStack, Lands, in_temporary, in_local, HandsOn, drops, leaves, copies, Prints, prints_only, gives_byte, SharedAt, ValueStack, DroppedStack, AheadStack, StatementStack, LandsStack, PrintsStack, RightAt, ReadyAt, EvaluatingAt, as_operand, into_slot, for_effect, as_right, FocusAt, GivenAt, in_operand, nowhere, ahead, with_left, ProceedingAt, behind_statement, behind_call, behind_wrong, Related, Matches, code_of}
+use Rattle.cyc_lower.proofs.Relation.{IsPlainStack, Lands, in_temporary, in_local, HandsOn, drops, leaves, copies, Prints, prints_only, gives_byte, SharedAt, to_slot, to_jump, ValueStack, ConditionStack, DroppedStack, AheadStack, StatementStack, LandsStack, PrintsStack, AppliedStack, RightAt, ReadyAt, EvaluatingAt, as_operand, into_slot, for_effect, as_right, as_condition, FocusAt, GivenAt, in_operand, nowhere, ahead, compared, with_left, ProceedingAt, behind_statement, behind_call, behind_wrong, Related, Matches, code_of, top}
 
 module _ (source : Program) where
   -- ---- where a value goes
@@ -57,13 +60,16 @@ module _ (source : Program) where
     pub value_depth : (g : ℕ) (locals : ℕ → Option ℕ) (o : Operand) (p : ℕ) (frames : List Frame) (k : List Entry) → ValueStack source g locals o p frames k → HasDepth frames k
     value_depth g locals o p frames [] stack = absurd stack
     value_depth g locals o p frames (Needs (ConvertTo from to) ∷ k) (q, at, stack) = value_depth g locals o q frames k stack
-    value_depth g locals o p frames (Needs (Operate u) ∷ k) (d, at, lands) =
+    value_depth g locals o p frames (Needs (Operate u) ∷ k) (to_slot (d, at, lands)) =
         by_lands lands (λ stack. value_depth g locals (operands.Slot d) (p + 1) frames k stack) (λ stack. ahead_depth g locals d (p + 1) frames k stack)
+    value_depth g locals o p frames (Needs (Operate u) ∷ k) (to_jump (is, stack)) = condition_depth g comparisons.NotEqual o (operands.Word 0) p frames k stack
     value_depth g locals o p frames (Needs (Chain NoOperations) ∷ k) stack = value_depth g locals o p frames k stack
-    value_depth g locals o p frames (Needs (Chain os) ∷ k) (d, q, at, lands) =
+    value_depth g locals o p frames (Needs (Chain os) ∷ k) (to_slot (d, q, at, lands)) =
         by_lands lands (λ stack. value_depth g locals (operands.Slot d) q frames k stack) (λ stack. ahead_depth g locals d q frames k stack)
-    value_depth g locals o p frames (Needs (Apply u left) ∷ k) (d, q, at, lands) =
+    value_depth g locals o p frames (Needs (Chain os) ∷ k) (to_jump (failing, r, q, at, stack)) = condition_depth g failing o r q frames k stack
+    value_depth g locals o p frames (Needs (Apply u left) ∷ k) (to_slot (d, q, at, lands)) =
         by_lands lands (λ stack. value_depth g locals (operands.Slot d) q frames k stack) (λ stack. ahead_depth g locals d q frames k stack)
+    value_depth g locals o p frames (Needs (Apply u left) ∷ k) (to_jump (failing, is, stack)) = condition_depth g failing (operands.Slot (top source g k)) o p frames k stack
     value_depth g locals o p frames (Needs Decide ∷ k) (d, q, is, at, lands) =
         by_lands lands (λ stack. value_depth g locals (operands.Slot d) q frames k stack) (λ stack. ahead_depth g locals d q frames k stack)
     value_depth g locals o p frames (Needs (Store place) ∷ k) (l, to, q, at, is, hands) =
@@ -82,6 +88,12 @@ module _ (source : Program) where
     value_depth g locals o p frames (Needs Return ∷ k) (loop, q, s, is, at, one, stack) = statement_depth g loop q frames k stack
     value_depth g locals o p frames (Discard ∷ k) (loop, stack) = statement_depth g loop p frames k stack
     value_depth g locals o p frames (entry ∷ k) stack = absurd stack
+
+    pub condition_depth : (g : ℕ) (failing : Comparison) (l r : Operand) (p : ℕ) (frames : List Frame) (k : List Entry) → ConditionStack source g failing l r p frames k → HasDepth frames k
+    condition_depth g failing l r p frames (Needs (Chain NoOperations) ∷ k) stack = condition_depth g failing l r p frames k stack
+    condition_depth g failing l r p frames (Needs (Choose s t) ∷ k) (loop, m, q, at, at_s, jump, at_t, stack) = statement_depth g loop q frames k stack
+    condition_depth g failing l r p frames (Needs (Test a s) ∷ k) (loop, outer, q, at, m, jump, body, back, stack) = statement_depth g outer q frames k stack
+    condition_depth g failing l r p frames k stack = absurd stack
 
     pub dropped_depth : (g p : ℕ) (frames : List Frame) (k : List Entry) → DroppedStack source g p frames k → HasDepth frames k
     dropped_depth g p frames (Discard ∷ k) (loop, stack) = statement_depth g loop p frames k stack
@@ -114,13 +126,16 @@ module _ (source : Program) where
     pub value_plain : (g : ℕ) (locals : ℕ → Option ℕ) (o : Operand) (p : ℕ) (frames : List Frame) (k : List Entry) → ValueStack source g locals o p frames k → IsPlainStack k
     value_plain g locals o p frames [] stack = absurd stack
     value_plain g locals o p frames (Needs (ConvertTo from to) ∷ k) (q, at, stack) = value_plain g locals o q frames k stack
-    value_plain g locals o p frames (Needs (Operate u) ∷ k) (d, at, lands) =
+    value_plain g locals o p frames (Needs (Operate u) ∷ k) (to_slot (d, at, lands)) =
         by_lands lands (λ stack. value_plain g locals (operands.Slot d) (p + 1) frames k stack) (λ stack. ahead_plain g locals d (p + 1) frames k stack)
+    value_plain g locals o p frames (Needs (Operate u) ∷ k) (to_jump (is, stack)) = condition_plain g comparisons.NotEqual o (operands.Word 0) p frames k stack
     value_plain g locals o p frames (Needs (Chain NoOperations) ∷ k) stack = value_plain g locals o p frames k stack
-    value_plain g locals o p frames (Needs (Chain os) ∷ k) (d, q, at, lands) =
+    value_plain g locals o p frames (Needs (Chain os) ∷ k) (to_slot (d, q, at, lands)) =
         by_lands lands (λ stack. value_plain g locals (operands.Slot d) q frames k stack) (λ stack. ahead_plain g locals d q frames k stack)
-    value_plain g locals o p frames (Needs (Apply u left) ∷ k) (d, q, at, lands) =
+    value_plain g locals o p frames (Needs (Chain os) ∷ k) (to_jump (failing, r, q, at, stack)) = condition_plain g failing o r q frames k stack
+    value_plain g locals o p frames (Needs (Apply u left) ∷ k) (to_slot (d, q, at, lands)) =
         by_lands lands (λ stack. value_plain g locals (operands.Slot d) q frames k stack) (λ stack. ahead_plain g locals d q frames k stack)
+    value_plain g locals o p frames (Needs (Apply u left) ∷ k) (to_jump (failing, is, stack)) = condition_plain g failing (operands.Slot (top source g k)) o p frames k stack
     value_plain g locals o p frames (Needs Decide ∷ k) (d, q, is, at, lands) =
         by_lands lands (λ stack. value_plain g locals (operands.Slot d) q frames k stack) (λ stack. ahead_plain g locals d q frames k stack)
     value_plain g locals o p frames (Needs (Store place) ∷ k) (l, to, q, at, is, hands) =
@@ -139,6 +154,12 @@ module _ (source : Program) where
     value_plain g locals o p frames (Needs Return ∷ k) (loop, q, s, is, at, one, stack) = statement_plain g loop q frames k stack
     value_plain g locals o p frames (Discard ∷ k) (loop, stack) = statement_plain g loop p frames k stack
     value_plain g locals o p frames (entry ∷ k) stack = absurd stack
+
+    pub condition_plain : (g : ℕ) (failing : Comparison) (l r : Operand) (p : ℕ) (frames : List Frame) (k : List Entry) → ConditionStack source g failing l r p frames k → IsPlainStack k
+    condition_plain g failing l r p frames (Needs (Chain NoOperations) ∷ k) stack = condition_plain g failing l r p frames k stack
+    condition_plain g failing l r p frames (Needs (Choose s t) ∷ k) (loop, m, q, at, at_s, jump, at_t, stack) = statement_plain g loop q frames k stack
+    condition_plain g failing l r p frames (Needs (Test a s) ∷ k) (loop, outer, q, at, m, jump, body, back, stack) = statement_plain g outer q frames k stack
+    condition_plain g failing l r p frames k stack = absurd stack
 
     pub dropped_plain : (g p : ℕ) (frames : List Frame) (k : List Entry) → DroppedStack source g p frames k → IsPlainStack k
     dropped_plain g p frames (Discard ∷ k) (loop, stack) = statement_plain g loop p frames k stack
@@ -175,12 +196,16 @@ module _ (source : Program) where
   prints_depth : (g : ℕ) (locals : ℕ → Option ℕ) (o : Operand) (p : ℕ) (frames : List Frame) (k : List Entry) → PrintsStack source g locals o p frames k → HasDepth frames k
   prints_depth g locals o p frames k (at, prints) = by_prints prints (λ stack. dropped_depth g (p + 1) frames k stack) (λ d lands. lands_depth g locals d (p + 1 + 1) frames k lands)
 
+  applied_depth : (g : ℕ) (locals : ℕ → Option ℕ) (u : Operator) (l r : Operand) (p : ℕ) (frames : List Frame) (k : List Entry) → AppliedStack source g locals u l r p frames k → HasDepth frames k
+  applied_depth g locals u l r p frames k (to_slot (d, q, at, lands)) = lands_depth g locals d q frames k lands
+  applied_depth g locals u l r p frames k (to_jump (failing, is, stack)) = condition_depth g failing l r p frames k stack
+
   right_depth : (a : Expression) (locals : ℕ → Option ℕ) (g p : ℕ) (slots : ℕ → ℕ) (frames : List Frame) (k : List Entry) → RightAt source a locals g p slots frames k → HasDepth frames k
-  right_depth a locals g p slots frames (Needs (Apply u left) ∷ k) (l, r, d, q, known, is, holds, at, lands) = lands_depth g locals d q frames k lands
+  right_depth a locals g p slots frames (Needs (Apply u left) ∷ k) (l, r, known, is, holds, applied) = applied_depth g locals u l r p frames k applied
   right_depth a locals g p slots frames k right = absurd right
 
   ready_depth : (v : Kinded) (locals : ℕ → Option ℕ) (g p : ℕ) (slots : ℕ → ℕ) (frames : List Frame) (k : List Entry) → ReadyAt source v locals g p slots frames k → HasDepth frames k
-  ready_depth v locals g p slots frames (Needs (Apply u left) ∷ k) (l, r, d, q, is_left, is, holds, at, lands) = lands_depth g locals d q frames k lands
+  ready_depth v locals g p slots frames (Needs (Apply u left) ∷ k) (l, r, is_left, is, holds, applied) = applied_depth g locals u l r p frames k applied
   ready_depth v locals g p slots frames k ready = absurd ready
 
   evaluating_depth : (a : Expression) (locals : ℕ → Option ℕ) (g p : ℕ) (slots : ℕ → ℕ) (frames : List Frame) (k : List Entry) → EvaluatingAt source a locals g p slots frames k → HasDepth frames k
@@ -188,6 +213,7 @@ module _ (source : Program) where
   evaluating_depth a locals g p slots frames k (into_slot d q at holds lands) = lands_depth g locals d q frames k lands
   evaluating_depth a locals g p slots frames k (for_effect q at holds stack) = dropped_depth g q frames k stack
   evaluating_depth a locals g p slots frames k (as_right right) = right_depth a locals g p slots frames k right
+  evaluating_depth a locals g p slots frames k (as_condition l r q at holds stack) = condition_depth g (compared_of a).failing l r q frames k stack
 
   -- what a related state shares
   pub shared_of : (calls : ℕ) (focus : Focus) (k : List Entry) (e : Environment) (w : World) (c : Configuration) → Related source calls focus k e w c → SharedAt source calls w c
@@ -214,6 +240,7 @@ module _ (source : Program) where
   depth_given v k e w c (in_operand o facts is holds stack) = value_depth c.active.function e.locals o c.active.next c.frames k stack
   depth_given v k e w c (nowhere facts stack) = dropped_depth c.active.function c.active.next c.frames k stack
   depth_given v k e w c (ahead n facts below is holds stack) = ahead_depth c.active.function e.locals n c.active.next c.frames k stack
+  depth_given v k e w c (compared failing l r facts zero stack) = condition_depth c.active.function failing l r c.active.next c.frames k stack
   depth_given v k e w c (with_left facts ready) = ready_depth v e.locals c.active.function c.active.next c.active.slots c.frames k ready
 
   depth_proceeding : (k : List Entry) (e : Environment) (w : World) (c : Configuration) → ProceedingAt source k e w c → HasDepth c.frames k

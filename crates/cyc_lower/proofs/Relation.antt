@@ -4,9 +4,14 @@ use Rattle.std.specs.Prelude.{◌⊎◌}
 use Rattle.cyc_types.specs.declared.typed.Kind.{Kind}
 use Rattle.cyc_types.specs.declared.typed.Kind.TheVariants as kinds
 use Rattle.cyc_types.specs.declared.typed.Callee.{Callee}
+use Rattle.cyc_types.specs.declared.typed.UnaryOperator.TheVariants as unary
+use Rattle.cyc_types.specs.declared.typed.Operator.{Operator}
 use Rattle.cyc_types.specs.declared.typed.Callee.TheVariants as callees
 use Rattle.cyc_types.specs.TypedTrees.{Lvalue, Local, Global, Expression, Call, Assign, Arguments, NoArguments, Converted, NoOperations, ThenCompute, ThenTest, Statement, Function, Program}
 use Rattle.cyc_types.specs.Numbered.{Numbering, numbering_of, signatures_of, argument_count}
+use Rattle.cyc_plain.specs.declared.instruction.Comparison.{Comparison}
+use Rattle.cyc_plain.specs.declared.instruction.Comparison.TheVariants as comparisons
+use Rattle.cyc_plain.specs.Operators.{compares}
 use Rattle.cyc_plain.specs.declared.instruction.Operand.{Operand}
 use Rattle.cyc_plain.specs.declared.instruction.Operand.TheVariants as operands
 use Rattle.cyc_plain.specs.declared.instruction.Instruction.{Instruction}
@@ -18,8 +23,9 @@ use Rattle.cyc_plain.specs.State as plain
 use Rattle.cyc_meaning.specs.Values.{Value, Int, Null, Thin, Fat, Handle, Key, Operand as Kinded, Cell}
 use Rattle.cyc_meaning.specs.State.{Sort, Heap, Globals, Stack, Lexical, Dynamic, Region, Object, World, counted, first_classes, Environment, ConvertTo, Operate, Chain, Apply, Decide, Store, Pass, Initialise, Choose, Test, Return, Entry, Needs, NeedsPlace, Discard, Rest, Join, Loop, CloseRegion, CloseLexical, EndLoan, Handler, Caller, Main, calls_in, Focus, Evaluating, Given, Executing, Proceeding, Calling, Entering, Binding, Breaking, Continuing, Returning, Throwing, State, Running, Ended}
 use Rattle.cyc_meaning.specs.Step.{object_of}
-use Rattle.cyc_lower.specs.Lowering.{slot_of, unary_operator, operand_of, is_in, jump_if_zero, low_byte, break_target, continue_target, results_of, lower_program}
-use Rattle.cyc_lower.proofs.Stands.{At, ConversionAt, OperatorAt, TruthAt, CopyAt, ExpressionAt, ArgumentsAt, OperationsAt, ValueAt, DiscardedAt, StatementAt, ItemsAt}
+use Rattle.cyc_meaning.specs.Operators.{is_zero}
+use Rattle.cyc_lower.specs.Lowering.{slot_of, unary_operator, failing_comparison, operand_of, is_in, low_byte, compared_of, break_target, continue_target, results_of, lower_program}
+use Rattle.cyc_lower.proofs.Stands.{At, ConversionAt, OperatorAt, TruthAt, CopyAt, ExpressionAt, ArgumentsAt, OperationsAt, ValueAt, ConditionAt, FailingAt, ComparesAt, DiscardedAt, StatementAt, ItemsAt}
 
 -- ---- values in slots
 
@@ -184,12 +190,31 @@ module _ (source : Program) where
     prints_only : dropped → Prints code o p dropped comes
     gives_byte : (d : ℕ) → At code p (low_byte o d) → comes d → Prints code o p dropped comes
 
+  -- what an operator gives comes to a slot, or it is a condition that the next jump tests
+  pub data Yields (value tested : Type 0) : Type 0 where
+    to_slot : value → Yields value tested
+    to_jump : tested → Yields value tested
+
   abbrev pub LoopAt : ℕ → Expression → Statement → (loop q : ℕ) → Type 0
-  LoopAt g condition body loop q = (o : Operand) × (m : ℕ) × (r : ℕ) × At (code_of g) (break_target loop) (instructions.Jump q)
-      × ValueAt (code_of g) (bounds_at g) condition (base_of g) o (continue_target loop) m
-      × At (code_of g) m (jump_if_zero o (break_target loop))
+  LoopAt g condition body loop q = (x : Operand) × (y : Operand) × (m : ℕ) × (r : ℕ) × At (code_of g) (break_target loop) (instructions.Jump q)
+      × ConditionAt (code_of g) (bounds_at g) condition x y (base_of g) (continue_target loop) m
+      × FailingAt (code_of g) (bounds_at g) condition x y m (break_target loop)
       × StatementAt (code_of g) (bounds_at g) body loop (base_of g) (m + 1) r
       × At (code_of g) r (instructions.Jump (continue_target loop)) × (break_target loop < q)
+
+  -- A branch that is taken where a condition has failed, and what stands behind it. From a place in a loop on stands what waits.
+  abbrev pub ChoosesAt : (g : ℕ) → Comparison → (l r : Operand) → (p : ℕ) → (first second : Statement) → (waits : (loop q : ℕ) → Type 0) → Type 0
+  ChoosesAt g failing l r p first second waits =
+      (loop : ℕ) × (m : ℕ) × (q : ℕ) × At (code_of g) p (instructions.Branch failing l r (m + 1))
+      × StatementAt (code_of g) (bounds_at g) first loop (base_of g) (p + 1) m × At (code_of g) m (instructions.Jump q)
+      × StatementAt (code_of g) (bounds_at g) second loop (base_of g) (m + 1) q × waits loop q
+
+  abbrev pub RepeatsAt : (g : ℕ) → Comparison → (l r : Operand) → (p : ℕ) → Expression → Statement → (waits : (loop q : ℕ) → Type 0) → Type 0
+  RepeatsAt g failing l r p condition body waits =
+      (loop : ℕ) × (outer : ℕ) × (q : ℕ) × LoopAt g condition body loop q
+      × (m : ℕ) × At (code_of g) p (instructions.Branch failing l r (break_target loop))
+      × StatementAt (code_of g) (bounds_at g) body loop (base_of g) (p + 1) m
+      × At (code_of g) m (instructions.Jump (continue_target loop)) × waits outer q
 
   abbrev pub Below : List Frame → (Frame → List Frame → Type 0) → Type 0
   Below [] P = ⊥
@@ -229,15 +254,18 @@ module _ (source : Program) where
     ValueStack g locals o p frames (Needs (ConvertTo from to) ∷ k) =
         (q : ℕ) × ConversionAt (code_of g) (bounds_at g) to o p q × ValueStack g locals o q frames k
     ValueStack g locals o p frames (Needs (Operate operator) ∷ k) =
-        (d : ℕ) × At (code_of g) p (instructions.Unary (unary_operator operator) d o)
-        × Lands (base_of g) (top g k) d (ValueStack g locals (operands.Slot d) (p + 1) frames k) (AheadStack g locals d (p + 1) frames k)
+        Yields ((d : ℕ) × At (code_of g) p (instructions.Unary (unary_operator operator) d o)
+        × Lands (base_of g) (top g k) d (ValueStack g locals (operands.Slot d) (p + 1) frames k) (AheadStack g locals d (p + 1) frames k))
+        ((operator ≡ unary.Not) × ConditionStack g comparisons.NotEqual o (operands.Word 0) p frames k)
     ValueStack g locals o p frames (Needs (Chain NoOperations) ∷ k) = ValueStack g locals o p frames k
     ValueStack g locals o p frames (Needs (Chain operations) ∷ k) =
-        (d : ℕ) × (q : ℕ) × OperationsAt (code_of g) (bounds_at g) operations o d (top g k) p q
-        × Lands (base_of g) (top g k) d (ValueStack g locals (operands.Slot d) q frames k) (AheadStack g locals d q frames k)
+        Yields ((d : ℕ) × (q : ℕ) × OperationsAt (code_of g) (bounds_at g) operations o d (top g k) p q
+        × Lands (base_of g) (top g k) d (ValueStack g locals (operands.Slot d) q frames k) (AheadStack g locals d q frames k))
+        ((failing : Comparison) × (r : Operand) × (q : ℕ) × ComparesAt (code_of g) (bounds_at g) operations failing o r (top g k) p q × ConditionStack g failing o r q frames k)
     ValueStack g locals o p frames (Needs (Apply operator left) ∷ k) =
-        (d : ℕ) × (q : ℕ) × OperatorAt (code_of g) (bounds_at g) operator d (operands.Slot (top g k)) o p q
-        × Lands (base_of g) (top g k) d (ValueStack g locals (operands.Slot d) q frames k) (AheadStack g locals d q frames k)
+        Yields ((d : ℕ) × (q : ℕ) × OperatorAt (code_of g) (bounds_at g) operator d (operands.Slot (top g k)) o p q
+        × Lands (base_of g) (top g k) d (ValueStack g locals (operands.Slot d) q frames k) (AheadStack g locals d q frames k))
+        ((failing : Comparison) × (failing_comparison operator ≡ Some failing) × ConditionStack g failing (operands.Slot (top g k)) o p frames k)
     ValueStack g locals o p frames (Needs Decide ∷ k) =
         (d : ℕ) × (q : ℕ) × (o ≡ operands.Slot (top g k)) × TruthAt (code_of g) (bounds_at g) (top g k) d p q
         × Lands (base_of g) (top g k) d (ValueStack g locals (operands.Slot d) q frames k) (AheadStack g locals d q frames k)
@@ -258,19 +286,21 @@ module _ (source : Program) where
         (loop : ℕ) × (q : ℕ) × At (code_of g) p (instructions.Move (slot_of number) o) × (number < base_of g)
         × ItemsAt (code_of g) (bounds_at g) items loop (base_of g) (p + 1) q × StatementStack g loop q frames k
     ValueStack g locals o p frames (Needs (Choose first second) ∷ k) =
-        (loop : ℕ) × (r : ℕ) × (q : ℕ) × At (code_of g) p (jump_if_zero o (r + 1))
-        × StatementAt (code_of g) (bounds_at g) first loop (base_of g) (p + 1) r × At (code_of g) r (instructions.Jump q)
-        × StatementAt (code_of g) (bounds_at g) second loop (base_of g) (r + 1) q × StatementStack g loop q frames k
+        ChoosesAt g comparisons.Equal o (operands.Word 0) p first second (λ loop q. StatementStack g loop q frames k)
     ValueStack g locals o p frames (Needs (Test condition body) ∷ k) =
-        (loop : ℕ) × (outer : ℕ) × (q : ℕ) × LoopAt g condition body loop q
-        × (r : ℕ) × At (code_of g) p (jump_if_zero o (break_target loop))
-        × StatementAt (code_of g) (bounds_at g) body loop (base_of g) (p + 1) r
-        × At (code_of g) r (instructions.Jump (continue_target loop)) × StatementStack g outer q frames k
+        RepeatsAt g comparisons.Equal o (operands.Word 0) p condition body (λ loop q. StatementStack g loop q frames k)
     ValueStack g locals o p frames (Needs Return ∷ k) =
         (loop : ℕ) × (q : ℕ) × (s : ℕ) × (o ≡ operands.Slot s) × At (code_of g) p (instructions.Return s) × (results_of (bounds_at g).result ≡ 1)
         × StatementStack g loop q frames k
     ValueStack g locals o p frames (Discard ∷ k) = (loop : ℕ) × StatementStack g loop p frames k
     ValueStack g locals o p frames (entry ∷ k) = ⊥
+
+    -- the same for a condition, which fails where this comparison holds
+    pub ConditionStack : (g : ℕ) → Comparison → (l r : Operand) → (p : ℕ) → List Frame → List Entry → Type 0
+    ConditionStack g failing l r p frames (Needs (Chain NoOperations) ∷ k) = ConditionStack g failing l r p frames k
+    ConditionStack g failing l r p frames (Needs (Choose first second) ∷ k) = ChoosesAt g failing l r p first second (λ loop q. StatementStack g loop q frames k)
+    ConditionStack g failing l r p frames (Needs (Test condition body) ∷ k) = RepeatsAt g failing l r p condition body (λ loop q. StatementStack g loop q frames k)
+    ConditionStack g failing l r p frames k = ⊥
 
     -- the same for a value that stands nowhere, since nobody wants it
     pub DroppedStack : (g p : ℕ) → List Frame → List Entry → Type 0
@@ -321,20 +351,26 @@ module _ (source : Program) where
       At (code_of g) p (instructions.WriteByte o)
       × Prints (code_of g) o (p + 1) (DroppedStack g (p + 1) frames k) (λ d. LandsStack g locals d (p + 1 + 1) frames k)
 
+  -- what an operator on two operands gives is brought to a slot, or tested
+  abbrev pub AppliedStack : (g : ℕ) → (ℕ → Option ℕ) → Operator → (l r : Operand) → (p : ℕ) → List Frame → List Entry → Type 0
+  AppliedStack g locals operator l r p frames k =
+      Yields ((d : ℕ) × (q : ℕ) × OperatorAt (code_of g) (bounds_at g) operator d l r p q × LandsStack g locals d q frames k)
+      ((failing : Comparison) × (failing_comparison operator ≡ Some failing) × ConditionStack g failing l r p frames k)
+
   -- ---- the focus
 
   -- A right operand without code: the left one may be without code too, and both are read at once.
   abbrev pub RightAt : Expression → (ℕ → Option ℕ) → (g p : ℕ) → Words → List Frame → List Entry → Type 0
   RightAt a locals g p slots frames (Needs (Apply operator left) ∷ k) =
-      (l : Operand) × (r : Operand) × (d : ℕ) × (q : ℕ) × (operand_of a ≡ Some r) × Is left.value (operand_word slots l) × Holds slots (base_of g) (held k)
-      × OperatorAt (code_of g) (bounds_at g) operator d l r p q × LandsStack g locals d q frames k
+      (l : Operand) × (r : Operand) × (operand_of a ≡ Some r) × Is left.value (operand_word slots l) × Holds slots (base_of g) (held k)
+      × AppliedStack g locals operator l r p frames k
   RightAt a locals g p slots frames k = ⊥
 
   -- both operands are there
   abbrev pub ReadyAt : Kinded → (ℕ → Option ℕ) → (g p : ℕ) → Words → List Frame → List Entry → Type 0
   ReadyAt v locals g p slots frames (Needs (Apply operator left) ∷ k) =
-      (l : Operand) × (r : Operand) × (d : ℕ) × (q : ℕ) × Is left.value (operand_word slots l) × Is v.value (operand_word slots r) × Holds slots (base_of g) (held k)
-      × OperatorAt (code_of g) (bounds_at g) operator d l r p q × LandsStack g locals d q frames k
+      (l : Operand) × (r : Operand) × Is left.value (operand_word slots l) × Is v.value (operand_word slots r) × Holds slots (base_of g) (held k)
+      × AppliedStack g locals operator l r p frames k
   ReadyAt v locals g p slots frames k = ⊥
 
   -- the code of an expression, by where its value is to be
@@ -346,6 +382,8 @@ module _ (source : Program) where
     for_effect : (q : ℕ) → DiscardedAt (code_of g) (bounds_at g) a (top g k) p q → Holds slots (base_of g) (held k)
         → DroppedStack g q frames k → EvaluatingAt a locals g p slots frames k
     as_right : RightAt a locals g p slots frames k → EvaluatingAt a locals g p slots frames k
+    as_condition : (l r : Operand) → (q : ℕ) → ConditionAt (code_of g) (bounds_at g) a l r (top g k) p q → Holds slots (base_of g) (held k)
+        → ConditionStack g (compared_of a).failing l r q frames k → EvaluatingAt a locals g p slots frames k
 
   abbrev pub FocusAt : Focus → List Entry → (ℕ → Option ℕ) → (g p : ℕ) → Words → List Frame → Type 0
   FocusAt (Evaluating a) k locals g p slots frames = EvaluatingAt a locals g p slots frames k
@@ -391,13 +429,16 @@ module _ (source : Program) where
       SharedAt calls w c × DataIn c.active.slots k e w c
       × FocusAt focus k e.locals c.active.function c.active.next c.active.slots c.frames
 
-  -- where a value stands that is handed on
+  -- where a value stands that is handed on; one that is only tested is the comparison of two operands
   pub data GivenAt (v : Kinded) (k : List Entry) (e : Environment) (w : World) (c : Configuration) : Type 0 where
     in_operand : (o : Operand) → DataIn c.active.slots k e w c → Is v.value (operand_word c.active.slots o)
         → Holds c.active.slots (base_of c.active.function) (held k) → ValueStack c.active.function e.locals o c.active.next c.frames k → GivenAt v k e w c
     nowhere : DataIn c.active.slots k e w c → DroppedStack c.active.function c.active.next c.frames k → GivenAt v k e w c
     ahead : (n : ℕ) → DataBut n k e w c → n < base_of c.active.function → Is v.value (c.active.slots n)
         → Holds c.active.slots (base_of c.active.function) (held k) → AheadStack c.active.function e.locals n c.active.next c.frames k → GivenAt v k e w c
+    compared : (failing : Comparison) → (l r : Operand) → DataIn c.active.slots k e w c
+        → is_zero v.value ≡ Some (compares failing (operand_word c.active.slots l) (operand_word c.active.slots r))
+        → ConditionStack c.active.function failing l r c.active.next c.frames k → GivenAt v k e w c
     with_left : DataIn c.active.slots k e w c → ReadyAt v e.locals c.active.function c.active.next c.active.slots c.frames k → GivenAt v k e w c
 
   -- What goes on without a value: a statement, or what was called without one. Where a value is wanted, the source goes wrong next.

@@ -6,6 +6,7 @@ use Rattle.std.proofs.lemmas.List.Sums.{sum_by-append, sum_by-cons}
 use Rattle.cyc_types.specs.declared.typed.Kind.{Kind}
 use Rattle.cyc_types.specs.declared.typed.Kind.TheVariants as kinds
 use Rattle.cyc_types.specs.declared.typed.Callee.TheVariants as callees
+use Rattle.cyc_types.specs.declared.typed.UnaryOperator.TheVariants as unary
 use Rattle.cyc_types.specs.declared.typed.Operator.{Operator}
 use Rattle.cyc_types.specs.declared.typed.Operator.TheVariants as operators
 use Rattle.cyc_types.specs.declared.typed.LogicalOperator.{LogicalOperator}
@@ -14,12 +15,13 @@ use Rattle.cyc_types.specs.TypedTrees.{Lvalue, Local, Global, Expression, Number
 use Rattle.cyc_types.specs.Numbered.{argument_count}
 use Rattle.cyc_types.proofs.WeightLemmas.{some_token}
 use Rattle.cyc_types.specs.Weight.{expression_weight, converted_weight, arguments_weight, more_arguments_weight, operations_weight, else_weight, statement_weight, items_weight, function_weight}
+use Rattle.cyc_plain.specs.declared.instruction.Comparison.{Comparison}
 use Rattle.cyc_plain.specs.declared.instruction.Operand.{Operand}
 use Rattle.cyc_plain.specs.declared.instruction.Operand.TheVariants as operands
 use Rattle.cyc_plain.specs.declared.instruction.Instruction.{Instruction}
 use Rattle.cyc_plain.specs.declared.instruction.Instruction.TheVariants as instructions
 use Rattle.cyc_plain.specs.Program.{instruction_size, size}
-use Rattle.cyc_lower.specs.Lowering.{slot_of, unary_operator, binary_operator, operand_of, operand_or, code_unless, slot_or, code_unless_slot, left_of, value_slot, next_slot, left_slot, value_operand, converted_operand, printed_operand, check_code, conversion_code, divisor_code, checked_code, operator_code, truth_code, load_code, low_byte, test_code, is_in, copy_code, expression_code, arguments_code, converted_code, converted_operand_code, printed_code, initial_code, assignment_code, operations_code, discarded_code, condition_code, failing_jump, break_target, continue_target, return_code, declaration_code, statement_code, items_code, first_temporary, jump_if_zero, jump_if_nonzero, lower_function}
+use Rattle.cyc_lower.specs.Lowering.{slot_of, unary_operator, binary_operator, operand_of, operand_or, code_unless, slot_or, code_unless_slot, left_of, value_slot, next_slot, left_slot, value_operand, converted_operand, printed_operand, check_code, conversion_code, divisor_code, checked_code, operator_code, truth_code, load_code, low_byte, test_code, is_in, copy_code, expression_code, arguments_code, converted_code, converted_operand_code, printed_code, initial_code, assignment_code, operations_code, discarded_code, failing_comparison, compared_or, compared_of, left_with, slot_with, first_code, second_code, pair_code, condition_code, condition_of, failing_jump, break_target, continue_target, return_code, declaration_code, statement_code, items_code, first_temporary, jump_if_zero, jump_if_nonzero, lower_function}
 use Rattle.cyc_lower.specs.Lowered.{size_per_weight}
 
 abbrev code_size : List Instruction → ℕ
@@ -192,8 +194,29 @@ discarded_size a p t = omega (arith, unless_size (operand_of a) (expression_code
 
 -- ---- statements
 
+first_size : (a b : Expression) (p t : ℕ) → code_size (first_code a b p t) ≤ 3 * expression_weight a
+first_size a b p t =
+    let slot = slot_with (operand_of b) a t in
+    omega (arith, unless_size (left_with (operand_of b) (operand_of a)) (expression_code a p slot t), expression_size a p slot t)
+
+second_size : (b : Expression) (p t : ℕ) → code_size (second_code b p t) ≤ 3 * expression_weight b
+second_size b p t = omega (arith, unless_size (operand_of b) (expression_code b p (value_slot b (suc t)) (suc t)), expression_size b p (value_slot b (suc t)) (suc t))
+
+-- a value that is compared with 0
+alone_size : (a : Expression) (p t : ℕ) → code_size (pair_code a (Number 0) p t) ≤ 3 * expression_weight a
+alone_size a p t = omega (arith, both (first_code a (Number 0) p t) [], first_size a (Number 0) p t)
+
 condition_size : (a : Expression) (p t : ℕ) → code_size (condition_code a p t) ≤ 3 * expression_weight a
-condition_size a p t = omega (arith, unless_size (operand_of a) (expression_code a p (value_slot a t) t), expression_size a p (value_slot a t) t)
+condition_size (Unary unary.Not a) p t = omega (arith, alone_size a p t)
+condition_size (Binary a (ThenCompute o b NoOperations) ty) p t = by (failing_comparison o)
+  where
+    by : (f : Option Comparison) → code_size (pair_code (compared_or f a b (Binary a (ThenCompute o b NoOperations) ty)).left (compared_or f a b (Binary a (ThenCompute o b NoOperations) ty)).right p t) ≤ 3 * expression_weight (Binary a (ThenCompute o b NoOperations) ty)
+    by (Some failing) =
+        let front = first_code a b p t in
+        let q = p + length front in
+        omega (arith, both front (second_code b q t), first_size a b p t, second_size b q t)
+    by None = alone_size (Binary a (ThenCompute o b NoOperations) ty) p t
+condition_size a p t = alone_size a p t
 
 return_size : (v : Option Converted) (p t : ℕ) → code_size (return_code v p t) ≤ 3 * statement_weight (Return v)
 return_size None p t = omega arith
@@ -219,13 +242,13 @@ mutual
       let first = statement_code s (m + 1) loop t in
       let r = m + 1 + length first in
       let second = statement_code u (r + 1) loop t in
-      let jump_first = failing_jump a t (r + 1) ∷ first in
+      let jump_first = failing_jump (condition_of a t) (r + 1) ∷ first in
       let jump_second = instructions.Jump (r + 1 + length second) ∷ second in
       omega (
         arith,
         both (condition ++ jump_first) jump_second,
         both condition jump_first,
-        cons (failing_jump a t (r + 1)) first,
+        cons (failing_jump (condition_of a t) (r + 1)) first,
         cons (instructions.Jump (r + 1 + length second)) second,
         condition_size a p t,
         statement_size s (m + 1) loop t,
@@ -235,7 +258,7 @@ mutual
       let condition = condition_code a (p + 2) t in
       let m = p + 2 + length condition in
       let body = statement_code s (m + 1) p t in
-      let test = failing_jump a t (break_target p) ∷ body in
+      let test = failing_jump (condition_of a t) (break_target p) ∷ body in
       let again = instructions.Jump (continue_target p) ∷ [] in
       let rest = (condition ++ test) ++ again in
       let exit = instructions.Jump (m + 1 + length body + 1) in
@@ -245,7 +268,7 @@ mutual
         cons exit rest,
         both (condition ++ test) again,
         both condition test,
-        cons (failing_jump a t (break_target p)) body,
+        cons (failing_jump (condition_of a t) (break_target p)) body,
         condition_size a (p + 2) t,
         statement_size s (m + 1) p t,
       )

@@ -8,12 +8,13 @@ use Rattle.cyc_types.specs.declared.typed.Operator.TheVariants as operators
 use Rattle.cyc_types.specs.TypedTrees.{Lvalue, Local, Global, Expression, Number, Copy, Call, Unary, Binary, Assign, Converted, Convert, Arguments, NoArguments, MoreArguments, Operations, NoOperations, ThenCompute, ThenTest, Statement, Block, Empty, Evaluate, If, While, Return, Break, Continue, Items, NoItems, MoreItems, Execute, Declare}
 use Rattle.cyc_types.specs.Numbered.{Numbering, argument_count}
 use Rattle.cyc_plain.specs.declared.instruction.UnaryOperator.TheVariants as plain_unary
+use Rattle.cyc_plain.specs.declared.instruction.Comparison.{Comparison}
 use Rattle.cyc_plain.specs.declared.instruction.Operand.{Operand}
 use Rattle.cyc_plain.specs.declared.instruction.Operand.TheVariants as operands
 use Rattle.cyc_plain.specs.declared.instruction.Instruction.{Instruction}
 use Rattle.cyc_plain.specs.declared.instruction.Instruction.TheVariants as instructions
 use Rattle.cyc_meaning.specs.Operators.{null_exception, division_by_zero}
-use Rattle.cyc_lower.specs.Lowering.{slot_of, unary_operator, binary_operator, operand_of, left_of, value_slot, next_slot, left_slot, is_in, jump_if_zero, jump_if_nonzero, test_jump, low_byte, break_target, continue_target, results_of}
+use Rattle.cyc_lower.specs.Lowering.{slot_of, unary_operator, binary_operator, operand_of, failing_comparison, left_with, left_of, value_slot, next_slot, slot_with, left_slot, is_in, jump_if_nonzero, test_jump, compared_of, low_byte, break_target, continue_target, results_of}
 
 -- ---- lists of instructions in a code
 
@@ -165,6 +166,27 @@ module _ (code : List Instruction) (bounds : Numbering) where
   abbrev pub ValueAt : Expression → (t : ℕ) → Operand → (p q : ℕ) → Type 0
   ValueAt a t o p q = OperandBy (operand_of a) (ExpressionAt a (value_slot a t) t p q) (value_slot a t) o p q
 
+  -- the second of two operands that are compared, where the first one is l
+  abbrev pub SecondAt : Expression → (l r : Operand) → (t p q : ℕ) → Type 0
+  SecondAt a l r t p q = OperandBy (operand_of a) ((l ≡ operands.Slot t) × ExpressionAt a (value_slot a (suc t)) (suc t) p q) (value_slot a (suc t)) r p q
+
+  abbrev pub PairAt : (a b : Expression) → (l r : Operand) → (t p q : ℕ) → Type 0
+  PairAt a b l r t p q =
+      (m : ℕ) × OperandBy (left_with (operand_of b) (operand_of a)) (ExpressionAt a (slot_with (operand_of b) a t) t p m) (slot_with (operand_of b) a t) l p m
+      × SecondAt b l r t m q
+
+  abbrev pub ConditionAt : Expression → (l r : Operand) → (t p q : ℕ) → Type 0
+  ConditionAt a l r t p q = PairAt (compared_of a).left (compared_of a).right l r t p q
+
+  -- a jump that is taken where a condition fails, with these operands
+  abbrev pub FailingAt : Expression → (l r : Operand) → (p target : ℕ) → Type 0
+  FailingAt a l r p target = At code p (instructions.Branch (compared_of a).failing l r target)
+
+  -- the only operator of a condition, which compares, with its right operand
+  abbrev pub ComparesAt : Operations → Comparison → (l r : Operand) → (t p q : ℕ) → Type 0
+  ComparesAt (ThenCompute o b NoOperations) failing l r t p q = (failing_comparison o ≡ Some failing) × SecondAt b l r t p q
+  ComparesAt os failing l r t p q = ⊥
+
   -- what is assigned comes to its place, and then stands in an operand too
   abbrev pub AssignmentAt : Lvalue → Converted → Operand → (t p q : ℕ) → Type 0
   AssignmentAt (Local w n) c o t p q = (o ≡ operands.Slot (slot_of n)) × InitialAt c (slot_of n) t p q
@@ -201,11 +223,11 @@ module _ (code : List Instruction) (bounds : Numbering) where
     StatementAt Empty loop t p q = p ≡ q
     StatementAt (Evaluate a) loop t p q = DiscardedAt a t p q
     StatementAt (If a s u) loop t p q =
-        (o : Operand) × (m : ℕ) × (r : ℕ) × ValueAt a t o p m × At code m (jump_if_zero o (r + 1)) × StatementAt s loop t (m + 1) r
+        (x : Operand) × (y : Operand) × (m : ℕ) × (r : ℕ) × ConditionAt a x y t p m × FailingAt a x y m (r + 1) × StatementAt s loop t (m + 1) r
         × At code r (instructions.Jump q) × StatementAt u loop t (r + 1) q
     StatementAt (While w a s) loop t p q =
-        (o : Operand) × (m : ℕ) × (r : ℕ) × At code p (instructions.Jump (continue_target p)) × At code (break_target p) (instructions.Jump q)
-        × ValueAt a t o (continue_target p) m × At code m (jump_if_zero o (break_target p)) × StatementAt s p t (m + 1) r
+        (x : Operand) × (y : Operand) × (m : ℕ) × (r : ℕ) × At code p (instructions.Jump (continue_target p)) × At code (break_target p) (instructions.Jump q)
+        × ConditionAt a x y t (continue_target p) m × FailingAt a x y m (break_target p) × StatementAt s p t (m + 1) r
         × At code r (instructions.Jump (continue_target p)) × (r + 1 ≡ q) × (break_target p < q)
     StatementAt (Return v) loop t p q = ReturnAt v t p
     StatementAt Break loop t p q = At code p (instructions.Jump (break_target loop))

@@ -23,7 +23,7 @@ use Rattle.cyc_meaning.specs.State.{Region, World, Environment, variable, made, 
 use Rattle.cyc_meaning.specs.Step.{inside, region_end, step}
 use Rattle.cyc_lower.specs.Lowering.{operand_of, break_target, results_of, lower_function, lower_program}
 use Rattle.cyc_lower.proofs.Stands.{At, ExpressionAt, InitialAt, ReturnedAt, ItemsAt}
-use Rattle.cyc_lower.proofs.Relation.{Is, Holds, held, callers, Shared, DataAt, SharedAt, Lands, in_temporary, in_local, ValueStack, AheadStack, StatementStack, LandsStack, EvaluatingAt, as_operand, into_slot, for_effect, in_operand, ahead, behind_statement, behind_call, behind_wrong, Below, IsLast, Arrives, in_place, by_jump, code_of, bounds_in, bounds_at, base_of, top}
+use Rattle.cyc_lower.proofs.Relation.{Is, Holds, held, callers, Shared, DataAt, SharedAt, Lands, in_temporary, in_local, ValueStack, AheadStack, StatementStack, LandsStack, EvaluatingAt, as_operand, into_slot, for_effect, as_condition, in_operand, ahead, behind_statement, behind_call, behind_wrong, Below, IsLast, Arrives, in_place, by_jump, code_of, bounds_in, bounds_at, base_of, top}
 use Rattle.cyc_lower.proofs.Data.{height-least, Holds-same, Holds-above, data_declared, data_returned}
 use Rattle.cyc_lower.proofs.Accesses.{IsWell, is_declared, is_closed, quiet_opened, quiet_closed, counted_opened, counted_closed}
 use Rattle.cyc_lower.proofs.Matched.{IsMatched, silently, one, two}
@@ -89,13 +89,13 @@ module _ (source : Program) (pages calls : ℕ) (some_page : 1 ≤ pages) where
       silently source pages calls some_page (Running (Executing (Evaluate a)) k e w) (Running (Evaluating a) (Discard ∷ k) e w) (plain.Running c) refl
       (shared, facts, for_effect q here tt (loop, stack))
       (omega arith)
-  executing (If a s t) k e w c well (shared, facts, (loop, q, (o, m, r, at_a, jump, at_s, over, at_t), stack)) =
+  executing (If a s t) k e w c well (shared, facts, (loop, q, (x, y, m, r, at_a, jump, at_s, over, at_t), stack)) =
       silently source pages calls some_page (Running (Executing (If a s t)) k e w) (Running (Evaluating a) (Needs (Choose s t) ∷ k) e w) (plain.Running c) refl
-      (shared, facts, as_operand o m at_a tt (loop, r, q, jump, at_s, over, at_t, stack))
+      (shared, facts, as_condition x y m at_a tt (loop, r, q, jump, at_s, over, at_t, stack))
       (omega arith)
-  executing (While p a s) k e w c well (shared, facts, (loop, q, (o, m, r, enter, leave, at_a, jump, at_s, back, end, after), stack)) =
+  executing (While p a s) k e w c well (shared, facts, (loop, q, (x, y, m, r, enter, leave, at_a, jump, at_s, back, end, after), stack)) =
       one source pages calls some_page refl shared enter
-      (λ choice. (shared, facts, as_operand o m at_a tt (c.active.next, loop, q, (o, m, r, leave, at_a, jump, at_s, back, after), r, jump, at_s, back, stack)))
+      (λ choice. (shared, facts, as_condition x y m at_a tt (c.active.next, loop, q, (x, y, m, r, leave, at_a, jump, at_s, back, after), r, jump, at_s, back, stack)))
   executing (typed.Return None) k e w c well (shared, facts, (loop, q, (s, here), stack)) =
       silently source pages calls some_page (Running (Executing (typed.Return None)) k e w) (Running (Returning None) k e w) (plain.Running c) refl
       (shared, facts, (loop, q, s, here, stack))
@@ -287,9 +287,9 @@ module _ (source : Program) (pages calls : ℕ) (some_page : 1 ≤ pages) where
       initial n t from to a js k e w c loop m q shared facts few at items stack
   after_statement (Rest js ∷ k) e w c loop well shared facts (q, at, stack) = absurd at
   after_statement (Join ∷ k) e w c loop well shared facts (q, arrives, stack) = joins k e w c loop q shared facts arrives stack
-  after_statement (Loop a s ∷ k) e w c loop well shared facts (outer, q, (o, m, r, leave, at_a, jump, at_s, back, after), here, stack) =
+  after_statement (Loop a s ∷ k) e w c loop well shared facts (outer, q, (x, y, m, r, leave, at_a, jump, at_s, back, after), here, stack) =
       one source pages calls some_page refl shared here
-      (λ choice. (shared, facts, as_operand o m at_a tt (loop, outer, q, (o, m, r, leave, at_a, jump, at_s, back, after), r, jump, at_s, back, stack)))
+      (λ choice. (shared, facts, as_condition x y m at_a tt (loop, outer, q, (x, y, m, r, leave, at_a, jump, at_s, back, after), r, jump, at_s, back, stack)))
   after_statement (CloseRegion region home ∷ k) e w c loop well shared facts stack =
       let found = is_closed Proceeding region home k e w well in
       silently source pages calls some_page (Running Proceeding (CloseRegion region home ∷ k) e w) (Running Proceeding k (record e { home = home }) (closed w region found.region)) (plain.Running c) found.gives
@@ -330,7 +330,7 @@ module _ (source : Program) (pages calls : ℕ) (some_page : 1 ≤ pages) where
       silently source pages calls some_page (Running Breaking (Rest js ∷ k) e w) (Running Breaking k e w) (plain.Running c) refl (shared, facts, (loop, r, here, stack)) (omega arith)
   breaking (Join ∷ k) e w c well (shared, facts, (loop, q, here, (r, arrives, stack))) =
       silently source pages calls some_page (Running Breaking (Join ∷ k) e w) (Running Breaking k e w) (plain.Running c) refl (shared, facts, (loop, r, here, stack)) (omega arith)
-  breaking (Loop a s ∷ k) e w c well (shared, facts, (loop, q, here, (outer, r, (o, m, n, leave, at_a, jump, at_s, back, after), again, stack))) =
+  breaking (Loop a s ∷ k) e w c well (shared, facts, (loop, q, here, (outer, r, (x, y, m, n, leave, at_a, jump, at_s, back, after), again, stack))) =
       two source pages calls some_page (at c (break_target loop)) refl shared shared here (λ choice. refl) leave
       (λ same.
       let jumps : r ≡ break_target loop = ap (λ (i : Instruction). target_of i) (same_Some (instructions.Jump r) (instructions.Jump (break_target loop)) (sym leave ∙ ap (slice_get (code_of source c.active.function)) (sym same) ∙ here)) in
@@ -360,9 +360,9 @@ module _ (source : Program) (pages calls : ℕ) (some_page : 1 ≤ pages) where
       silently source pages calls some_page (Running Continuing (Rest js ∷ k) e w) (Running Continuing k e w) (plain.Running c) refl (shared, facts, (loop, r, here, stack)) (omega arith)
   continuing (Join ∷ k) e w c well (shared, facts, (loop, q, here, (r, arrives, stack))) =
       silently source pages calls some_page (Running Continuing (Join ∷ k) e w) (Running Continuing k e w) (plain.Running c) refl (shared, facts, (loop, r, here, stack)) (omega arith)
-  continuing (Loop a s ∷ k) e w c well (shared, facts, (loop, q, here, (outer, r, (o, m, n, leave, at_a, jump, at_s, back, after), again, stack))) =
+  continuing (Loop a s ∷ k) e w c well (shared, facts, (loop, q, here, (outer, r, (x, y, m, n, leave, at_a, jump, at_s, back, after), again, stack))) =
       one source pages calls some_page refl shared here
-      (λ choice. (shared, facts, as_operand o m at_a tt (loop, outer, r, (o, m, n, leave, at_a, jump, at_s, back, after), n, jump, at_s, back, stack)))
+      (λ choice. (shared, facts, as_condition x y m at_a tt (loop, outer, r, (x, y, m, n, leave, at_a, jump, at_s, back, after), n, jump, at_s, back, stack)))
   continuing (CloseRegion region home ∷ k) e w c well (shared, facts, (loop, q, here, stack)) =
       let found = is_closed Continuing region home k e w well in
       silently source pages calls some_page (Running Continuing (CloseRegion region home ∷ k) e w) (Running Continuing k (record e { home = home }) (closed w region found.region)) (plain.Running c) found.gives

@@ -1,8 +1,11 @@
 -- The steps that hand a value on.
 use Rattle.std.proofs.Common.{◌≡◌, ◌≢◌, ℕ, zero, suc, ◌+◌, ◌≤◌, ◌<◌, Bool, true, false, not, List, [], ◌∷◌, ◌++◌, Option, None, Some, slice_get, refl, sym, ap, subst, ◌∙◌, arith, inl, inr, length}
-use Rattle.std.specs.Prelude.{◌==◌, if◌then◌else◌}
+use Rattle.std.specs.Prelude.{ℤ, ◌==◌, ◌<ℤ◌, ◌≤ℤ◌, int_le, int_lt, if◌then◌else◌}
+use Rattle.std.proofs.lemmas.Int.{ints}
 use Rattle.std.proofs.lemmas.Bool.{cases_eq, eqb-true, false_from_ne_true}
-use Rattle.std.proofs.lemmas.Option.{same_Some}
+use Rattle.std.proofs.lemmas.Option.{same_Some, none-some}
+use Rattle.cyc_words.specs.Word.{signed, slt_of}
+use Rattle.cyc_words.proofs.WordLemmas.{slt_of_cases}
 use Rattle.cyc_types.specs.declared.typed.Kind.{Kind}
 use Rattle.cyc_types.specs.declared.typed.Kind.TheVariants as kinds
 use Rattle.cyc_types.specs.declared.typed.Callee.{Callee}
@@ -14,12 +17,14 @@ use Rattle.cyc_types.specs.declared.typed.LogicalOperator.{LogicalOperator}
 use Rattle.cyc_types.specs.declared.typed.LogicalOperator.TheVariants as logical
 use Rattle.cyc_types.specs.declared.typed.Callee.TheVariants as callees
 use Rattle.cyc_types.specs.TypedTrees.{Lvalue, Local, Global, Expression, Arguments, NoArguments, MoreArguments, Operations, NoOperations, ThenCompute, ThenTest, Statement, Items, Program}
+use Rattle.cyc_plain.specs.declared.instruction.Comparison.{Comparison}
+use Rattle.cyc_plain.specs.declared.instruction.Comparison.TheVariants as comparisons
 use Rattle.cyc_plain.specs.declared.instruction.Operand.{Operand}
 use Rattle.cyc_plain.specs.declared.instruction.Operand.TheVariants as operands
 use Rattle.cyc_plain.specs.declared.instruction.Instruction.{Instruction}
 use Rattle.cyc_plain.specs.declared.instruction.Instruction.TheVariants as instructions
 use Rattle.cyc_plain.specs.declared.instruction.UnaryOperator.TheVariants as plain_unary
-use Rattle.cyc_plain.specs.Operators.{truth}
+use Rattle.cyc_plain.specs.Operators.{truth, compares}
 use Rattle.cyc_plain.specs.Operators as plain_operators
 use Rattle.cyc_plain.specs.State as plain
 use Rattle.cyc_plain.specs.State.{put, Frame, Configuration}
@@ -27,13 +32,13 @@ use Rattle.cyc_plain.specs.Step.{Choice, operand_word, with_slots, at, advanced,
 use Rattle.cyc_plain.specs.Step as plain_step
 use Rattle.cyc_plain.proofs.SlotLaws.{put-same, put-other}
 use Rattle.cyc_meaning.specs.Values.{Value, Int, Null, Thin, Fat, Handle, Key, Operand as Kinded, is_kind}
-use Rattle.cyc_meaning.specs.Operators.{Gives, Raises, has_no_result, binary_word, is_zero, unary_result, truth_of, division_by_zero}
+use Rattle.cyc_meaning.specs.Operators.{Gives, Raises, has_no_result, binary_word, is_zero, unary_result, truth_result, truth_of, division_by_zero}
 use Rattle.cyc_meaning.specs.Conversion.{conversion}
 use Rattle.cyc_meaning.specs.State.{World, Environment, with_local, made, variable, written, region_at, Awaiting, ConvertTo, Operate, Chain, Apply, Decide, Store, Pass, Initialise, Choose, Test, Return, Entry, Needs, Discard, Rest, Join, Loop, Focus, Evaluating, Given, Executing, Proceeding, Calling, Returning, Throwing, State, Running}
 use Rattle.cyc_meaning.specs.Step.{wrong, object_of, computed, stored_at, declared, passes, tested, awaits_right, chosen, looped, step}
-use Rattle.cyc_lower.specs.Lowering.{slot_of, unary_operator, binary_operator, operand_of, value_slot, next_slot, is_in, low_byte, jump_if_zero, jump_if_nonzero, break_target, lower_program}
+use Rattle.cyc_lower.specs.Lowering.{slot_of, unary_operator, binary_operator, failing_comparison, operand_of, value_slot, next_slot, is_in, low_byte, jump_if_zero, jump_if_nonzero, break_target, lower_program}
 use Rattle.cyc_lower.proofs.Stands.{At, OperandBy, CopyBy, CopyAt, CheckAt, CheckedAt, OperatorAt, TruthAt, ExpressionAt, OperationsAt}
-use Rattle.cyc_lower.proofs.Relation.{Is, Holds, held, contents, callers, in_place, by_jump, IsQuiet, Lands, in_temporary, in_local, HandsOn, drops, leaves, copies, DataIn, SharedAt, StoreAt, ValueStack, DroppedStack, AheadStack, LandsStack, HandsOnStack, ReadyAt, as_operand, into_slot, as_right, GivenAt, in_operand, nowhere, ahead, with_left, behind_statement, Related, Matches, code_of, bounds_at, base_of, top}
+use Rattle.cyc_lower.proofs.Relation.{Is, Holds, held, contents, callers, in_place, by_jump, IsQuiet, Lands, in_temporary, in_local, HandsOn, drops, leaves, copies, DataIn, SharedAt, StoreAt, to_slot, to_jump, ChoosesAt, RepeatsAt, ValueStack, ConditionStack, DroppedStack, AheadStack, LandsStack, HandsOnStack, AppliedStack, ReadyAt, as_operand, into_slot, as_right, as_condition, GivenAt, in_operand, nowhere, ahead, compared, with_left, behind_statement, Related, Matches, code_of, bounds_at, base_of, top}
 use Rattle.cyc_lower.proofs.Data.{height-least, Holds-put, Holds-local, put_over, data_same, data_put, data_put_back, data_assigned, data_caught_up, data_assigned_global, data_declared}
 use Rattle.cyc_lower.proofs.Accesses.{IsWell, is_fitting, is_stored, written_here, written_elsewhere, written_length, is_declared}
 use Rattle.cyc_lower.proofs.Weights.{weight}
@@ -56,6 +61,43 @@ zero_is (Thin object offset) x is = absurd is
 zero_is (Fat object start many index) x is = absurd is
 zero_is (Handle region) x is = absurd is
 zero_is (Key region) x is = absurd is
+
+-- ---- comparisons
+
+not_less : (a b : ℕ) → (slt_of a b == 0) ≡ int_le (signed b) (signed a)
+not_less a b = elim (slt_of_cases a b) [
+  | inl (one, less) ↦ ap (λ x. x == 0) one ∙ sym (above (signed a) (signed b) less)
+  | inr (none, fine) ↦ ap (λ x. x == 0) none ∙ sym (at_most (signed a) (signed b) fine)
+]
+  where
+    above : (x y : ℤ) → x <ℤ y → int_le y x ≡ false
+    above x y less = grind (arith, ints)
+
+    at_most : (x y : ℤ) → y ≤ℤ x → int_le y x ≡ true
+    at_most x y fine = grind (arith, ints)
+
+not_at_most : (x y : ℤ) → not (int_le x y) ≡ int_lt y x
+not_at_most x y = grind (arith, ints)
+
+untrue : (b : Bool) → (truth b == 0) ≡ not b
+untrue true = refl
+untrue false = refl
+
+twice_not : (b : Bool) → not (not b) ≡ b
+twice_not true = refl
+twice_not false = refl
+
+-- what an operator gives is 0 where the comparison holds with which it fails
+pub fails_by : (u : Operator) (failing : Comparison) (a b : ℕ) → failing_comparison u ≡ Some failing → (binary_word u a b == 0) ≡ compares failing a b
+fails_by operators.Equal failing a b is = untrue (a == b) ∙ ap (λ f. compares f a b) (same_Some comparisons.NotEqual failing is)
+fails_by operators.NotEqual failing a b is = untrue (not (a == b)) ∙ twice_not (a == b) ∙ ap (λ f. compares f a b) (same_Some comparisons.Equal failing is)
+fails_by operators.Less failing a b is = not_less a b ∙ ap (λ f. compares f a b) (same_Some comparisons.GreaterOrEqual failing is)
+fails_by operators.LessOrEqual failing a b is =
+    untrue (int_le (signed a) (signed b)) ∙ not_at_most (signed a) (signed b) ∙ ap (λ f. compares f a b) (same_Some comparisons.Greater failing is)
+fails_by operators.Greater failing a b is = not_less b a ∙ ap (λ f. compares f a b) (same_Some comparisons.LessOrEqual failing is)
+fails_by operators.GreaterOrEqual failing a b is =
+    untrue (int_le (signed b) (signed a)) ∙ not_at_most (signed b) (signed a) ∙ ap (λ f. compares f a b) (same_Some comparisons.Less failing is)
+fails_by u failing a b is = absurd (none-some failing is)
 
 -- two different instructions stand in two places
 pub other_place : (code : List Instruction) (p q : ℕ) (i j : Instruction) → At code p i → At code q j → i ≢ j → p ≢ q
@@ -148,9 +190,14 @@ module _ (source : Program) (pages calls : ℕ) (some_page : 1 ≤ pages) where
 
   -- ---- operators
 
+  -- the operator stands here, and what it gives comes to a slot
+  abbrev OperatesAt : UnaryOperator → Operand → List Entry → Environment → Configuration → Type 0
+  OperatesAt u o k e c = (d : ℕ) × At (code_of source c.active.function) c.active.next (instructions.Unary (unary_operator u) d o)
+      × LandsStack source c.active.function e.locals d (c.active.next + 1) c.frames k
+
   operates_word : (u : UnaryOperator) (i : Kind) (a : ℕ) (o : Operand) (k : List Entry) (e : Environment) (w : World) (c : Configuration)
       → unary_result u (Int a) ≡ Gives (Int (plain_operators.unary_result (unary_operator u) a)) → Stands (of_kind i (Int a)) o k e w c
-      → ValueStack source c.active.function e.locals o c.active.next c.frames (Needs (Operate u) ∷ k) → GoesBehind (of_kind i (Int a)) (Needs (Operate u) ∷ k) e w c
+      → OperatesAt u o k e c → GoesBehind (of_kind i (Int a)) (Needs (Operate u) ∷ k) e w c
   operates_word u i a o k e w c result (shared, facts, is, holds) (d, here, lands) =
       let x = operand_word c.active.slots o in
       one source pages calls some_page (ap (λ r. computed kinds.Int r k e w) result) shared here
@@ -158,7 +205,7 @@ module _ (source : Program) (pages calls : ℕ) (some_page : 1 ≤ pages) where
 
   operates_value : (u : UnaryOperator) (i : Kind) (v : Value) (o : Operand) (k : List Entry) (e : Environment) (w : World) (c : Configuration)
       → IsWell (step source (Running (Given (of_kind i v)) (Needs (Operate u) ∷ k) e w)) → Stands (of_kind i v) o k e w c
-      → ValueStack source c.active.function e.locals o c.active.next c.frames (Needs (Operate u) ∷ k) → GoesBehind (of_kind i v) (Needs (Operate u) ∷ k) e w c
+      → OperatesAt u o k e c → GoesBehind (of_kind i v) (Needs (Operate u) ∷ k) e w c
   operates_value u i (Thin object offset) o k e w c well (shared, facts, is, holds) stack = absurd is
   operates_value u i (Fat object start many index) o k e w c well (shared, facts, is, holds) stack = absurd is
   operates_value u i (Handle region) o k e w c well (shared, facts, is, holds) stack = absurd is
@@ -172,10 +219,21 @@ module _ (source : Program) (pages calls : ℕ) (some_page : 1 ≤ pages) where
   operates_value unary.Complement i (Int a) o k e w c well stands stack = operates_word unary.Complement i a o k e w c refl stands stack
   operates_value unary.Not i (Int a) o k e w c well stands stack = operates_word unary.Not i a o k e w c refl stands stack
 
+  -- a condition that is negated is not computed
+  negates : (v : Kinded) (o : Operand) (k : List Entry) (e : Environment) (w : World) (c : Configuration) → Stands v o k e w c
+      → ConditionStack source c.active.function comparisons.NotEqual o (operands.Word 0) c.active.next c.frames k → GoesBehind v (Needs (Operate unary.Not) ∷ k) e w c
+  negates v o k e w c (shared, facts, is, holds) stack =
+      let x = operand_word c.active.slots o in
+      silently source pages calls some_page (Running (Given v) (Needs (Operate unary.Not) ∷ k) e w) (Running (Given (int_of (truth (x == 0)))) k e w) (plain.Running c)
+      (ap (λ z. computed kinds.Int (truth_result z) k e w) (zero_is v.value x is))
+      (shared, compared comparisons.NotEqual o (operands.Word 0) facts (ap Some (untrue (x == 0))) stack)
+      (omega arith)
+
   operates : (u : UnaryOperator) (v : Kinded) (o : Operand) (k : List Entry) (e : Environment) (w : World) (c : Configuration)
       → IsWell (step source (Running (Given v) (Needs (Operate u) ∷ k) e w)) → Stands v o k e w c
       → ValueStack source c.active.function e.locals o c.active.next c.frames (Needs (Operate u) ∷ k) → GoesBehind v (Needs (Operate u) ∷ k) e w c
-  operates u v o k e w c well stands stack = operates_value u v.kind v.value o k e w c well stands stack
+  operates u v o k e w c well stands (to_slot here) = operates_value u v.kind v.value o k e w c well stands here
+  operates u v o k e w c well stands (to_jump (is, stack)) = subst (λ x. GoesBehind v (Needs (Operate x) ∷ k) e w c) (sym is) (negates v o k e w c stands stack)
 
   -- ---- divisions
 
@@ -251,12 +309,32 @@ module _ (source : Program) (pages calls : ℕ) (some_page : 1 ≤ pages) where
       (λ choice. landed source pages calls some_page (int_of (binary_word u a b)) (binary_word u x y) d k e w c q
       (ap (λ z. binary_word u z y) is_left ∙ ap (binary_word u a) is) shared facts holds end lands)
 
+  -- a condition that is a comparison is not computed
+  compares_words : (u : Operator) (i j : Kind) (failing : Comparison) (a b : ℕ) (l r : Operand) (k : List Entry) (e : Environment) (w : World) (c : Configuration) → failing_comparison u ≡ Some failing
+      → step source (Running (Given (of_kind j (Int b))) (Needs (Apply u (of_kind i (Int a))) ∷ k) e w) ≡ Running (Given (int_of (binary_word u a b))) k e w
+      → SharedAt source calls w c → DataIn source c.active.slots k e w c → operand_word c.active.slots l ≡ a → operand_word c.active.slots r ≡ b
+      → ConditionStack source c.active.function failing l r c.active.next c.frames k → GoesBehind (of_kind j (Int b)) (Needs (Apply u (of_kind i (Int a))) ∷ k) e w c
+  compares_words u i j failing a b l r k e w c is does shared facts is_left is_right stack =
+      let x = operand_word c.active.slots l in
+      silently source pages calls some_page (Running (Given (of_kind j (Int b))) (Needs (Apply u (of_kind i (Int a))) ∷ k) e w) (Running (Given (int_of (binary_word u a b))) k e w) (plain.Running c) does
+      (shared, compared failing l r facts (ap Some (fails_by u failing a b is ∙ ap (λ y. compares failing y b) (sym is_left) ∙ ap (compares failing x) (sym is_right))) stack)
+      (omega arith)
+
+  compares_both : (u : Operator) (i j : Kind) (failing : Comparison) (a b : ℕ) (l r : Operand) (k : List Entry) (e : Environment) (w : World) (c : Configuration) → failing_comparison u ≡ Some failing
+      → SharedAt source calls w c → DataIn source c.active.slots k e w c → operand_word c.active.slots l ≡ a → operand_word c.active.slots r ≡ b
+      → ConditionStack source c.active.function failing l r c.active.next c.frames k → GoesBehind (of_kind j (Int b)) (Needs (Apply u (of_kind i (Int a))) ∷ k) e w c
+  compares_both operators.Divide i j failing a b l r k e w c is shared facts is_left is_right stack = absurd (none-some failing is)
+  compares_both operators.Remainder i j failing a b l r k e w c is shared facts is_left is_right stack = absurd (none-some failing is)
+  compares_both u i j failing a b l r k e w c is shared facts is_left is_right stack =
+      compares_words u i j failing a b l r k e w c is refl shared facts is_left is_right stack
+
   -- both operands are there
   applies_values : (u : Operator) (i j : Kind) (left v : Value) (k : List Entry) (e : Environment) (w : World) (c : Configuration)
       → IsWell (step source (Running (Given (of_kind j v)) (Needs (Apply u (of_kind i left)) ∷ k) e w)) → SharedAt source calls w c → DataIn source c.active.slots k e w c
       → ReadyAt source (of_kind j v) e.locals c.active.function c.active.next c.active.slots c.frames (Needs (Apply u (of_kind i left)) ∷ k)
       → GoesBehind (of_kind j v) (Needs (Apply u (of_kind i left)) ∷ k) e w c
-  applies_values u i j (Int a) (Int b) k e w c well shared facts (l, r, d, q, is_left, is, holds, here, lands) = computes u i j a b l r d k e w c q shared facts is_left is holds here lands
+  applies_values u i j (Int a) (Int b) k e w c well shared facts (l, r, is_left, is, holds, to_slot (d, q, here, lands)) = computes u i j a b l r d k e w c q shared facts is_left is holds here lands
+  applies_values u i j (Int a) (Int b) k e w c well shared facts (l, r, is_left, is, holds, to_jump (failing, fails, stack)) = compares_both u i j failing a b l r k e w c fails shared facts is_left is stack
   applies_values u i j left v k e w c well shared facts ready = absurd (well refl)
 
   applies : (u : Operator) (left v : Kinded) (k : List Entry) (e : Environment) (w : World) (c : Configuration)
@@ -305,8 +383,8 @@ module _ (source : Program) (pages calls : ℕ) (some_page : 1 ≤ pages) where
       → OperationsAt (code_of source g) (bounds_at source g) os (operands.Slot (next_slot os d (top source g k))) d (top source g k) p q
       → LandsStack source g locals d q frames k → LandsStack source g locals (next_slot os d (top source g k)) p frames (Needs (Chain os) ∷ k)
   chain_lands NoOperations g locals d p q frames k (is, end) lands = lands_at source pages calls some_page g locals d p q frames k end lands
-  chain_lands (ThenCompute u b os) g locals d p q frames k ops lands = in_temporary (omega arith) (d, q, ops, lands)
-  chain_lands (ThenTest u b os) g locals d p q frames k ops lands = in_temporary (omega arith) (d, q, ops, lands)
+  chain_lands (ThenCompute u b os) g locals d p q frames k ops lands = in_temporary (omega arith) (to_slot (d, q, ops, lands))
+  chain_lands (ThenTest u b os) g locals d p q frames k ops lands = in_temporary (omega arith) (to_slot (d, q, ops, lands))
   chain_lands os g locals d p q frames k ops lands = absurd ops
 
   -- where the left operand decides, the right one is jumped over
@@ -371,21 +449,20 @@ module _ (source : Program) (pages calls : ℕ) (some_page : 1 ≤ pages) where
   awaited false waiting b os k e w well = absurd (well refl)
 
   -- an operator: its right operand has no code, or comes behind the left one
-  chain_goes_on : (known : Option Operand) (u : Operator) (b : Expression) (os : Operations) (v : Kinded) (l : Operand) (k : List Entry) (e : Environment) (w : World) (c : Configuration) (r : Operand) (d m s : ℕ)
+  chain_goes_on : (known : Option Operand) (u : Operator) (b : Expression) (os : Operations) (v : Kinded) (l : Operand) (k : List Entry) (e : Environment) (w : World) (c : Configuration) (r : Operand) (m : ℕ)
       → IsWell (step source (Running (Given v) (Needs (Chain (ThenCompute u b os)) ∷ k) e w)) → operand_of b ≡ known → Stands v l k e w c
       → OperandBy (code_of source c.active.function) (bounds_at source c.active.function) known
       ((l ≡ operands.Slot (top source c.active.function k))
       × ExpressionAt (code_of source c.active.function) (bounds_at source c.active.function) b (value_slot b (suc (top source c.active.function k))) (suc (top source c.active.function k)) c.active.next m)
       (value_slot b (suc (top source c.active.function k))) r c.active.next m
-      → OperatorAt (code_of source c.active.function) (bounds_at source c.active.function) u d l r m s
-      → LandsStack source c.active.function e.locals d s c.frames (Needs (Chain os) ∷ k)
+      → AppliedStack source c.active.function e.locals u l r m c.frames (Needs (Chain os) ∷ k)
       → GoesBehind v (Needs (Chain (ThenCompute u b os)) ∷ k) e w c
-  chain_goes_on (Some known) u b os v l k e w c r d m s well is_known (shared, facts, is, holds) (r_is, begin) here lands =
+  chain_goes_on (Some known) u b os v l k e w c r m well is_known (shared, facts, is, holds) (r_is, begin) applied =
       let g = c.active.function in
       silently source pages calls some_page (Running (Given v) (Needs (Chain (ThenCompute u b os)) ∷ k) e w) (Running (Evaluating b) (Needs (Apply u v) ∷ Needs (Chain os) ∷ k) e w) (plain.Running c) (awaited (is_kind v.kind kinds.Int) (Apply u v) b os k e w well)
-      (shared, facts, as_right (l, r, d, s, is_known ∙ ap Some (sym r_is), is, holds, subst (λ x. OperatorAt (code_of source g) (bounds_at source g) u d l r x s) (sym begin) here, lands))
+      (shared, facts, as_right (l, r, is_known ∙ ap Some (sym r_is), is, holds, subst (λ x. AppliedStack source g e.locals u l r x c.frames (Needs (Chain os) ∷ k)) (sym begin) applied))
       (omega arith)
-  chain_goes_on None u b os v l k e w c r d m s well is_known (shared, facts, is, holds) (r_is, (there, at_b)) here lands =
+  chain_goes_on None u b os v l k e w c r m well is_known (shared, facts, is, holds) (r_is, (there, at_b)) applied =
       let g = c.active.function in
       let free = suc (top source g k) in
       silently source pages calls some_page (Running (Given v) (Needs (Chain (ThenCompute u b os)) ∷ k) e w) (Running (Evaluating b) (Needs (Apply u v) ∷ Needs (Chain os) ∷ k) e w) (plain.Running c) (awaited (is_kind v.kind kinds.Int) (Apply u v) b os k e w well) (
@@ -394,7 +471,7 @@ module _ (source : Program) (pages calls : ℕ) (some_page : 1 ≤ pages) where
         as_operand r m
             (subst (λ x. OperandBy (code_of source g) (bounds_at source g) x (ExpressionAt (code_of source g) (bounds_at source g) b (value_slot b free) free c.active.next m) (value_slot b free) r c.active.next m) (sym is_known) (r_is, at_b))
             (subst (λ x. Is v.value (operand_word c.active.slots x)) there is, holds)
-            (d, s, subst (λ x. OperatorAt (code_of source g) (bounds_at source g) u d x r m s) there here, lands),
+            (subst (λ x. AppliedStack source g e.locals u x r m c.frames (Needs (Chain os) ∷ k)) there applied),
       )
       (omega arith)
 
@@ -405,12 +482,16 @@ module _ (source : Program) (pages calls : ℕ) (some_page : 1 ≤ pages) where
       silently source pages calls some_page (Running (Given v) (Needs (Chain NoOperations) ∷ k) e w) (Running (Given v) k e w) (plain.Running c) refl
       (shared, in_operand o facts is holds stack)
       (omega arith)
-  chains (ThenCompute u b os) v o k e w c well stands (d, q, (r, m, s, at_b, at, ops), lands) =
-      chain_goes_on (operand_of b) u b os v o k e w c r (next_slot os d (top source c.active.function k)) m s well refl stands at_b at (chain_lands os c.active.function e.locals d s q c.frames k ops lands)
-  chains (ThenTest u b os) v o k e w c well (shared, facts, is, holds) (d, q, (m, r, there, jump, at_b, truths, ops), lands) =
+  chains (ThenCompute u b os) v o k e w c well stands (to_slot (d, q, (r, m, s, at_b, at, ops), lands)) =
+      chain_goes_on (operand_of b) u b os v o k e w c r m well refl stands at_b
+      (to_slot (next_slot os d (top source c.active.function k), s, at, chain_lands os c.active.function e.locals d s q c.frames k ops lands))
+  chains (ThenCompute u b NoOperations) v o k e w c well stands (to_jump (failing, r, q, (is, at_b), stack)) =
+      chain_goes_on (operand_of b) u b NoOperations v o k e w c r q well refl stands at_b (to_jump (failing, is, stack))
+  chains (ThenTest u b os) v o k e w c well (shared, facts, is, holds) (to_slot (d, q, (m, r, there, jump, at_b, truths, ops), lands)) =
       tests u b os v (c.active.slots (top source c.active.function k) == 0) k e w c d q refl
       (shared, facts, subst (λ x. Is v.value (operand_word c.active.slots x)) there is, holds) (m, r, refl, jump, at_b, truths, ops) lands
-  chains os v o k e w c well stands (d, q, at, lands) = absurd at
+  chains os v o k e w c well stands (to_slot (d, q, at, lands)) = absurd at
+  chains os v o k e w c well stands (to_jump (failing, r, q, at, stack)) = absurd at
 
   -- ---- assignments
 
@@ -607,28 +688,32 @@ module _ (source : Program) (pages calls : ℕ) (some_page : 1 ≤ pages) where
       )
       (omega arith)
 
-  chooses : (s t : Statement) (v : Kinded) (f : Bool) (o : Operand) (k : List Entry) (e : Environment) (w : World) (c : Configuration)
-      → (operand_word c.active.slots o == 0) ≡ f → Stands v o (Needs (Choose s t) ∷ k) e w c
-      → ValueStack source c.active.function e.locals o c.active.next c.frames (Needs (Choose s t) ∷ k) → GoesBehind v (Needs (Choose s t) ∷ k) e w c
-  chooses s t v true o k e w c told (shared, facts, is, holds) (loop, r, q, jump, at_s, over, at_t, stack) =
-      one source pages calls some_page (ap (λ (x : Option Bool). chosen x s t k e w) (zero_is v.value _ is ∙ ap Some told)) shared jump
-      (λ choice. taken (Running (Executing t) (Join ∷ k) e w) c _ (r + 1) told (shared, facts, (loop, q, at_t, (q, in_place refl, stack))))
-  chooses s t v false o k e w c told (shared, facts, is, holds) (loop, r, q, jump, at_s, over, at_t, stack) =
-      one source pages calls some_page (ap (λ (x : Option Bool). chosen x s t k e w) (zero_is v.value _ is ∙ ap Some told)) shared jump
-      (λ choice. not_taken (Running (Executing s) (Join ∷ k) e w) c _ (r + 1) told (shared, facts, (loop, r, at_s, (q, by_jump over, stack))))
+  -- a condition that has failed or not, by the comparison of two operands
+  chooses : (s t : Statement) (v : Kinded) (f : Bool) (failing : Comparison) (l r : Operand) (k : List Entry) (e : Environment) (w : World) (c : Configuration)
+      → is_zero v.value ≡ Some f → compares failing (operand_word c.active.slots l) (operand_word c.active.slots r) ≡ f
+      → SharedAt source calls w c → DataIn source c.active.slots (Needs (Choose s t) ∷ k) e w c
+      → ConditionStack source c.active.function failing l r c.active.next c.frames (Needs (Choose s t) ∷ k) → GoesBehind v (Needs (Choose s t) ∷ k) e w c
+  chooses s t v true failing l r k e w c fails told shared facts (loop, m, q, jump, at_s, over, at_t, stack) =
+      one source pages calls some_page (ap (λ (x : Option Bool). chosen x s t k e w) fails) shared jump
+      (λ choice. taken (Running (Executing t) (Join ∷ k) e w) c _ (m + 1) told (shared, facts, (loop, q, at_t, (q, in_place refl, stack))))
+  chooses s t v false failing l r k e w c fails told shared facts (loop, m, q, jump, at_s, over, at_t, stack) =
+      one source pages calls some_page (ap (λ (x : Option Bool). chosen x s t k e w) fails) shared jump
+      (λ choice. not_taken (Running (Executing s) (Join ∷ k) e w) c _ (m + 1) told (shared, facts, (loop, m, at_s, (q, by_jump over, stack))))
 
-  loops : (a : Expression) (s : Statement) (v : Kinded) (f : Bool) (o : Operand) (k : List Entry) (e : Environment) (w : World) (c : Configuration)
-      → (operand_word c.active.slots o == 0) ≡ f → Stands v o (Needs (Test a s) ∷ k) e w c
-      → ValueStack source c.active.function e.locals o c.active.next c.frames (Needs (Test a s) ∷ k) → GoesBehind v (Needs (Test a s) ∷ k) e w c
-  loops a s v true o k e w c told (shared, facts, is, holds) (loop, outer, q, (there, m, n, leave, at_a, again, at_body, repeats, after), r, jump, at_s, back, stack) =
-      let code = code_of source c.active.function in
-      two source pages calls some_page (at c (break_target loop)) (ap (λ (x : Option Bool). looped x a s k e w) (zero_is v.value _ is ∙ ap Some told)) shared shared
-      jump (λ choice. ap (λ x. plain_step.branches c x (break_target loop)) told)
-      leave (other_place code c.active.next (break_target loop) _ _ jump leave (λ same. let f : jump_if_zero o (break_target loop) ≡ instructions.Jump q = same in cc))
+  loops : (a : Expression) (s : Statement) (v : Kinded) (f : Bool) (failing : Comparison) (l r : Operand) (k : List Entry) (e : Environment) (w : World) (c : Configuration)
+      → is_zero v.value ≡ Some f → compares failing (operand_word c.active.slots l) (operand_word c.active.slots r) ≡ f
+      → SharedAt source calls w c → DataIn source c.active.slots (Needs (Test a s) ∷ k) e w c
+      → ConditionStack source c.active.function failing l r c.active.next c.frames (Needs (Test a s) ∷ k) → GoesBehind v (Needs (Test a s) ∷ k) e w c
+  loops a s v true failing l r k e w c fails told shared facts (loop, outer, q, (x, y, m, n, leave, at_a, again, at_body, repeats, after), i, jump, at_s, back, stack) =
+      two source pages calls some_page (at c (break_target loop)) (ap (λ (z : Option Bool). looped z a s k e w) fails) shared shared
+      jump (λ choice. ap (λ z. plain_step.branches c z (break_target loop)) told)
+      leave
+      (other_place (code_of source c.active.function) c.active.next (break_target loop) _ _ jump leave
+      (λ same. let f : instructions.Branch failing l r (break_target loop) ≡ instructions.Jump q = same in cc))
       (λ choice. (shared, behind_statement outer facts stack))
-  loops a s v false o k e w c told (shared, facts, is, holds) (loop, outer, q, around, r, jump, at_s, back, stack) =
-      one source pages calls some_page (ap (λ (x : Option Bool). looped x a s k e w) (zero_is v.value _ is ∙ ap Some told)) shared jump
-      (λ choice. not_taken (Running (Executing s) (Loop a s ∷ k) e w) c _ _ told (shared, facts, (loop, r, at_s, (outer, q, around, back, stack))))
+  loops a s v false failing l r k e w c fails told shared facts (loop, outer, q, around, m, jump, at_s, back, stack) =
+      one source pages calls some_page (ap (λ (z : Option Bool). looped z a s k e w) fails) shared jump
+      (λ choice. not_taken (Running (Executing s) (Loop a s ∷ k) e w) c _ _ told (shared, facts, (loop, m, at_s, (outer, q, around, back, stack))))
 
   -- ---- all that waits for a value
 
@@ -639,14 +724,16 @@ module _ (source : Program) (pages calls : ℕ) (some_page : 1 ≤ pages) where
   stands_given v o (Needs (ConvertTo from to) ∷ k) e w c well stands stack = converts from to v o k e w c well stands stack
   stands_given v o (Needs (Operate u) ∷ k) e w c well stands stack = operates u v o k e w c well stands stack
   stands_given v o (Needs (Chain os) ∷ k) e w c well stands stack = chains os v o k e w c well stands stack
-  stands_given v o (Needs (Apply u left) ∷ k) e w c well (shared, facts, is, (is_left, holds)) (d, q, here, lands) =
-      applies u left v k e w c well shared facts (operands.Slot (top source c.active.function k), o, d, q, is_left, is, holds, here, lands)
+  stands_given v o (Needs (Apply u left) ∷ k) e w c well (shared, facts, is, (is_left, holds)) applied =
+      applies u left v k e w c well shared facts (operands.Slot (top source c.active.function k), o, is_left, is, holds, applied)
   stands_given v o (Needs Decide ∷ k) e w c well stands stack = decides_truth v o k e w c stands stack
   stands_given v o (Needs (Store place) ∷ k) e w c well stands stack = stores_at place v o k e w c well stands stack
   stands_given v o (Needs (Pass f before cs) ∷ k) e w c well stands stack = hands_on f before cs v o k e w c stands stack
   stands_given v o (Needs (Initialise n kind js) ∷ k) e w c well stands stack = initialises n kind js v o k e w c well stands stack
-  stands_given v o (Needs (Choose s t) ∷ k) e w c well stands stack = chooses s t v (operand_word c.active.slots o == 0) o k e w c refl stands stack
-  stands_given v o (Needs (Test a s) ∷ k) e w c well stands stack = loops a s v (operand_word c.active.slots o == 0) o k e w c refl stands stack
+  stands_given v o (Needs (Choose s t) ∷ k) e w c well (shared, facts, is, holds) stack =
+      chooses s t v (operand_word c.active.slots o == 0) comparisons.Equal o (operands.Word 0) k e w c (zero_is v.value _ is) refl shared facts stack
+  stands_given v o (Needs (Test a s) ∷ k) e w c well (shared, facts, is, holds) stack =
+      loops a s v (operand_word c.active.slots o == 0) comparisons.Equal o (operands.Word 0) k e w c (zero_is v.value _ is) refl shared facts stack
   stands_given v o (Needs Return ∷ k) e w c well (shared, facts, is, holds) (loop, q, s, there, here, single, stack) =
       silently source pages calls some_page (Running (Given v) (Needs Return ∷ k) e w) (Running (Returning (Some v)) k e w) (plain.Running c) refl
       (shared, facts, (loop, q, s, here, subst (λ x. Is v.value (operand_word c.active.slots x)) there is, single, stack))
@@ -688,6 +775,17 @@ module _ (source : Program) (pages calls : ℕ) (some_page : 1 ≤ pages) where
       (subst (λ x. x < base_of source c.active.function) (sym same) below) (subst (λ x. Is v.value (c.active.slots x)) (sym same) is) (q, items, stack)
   ahead_given v n old k e w c well shared facts below is holds stack = absurd stack
 
+  compared_given : (v : Kinded) (failing : Comparison) (l r : Operand) (k : List Entry) (e : Environment) (w : World) (c : Configuration) → SharedAt source calls w c → DataIn source c.active.slots k e w c
+      → is_zero v.value ≡ Some (compares failing (operand_word c.active.slots l) (operand_word c.active.slots r))
+      → ConditionStack source c.active.function failing l r c.active.next c.frames k → GoesBehind v k e w c
+  compared_given v failing l r (Needs (Chain NoOperations) ∷ k) e w c shared facts fails stack =
+      silently source pages calls some_page (Running (Given v) (Needs (Chain NoOperations) ∷ k) e w) (Running (Given v) k e w) (plain.Running c) refl
+      (shared, compared failing l r facts fails stack)
+      (omega arith)
+  compared_given v failing l r (Needs (Choose s t) ∷ k) e w c shared facts fails stack = chooses s t v _ failing l r k e w c fails refl shared facts stack
+  compared_given v failing l r (Needs (Test a s) ∷ k) e w c shared facts fails stack = loops a s v _ failing l r k e w c fails refl shared facts stack
+  compared_given v failing l r k e w c shared facts fails stack = absurd stack
+
   left_given : (v : Kinded) (k : List Entry) (e : Environment) (w : World) (c : Configuration) → IsWell (step source (Running (Given v) k e w)) → SharedAt source calls w c → DataIn source c.active.slots k e w c
       → ReadyAt source v e.locals c.active.function c.active.next c.active.slots c.frames k → GoesBehind v k e w c
   left_given v (Needs (Apply u left) ∷ k) e w c well shared facts ready = applies u left v k e w c well shared facts ready
@@ -697,4 +795,5 @@ module _ (source : Program) (pages calls : ℕ) (some_page : 1 ≤ pages) where
   given v k e w c well (shared, in_operand o facts is holds stack) = stands_given v o k e w c well (shared, facts, is, holds) stack
   given v k e w c well (shared, nowhere facts stack) = dropped_given v k e w c shared facts stack
   given v k e w c well (shared, ahead n (old, facts) below is holds stack) = ahead_given v n old k e w c well shared facts below is holds stack
+  given v k e w c well (shared, compared failing l r facts fails stack) = compared_given v failing l r k e w c shared facts fails stack
   given v k e w c well (shared, with_left facts ready) = left_given v k e w c well shared facts ready

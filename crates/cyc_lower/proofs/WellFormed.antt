@@ -7,6 +7,7 @@ use Rattle.cyc_syntax.specs.declared.tree.PointerKind.TheVariants.{Nullable, Non
 use Rattle.cyc_types.specs.declared.typed.Kind.{Kind}
 use Rattle.cyc_types.specs.declared.typed.Kind.TheVariants as kinds
 use Rattle.cyc_types.specs.declared.typed.Callee.TheVariants as callees
+use Rattle.cyc_types.specs.declared.typed.UnaryOperator.TheVariants as unary
 use Rattle.cyc_types.specs.declared.typed.Operator.{Operator}
 use Rattle.cyc_types.specs.declared.typed.Operator.TheVariants as operators
 use Rattle.cyc_types.specs.declared.typed.LogicalOperator.{LogicalOperator}
@@ -16,6 +17,7 @@ use Rattle.cyc_types.specs.Types as types
 use Rattle.cyc_types.specs.TypedTrees.{Lvalue, Local, Global, Expression, Number, Copy, Call, Unary, Binary, Assign, Converted, Convert, Arguments, NoArguments, MoreArguments, Operations, NoOperations, ThenCompute, ThenTest, type_of, Statement, Block, Empty, Evaluate, If, While, Return, Break, Continue, Items, NoItems, MoreItems, Execute, Declare, GlobalVariable, Function, Program}
 use Rattle.cyc_types.specs.Scopes.{Signature}
 use Rattle.cyc_types.specs.Numbered.{Numbering, signature_of, signatures_of, argument_count, IsWithin, IsNumbered, IsNumberedConverted, AreNumberedArguments, AreNumberedOperations, IsNumberedReturn, IsNumberedInitial, IsNumberedStatement, AreNumberedItems, numbering_of, AreNumberedFunctions, IsNumberedProgram}
+use Rattle.cyc_plain.specs.declared.instruction.Comparison.{Comparison}
 use Rattle.cyc_plain.specs.declared.instruction.Operand.{Operand}
 use Rattle.cyc_plain.specs.declared.instruction.Operand.TheVariants as operands
 use Rattle.cyc_plain.specs.declared.instruction.Instruction.{Instruction}
@@ -27,7 +29,7 @@ use Rattle.std.specs.Prelude.{if◌then◌else◌}
 use Rattle.cyc_meaning.specs.Operators.{null_exception, division_by_zero}
 use Rattle.cyc_meaning.specs.Values.{words_of_kind}
 use Rattle.cyc_meaning.specs.FrameCount.{result_words, operand_words, converted_words, argument_words, expression_need, converted_need, arguments_need, operations_need, initial_need, statement_need, items_need, words_of_all}
-use Rattle.cyc_lower.specs.Lowering.{slot_of, unary_operator, binary_operator, operand_of, operand_or, code_unless, slot_or, code_unless_slot, left_with, left_of, value_slot, next_slot, slot_with, left_slot, value_operand, converted_operand, printed_operand, check_code, conversion_code, divisor_code, checked_code, operator_code, truth_code, load_code, low_byte, test_code, is_in, copy_code, expression_code, arguments_code, converted_code, converted_operand_code, printed_code, initial_code, assignment_code, operations_code, discarded_code, condition_code, failing_jump, break_target, continue_target, return_code, declaration_code, statement_code, items_code, first_temporary, results_of, lower_function, lower_global, lower_program}
+use Rattle.cyc_lower.specs.Lowering.{slot_of, unary_operator, binary_operator, operand_of, operand_or, code_unless, slot_or, code_unless_slot, left_with, left_of, value_slot, next_slot, slot_with, left_slot, value_operand, converted_operand, printed_operand, check_code, conversion_code, divisor_code, checked_code, operator_code, truth_code, load_code, low_byte, test_code, is_in, copy_code, expression_code, arguments_code, converted_code, converted_operand_code, printed_code, initial_code, assignment_code, operations_code, discarded_code, failing_comparison, compared_or, compared_of, first_operand, first_code, second_code, pair_code, condition_code, condition_of, failing_jump, break_target, continue_target, return_code, declaration_code, statement_code, items_code, first_temporary, results_of, lower_function, lower_global, lower_program}
 
 -- ---- lists
 
@@ -378,9 +380,45 @@ module _ (program : PlainProgram) (r : Routine) (b : Numbering) (locals : b.loca
 
   -- ---- statements
 
+  -- two operands that are compared, by the code of the second
+  pair_in : (a c : Expression) (p t : ℕ) → IsNumbered b a → t + expression_need a < r.slots → p + length (pair_code a c p t) < length r.code
+      → (p + length (first_code a c p t) + length (second_code c (p + length (first_code a c p t)) t) < length r.code → AreIn (second_code c (p + length (first_code a c p t)) t)) → AreIn (pair_code a c p t)
+  pair_in a c p t numbered few short second =
+      let slot = slot_with (operand_of c) a t in
+      let front = first_code a c p t in
+      let back = second_code c (p + length front) t in
+      let long = length-append front back in
+      append front back
+      (unless_in (left_with (operand_of c) (operand_of a)) (expression_code a p slot t) p (omega (arith, short, long))
+      (λ less. expression_in a p slot t numbered (slot_with_in (operand_of c) a t numbered (omega (arith, few))) (omega (arith, few)) less))
+      (second (omega (arith, short, long)))
+
   condition_in : (a : Expression) (p t : ℕ) → IsNumbered b a → t + expression_need a < r.slots → p + length (condition_code a p t) < length r.code → AreIn (condition_code a p t)
-  condition_in a p t numbered few short =
-      unless_in (operand_of a) (expression_code a p (value_slot a t) t) p short (λ less. expression_in a p (value_slot a t) t numbered (slot_in a t numbered (omega (arith, few))) (omega (arith, few)) less)
+  condition_in (Unary unary.Not a) p t numbered few short = pair_in a (Number 0) p t numbered (omega (arith, few)) short (λ less. tt)
+  condition_in (Binary a (ThenCompute o c NoOperations) ty) p t (first, (second, none)) few short = by (failing_comparison o) short
+    where
+      by : (f : Option Comparison) → p + length (pair_code (compared_or f a c (Binary a (ThenCompute o c NoOperations) ty)).left (compared_or f a c (Binary a (ThenCompute o c NoOperations) ty)).right p t) < length r.code
+          → AreIn (pair_code (compared_or f a c (Binary a (ThenCompute o c NoOperations) ty)).left (compared_or f a c (Binary a (ThenCompute o c NoOperations) ty)).right p t)
+      by (Some failing) short =
+          let next = p + length (first_code a c p t) in
+          let some = operand_positive (type_of a) in
+          let free : suc t < r.slots = omega (arith, few, some, operand_positive (type_of c), words_positive ty) in
+          pair_in a c p t first (omega (arith, few)) short
+          (λ less. unless_in (operand_of c) (expression_code c next (value_slot c (suc t)) (suc t)) next less
+          (λ fits. expression_in c next (value_slot c (suc t)) (suc t) second (slot_in c (suc t) second free) (omega (arith, few, some)) fits))
+      by None short = pair_in (Binary a (ThenCompute o c NoOperations) ty) (Number 0) p t (first, (second, none)) few short (λ less. tt)
+  condition_in a p t numbered few short = pair_in a (Number 0) p t numbered few short (λ less. tt)
+
+  compared_in : (a : Expression) (t : ℕ) → IsNumbered b a → t + expression_need a < r.slots → IsOperand r (condition_of a t).left × IsOperand r (condition_of a t).right
+  compared_in (Unary unary.Not a) t numbered few = (value_in a t numbered (omega (arith, few)), tt)
+  compared_in (Binary a (ThenCompute o c NoOperations) ty) t (first, (second, none)) few = by (failing_comparison o)
+    where
+      by : (f : Option Comparison) → IsOperand r (first_operand (compared_or f a c (Binary a (ThenCompute o c NoOperations) ty)).left (compared_or f a c (Binary a (ThenCompute o c NoOperations) ty)).right t) × IsOperand r (value_operand (compared_or f a c (Binary a (ThenCompute o c NoOperations) ty)).right (suc t))
+      by (Some failing) =
+          let free : suc t < r.slots = omega (arith, few, operand_positive (type_of a), operand_positive (type_of c), words_positive ty) in
+          (left_with_in (operand_of c) a t first (omega (arith, free)), value_in c (suc t) second free)
+      by None = (value_in (Binary a (ThenCompute o c NoOperations) ty) t (first, (second, none)) (omega (arith, few)), tt)
+  compared_in a t numbered few = (value_in a t numbered (omega (arith, few)), tt)
 
   return_in : (v : Option Converted) (p t : ℕ) → IsNumberedReturn b b.result v → t + initial_need v < r.slots → p + length (return_code v p t) < length r.code → AreIn (return_code v p t)
   return_in None p t numbered few short = (omega (arith, few, results), tt)
@@ -417,28 +455,30 @@ module _ (program : PlainProgram) (r : Routine) (b : Numbering) (locals : b.loca
         let first = statement_code s (m + 1) loop t in
         let q = m + 1 + length first in
         let second = statement_code u (q + 1) loop t in
-        let jump_first = failing_jump a t (q + 1) ∷ first in
+        let jump_first = failing_jump (condition_of a t) (q + 1) ∷ first in
         let jump_second = instructions.Jump (q + 1 + length second) ∷ second in
         let long = length-append (condition ++ jump_first) jump_second in
         let long_front = length-append condition jump_first in
+        let (left, right) = compared_in a t numbered_a (omega (arith, few)) in
         append (condition ++ jump_first) jump_second
         (append condition jump_first (condition_in a p t numbered_a (omega (arith, few)) (omega (arith, short, long, long_front)))
-        ((value_in a t numbered_a (omega (arith, few)), tt, omega (arith, short, long, long_front)), statement_in s in_loop (m + 1) loop t numbered_s around (omega (arith, few)) (omega (arith, short, long, long_front))))
+        ((left, right, omega (arith, short, long, long_front)), statement_in s in_loop (m + 1) loop t numbered_s around (omega (arith, few)) (omega (arith, short, long, long_front))))
         (omega (arith, short, long, long_front), statement_in u in_loop (q + 1) loop t numbered_u around (omega (arith, few)) (omega (arith, short, long, long_front)))
     statement_in (While w a s) in_loop p loop t (numbered_a, numbered_s) around few short =
         let condition = condition_code a (p + 2) t in
         let m = p + 2 + length condition in
         let body = statement_code s (m + 1) p t in
-        let test = failing_jump a t (break_target p) ∷ body in
+        let test = failing_jump (condition_of a t) (break_target p) ∷ body in
         let again = instructions.Jump (continue_target p) ∷ [] in
         let long = length-append (condition ++ test) again in
-        let long_front = length-append condition test in (
+        let long_front = length-append condition test in
+        let (left, right) = compared_in a t numbered_a (omega (arith, few)) in (
           omega (arith, short, long, long_front),
           (
             omega (arith, short, long, long_front),
             append (condition ++ test) again
                 (append condition test (condition_in a (p + 2) t numbered_a (omega (arith, few)) (omega (arith, short, long, long_front)))
-                ((value_in a t numbered_a (omega (arith, few)), tt, omega (arith, short, long, long_front)), statement_in s true (m + 1) p t numbered_s (λ inside. omega (arith, short, long, long_front)) (omega (arith, few)) (omega (arith, short, long, long_front))))
+                ((left, right, omega (arith, short, long, long_front)), statement_in s true (m + 1) p t numbered_s (λ inside. omega (arith, short, long, long_front)) (omega (arith, few)) (omega (arith, short, long, long_front))))
                 (omega (arith, short, long, long_front), tt),
           ),
         )

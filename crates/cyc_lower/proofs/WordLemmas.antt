@@ -7,18 +7,20 @@ use Rattle.cyc_words.specs.Word.{IsWord}
 use Rattle.cyc_types.specs.declared.typed.Kind.{Kind}
 use Rattle.cyc_types.specs.declared.typed.Kind.TheVariants as kinds
 use Rattle.cyc_types.specs.declared.typed.Callee.TheVariants as callees
+use Rattle.cyc_types.specs.declared.typed.UnaryOperator.TheVariants as unary
 use Rattle.cyc_types.specs.declared.typed.Operator.{Operator}
 use Rattle.cyc_types.specs.declared.typed.Operator.TheVariants as operators
 use Rattle.cyc_types.specs.declared.typed.LogicalOperator.{LogicalOperator}
 use Rattle.cyc_types.specs.declared.typed.LogicalOperator.TheVariants as logical
 use Rattle.cyc_types.specs.TypedTrees.{Lvalue, Local, Global, Expression, Number, Copy, Call, Unary, Binary, Assign, Converted, Convert, Arguments, NoArguments, MoreArguments, Operations, NoOperations, ThenCompute, ThenTest, Statement, Block, Empty, Evaluate, If, While, Return, Break, Continue, Items, NoItems, MoreItems, Execute, Declare, Constant, Word, Null, GlobalVariable, Function, Program}
+use Rattle.cyc_plain.specs.declared.instruction.Comparison.{Comparison}
 use Rattle.cyc_plain.specs.declared.instruction.Operand.{Operand}
 use Rattle.cyc_plain.specs.declared.instruction.Operand.TheVariants as operands
 use Rattle.cyc_plain.specs.declared.instruction.Instruction.{Instruction}
 use Rattle.cyc_plain.specs.declared.instruction.Instruction.TheVariants as instructions
 use Rattle.cyc_plain.specs.WellFormed.{IsOfWord, HasWord, HasWords}
 use Rattle.cyc_lower.specs.Words.{IsOfWords, IsOfWordsConverted, AreOfWordsArguments, AreOfWordsOperations, IsOfWordsInitial, IsOfWordsStatement, AreOfWordsItems, IsOfWordsConstant, AreOfWordsGlobals, AreOfWordsFunctions, IsOfWordsProgram}
-use Rattle.cyc_lower.specs.Lowering.{slot_of, operand_of, operand_or, code_unless, slot_or, code_unless_slot, left_with, left_of, value_slot, next_slot, left_slot, value_operand, converted_operand, printed_operand, check_code, conversion_code, divisor_code, checked_code, operator_code, truth_code, load_code, test_code, is_in, copy_code, expression_code, arguments_code, converted_code, converted_operand_code, printed_code, initial_code, assignment_code, operations_code, discarded_code, condition_code, return_code, declaration_code, statement_code, items_code, first_temporary, initial_word, lower_function, lower_global, lower_program}
+use Rattle.cyc_lower.specs.Lowering.{slot_of, operand_of, operand_or, code_unless, slot_or, code_unless_slot, left_with, left_of, value_slot, next_slot, left_slot, value_operand, converted_operand, printed_operand, check_code, conversion_code, divisor_code, checked_code, operator_code, truth_code, load_code, test_code, is_in, copy_code, expression_code, arguments_code, converted_code, converted_operand_code, printed_code, initial_code, assignment_code, operations_code, discarded_code, failing_comparison, compared_or, compared_of, slot_with, first_code, second_code, pair_code, condition_code, condition_of, return_code, declaration_code, statement_code, items_code, first_temporary, initial_word, lower_function, lower_global, lower_program}
 use Rattle.cyc_lower.proofs.WellFormed.{all_append, all_of}
 
 abbrev HaveWords : List Instruction → Type 0
@@ -187,8 +189,35 @@ discarded_words a p t words = unless_words (operand_of a) (expression_code a p t
 
 -- ---- statements
 
+compared_words : (a : Expression) → IsOfWords a → IsOfWords (compared_of a).left × IsOfWords (compared_of a).right
+compared_words (Unary unary.Not a) words = (words, omega arith)
+compared_words (Binary a (ThenCompute o b NoOperations) ty) (first, (second, none)) = by (failing_comparison o)
+  where
+    by : (f : Option Comparison) → IsOfWords (compared_or f a b (Binary a (ThenCompute o b NoOperations) ty)).left × IsOfWords (compared_or f a b (Binary a (ThenCompute o b NoOperations) ty)).right
+    by (Some failing) = (first, second)
+    by None = ((first, (second, none)), omega arith)
+compared_words a words = (words, omega arith)
+
+-- two operands that are compared
+pair_words : (a b : Expression) (p t : ℕ) → IsOfWords a → IsOfWords b → HaveWords (pair_code a b p t)
+pair_words a b p t first second =
+    let slot = slot_with (operand_of b) a t in
+    let front = first_code a b p t in
+    let q = p + length front in
+    append front (second_code b q t) (unless_words (left_with (operand_of b) (operand_of a)) (expression_code a p slot t) (expression_words a p slot t first))
+    (unless_words (operand_of b) (expression_code b q (value_slot b (suc t)) (suc t)) (expression_words b q (value_slot b (suc t)) (suc t) second))
+
 condition_words : (a : Expression) (p t : ℕ) → IsOfWords a → HaveWords (condition_code a p t)
-condition_words a p t words = unless_words (operand_of a) (expression_code a p (value_slot a t) t) (expression_words a p (value_slot a t) t words)
+condition_words a p t words =
+    let (first, second) = compared_words a words in
+    pair_words (compared_of a).left (compared_of a).right p t first second
+
+condition_word : (a : Expression) (t : ℕ) → IsOfWords a → IsOfWord (condition_of a t).left × IsOfWord (condition_of a t).right
+condition_word a t words =
+    let (first, second) = compared_words a words in
+    let left = (compared_of a).left in
+    let right = (compared_of a).right in
+    (left_with_word (operand_of right) left (slot_with (operand_of right) left t) first, known_word right (value_slot right (suc t)) second)
 
 return_words : (v : Option Converted) (p t : ℕ) → IsOfWordsInitial v → HaveWords (return_code v p t)
 return_words None p t words = (tt, tt)
@@ -212,15 +241,15 @@ mutual
   statement_words (If a s u) p loop t (first, second, third) =
       let condition = condition_code a p t in
       let m = p + length condition in
-      let first_code = statement_code s (m + 1) loop t in
-      let q = m + 1 + length first_code in
-      append (condition ++ _ ∷ first_code) (_ ∷ statement_code u (q + 1) loop t)
-      (append condition (_ ∷ first_code) (condition_words a p t first) ((known_word a (value_slot a t) first, omega arith), statement_words s (m + 1) loop t second)) (tt, statement_words u (q + 1) loop t third)
+      let first_part = statement_code s (m + 1) loop t in
+      let q = m + 1 + length first_part in
+      append (condition ++ _ ∷ first_part) (_ ∷ statement_code u (q + 1) loop t)
+      (append condition (_ ∷ first_part) (condition_words a p t first) (condition_word a t first, statement_words s (m + 1) loop t second)) (tt, statement_words u (q + 1) loop t third)
   statement_words (While w a s) p loop t (first, second) =
       let condition = condition_code a (p + 2) t in
       let m = p + 2 + length condition in
       let body = statement_code s (m + 1) p t in
-      (tt, (tt, append (condition ++ _ ∷ body) _ (append condition (_ ∷ body) (condition_words a (p + 2) t first) ((known_word a (value_slot a t) first, omega arith), statement_words s (m + 1) p t second)) (tt, tt)))
+      (tt, (tt, append (condition ++ _ ∷ body) _ (append condition (_ ∷ body) (condition_words a (p + 2) t first) (condition_word a t first, statement_words s (m + 1) p t second)) (tt, tt)))
   statement_words (Return v) p loop t words = return_words v p t words
   statement_words Break p loop t words = (tt, tt)
   statement_words Continue p loop t words = (tt, tt)

@@ -6,17 +6,19 @@ use Rattle.cyc_types.specs.declared.typed.Operation.{Operation}
 use Rattle.cyc_types.specs.declared.typed.Operation.TheVariants as operation
 use Rattle.cyc_types.specs.declared.typed.Item.{Item}
 use Rattle.cyc_types.specs.declared.typed.Item.TheVariants as item
-use Rattle.cyc_types.specs.Types.{Ty, words_of}
-use Rattle.cyc_types.specs.TypedTrees.{Expression, Converted, Convert, Arguments, Operations, ThenCompute, Statement, Function, Program, type_of}
+use Rattle.cyc_types.specs.Types.{Ty, words_of, ValueType}
+use Rattle.cyc_types.specs.TypedTrees.{Expression, Converted, Convert, Arguments, Operations, ThenCompute, Statement, Function, Program, type_of, Binary}
 use Rattle.cyc_types.specs.TypingRules.{IsTypedProgram}
 use Rattle.cyc_types.specs.TypedTreeView.{view_expression, view_converted, view_statement}
 use Rattle.cyc_plain.specs.declared.instruction.Operand.{Operand}
 use Rattle.cyc_plain.specs.declared.instruction.Operand.TheVariants.{Slot, Word}
 use Rattle.cyc_plain.specs.declared.instruction.Instruction.{Instruction}
 use Rattle.cyc_plain.specs.declared.instruction.Instruction.TheVariants.{Move, WriteByte}
-use Rattle.cyc_lower.specs.Lowering.{operand_of, code_unless, slot_or, code_unless_slot, printed_operand, conversion_code, printed_code, left_of, value_slot, left_slot, value_operand, expression_code, compute_code, test_code, condition_code, failing_jump, while_code, statement_code, declaration_code}
-use Rattle.cyc_meaning.specs.FrameCount.{operand_words, argument_words, arguments_need, expression_need, initial_need, statement_need, kept_by, frame_count}
+use Rattle.cyc_lower.specs.Lowering.{operand_of, code_unless, slot_or, code_unless_slot, printed_operand, conversion_code, printed_code, left_of, value_slot, left_slot, value_operand, expression_code, compute_code, test_code, condition_code, failing_jump, while_code, statement_code, declaration_code, condition_of}
+use Rattle.cyc_meaning.specs.FrameCount.{operand_words, argument_words, arguments_need, expression_need, initial_need, statement_need, kept_by, frame_count, result_words}
+use Rattle.cyc_plain.specs.declared.instruction.Comparison.{Comparison}
 use Rattle.cyc_lower.specs.declared.emitter.Emitter.{Emitter}
+use Rattle.cyc_lower.specs.declared.operands.Condition.{Condition}
 
 -- this code is added behind what there was
 abbrev pub Appends : {T : Type 0} → Result T AllocError → (old new : Emitter) → List Instruction → Type 0
@@ -34,6 +36,14 @@ most_locals = 2 ^ 32
 -- the code of an expression that is an operand
 abbrev pub value_code : Expression → (p t : ℕ) → List Instruction
 value_code a p t = code_unless (operand_of a) (expression_code a p (value_slot a t) t)
+
+-- a condition that is such an expression compared with 0
+abbrev pub zero_condition : Comparison → Expression → (t : ℕ) → Condition
+zero_condition failing a t = record { failing = failing; left = value_operand a t; right = Word 0 }
+
+-- this expression is a chain of these operators
+abbrev pub IsChain : (whole first : Expression) → Operations → Type 0
+IsChain whole first os = (ty : Ty) × (whole ≡ Binary first os ty)
 
 -- `putchar` of its argument
 abbrev pub print_code : Arguments → (p t : ℕ) → List Instruction
@@ -82,7 +92,7 @@ item_code i p loop t = []
 -- a loop
 abbrev pub loop_code : Expression → Statement → (p t : ℕ) → List Instruction
 loop_code a s p t =
-    while_code (condition_code a (p + 2) t) (failing_jump a t) (statement_code s (p + 2 + length (condition_code a (p + 2) t) + 1) p t) p
+    while_code (condition_code a (p + 2) t) (failing_jump (condition_of a t)) (statement_code s (p + 2 + length (condition_code a (p + 2) t) + 1) p t) p
 
 -- So many words a frame has at most, where its function is one of a program that is short enough to be read.
 abbrev pub most_frame_count : ℕ

@@ -23,6 +23,7 @@ use Rattle.cyc_plain.specs.declared.instruction.UnaryOperator.{UnaryOperator as 
 use Rattle.cyc_plain.specs.declared.instruction.UnaryOperator.TheVariants as plain_unary
 use Rattle.cyc_plain.specs.declared.instruction.BinaryOperator.{BinaryOperator as PlainBinary}
 use Rattle.cyc_plain.specs.declared.instruction.BinaryOperator.TheVariants as plain_binary
+use Rattle.cyc_plain.specs.declared.instruction.Comparison.{Comparison}
 use Rattle.cyc_plain.specs.declared.instruction.Comparison.TheVariants as comparisons
 use Rattle.cyc_plain.specs.declared.instruction.Operand.{Operand}
 use Rattle.cyc_plain.specs.declared.instruction.Operand.TheVariants as operands
@@ -31,6 +32,7 @@ use Rattle.cyc_plain.specs.declared.instruction.Instruction.TheVariants as instr
 use Rattle.cyc_plain.specs.Program.{Routine, Program as PlainProgram}
 use Rattle.cyc_meaning.specs.Operators.{null_exception, division_by_zero}
 use Rattle.cyc_meaning.specs.FrameCount.{frame_count, items_need}
+use Rattle.cyc_lower.specs.declared.operands.Condition.{Condition}
 
 -- ---- slots and operators
 
@@ -64,6 +66,16 @@ binary_operator operators.Subtract = plain_binary.Subtract
 binary_operator operators.Multiply = plain_binary.Multiply
 binary_operator operators.Divide = plain_binary.Divide
 binary_operator operators.Remainder = plain_binary.Remainder
+
+-- the comparison that holds where that of an operator fails, if it is one
+abbrev pub failing_comparison : Operator → Option Comparison
+failing_comparison operators.Equal = Some comparisons.NotEqual
+failing_comparison operators.NotEqual = Some comparisons.Equal
+failing_comparison operators.Less = Some comparisons.GreaterOrEqual
+failing_comparison operators.LessOrEqual = Some comparisons.Greater
+failing_comparison operators.Greater = Some comparisons.LessOrEqual
+failing_comparison operators.GreaterOrEqual = Some comparisons.Less
+failing_comparison o = None
 
 -- ---- operands
 
@@ -291,12 +303,53 @@ discarded_code a p t = code_unless (operand_of a) (expression_code a p t t)
 
 -- ---- statements
 
+-- A condition compares two expressions, and this comparison of them holds where it fails.
+pub record Compared : Type 0 where
+  pub failing : Comparison
+  pub left : Expression
+  pub right : Expression
+
+-- a condition that compares nothing fails where its value is 0
+abbrev pub with_zero : Comparison → Expression → Compared
+with_zero failing a = record { failing = failing; left = a; right = Number 0 }
+
+abbrev pub compared_or : Option Comparison → (left right whole : Expression) → Compared
+compared_or (Some failing) left right whole = record { failing = failing; left = left; right = right }
+compared_or None left right whole = with_zero comparisons.Equal whole
+
+abbrev pub compared_of : Expression → Compared
+compared_of (Unary unary.Not a) = with_zero comparisons.NotEqual a
+compared_of (Binary a (ThenCompute o b NoOperations) ty) =
+    compared_or (failing_comparison o) a b (Binary a (ThenCompute o b NoOperations) ty)
+compared_of a = with_zero comparisons.Equal a
+
+-- Two operands that are compared, the left one first. It is taken without code only where the right one is too.
+abbrev pub first_operand : (a b : Expression) → (t : ℕ) → Operand
+first_operand a b t = operand_or (left_with (operand_of b) (operand_of a)) (slot_with (operand_of b) a t)
+
+abbrev pub first_code : (a b : Expression) → (p t : ℕ) → List Instruction
+first_code a b p t =
+    code_unless (left_with (operand_of b) (operand_of a)) (expression_code a p (slot_with (operand_of b) a t) t)
+
+abbrev pub second_code : Expression → (p t : ℕ) → List Instruction
+second_code b p t = code_unless (operand_of b) (expression_code b p (value_slot b (suc t)) (suc t))
+
+abbrev pub pair_code : (a b : Expression) → (p t : ℕ) → List Instruction
+pair_code a b p t = first_code a b p t ++ second_code b (p + length (first_code a b p t)) t
+
 -- a condition, whose code stands before the jump that is taken where it fails
 abbrev pub condition_code : Expression → (p t : ℕ) → List Instruction
-condition_code a p t = code_unless (operand_of a) (expression_code a p (value_slot a t) t)
+condition_code a p t = pair_code (compared_of a).left (compared_of a).right p t
 
-abbrev pub failing_jump : Expression → (t target : ℕ) → Instruction
-failing_jump a t target = jump_if_zero (value_operand a t) target
+abbrev pub condition_of : Expression → (t : ℕ) → Condition
+condition_of a t = record {
+  failing = (compared_of a).failing;
+  left = first_operand (compared_of a).left (compared_of a).right t;
+  right = value_operand (compared_of a).right (suc t);
+}
+
+abbrev pub failing_jump : Condition → (target : ℕ) → Instruction
+failing_jump c target = instructions.Branch c.failing c.left c.right target
 
 -- A branch whose condition stands at place p, the first statement behind the jump over it, and the other behind the jump
 -- to the end.
@@ -348,12 +401,12 @@ abbrev mutual
   statement_code Empty p loop t = []
   statement_code (Evaluate a) p loop t = discarded_code a p t
   statement_code (If a s u) p loop t =
-      if_code (condition_code a p t) (failing_jump a t)
+      if_code (condition_code a p t) (failing_jump (condition_of a t))
       (statement_code s (p + length (condition_code a p t) + 1) loop t)
       (statement_code u (p + length (condition_code a p t) + 1 + length (statement_code s (p + length (condition_code a p t) + 1) loop t) + 1) loop t)
       p
   statement_code (While w a s) p loop t =
-      while_code (condition_code a (p + 2) t) (failing_jump a t) (statement_code s (p + 2 + length (condition_code a (p + 2) t) + 1) p t) p
+      while_code (condition_code a (p + 2) t) (failing_jump (condition_of a t)) (statement_code s (p + 2 + length (condition_code a (p + 2) t) + 1) p t) p
   statement_code (Return v) p loop t = return_code v p t
   statement_code Break p loop t = instructions.Jump (break_target loop) ∷ []
   statement_code Continue p loop t = instructions.Jump (continue_target loop) ∷ []

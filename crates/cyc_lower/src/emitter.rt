@@ -1,10 +1,11 @@
 //! Code that is being made.
 ghost use Rattle.std.specs.Prelude.{◌≡◌, ◌<◌, [], ◌∷◌, ◌++◌, length, set, IfOk};
 ghost use Rattle.cyc_types.specs.TypedTreeView.{view_lvalue};
-ghost use Rattle.cyc_lower.specs.Lowering.{jump_if_zero, load_code};
+ghost use Rattle.cyc_lower.specs.Lowering.{failing_jump, load_code};
 ghost use Rattle.cyc_lower.specs.Emission.{Appends};
 
-use crate::operators::jump_if_zero;
+use crate::operands::Condition;
+use crate::operators::failing_jump;
 use cyc_plain::{Instruction, Operand};
 use cyc_types::typed::Lvalue;
 use std::alloc::{AllocError, Global};
@@ -65,13 +66,13 @@ impl Emitter {
         self.patch(place, Instruction::Jump { target });
     }
 
-    /// The same where a word is 0.
-    pub(crate) fn jump_here_if_zero(&mut self, place: usize, condition: Operand)
+    /// The same where a condition fails.
+    pub(crate) fn jump_here_if_failing(&mut self, place: usize, condition: Condition)
         requires { place < length self.old.code.items }
-        ensures { self.new.code.items ≡ set self.old.code.items place (jump_if_zero condition (length self.old.code.items)) }
+        ensures { self.new.code.items ≡ set self.old.code.items place (failing_jump condition (length self.old.code.items)) }
     {
         let target = self.place();
-        self.patch(place, jump_if_zero(condition, target));
+        self.patch(place, failing_jump(condition, target));
     }
 
     /// The value of a place comes into a slot.

@@ -6,13 +6,16 @@ ghost use Rattle.cyc_types.specs.TypedTreeView.{view_expression, view_converted,
 ghost use Rattle.cyc_types.specs.TypedTrees.{Call};
 ghost use Rattle.cyc_plain.specs.declared.instruction.Operand.TheVariants as operands;
 ghost use Rattle.cyc_plain.specs.declared.instruction.Instruction.TheVariants as instructions;
-ghost use Rattle.cyc_lower.specs.Lowering.{operand_of, operand_or, slot_or, code_unless_slot, left_of, left_slot, value_operand, converted_operand, printed_operand, check_code, conversion_code, divisor_code, operator_code, truth_code, copy_code, expression_code, arguments_code, converted_code, converted_operand_code, printed_code, initial_code, assignment_code, assigned_operand, operations_code, discarded_code};
-ghost use Rattle.cyc_lower.specs.Emission.{Appends, Gives, HasRoom, HasRoomFor, most_locals, value_code, print_code, converted_slot, converted_slot_code, left_code, operation_code};
+ghost use Rattle.cyc_lower.specs.Lowering.{operand_of, operand_or, slot_or, code_unless_slot, left_of, left_slot, value_operand, converted_operand, printed_operand, check_code, conversion_code, divisor_code, operator_code, truth_code, copy_code, expression_code, arguments_code, converted_code, converted_operand_code, printed_code, initial_code, assignment_code, assigned_operand, operations_code, discarded_code, condition_of, condition_code};
+ghost use Rattle.cyc_lower.specs.Emission.{Appends, Gives, HasRoom, HasRoomFor, most_locals, value_code, print_code, converted_slot, converted_slot_code, left_code, operation_code, IsChain, zero_condition};
 
 use crate::emitter::Emitter;
-use crate::operands::{is_in, operand_of, takes_operand, value_slot};
-use crate::operators::{binary_operator, jump_if_nonzero, test_jump, unary_operator};
-use cyc_plain::{BinaryOperator, Instruction, Operand, UnaryOperator};
+use crate::operands::{Condition, is_in, operand_of, takes_operand, value_slot};
+use crate::operators::{
+    binary_operator, failing_comparison, jump_if_nonzero, test_jump, unary_operator,
+};
+use cyc_plain::{BinaryOperator, Comparison, Instruction, Operand, UnaryOperator};
+use cyc_types::typed;
 use cyc_types::typed::{Callee, Converted, Expr, Kind, Lvalue, Operation, Operator};
 use std::alloc::AllocError;
 
@@ -409,6 +412,72 @@ impl Emitter {
                 self.operand(value, free)?;
                 Ok(())
             }
+        }
+    }
+
+    /// A condition that is a value compared with 0.
+    fn with_zero(
+        &mut self,
+        failing: Comparison,
+        value: &Expr,
+        free: usize,
+    ) -> Result<Condition, AllocError>
+        requires { free ≤ most_locals + length self.old.code.items }
+        ensures { Gives (zero_condition failing (view_expression value.now) free) result self.old self.new (value_code (view_expression value.now) (length self.old.code.items) free) }
+    {
+        let left = self.operand(value, free)?;
+        Ok(Condition {
+            failing,
+            left,
+            right: Operand::Word { word: 0 },
+        })
+    }
+
+    /// A condition that is a chain: one operator that compares is left to the jump.
+    fn chain_condition(
+        &mut self,
+        value: &Expr,
+        first: &Expr,
+        rest: &[Operation],
+        free: usize,
+    ) -> Result<Condition, AllocError>
+        requires low { free ≤ most_locals + length self.old.code.items }
+        requires chain { IsChain (view_expression value.now) (view_expression first.now) (operations_of rest.now) }
+        ensures { Gives (condition_of (view_expression value.now) free) result self.old self.new (condition_code (view_expression value.now) (length self.old.code.items) free) }
+    {
+        if rest.len() != 1 {
+            return self.with_zero(Comparison::Equal, value, free);
+        }
+        if let Some(Operation::Compute { operator, operand }) = rest.first() {
+            if let Some(failing) = failing_comparison(*operator) {
+                let left = self.left(first, rest, free, free)?;
+                let right = self.operand(operand, free + 1)?;
+                return Ok(Condition {
+                    failing,
+                    left,
+                    right,
+                });
+            }
+        }
+        self.with_zero(Comparison::Equal, value, free)
+    }
+
+    /// A condition: two operands that are compared.
+    pub(crate) fn condition(&mut self, value: &Expr, free: usize) -> Result<Condition, AllocError>
+        requires { free ≤ most_locals + length self.old.code.items }
+        ensures { Gives (condition_of (view_expression value.now) free) result self.old self.new (condition_code (view_expression value.now) (length self.old.code.items) free) }
+    {
+        match value {
+            Expr::Binary { first, rest, .. } => self.chain_condition(value, first, rest, free),
+            Expr::Unary {
+                operator: typed::UnaryOperator::Not,
+                operand,
+            } => self.with_zero(Comparison::NotEqual, operand, free),
+            Expr::Unary { .. }
+            | Expr::Number { .. }
+            | Expr::Copy { .. }
+            | Expr::Call { .. }
+            | Expr::Assign { .. } => self.with_zero(Comparison::Equal, value, free),
         }
     }
 

@@ -4,8 +4,16 @@ ghost use Rattle.cyc_types.specs.TypedTreeView.{view_expression, operations_of};
 ghost use Rattle.cyc_lower.specs.Lowering.{operand_of, value_slot, is_in};
 ghost use Rattle.cyc_lower.specs.Emission.{takes_operand};
 
-use cyc_plain::Operand;
+use cyc_plain::{Comparison, Operand};
 use cyc_types::typed::{Expr, Lvalue, Operation};
+
+/// A condition: it fails where this comparison of two operands holds.
+#[derive(Clone, Copy)]
+pub(crate) struct Condition {
+    pub(crate) failing: Comparison,
+    pub(crate) left: Operand,
+    pub(crate) right: Operand,
+}
 
 /// What an expression is without code: a number, or a local.
 pub(crate) fn operand_of(value: &Expr) -> Option<Operand>

@@ -1,7 +1,8 @@
 //! What operators become.
 ghost use Rattle.std.specs.Prelude.{◌≡◌};
-ghost use Rattle.cyc_lower.specs.Lowering.{unary_operator, binary_operator, jump_if_zero, jump_if_nonzero, test_jump};
+ghost use Rattle.cyc_lower.specs.Lowering.{unary_operator, binary_operator, failing_comparison, failing_jump, jump_if_zero, jump_if_nonzero, test_jump};
 
+use crate::operands::Condition;
 use cyc_plain::{BinaryOperator, Comparison, Instruction, Operand, UnaryOperator};
 use cyc_types::typed;
 
@@ -35,6 +36,42 @@ pub(crate) fn binary_operator(operator: typed::Operator) -> BinaryOperator
         typed::Operator::Multiply => BinaryOperator::Multiply,
         typed::Operator::Divide => BinaryOperator::Divide,
         typed::Operator::Remainder => BinaryOperator::Remainder,
+    }
+}
+
+/// The comparison that holds where that of an operator fails, if it is one.
+pub(crate) fn failing_comparison(operator: typed::Operator) -> Option<Comparison>
+    ensures { result ≡ failing_comparison operator }
+{
+    match operator {
+        typed::Operator::Equal => Some(Comparison::NotEqual),
+        typed::Operator::NotEqual => Some(Comparison::Equal),
+        typed::Operator::Less => Some(Comparison::GreaterOrEqual),
+        typed::Operator::LessOrEqual => Some(Comparison::Greater),
+        typed::Operator::Greater => Some(Comparison::LessOrEqual),
+        typed::Operator::GreaterOrEqual => Some(Comparison::Less),
+        typed::Operator::Or
+        | typed::Operator::Xor
+        | typed::Operator::And
+        | typed::Operator::ShiftLeft
+        | typed::Operator::ShiftRight
+        | typed::Operator::Add
+        | typed::Operator::Subtract
+        | typed::Operator::Multiply
+        | typed::Operator::Divide
+        | typed::Operator::Remainder => None,
+    }
+}
+
+/// A jump where a condition fails.
+pub(crate) fn failing_jump(condition: Condition, target: usize) -> Instruction
+    ensures { result ≡ failing_jump condition target }
+{
+    Instruction::Branch {
+        comparison: condition.failing,
+        left: condition.left,
+        right: condition.right,
+        target,
     }
 }
 

@@ -5,7 +5,7 @@ ghost use Rattle.cyc_lower.specs.Lowering.{break_target, continue_target, return
 ghost use Rattle.cyc_lower.specs.Emission.{Appends, most_locals, item_code, loop_code};
 
 use crate::emitter::Emitter;
-use crate::operators::jump_if_zero;
+use crate::operators::failing_jump;
 use cyc_plain::Instruction;
 use cyc_types::typed::{Converted, Expr, Item, Stmt};
 use std::alloc::AllocError;
@@ -65,8 +65,8 @@ impl Emitter {
         let head = self.place();
         self.continued(head)?;
         let leaving = self.reserve()?;
-        let operand = self.operand(condition, free)?;
-        self.emit(jump_if_zero(operand, leaving))?;
+        let condition = self.condition(condition, free)?;
+        self.emit(failing_jump(condition, leaving))?;
         self.statement(body, head, free)?;
         self.continued(head)?;
         self.jump_here(leaving);
@@ -89,11 +89,11 @@ impl Emitter {
                 then,
                 otherwise,
             } => {
-                let operand = self.operand(condition, free)?;
+                let condition = self.condition(condition, free)?;
                 let over_then = self.reserve()?;
                 self.statement(then, head, free)?;
                 let over_otherwise = self.reserve()?;
-                self.jump_here_if_zero(over_then, operand);
+                self.jump_here_if_failing(over_then, condition);
                 self.statement(otherwise, head, free)?;
                 self.jump_here(over_otherwise);
                 Ok(())
