@@ -1,7 +1,7 @@
 #!/usr/bin/env python3
 """Tries the tests' own tools: the suite's runner, on a stand-in for the program, passes and fails what it should; the table of what
 the gate costs, on looks at processes that are written here, has the sums worked by hand; and the reference answers the cases of the
-whole language, in tests/whole, as they say.
+whole language, in tests/whole, and those of the program that check texts, as they say.
 
     python3 tests/self_test.py [TEXTS.json]
 
@@ -20,6 +20,8 @@ import run
 import suite
 
 HERE = os.path.dirname(os.path.abspath(__file__))
+# The cases of the program that only check texts, and take little time.
+TEXT_CASES = ["flow", "parsing", "texts", "types"]
 
 STAND_IN = """#!/bin/sh
 case "$1" in
@@ -212,7 +214,9 @@ def is_runner_right(folder):
 
 
 def answered(step, folder, _):
-    """What the reference says, in this process, where the program would be run."""
+    """What the reference says, in this process, where the program would be run. It has nothing that is not built."""
+    if step.last == suite.NOT_BUILT:
+        return subprocess.CompletedProcess(step.words, step.status, step.output, (step.last + "\n").encode("latin-1"))
     with contextlib.chdir(folder):
         output, line, status = reference.answer(step.words, lambda: step.input)
     return subprocess.CompletedProcess(step.words, status, output, (line + "\n").encode("latin-1"))
@@ -238,7 +242,8 @@ def is_text_right(case):
 
 
 def main():
-    cases = [case for path in run.case_files(run.WHOLE) for case in run.Reader(path).read()]
+    files = run.case_files(run.WHOLE) + [os.path.join(run.CASES, name + ".cases") for name in TEXT_CASES]
+    cases = [case for path in files for case in run.Reader(path).read()]
     texts = []
     if len(sys.argv) > 1:
         with open(sys.argv[1], encoding="utf-8") as file:
