@@ -9,7 +9,6 @@ use Rattle.cyc_words.proofs.WordLemmas.{sign_extended_low, sign_extended_high}
 use Rattle.cyc_isa.specs.Encoding.{word_of, IsEncodable}
 use Rattle.cyc_isa.specs.Decoding.{jump_index_of}
 use Rattle.cyc_isa.specs.Effect.{branch_target, jump_target}
-use Rattle.cyc_isa.specs.declared.operand.Register.{Register}
 use Rattle.cyc_isa.specs.declared.instr.Instr.{Instr}
 use Rattle.cyc_isa.specs.declared.instr.Instr.TheVariants.{Jump, JumpRegister}
 use Rattle.cyc_isa.specs.declared.instr.JumpOp.{JumpOp}

@@ -10,7 +10,7 @@ use Rattle.cyc_types.specs.declared.typed.Function.{Function as FunctionCode}
 use Rattle.cyc_types.specs.TypedTreeView.{view_converted, arguments_of, operations_of, view_statement, view_item, items_of, view_function}
 use Rattle.cyc_types.specs.Rules.{and_then}
 use Rattle.cyc_types.specs.FlowRules.{State, Loop, meet, after_converted, after_arguments, after_operations, after_statement, after_declaration, after_items, breaks_of, item_breaks}
-use Rattle.cyc_types.specs.FlowChecking.{Kept, keep_converted, keep_arguments, keep_operations, keep_items, keep_function, keep_functions}
+use Rattle.cyc_types.specs.FlowChecking.{Kept, keep_converted, keep_arguments, keep_operations, keep_items, keep_functions}
 use Rattle.cyc_flow.specs.declared.stop.Stop.{Stop}
 use Rattle.cyc_flow.specs.declared.stop.Stop.TheVariants as stops
 use Rattle.cyc_flow.specs.Code.{Stops}

@@ -5,7 +5,6 @@ use Rattle.std.specs.List.{list_all, prefix_len}
 use Rattle.std.proofs.lemmas.List.{take-append-drop, length-take-le}
 use Rattle.std.proofs.lemmas.Bool.{cases_Bool, cond-true, and_from, and_parts}
 use Rattle.std.proofs.Math.Numerals.{one-add}
-use Rattle.cyc_words.specs.declared.fault.Code.TheVariants as codes_of
 use Rattle.cyc_syntax.specs.declared.tokens.Sign.{Sign}
 use Rattle.cyc_syntax.specs.declared.tokens.Sign.TheVariants as signs
 use Rattle.cyc_syntax.specs.Tokens.{Identifier, RegionName, Number, Character, Word, Mark}

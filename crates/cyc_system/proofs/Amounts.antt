@@ -1,5 +1,5 @@
 -- How heavy the program of a text may be.
-use Rattle.std.proofs.Common.{ℕ, ◌≤◌, List, [], length, arith}
+use Rattle.std.proofs.Common.{ℕ, ◌≤◌, List, arith}
 use Rattle.std.proofs.lemmas.List.{length-map}
 use Rattle.cyc_syntax.specs.TokenRule.{max_tokens}
 use Rattle.cyc_syntax.specs.Names.{distinct_texts}

@@ -1,12 +1,11 @@
 -- The image that the chain makes is one of the program.
-use Rattle.std.proofs.Common.{◌≡◌, ℕ, ◌-◌, ◌≤◌, ◌<◌, List, [], ◌∷◌, length, Bool, true, false, cond, nat_le, None, refl, sym, ap, subst, ◌∙◌, arith, Ok}
-use Rattle.std.specs.Prelude.{slice_get, slice_index_or, All}
+use Rattle.std.proofs.Common.{◌≡◌, ℕ, ◌≤◌, ◌<◌, List, [], ◌∷◌, length, Bool, true, false, cond, nat_le, None, refl, sym, ap, subst, ◌∙◌, arith, Ok}
+use Rattle.std.specs.Prelude.{slice_get, slice_index_or}
 use Rattle.std.specs.List.{AllByRecursion}
 use Rattle.std.proofs.lemmas.Option.{none-some}
 use Rattle.cyc_words.specs.Word.{IsWord}
 use Rattle.cyc_elf.specs.Layout.{layout}
 use Rattle.cyc_elf.specs.Reading.{reading}
-use Rattle.cyc_isa.specs.declared.operand.Register.{Register}
 use Rattle.cyc_isa.specs.declared.instr.Instr.{Instr}
 use Rattle.cyc_isa.specs.declared.instr.Instr.TheVariants.{Jump, JumpRegister}
 use Rattle.cyc_isa.specs.declared.instr.JumpOp.TheVariants.{Plain, AndLink}
@@ -27,10 +26,9 @@ use Rattle.cyc_select.specs.declared.code.Line.{Line}
 use Rattle.cyc_select.specs.declared.code.Line.TheVariants as lines
 use Rattle.cyc_asm.specs.Layout.{is_near}
 use Rattle.cyc_asm.specs.Text.{text_of, IsAt, branch_of, inverse_of, return_register, StandsBranch, Stands, IsTextOf}
-use Rattle.cyc_asm.specs.Machine as assembled
 use Rattle.cyc_asm.specs.Machine.{Runs}
 use Rattle.cyc_machine.specs.WorldMachine.{world_machine}
-use Rattle.cyc_system.specs.FullPreservation.{text_words, DoesTheSame, IsImageOf}
+use Rattle.cyc_system.specs.FullPreservation.{DoesTheSame, IsImageOf}
 use Rattle.cyc_system.specs.ProgramImage.{program_image, HasForm}
 use Rattle.cyc_system.proofs.Composition.{chain_preserves}
 use Rattle.cyc_system.proofs.Preservation.{never_fails}

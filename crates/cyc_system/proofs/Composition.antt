@@ -9,7 +9,7 @@ use Rattle.cyc_machine.specs.Bounds.{AreAllowed}
 use Rattle.cyc_machine.specs.State.{text_base}
 use Rattle.cyc_types.specs.TypedTrees.{Program}
 use Rattle.cyc_meaning.specs.State as meaning
-use Rattle.cyc_meaning.specs.Run.{start, limited_step}
+use Rattle.cyc_meaning.specs.Run.{start}
 use Rattle.cyc_meaning.proofs.RunLaws.{limited_step_goes_on, over_limited}
 use Rattle.cyc_words.specs.Simulation.{Machine, IsLawful, NeverFails, Follows, Preserves}
 use Rattle.cyc_words.specs.Simulation as simulation

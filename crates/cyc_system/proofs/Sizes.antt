@@ -9,7 +9,7 @@ use Rattle.cyc_lower.specs.Lowered.{IsLoweredFunction, AreLoweredFunctions, IsLo
 use Rattle.cyc_frame.specs.declared.frame.TheConstants.{MOST_FRAME_WORDS}
 use Rattle.cyc_frame.specs.Layout.{HasSmallFrames}
 use Rattle.cyc_frame.specs.Layout as frames
-use Rattle.cyc_system.specs.Compiled.{HasLargeFrame, IsTooLarge, IsSmallEnough}
+use Rattle.cyc_system.specs.Compiled.{HasLargeFrame, IsSmallEnough}
 
 -- each function of the source has its own below, and the other way round
 source_at : (hs : List Function) (rs : List Routine) (k : ℕ) → AreLoweredFunctions hs rs → k < length rs
