@@ -12,7 +12,7 @@ use Rattle.cyc_types.specs.TypedTrees.{Function, Program}
 use Rattle.cyc_types.specs.Weight.{function_weight, program_weight}
 use Rattle.cyc_plain.specs.Program.{Program as PlainProgram, size}
 use Rattle.cyc_plain.specs.WellFormed.{IsPlain}
-use Rattle.cyc_lower.specs.Emission.{most_weight}
+use Rattle.cyc_syntax.specs.TokenRule.{max_tokens}
 use Rattle.cyc_lower.specs.Lowering.{lower_function, lower_program}
 use Rattle.cyc_lower.specs.declared.limits.TheConstants.{MOST_FUNCTIONS}
 use Rattle.cyc_lower.specs.Lowered.{AreLoweredFunctions, CanBeLowered, HasTooMany, IsAccepted, IsLowered, size_per_weight}
@@ -40,7 +40,7 @@ functions_small [] = omega arith
 functions_small (h ∷ hs) = omega (arith, sum_by-cons size (lower_function h) (map lower_function hs), function_size h, functions_small hs)
 
 -- what is true of every plain program is true of this one
-pub is_plain : (source : Program) → CanBeLowered source → program_weight source ≤ most_weight → IsPlain (lower_program source)
+pub is_plain : (source : Program) → CanBeLowered source → program_weight source ≤ max_tokens → IsPlain (lower_program source)
 is_plain source fit light = record {
   well_formed = well_formed source fit.is_numbered fit.few_globals;
   words = has_words source fit.of_words;

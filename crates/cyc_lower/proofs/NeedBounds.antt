@@ -1,6 +1,7 @@
 -- The frame of a function of a short program has few words.
 use Rattle.std.proofs.Common.{ℕ, ◌+◌, ◌*◌, ◌≤◌, List, [], ◌∷◌, Some, None, arith, length}
 use Rattle.cyc_syntax.specs.declared.tree.PointerKind.TheVariants as marks
+use Rattle.cyc_syntax.specs.TokenRule.{max_tokens}
 use Rattle.cyc_types.specs.declared.typed.Kind.{Kind}
 use Rattle.cyc_types.specs.declared.typed.Kind.TheVariants as kinds
 use Rattle.cyc_types.specs.Types.{Ty, Int, Pointer, Handle, Key, Struct, words_of, ValueType, Void, Null, Value}
@@ -9,7 +10,7 @@ use Rattle.cyc_types.specs.Weight.{expression_weight, dereference_weight, placem
 use Rattle.cyc_types.proofs.WeightLemmas.{some_token, else_written, function_outweighs, function_of_program}
 use Rattle.cyc_meaning.specs.Values.{words_of_kind}
 use Rattle.cyc_meaning.specs.FrameCount.{result_words, operand_words, converted_words, argument_words, handle_words, expression_need, dereference_need, handle_need, initial_value_need, converted_need, arguments_need, operations_need, side_need, statement_need, items_need, clauses_need, kept_by, kept_by_items, kept_by_clauses, words_of_all}
-use Rattle.cyc_lower.specs.Emission.{most_weight, IsTyped, HaveFewWords}
+use Rattle.cyc_lower.specs.Emission.{IsElaborated, HaveFewWords}
 
 -- ---- values
 
@@ -185,7 +186,7 @@ pub words_of_types : (ts : List Ty) → (length ts ≤ words_of_all ts) × (word
 words_of_types [] = (omega arith, omega arith)
 words_of_types (t ∷ ts) = let w = words_few t in let r = words_of_types ts in (omega (arith, w.0, r.0), omega (arith, w.1, r.1))
 
-pub small_frames : (p : Program) → IsTyped p → program_weight p ≤ most_weight → HaveFewWords p.functions
+pub small_frames : (p : Program) → IsElaborated p → program_weight p ≤ max_tokens → HaveFewWords p.functions
 small_frames p (texts, tree, typed) light n h at =
     let part : function_weight h ≤ program_weight p = function_of_program p n h at in
     let locals : 2 * length h.parameters + 3 * length h.locals + 2 * h.regions + 4 ≤ function_weight h = function_outweighs texts tree p n h typed at in

@@ -44,40 +44,45 @@ unless_slot_size (Some (operands.Slot n)) x = omega arith
 unless_slot_size (Some (operands.Word n)) x = omega arith
 unless_slot_size None x = omega arith
 
-conversion_size : (to : Kind) (o : Operand) (p : ℕ) → code_size (conversion_code to o p) ≤ 2
+conversion_size : (to : Kind) (o : Operand) (p : ℕ) → code_size (conversion_code to o p) ≤ 18
 conversion_size kinds.NonNull o p = omega arith
 conversion_size to o p = omega arith
 
-divisor_size : (o : Operand) (p : ℕ) → code_size (divisor_code o p) ≤ 2
+divisor_size : (o : Operand) (p : ℕ) → code_size (divisor_code o p) ≤ 18
 divisor_size (operands.Word (suc n)) p = omega arith
 divisor_size (operands.Word zero) p = omega arith
 divisor_size (operands.Slot n) p = omega arith
 
-checked_size : (o : Operator) (l r : Operand) (p d : ℕ) → code_size (checked_code o l r p d) ≤ 3
-checked_size o l r p d = omega (arith, both (divisor_code r p) (instructions.Binary (binary_operator o) d l r ∷ []), divisor_size r p)
+binary_size : (o : Operator) (l r : Operand) (d : ℕ) → instruction_size (instructions.Binary (binary_operator o) d l r) ≤ 18
+binary_size operators.Divide l r d = omega arith
+binary_size operators.Remainder l r d = omega arith
+binary_size o l r d = omega arith
 
-operator_size : (o : Operator) (l r : Operand) (p d : ℕ) → code_size (operator_code o l r p d) ≤ 3
+checked_size : (o : Operator) (l r : Operand) (p d : ℕ) → code_size (checked_code o l r p d) ≤ 36
+checked_size o l r p d = omega (arith, both (divisor_code r p) (instructions.Binary (binary_operator o) d l r ∷ []), divisor_size r p, binary_size o l r d)
+
+operator_size : (o : Operator) (l r : Operand) (p d : ℕ) → code_size (operator_code o l r p d) ≤ 36
 operator_size operators.Divide l r p d = checked_size operators.Divide l r p d
 operator_size operators.Remainder l r p d = checked_size operators.Remainder l r p d
 operator_size o l r p d = omega arith
 
-load_size : (l : Lvalue) (d : ℕ) → code_size (load_code l d) ≤ 1
+load_size : (l : Lvalue) (d : ℕ) → code_size (load_code l d) ≤ 6
 load_size (Local w n) d = omega arith
 load_size (Global n) d = omega arith
 
-copy_by_size : (is : Bool) (o : Operand) (d : ℕ) → code_size (if is then [] else instructions.Move d o ∷ []) ≤ 1
+copy_by_size : (is : Bool) (o : Operand) (d : ℕ) → code_size (if is then [] else instructions.Move d o ∷ []) ≤ 6
 copy_by_size true o d = omega arith
 copy_by_size false o d = omega arith
 
-copy_size : (o : Operand) (d : ℕ) → code_size (copy_code o d) ≤ 1
+copy_size : (o : Operand) (d : ℕ) → code_size (copy_code o d) ≤ 6
 copy_size o d = copy_by_size (is_in o d) o d
 
-test_size : (o : LogicalOperator) (operand : List Instruction) (p d t : ℕ) → code_size (test_code o operand p d t) ≤ 3 + code_size operand
+test_size : (o : LogicalOperator) (operand : List Instruction) (p d t : ℕ) → code_size (test_code o operand p d t) ≤ 25 + code_size operand
 test_size logical.AndThen operand p d t = omega (arith, both operand (truth_code t d), cons (jump_if_zero (operands.Slot t) (p + 1 + length operand)) (operand ++ truth_code t d))
 test_size logical.OrElse operand p d t = omega (arith, both operand (truth_code t d), cons (jump_if_nonzero (operands.Slot t) (p + 1 + length operand)) (operand ++ truth_code t d))
 
 mutual
-  expression_size : (a : Expression) (p d t : ℕ) → code_size (expression_code a p d t) ≤ 3 * expression_weight a
+  expression_size : (a : Expression) (p d t : ℕ) → code_size (expression_code a p d t) ≤ size_per_weight * expression_weight a
   expression_size (Number n) p d t = omega arith
   expression_size (Copy l ty) p d t = omega (arith, load_size l d)
   expression_size (Call callees.Putchar cs ty) p d t =
@@ -105,7 +110,7 @@ mutual
       omega (arith, both (front ++ store) (copy_code o d), both front store, converted_operand_size c p t, copy_size o d)
   expression_size a p d t = omega (arith, some_token a)
 
-  initial_size : (c : Converted) (p d t : ℕ) → code_size (initial_code c p d t) ≤ 3 * converted_weight c + 3
+  initial_size : (c : Converted) (p d t : ℕ) → code_size (initial_code c p d t) ≤ size_per_weight * converted_weight c + 24
   initial_size (Convert from kinds.NonNull a) p d t =
       let inner = expression_code a p (value_slot a t) t in
       let front = code_unless (operand_of a) inner in
@@ -114,43 +119,43 @@ mutual
       omega (arith, both (front ++ check) (instructions.Move d o ∷ []), both front check, unless_size (operand_of a) inner, expression_size a p (value_slot a t) t)
   initial_size (Convert from to a) p d t = omega (arith, expression_size a p d t)
 
-  converted_size : (c : Converted) (p t : ℕ) → code_size (converted_code c p t) ≤ 3 * converted_weight c + 2
+  converted_size : (c : Converted) (p t : ℕ) → code_size (converted_code c p t) ≤ size_per_weight * converted_weight c + 18
   converted_size (Convert from to a) p t =
       let front = expression_code a p t t in
       omega (arith, both front (conversion_code to (operands.Slot t) (p + length front)), expression_size a p t t, conversion_size to (operands.Slot t) (p + length front))
 
-  converted_operand_size : (c : Converted) (p t : ℕ) → code_size (converted_operand_code c p t) ≤ 3 * converted_weight c + 2
+  converted_operand_size : (c : Converted) (p t : ℕ) → code_size (converted_operand_code c p t) ≤ size_per_weight * converted_weight c + 18
   converted_operand_size (Convert from to a) p t =
       let inner = expression_code a p (value_slot a t) t in
       let front = code_unless (operand_of a) inner in
       omega (arith, both front (conversion_code to (value_operand a t) (p + length front)), unless_size (operand_of a) inner, expression_size a p (value_slot a t) t, conversion_size to (value_operand a t) (p + length front))
 
-  printed_size : (cs : Arguments) (p t : ℕ) → code_size (printed_code cs p t) ≤ 3 * arguments_weight cs + 2
+  printed_size : (cs : Arguments) (p t : ℕ) → code_size (printed_code cs p t) ≤ size_per_weight * arguments_weight cs + 18
   printed_size NoArguments p t = omega arith
   printed_size (MoreArguments c cs) p t =
       let front = converted_operand_code c p t in
       omega (arith, both front (printed_code cs (p + length front) t), converted_operand_size c p t, more_printed_size cs (p + length front) t)
 
-  more_printed_size : (cs : Arguments) (p t : ℕ) → code_size (printed_code cs p t) ≤ 3 * more_arguments_weight cs
+  more_printed_size : (cs : Arguments) (p t : ℕ) → code_size (printed_code cs p t) ≤ size_per_weight * more_arguments_weight cs
   more_printed_size NoArguments p t = omega arith
   more_printed_size (MoreArguments c cs) p t =
       let front = converted_operand_code c p t in
       omega (arith, both front (printed_code cs (p + length front) t), converted_operand_size c p t, more_printed_size cs (p + length front) t)
 
   -- with the words that are passed
-  arguments_size : (cs : Arguments) (p t : ℕ) → code_size (arguments_code cs p t) + argument_count cs ≤ 3 * arguments_weight cs + 3
+  arguments_size : (cs : Arguments) (p t : ℕ) → code_size (arguments_code cs p t) + 4 * argument_count cs ≤ size_per_weight * arguments_weight cs + 22
   arguments_size NoArguments p t = omega arith
   arguments_size (MoreArguments c cs) p t =
       let q = p + length (converted_code c p t) in
       omega (arith, both (converted_code c p t) (arguments_code cs q (suc t)), converted_size c p t, more_arguments_size cs q (suc t))
 
-  more_arguments_size : (cs : Arguments) (p t : ℕ) → code_size (arguments_code cs p t) + argument_count cs ≤ 3 * more_arguments_weight cs
+  more_arguments_size : (cs : Arguments) (p t : ℕ) → code_size (arguments_code cs p t) + 4 * argument_count cs ≤ size_per_weight * more_arguments_weight cs
   more_arguments_size NoArguments p t = omega arith
   more_arguments_size (MoreArguments c cs) p t =
       let q = p + length (converted_code c p t) in
       omega (arith, both (converted_code c p t) (arguments_code cs q (suc t)), converted_size c p t, more_arguments_size cs q (suc t))
 
-  operations_size : (os : Operations) (p : ℕ) (l : Operand) (d t : ℕ) → code_size (operations_code os p l d t) ≤ 3 * operations_weight os
+  operations_size : (os : Operations) (p : ℕ) (l : Operand) (d t : ℕ) → code_size (operations_code os p l d t) ≤ size_per_weight * operations_weight os
   operations_size NoOperations p l d t = omega arith
   operations_size (ThenCompute o a os) p l d t =
       let inner = expression_code a p (value_slot a (suc t)) (suc t) in
@@ -180,13 +185,13 @@ mutual
       let next = next_slot os d t in
       omega (arith, cons (instructions.Move next (operands.Word 0)) (operations_code os (p + 1) (operands.Slot next) d t), operations_size os (p + 1) (operands.Slot next) d t)
 
-assignment_size : (l : Lvalue) (c : Converted) (p t : ℕ) → code_size (assignment_code l c p t) ≤ 3 * converted_weight c + 3
+assignment_size : (l : Lvalue) (c : Converted) (p t : ℕ) → code_size (assignment_code l c p t) ≤ size_per_weight * converted_weight c + 24
 assignment_size (Local w n) c p t = initial_size c p (slot_of n) t
 assignment_size (Global n) c p t =
     let front = converted_operand_code c p t in
     omega (arith, both front (instructions.StoreGlobal n (converted_operand c t) ∷ []), converted_operand_size c p t)
 
-discarded_size : (a : Expression) (p t : ℕ) → code_size (discarded_code a p t) ≤ 3 * expression_weight a
+discarded_size : (a : Expression) (p t : ℕ) → code_size (discarded_code a p t) ≤ size_per_weight * expression_weight a
 discarded_size (Call callees.Putchar cs ty) p t =
     omega (arith, both (printed_code cs p t) (instructions.WriteByte (printed_operand cs (operands.Slot t) t) ∷ []), printed_size cs p t)
 discarded_size (Assign l c ty) p t = omega (arith, assignment_size l c p t)
@@ -194,23 +199,23 @@ discarded_size a p t = omega (arith, unless_size (operand_of a) (expression_code
 
 -- ---- statements
 
-first_size : (a b : Expression) (p t : ℕ) → code_size (first_code a b p t) ≤ 3 * expression_weight a
+first_size : (a b : Expression) (p t : ℕ) → code_size (first_code a b p t) ≤ size_per_weight * expression_weight a
 first_size a b p t =
     let slot = slot_with (operand_of b) a t in
     omega (arith, unless_size (left_with (operand_of b) (operand_of a)) (expression_code a p slot t), expression_size a p slot t)
 
-second_size : (b : Expression) (p t : ℕ) → code_size (second_code b p t) ≤ 3 * expression_weight b
+second_size : (b : Expression) (p t : ℕ) → code_size (second_code b p t) ≤ size_per_weight * expression_weight b
 second_size b p t = omega (arith, unless_size (operand_of b) (expression_code b p (value_slot b (suc t)) (suc t)), expression_size b p (value_slot b (suc t)) (suc t))
 
 -- a value that is compared with 0
-alone_size : (a : Expression) (p t : ℕ) → code_size (pair_code a (Number 0) p t) ≤ 3 * expression_weight a
+alone_size : (a : Expression) (p t : ℕ) → code_size (pair_code a (Number 0) p t) ≤ size_per_weight * expression_weight a
 alone_size a p t = omega (arith, both (first_code a (Number 0) p t) [], first_size a (Number 0) p t)
 
-condition_size : (a : Expression) (p t : ℕ) → code_size (condition_code a p t) ≤ 3 * expression_weight a
+condition_size : (a : Expression) (p t : ℕ) → code_size (condition_code a p t) ≤ size_per_weight * expression_weight a
 condition_size (Unary unary.Not a) p t = omega (arith, alone_size a p t)
 condition_size (Binary a (ThenCompute o b NoOperations) ty) p t = by (failing_comparison o)
   where
-    by : (f : Option Comparison) → code_size (pair_code (compared_or f a b (Binary a (ThenCompute o b NoOperations) ty)).left (compared_or f a b (Binary a (ThenCompute o b NoOperations) ty)).right p t) ≤ 3 * expression_weight (Binary a (ThenCompute o b NoOperations) ty)
+    by : (f : Option Comparison) → code_size (pair_code (compared_or f a b (Binary a (ThenCompute o b NoOperations) ty)).left (compared_or f a b (Binary a (ThenCompute o b NoOperations) ty)).right p t) ≤ size_per_weight * expression_weight (Binary a (ThenCompute o b NoOperations) ty)
     by (Some failing) =
         let front = first_code a b p t in
         let q = p + length front in
@@ -218,7 +223,7 @@ condition_size (Binary a (ThenCompute o b NoOperations) ty) p t = by (failing_co
     by None = alone_size (Binary a (ThenCompute o b NoOperations) ty) p t
 condition_size a p t = alone_size a p t
 
-return_size : (v : Option Converted) (p t : ℕ) → code_size (return_code v p t) ≤ 3 * statement_weight (Return v)
+return_size : (v : Option Converted) (p t : ℕ) → code_size (return_code v p t) ≤ size_per_weight * statement_weight (Return v)
 return_size None p t = omega arith
 return_size (Some (Convert from to a)) p t =
     let inner = expression_code a p t t in
@@ -227,12 +232,12 @@ return_size (Some (Convert from to a)) p t =
     let conversion = conversion_code to (operands.Slot s) (p + length front) in
     omega (arith, both (front ++ conversion) (instructions.Return s ∷ []), both front conversion, unless_slot_size (operand_of a) inner, expression_size a p t t, conversion_size to (operands.Slot s) (p + length front))
 
-else_size : (t : Statement) (p loop d : ℕ) → code_size (statement_code t p loop d) ≤ 3 * statement_weight t → code_size (statement_code t p loop d) ≤ 3 * else_weight t (statement_weight t)
+else_size : (t : Statement) (p loop d : ℕ) → code_size (statement_code t p loop d) ≤ size_per_weight * statement_weight t → code_size (statement_code t p loop d) ≤ size_per_weight * else_weight t (statement_weight t)
 else_size Empty p loop d bound = omega arith
 else_size t p loop d bound = omega (arith, bound)
 
 mutual
-  statement_size : (s : Statement) (p loop d : ℕ) → code_size (statement_code s p loop d) ≤ 3 * statement_weight s
+  statement_size : (s : Statement) (p loop d : ℕ) → code_size (statement_code s p loop d) ≤ size_per_weight * statement_weight s
   statement_size (Block r js) p loop d = omega (arith, items_size js p loop d)
   statement_size Empty p loop d = omega arith
   statement_size (Evaluate a) p loop t = omega (arith, discarded_size a p t)
@@ -277,7 +282,7 @@ mutual
   statement_size Continue p loop d = omega arith
   statement_size s p loop d = omega arith
 
-  items_size : (js : Items) (p loop d : ℕ) → code_size (items_code js p loop d) ≤ 3 * items_weight js
+  items_size : (js : Items) (p loop d : ℕ) → code_size (items_code js p loop d) ≤ size_per_weight * items_weight js
   items_size NoItems p loop d = omega arith
   items_size (MoreItems (Execute s) js) p loop d =
       let q = p + length (statement_code s p loop d) in

@@ -127,13 +127,9 @@ kept_by_item i = 0
 
 -- ---- programs
 
--- the typed program of a text
-abbrev pub IsTyped : Program → Type 0
-IsTyped p = (texts : List (List ℕ)) × (tree : List Declaration) × IsTypedProgram texts tree p
-
--- a program weighs at most so much, since its text has at most so many tokens
-abbrev pub most_weight : ℕ
-most_weight = 60000
+-- the rules give this typed program for some tree
+abbrev pub IsElaborated : Program → Type 0
+IsElaborated p = (texts : List (List ℕ)) × (tree : List Declaration) × IsTypedProgram texts tree p
 
 -- the frame of each function has few enough words
 abbrev pub HaveFewWords : List Function → Type 0

@@ -1,12 +1,13 @@
 //! The plain functions and globals of a typed tree.
 ghost use Rattle.std.specs.Prelude.{◌≡◌, ◌≤◌, map, option_map, IfOk};
+ghost use Rattle.cyc_syntax.specs.TokenRule.{max_tokens};
 ghost use Rattle.cyc_types.specs.TypeView.{view_ty};
 ghost use Rattle.cyc_types.specs.TypedTreeView.{view_constant, view_global, view_function, view_program};
 ghost use Rattle.cyc_types.specs.Weight.{program_weight};
 ghost use Rattle.cyc_plain.specs.Program.{routine_of};
 ghost use Rattle.cyc_meaning.specs.FrameCount.{frame_count};
 ghost use Rattle.cyc_lower.specs.Lowering.{results_of, initial_word, lower_function, lower_global, lower_program};
-ghost use Rattle.cyc_lower.specs.Emission.{most_frame_count, most_weight, HaveFewWords};
+ghost use Rattle.cyc_lower.specs.Emission.{most_frame_count, HaveFewWords};
 ghost use Rattle.cyc_lower.specs.Lowered.{CanBeLowered};
 
 use crate::emitter::Emitter;
@@ -82,7 +83,7 @@ fn lower_globals(alloc: Global, globals: &[typed::Global]) -> Result<Vec<u32>, A
 /// The program, in which each function and each global keeps its number.
 pub(crate) fn lower_tree(alloc: Global, tree: &TypedTree) -> Result<Plain, AllocError>
     requires few { HaveFewWords (map view_function tree.now.functions.items) }
-    requires small { program_weight (view_program tree.now) ≤ most_weight }
+    requires small { program_weight (view_program tree.now) ≤ max_tokens }
     requires can_be { CanBeLowered (view_program tree.now) }
     ensures { IfOk result (λ plain. plain ≡ lower_program (view_program tree.now)) }
 {

@@ -1,10 +1,11 @@
 //! The lowering of a program.
 ghost use Rattle.std.specs.Prelude.{◌≤◌};
 ghost use Rattle.cyc_words.specs.Decision.{Decides};
+ghost use Rattle.cyc_syntax.specs.TokenRule.{max_tokens};
 ghost use Rattle.cyc_types.specs.Weight.{program_weight};
 ghost use Rattle.cyc_types.specs.TypedTreeView.{view_program};
 ghost use Rattle.cyc_lower.specs.Lowered.{CanBeLowered, HasTooMany, IsAccepted, IsLowered};
-ghost use Rattle.cyc_lower.specs.Emission.{IsTyped, most_weight};
+ghost use Rattle.cyc_lower.specs.Emission.{IsElaborated};
 
 use crate::functions::lower_tree;
 use crate::limits::MOST_FUNCTIONS;
@@ -18,8 +19,8 @@ use std::alloc::Global;
 /// A program of more than `MOST_FUNCTIONS` functions is refused, at the name of the first one too many, with
 /// `TooManyFunctions`. Any other may be refused for want of memory only.
 pub fn lower(alloc: Global, program: &Flowed) -> Result<Plain, Fault>
-    requires typed { IsTyped (view_program program.now.tree) }
-    requires small { program_weight (view_program program.now.tree) ≤ most_weight }
+    requires elaborated { IsElaborated (view_program program.now.tree) }
+    requires small { program_weight (view_program program.now.tree) ≤ max_tokens }
     requires can_be { CanBeLowered (view_program program.now.tree) }
 
     // What is answered is a plain program that does what the source does. What is refused has too many functions.

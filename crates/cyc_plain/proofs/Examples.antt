@@ -174,7 +174,7 @@ full_prints = refl
 recursion_depth : depth (after 9 5 recursion []) ≡ 3
 recursion_depth = refl
 
-call_counts_its_argument : size (function 0 (Move 0 (Word 3) ∷ Call 1 0 1 0 ∷ Return 0 ∷ [])) ≡ 4
+call_counts_its_argument : size (function 0 (Move 0 (Word 3) ∷ Call 1 0 1 0 ∷ Return 0 ∷ [])) ≡ 47
 call_counts_its_argument = refl
 
 -- ---- services, globals and exceptions

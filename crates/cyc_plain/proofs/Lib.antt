@@ -4,5 +4,6 @@ pub mod SlotLaws
 pub mod Steps
 pub mod Placed
 pub mod WordLaws
+pub mod Straight
 -- worked examples
 pub mod Examples

@@ -100,8 +100,8 @@ limited_steps program pages calls old new (choice, allowed, is) =
 abbrev pub zeros : Choice
 zeros = record { contents = λ (slot : ℕ). 0 }
 
-pub zeros_allowed : IsAllowed zeros
-zeros_allowed slot = omega arith
+pub zeros_allowed : (program : Program) (s : State) → IsAllowed program s zeros
+zeros_allowed program s slot = omega arith
 
 over_steps : (program : Program) (pages calls : ℕ) (choice : Choice) (s : State) (ending : Ending) → status_of s ≡ simulation.Ended ending → limited_step program pages calls choice s ≡ s
 over_steps program pages calls choice (Running c) ending ended = absurd (let e : simulation.Running ≡ simulation.Ended ending = ended in cc)
@@ -113,7 +113,7 @@ pub lawful : (program : Program) (pages calls : ℕ) → IsLawful (machine progr
 lawful program pages calls = record {
   grows = λ old new stepped. (limited_steps program pages calls old new stepped).0;
   stays = λ old new ending ended stepped. stepped.2 ∙ over_steps program pages calls stepped.0 old ending ended;
-  rests = λ s ending ended. (zeros, zeros_allowed, sym (over_steps program pages calls zeros s ending ended));
+  rests = λ s ending ended. (zeros, zeros_allowed program s, sym (over_steps program pages calls zeros s ending ended));
 }
 
 -- ---- whole runs
@@ -135,7 +135,7 @@ pub always_goes_on : (program : Program) (pages calls n : ℕ) (old : State) →
 always_goes_on program pages calls zero old = (old, refl)
 always_goes_on program pages calls (suc n) old =
     let (new, run) = always_goes_on program pages calls n (limited_step program pages calls zeros old) in
-    (new, (limited_step program pages calls zeros old, (zeros, zeros_allowed, refl), run))
+    (new, (limited_step program pages calls zeros old, (zeros, zeros_allowed program old, refl), run))
 
 -- a run that starts within its limits stays within them
 pub stays_within : (program : Program) (pages calls n : ℕ) (old new : State) → is_within pages calls old ≡ true → Run (machine program pages calls) n old new → is_within pages calls new ≡ true

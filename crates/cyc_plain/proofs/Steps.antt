@@ -19,7 +19,7 @@ pub step_performs : (program : Program) (pages calls : ℕ) (c : Configuration) 
     → instruction_at program (place_of (Running c)) ≡ Some i
     → ((choice : Choice) → is_within pages calls (performed program choice c i) ≡ true)
     → Step program pages calls (Running c) new
-    → (choice : Choice) × IsAllowed choice × (new ≡ performed program choice c i)
+    → (choice : Choice) × IsAllowed program (Running c) choice × (new ≡ performed program choice c i)
 step_performs program pages calls c i new at within (choice, allowed, is) =
     let does : step program choice (Running c) ≡ performed program choice c i = ap (executed program choice c) at in
     let keeps : is_within pages calls (step program choice (Running c)) ≡ true = ap (is_within pages calls) does ∙ within choice in

@@ -83,7 +83,7 @@ known_word : (program : Program) (place : CodePlace) (i : Instruction) → HasWo
 known_word program place i words at =
     holds_at HasWord (routine_at program place.function).code place.index i (words.functions place.function no_routine (function_known program place i at)) at
 
-module _ (program : Program) (choice : Choice) (allowed : IsAllowed choice) (c : Configuration) (slots : AreWords c.active.slots) (frames : AreFrames c.frames) (globals : AreWords c.globals) (input : AllByRecursion IsWord c.input) where
+module _ (program : Program) (choice : Choice) (allowed : AreWords choice.contents) (c : Configuration) (slots : AreWords c.active.slots) (frames : AreFrames c.frames) (globals : AreWords c.globals) (input : AllByRecursion IsWord c.input) where
   given : (destination word : ℕ) → IsWord word → HoldsWords (gives c destination word)
   given destination word w = (put_words c.active.slots destination word slots w, frames, globals, input)
 
@@ -119,7 +119,7 @@ module _ (program : Program) (choice : Choice) (allowed : IsAllowed choice) (c :
   executes (Some i) w = performs i (w i refl)
   executes None w = tt
 
-words_step : (program : Program) (choice : Choice) (s : State) → HasWords program → IsAllowed choice → HoldsWords s → HoldsWords (step program choice s)
+words_step : (program : Program) (choice : Choice) (s : State) → HasWords program → IsAllowed program s choice → HoldsWords s → HoldsWords (step program choice s)
 words_step program choice (Running c) words allowed (slots, frames, globals, input) =
     executes program choice allowed c slots frames globals input (instruction_at program (place_of (Running c))) (λ i at. known_word program (place_of (Running c)) i words at)
 words_step program choice (Ended ending output input) words allowed holds = tt

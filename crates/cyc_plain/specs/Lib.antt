@@ -5,3 +5,4 @@ pub mod WellFormed
 pub mod Operators
 pub mod State
 pub mod Step
+pub mod Straight

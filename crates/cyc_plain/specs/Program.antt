@@ -1,10 +1,12 @@
 -- What a plain program is, as mathematical data. The form (three-address code over numbered slots) is the field's; what
 -- it has, and all numbers, are this project's own choice.
-use Rattle.std.specs.Prelude.{ℕ, suc, ◌+◌, List, [], ◌∷◌, ◌++◌, length, map, sum_by, slice_index_or}
+use Rattle.std.specs.Prelude.{ℕ, suc, ◌+◌, ◌*◌, List, [], ◌∷◌, ◌++◌, length, map, sum_by, slice_index_or}
 use Rattle.std.specs.List.{range_with_len}
 use Rattle.cyc_words.specs.declared.span.Span.{Span}
 use Rattle.cyc_plain.specs.declared.instruction.Instruction.{Instruction}
-use Rattle.cyc_plain.specs.declared.instruction.Instruction.TheVariants.{Call}
+use Rattle.cyc_plain.specs.declared.instruction.Instruction.TheVariants as instructions
+use Rattle.cyc_plain.specs.declared.instruction.BinaryOperator.{BinaryOperator}
+use Rattle.cyc_plain.specs.declared.instruction.BinaryOperator.TheVariants as binary
 use Rattle.cyc_plain.specs.declared.program.Function.{Function}
 
 -- a function: where its name stands, how many words it takes and returns, its slots, the words of its frame, its code
@@ -50,10 +52,26 @@ no_routine = record {
 abbrev pub routine_at : Program → ℕ → Routine
 routine_at program function = slice_index_or program.functions function no_routine
 
--- Size. An instruction counts one, and a call one more for each word that it passes.
+-- Size, in words of text: so many may the code of an instruction have, with two more for each slot that it names, since
+-- what keeps values in registers saves some and loads others there. A call's code has words for each word that it passes.
+abbrev pub operator_size : BinaryOperator → ℕ
+operator_size binary.Divide = 18
+operator_size binary.Remainder = 18
+operator_size operator = 11
+
 abbrev pub instruction_size : Instruction → ℕ
-instruction_size (Call function arguments count result) = 1 + count
-instruction_size instruction = 1
+instruction_size (instructions.Move destination source) = 6
+instruction_size (instructions.Unary operator destination operand) = 7
+instruction_size (instructions.Binary operator destination left right) = operator_size operator
+instruction_size (instructions.Jump target) = 2
+instruction_size (instructions.Branch comparison left right target) = 11
+instruction_size (instructions.Call function arguments count result) = 22 + 4 * count
+instruction_size (instructions.Return value) = 15
+instruction_size (instructions.ReadByte destination) = 5
+instruction_size (instructions.WriteByte source) = 5
+instruction_size (instructions.LoadGlobal destination global) = 5
+instruction_size (instructions.StoreGlobal global source) = 5
+instruction_size (instructions.Uncaught tag value) = 7
 
 abbrev pub size : Routine → ℕ
 size r = sum_by instruction_size r.code

@@ -16,8 +16,9 @@ use Rattle.cyc_plain.specs.State.{Words, AreWords, put, copied, Frame, Configura
 pub record Choice : Type 0 where
   pub contents : Words
 
-abbrev pub IsAllowed : Choice → Type 0
-IsAllowed choice = AreWords choice.contents
+-- which choices a program has in a state
+abbrev pub IsAllowed : Program → State → Choice → Type 0
+IsAllowed program s choice = AreWords choice.contents
 
 -- Parts of a configuration changed.
 
@@ -120,7 +121,7 @@ limited_step program pages calls choice s = limited pages calls s (step program 
 -- from old, a program with these limits may step to new
 abbrev pub Step : Program → (pages calls : ℕ) → State → State → Type 0
 Step program pages calls old new =
-    (choice : Choice) × IsAllowed choice × (new ≡ limited_step program pages calls choice old)
+    (choice : Choice) × IsAllowed program old choice × (new ≡ limited_step program pages calls choice old)
 
 -- `main` is called, nothing is printed yet, and all of the input is still to be read
 abbrev pub start : Program → List ℕ → State

@@ -1,17 +1,18 @@
 //! Laws of the definitions in `specs/`. Each function does nothing: its contract is the law, and so it is proved with
 //! the crate. The lemmas behind them stand in `proofs/` for other proofs to cite.
 
-ghost use Rattle.std.specs.Prelude.{◌≡◌, ◌≢◌, ℕ, ◌+◌, ◌<◌, ◌≤◌, List, ◌++◌, true, false, Some, Contains};
+ghost use Rattle.std.specs.Prelude.{◌≡◌, ◌≢◌, ℕ, ◌+◌, ◌<◌, ◌≤◌, List, length, ◌++◌, true, false, Some, Contains};
 ghost use Rattle.std.specs.List.{AllByRecursion};
 ghost use Rattle.cyc_words.specs.Ending.{Ending, Full};
 ghost use Rattle.cyc_words.specs.Prefix.{IsPrefix};
-ghost use Rattle.cyc_plain.specs.Program.{Program, CodePlace, places_of};
+ghost use Rattle.cyc_plain.specs.Program.{Program, CodePlace, routine_at, places_of};
 ghost use Rattle.cyc_plain.specs.declared.instruction.Instruction.{Instruction};
-ghost use Rattle.cyc_words.specs.Simulation.{Run};
+ghost use Rattle.cyc_words.specs.Simulation.{Run, Path, IsDistinct};
 ghost use Rattle.cyc_words.specs.Simulation as simulation;
-ghost use Rattle.cyc_plain.specs.State.{Words, State, HoldsWords, put, copied, output_of, input_of, status_of};
+ghost use Rattle.cyc_plain.specs.State.{Words, Configuration, State, HoldsWords, put, copied, output_of, input_of, status_of};
 ghost use Rattle.cyc_plain.specs.State as state;
 ghost use Rattle.cyc_plain.specs.Step.{Choice, Step, instruction_at, is_within, limited_step, machine, start, step};
+ghost use Rattle.cyc_plain.specs.Straight.{HasAt, AreStraight, executed_in, places_behind};
 ghost use Rattle.cyc_plain.specs.WellFormed.{IsWellFormed, HasWords, DividesByZero};
 
 /// A run that is over stays as it is.
@@ -63,6 +64,15 @@ pub fn values_are_words()
 pub fn places_are_listed()
     ensures { (program : Program) (place : CodePlace) (i : Instruction) → instruction_at program place ≡ Some i
         → Contains (places_of program) place }
+{}
+
+/// Each run through straight code comes to the configuration that it says, whatever is chosen, and meets no place twice.
+pub fn straight_code_runs()
+    ensures runs { (program : Program) (pages calls : ℕ) (choice : Choice) (is : List Instruction) (c : Configuration) (new : State) → AreStraight is
+        → HasAt (routine_at program c.active.function).code c.active.next is → is_within pages calls (state.Running c) ≡ true
+        → Path (machine program pages calls) (places_behind c.active.function c.active.next (length is)) (state.Running c) new
+        → new ≡ state.Running (executed_in program choice c is) }
+    ensures distinct { (function index count : ℕ) → IsDistinct (places_behind function index count) }
 {}
 
 /// A slot holds what was last put or copied into it.

@@ -9,6 +9,5 @@ pub const GREATEST_VALUE: usize = 3;
 /// So many words of globals can be addressed: 4 megabytes.
 pub const MOST_GLOBALS: usize = 1_048_576;
 
-/// The code of all functions has at most this size, where an instruction counts one and a call one more for each word that
-/// it passes: three for each token that a text may have.
-pub const MOST_SIZE: usize = 180_000;
+/// The code of all functions has at most this size, in words of text: 120 for each token that a text may have.
+pub const MOST_SIZE: usize = 7_200_000;

@@ -104,7 +104,7 @@ module _ (program : Program) (well : IsWellFormed program) (frames : List Frame)
       let over : is_within pages calls (performed program zeros c (plain.Call callee arguments count result)) ≡ false = and_right (nat_le c.store.pages pages) _ deep in
       let is : step program zeros (states.Running c) ≡ performed program zeros c (plain.Call callee arguments count result) = ap (executed program zeros c) at_i in (
         states.Ended Full c.output c.input,
-        (zeros, zeros_allowed, sym (limited-full pages calls (states.Running c) (step program zeros (states.Running c)) (ap (is_within pages calls) is ∙ over))),
+        (zeros, zeros_allowed program (states.Running c), sym (limited-full pages calls (states.Running c) (step program zeros (states.Running c)) (ap (is_within pages calls) is ∙ over))),
         refl,
       )
 

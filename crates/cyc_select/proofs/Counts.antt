@@ -1,7 +1,13 @@
 -- How many lines operands, plans and tests have, as they are counted: so many, and few.
-use Rattle.std.proofs.Common.{◌≡◌, ℕ, ◌+◌, ◌%◌, ◌^◌, ◌≤◌, Bool, true, false, List, [], ◌∷◌, length, refl, arith, length-append}
+use Rattle.std.proofs.Common.{◌≡◌, ℕ, ◌+◌, ◌%◌, ◌^◌, ◌≤◌, Bool, true, false, List, [], ◌∷◌, length, Option, None, Some, refl, arith, length-append}
 use Rattle.std.specs.Prelude.{◌==◌, nat_lt, if◌then◌else◌}
 use Rattle.cyc_isa.specs.declared.instr.Instr.{Instr}
+use Rattle.cyc_isa.specs.declared.instr.ArithmeticOp.{ArithmeticOp}
+use Rattle.cyc_isa.specs.declared.instr.ArithmeticOp.TheVariants as arithmetic
+use Rattle.cyc_isa.specs.declared.instr.ImmediateOp.{ImmediateOp}
+use Rattle.cyc_isa.specs.declared.instr.ImmediateOp.TheVariants as immediate
+use Rattle.cyc_plain.specs.declared.instruction.UnaryOperator.{UnaryOperator}
+use Rattle.cyc_plain.specs.declared.instruction.UnaryOperator.TheVariants as unary
 use Rattle.cyc_plain.specs.declared.instruction.BinaryOperator.{BinaryOperator}
 use Rattle.cyc_plain.specs.declared.instruction.Operand.{Operand}
 use Rattle.cyc_plain.specs.declared.instruction.Operand.TheVariants as operands
@@ -14,8 +20,8 @@ use Rattle.cyc_select.specs.declared.plan.Outcome.TheVariants as outcomes
 use Rattle.cyc_select.specs.declared.plan.Plan.{Plan}
 use Rattle.cyc_select.specs.declared.plan.Test.{Test}
 use Rattle.cyc_select.specs.declared.plan.Test.TheVariants as tests
-use Rattle.cyc_select.specs.Plans.{binary_plan}
-use Rattle.cyc_select.specs.Numbers.{fits_signed, is_zero_word}
+use Rattle.cyc_select.specs.Plans.{arithmetic_plan, immediate_plan, immediate_or, zero_plan, differs_plan, equal_plan, unary_plan, binary_plan}
+use Rattle.cyc_select.specs.Numbers.{fits_signed, negated_half, is_word, is_zero_word}
 use Rattle.cyc_select.specs.Selection.{small, or_immediate, load_upper, constant, is_tested, word_code, load_code, operand_code, operand_register, operation_code, outcome_code, operands_code, operation_of, computed_code, plan_code, test_code, loads_code, divided_code, store_slot, add_immediate, minus, word_count, load_count, operand_count, operation_count, outcome_count, count_of_operation, plan_count, test_count, operator_count}
 
 -- ---- few
@@ -58,6 +64,33 @@ computed_small plan = omega (arith, operand_small plan.left, operand_small plan.
 
 pub plan_small : (plan : Plan) → plan_count plan ≤ 8
 plan_small plan = omega (arith, computed_small plan, outcome_small plan.outcome)
+
+-- what is no multiplication and no division has one line less
+
+arithmetic_small : (op : ArithmeticOp) (left right : Operand) (o : Outcome) → plan_count (arithmetic_plan op left right o) ≤ 7
+arithmetic_small op left right o = omega (arith, operand_small left, operand_small right, outcome_small o)
+
+immediate_small : (op : ImmediateOp) (left : Operand) (half : ℕ) (o : Outcome) → plan_count (immediate_plan op left half o) ≤ 7
+immediate_small op left half o = omega (arith, operand_small left, operand_small (operands.Word 0), outcome_small o)
+
+plan_either : (b : Bool) (x y : Plan) → plan_count x ≤ 7 → plan_count y ≤ 7 → plan_count (if b then x else y) ≤ 7
+plan_either true x y first second = first
+plan_either false x y first second = second
+
+immediate_or_small : (half : Option ℕ) (op : ImmediateOp) (left : Operand) (o : Outcome) (other : Plan) → plan_count other ≤ 7 → plan_count (immediate_or half op left o other) ≤ 7
+immediate_or_small (Some half) op left o other small = immediate_small op left half o
+immediate_or_small None op left o other small = small
+
+equal_small : (left right : Operand) → plan_count (equal_plan left right true) ≤ 7
+equal_small left right =
+    plan_either (is_zero_word right) (zero_plan left true) (differs_plan left right outcomes.WhetherZero) (immediate_small immediate.SetLessUnsigned left 1 outcomes.AsItIs)
+    (immediate_or_small (negated_half right) immediate.AddUnsigned left outcomes.WhetherZero (arithmetic_plan arithmetic.SubtractUnsigned left right outcomes.WhetherZero) (arithmetic_small arithmetic.SubtractUnsigned left right outcomes.WhetherZero))
+
+pub unary_small : (operator : UnaryOperator) (operand : Operand) → plan_count (unary_plan operator operand) ≤ 7
+unary_small unary.Negate operand = arithmetic_small arithmetic.SubtractUnsigned (operands.Word 0) operand outcomes.AsItIs
+unary_small unary.Complement operand = arithmetic_small arithmetic.Nor (operands.Word 0) operand outcomes.AsItIs
+unary_small unary.Not operand =
+    plan_either (is_word operand) (equal_plan (operands.Word 0) operand true) (equal_plan operand (operands.Word 0) true) (equal_small (operands.Word 0) operand) (equal_small operand (operands.Word 0))
 
 pub test_small : (test : Test) → test_count test ≤ 6
 test_small (tests.Operands op left right) = omega (arith, operand_small left, operand_small right)

@@ -79,7 +79,7 @@ module _ (program : Program) (well : IsWellFormed program) (frames : List Frame)
   within d paged deep = and_from _ _ (le-leb d.store.pages pages paged) (le-leb (suc (length d.frames)) calls deep)
 
   -- by an instruction that stays within the limits
-  pub reached : (c : Configuration) (choice : Choice) (i : Instruction) (next : states.State) (t : State) → IsAllowed choice
+  pub reached : (c : Configuration) (choice : Choice) (i : Instruction) (next : states.State) (t : State) → IsAllowed program (states.Running c) choice
       → instruction_at program (states.place_of (states.Running c)) ≡ Some i → performed program choice c i ≡ next → is_within pages calls next ≡ true → Matches next t → Reached c t
   reached c choice i next t allowed at does keeps matches =
       let is : step program choice (states.Running c) ≡ next = ap (executed program choice c) at ∙ does in
@@ -108,7 +108,7 @@ module _ (program : Program) (well : IsWellFormed program) (frames : List Frame)
         let there = standing_at program well frames fit addresses pages calls few c r' w' base (r RETURN_ADDRESS) (suc (length c.frames)) (put c.active.slots destination word) in_r' d refl refl refl refl fine in
         let with_back = subst (λ (b : ℕ). Standing program frames addresses pages calls d r' w' base b (suc (length c.frames)) (put c.active.slots destination word)) (sym back_same) there in
         let line_same : line ≡ instruction_line program c.active.function (c.active.next + 1) = line_is ∙ sym (line_next program c.active.function c.active.next i at) in
-        reached c zeros i (states.Running d) (Running run) zeros_allowed at does (within d s.paged s.deep)
+        reached c zeros i (states.Running d) (Running run) (zeros_allowed program (states.Running c)) at does (within d s.paged s.deep)
         (inl (record {
           run = run;
           r = r';
@@ -134,7 +134,7 @@ module _ (program : Program) (well : IsWellFormed program) (frames : List Frame)
         let with_back = subst (λ (b : ℕ). Standing program frames addresses pages calls d r' w base b (suc (length c.frames)) d.active.slots) (sym back_same) with_slots in
         let with_depth = subst (λ (fs : List states.Frame). Standing program frames addresses pages calls d r' w base (r' RETURN_ADDRESS) (suc (length fs)) d.active.slots) (sym frames_same) with_back in
         let with_memory = subst (λ (x : Words). Standing program frames addresses pages calls d r' x base (r' RETURN_ADDRESS) (suc (length d.frames)) d.active.slots) (sym unchanged) with_depth in
-        reached c zeros i (states.Running d) (Running run) zeros_allowed at does
+        reached c zeros i (states.Running d) (Running run) (zeros_allowed program (states.Running c)) at does
         (within d with_memory.paged with_memory.deep)
         (inl (record {
           run = run;

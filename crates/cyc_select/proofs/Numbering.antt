@@ -1,21 +1,23 @@
 -- Numbers of lines: sums over what stands before.
-use Rattle.std.proofs.Common.{◌≡◌, ℕ, zero, suc, ◌+◌, ◌*◌, ◌<◌, ◌≤◌, Bool, true, false, List, [], ◌∷◌, ◌++◌, length, drop, take, refl, ap, ◌∙◌, inl, inr, arith}
+use Rattle.std.proofs.Common.{◌≡◌, ℕ, zero, suc, ◌+◌, ◌<◌, ◌≤◌, Bool, true, false, List, [], ◌∷◌, ◌++◌, length, drop, take, refl, ap, ◌∙◌, inl, inr, arith}
 use Rattle.std.specs.Prelude.{sum_by, slice_index_or, if◌then◌else◌}
 use Rattle.std.proofs.lemmas.List.{drop_more}
 use Rattle.std.proofs.lemmas.List.Sums.{sum_by-cons, sum_by-drop_more, sum_by-take-drop, sum_by-take-le}
+use Rattle.cyc_plain.specs.declared.instruction.BinaryOperator.{BinaryOperator}
+use Rattle.cyc_plain.specs.declared.instruction.BinaryOperator.TheVariants as binary
 use Rattle.cyc_plain.specs.declared.instruction.Instruction.{Instruction}
 use Rattle.cyc_plain.specs.declared.instruction.Instruction.TheVariants as plain
-use Rattle.cyc_plain.specs.Program.{Program, Routine, no_routine, routine_at, instruction_size, size}
+use Rattle.cyc_plain.specs.Program.{Program, Routine, no_routine, routine_at, operator_size, instruction_size, size}
 use Rattle.cyc_plain.specs.WellFormed.{IsRoutine, IsWellFormed}
 use Rattle.cyc_plain.specs.declared.limits.TheConstants.{GREATEST_VALUE, MOST_SIZE}
 use Rattle.cyc_frame.specs.declared.frame.TheConstants.{MOST_FRAME_WORDS}
 use Rattle.cyc_frame.specs.Layout.{IsFrame}
 use Rattle.cyc_frame.specs.declared.frame.Frame.{Frame}
-use Rattle.cyc_select.specs.declared.constants.TheConstants.{LINES_FOR_EACH, START_LINES}
+use Rattle.cyc_select.specs.declared.constants.TheConstants.{START_LINES}
 use Rattle.cyc_select.specs.Selection.{ending_count, count_of, function_count, functions_count, function_line, instruction_line, code_lines, function_lines}
 use Rattle.cyc_select.specs.Plans.{unary_plan, test_of}
 use Rattle.cyc_select.specs.Emission.{AreReached, AreFew, most_lines, instruction_lines, function_starts, AreReady, AreTables}
-use Rattle.cyc_select.proofs.Counts.{word_small, load_small, operand_small, plan_small, test_small, operator_small}
+use Rattle.cyc_select.proofs.Counts.{word_small, load_small, operand_small, unary_small, test_small, operator_small}
 
 -- ---- an instruction has few lines for each unit of its size
 
@@ -26,10 +28,16 @@ if_small false = omega arith
 ending_small : (program : Program) (function : ℕ) → ending_count program function ≤ 4
 ending_small program function = if_small _
 
-pub count_small : (program : Program) (function : ℕ) → AreFew program → (i : Instruction) → count_of program function i ≤ LINES_FOR_EACH * instruction_size i
+-- an operator has words for its lines
+operator_fits : (operator : BinaryOperator) → 11 ≤ operator_size operator
+operator_fits binary.Divide = omega arith
+operator_fits binary.Remainder = omega arith
+operator_fits operator = omega arith
+
+pub count_small : (program : Program) (function : ℕ) → AreFew program → (i : Instruction) → count_of program function i ≤ instruction_size i
 count_small program function few (plain.Move destination source) = omega (arith, operand_small source)
-count_small program function few (plain.Unary operator destination operand) = omega (arith, plan_small (unary_plan operator operand))
-count_small program function few (plain.Binary operator destination left right) = omega (arith, operator_small operator left right)
+count_small program function few (plain.Unary operator destination operand) = omega (arith, unary_small operator operand)
+count_small program function few (plain.Binary operator destination left right) = omega (arith, operator_small operator left right, operator_fits operator)
 count_small program function few (plain.Jump target) = omega arith
 count_small program function few (plain.Branch comparison left right target) = omega (arith, test_small (test_of comparison left right))
 count_small program function few (plain.Call f a n r) = omega (arith, few f)
@@ -40,25 +48,25 @@ count_small program function few (plain.LoadGlobal destination global) = omega a
 count_small program function few (plain.StoreGlobal global source) = omega (arith, operand_small source)
 count_small program function few (plain.Uncaught tag value) = omega (arith, word_small tag, load_small value)
 
-code_small : (program : Program) (function : ℕ) → AreFew program → (code : List Instruction) → sum_by (count_of program function) code ≤ LINES_FOR_EACH * sum_by instruction_size code
+code_small : (program : Program) (function : ℕ) → AreFew program → (code : List Instruction) → sum_by (count_of program function) code ≤ sum_by instruction_size code
 code_small program function few [] = omega arith
 code_small program function few (i ∷ code) =
     omega (arith, sum_by-cons (count_of program function) i code, sum_by-cons instruction_size i code, count_small program function few i, code_small program function few code)
 
-functions_small : (program : Program) (first : ℕ) → AreFew program → (routines : List Routine) → functions_count program first routines ≤ LINES_FOR_EACH * sum_by size routines
+functions_small : (program : Program) (first : ℕ) → AreFew program → (routines : List Routine) → functions_count program first routines ≤ sum_by size routines
 functions_small program first few [] = omega arith
 functions_small program first few (r ∷ routines) =
     omega (arith, sum_by-cons size r routines, code_small program first few r.code, functions_small program (suc first) few routines)
 
 -- a function begins where it still fits
 pub start_fits : (program : Program) → AreFew program → (k : ℕ) → k < length program.functions
-    → function_line program k + LINES_FOR_EACH * size (routine_at program k) ≤ START_LINES + LINES_FOR_EACH * sum_by size program.functions
+    → function_line program k + size (routine_at program k) ≤ START_LINES + sum_by size program.functions
 start_fits program few k below =
     omega (arith, functions_small program 0 few (take k program.functions), sum_by-drop_more size program.functions k no_routine below, sum_by-take-drop size program.functions k)
 
 -- and so do its instructions
 pub line_fits : (program : Program) → AreFew program → (k : ℕ) → k < length program.functions → (index : ℕ)
-    → instruction_line program k index ≤ START_LINES + LINES_FOR_EACH * sum_by size program.functions
+    → instruction_line program k index ≤ START_LINES + sum_by size program.functions
 line_fits program few k below index =
     omega (arith, start_fits program few k below, code_small program k few (routine_at program k).code, sum_by-take-le (count_of program k) (routine_at program k).code index)
 
@@ -125,7 +133,7 @@ module _ {program : Program} {frames : List Frame} {starts : List ℕ} (ready : 
   ready_size k below =
       omega (arith, ready.few, sum_by-drop_more size program.functions k no_routine below, sum_by-take-drop size program.functions k)
 
-  pub ready_fits : (k : ℕ) → k < length program.functions → function_line program k + LINES_FOR_EACH * size (routine_at program k) ≤ most_lines
+  pub ready_fits : (k : ℕ) → k < length program.functions → function_line program k + size (routine_at program k) ≤ most_lines
   ready_fits k below = omega (arith, ready.few, start_fits program (are_few program ready.well_formed) k below)
 
 module _ {program : Program} {frames : List Frame} {starts lines : List ℕ} {function : ℕ} (known : AreTables program frames starts lines function) where

@@ -124,7 +124,7 @@ module _ (program : Program) (well : IsWellFormed program) (words : HasWords pro
   stuck_not : (c : Configuration) → Never c → step program zeros (states.Running c) ≡ states.Stuck c.output c.input → ⊥
   stuck_not c never is =
       never (states.Stuck c.output c.input)
-      (zeros, zeros_allowed, sym (limited-within pages calls (states.Running c) (step program zeros (states.Running c)) (ap (is_within pages calls) is ∙ stuck_within pages calls c.output c.input) ∙ is))
+      (zeros, zeros_allowed program (states.Running c), sym (limited-within pages calls (states.Running c) (step program zeros (states.Running c)) (ap (is_within pages calls) is ∙ stuck_within pages calls c.output c.input) ∙ is))
       refl
 
   divides : (c : Configuration) → Never c → (operator : BinaryOperator) (destination : ℕ) (left right : Operand) → instruction_at program (states.place_of (states.Running c)) ≡ Some (plain.Binary operator destination left right)

@@ -504,7 +504,7 @@ module _ (program : Program) (well : IsWellFormed program) (frames : List Frame)
       (refl, (global_stands global global_below, tt)) (omega arith)
       (λ e later.
       walk_end code formed addresses globals_length (words_per_call * calls) (here + length is + 2) (here + (operand_count source + 2)) c.output _ (Running e) (omega (arith, long))
-      (reached program well frames fit code formed addresses pages calls few c zeros (plain.StoreGlobal global source) (states.Running d) (Running e) zeros_allowed at_i refl
+      (reached program well frames fit code formed addresses pages calls few c zeros (plain.StoreGlobal global source) (states.Running d) (Running e) (zeros_allowed program (states.Running c)) at_i refl
       (within program well frames fit code formed addresses pages calls few d s.paged s.deep)
       (inl (record {
         run = e;
@@ -545,6 +545,6 @@ module _ (program : Program) (well : IsWellFormed program) (frames : List Frame)
       walk_block code formed addresses globals_length (words_per_call * calls) (small SERVICE END_UNCAUGHT ∷ []) 1 (here + length is + length js) (here + length is + length js) hi c.output c.input _ q (after_w js (after_r is r w) (after_w is r w)) e after (at_last.0, tt) (refl, tt) (omega arith)
       (λ f prepared.
       walk_uncaught code formed addresses globals_length (words_per_call * calls) (here + length is + length js + 1) (here + length is + length js + 1) hi c.output c.input _ (put q 2 (add_of (q 0) (sign_extended 4))) (after_w js (after_r is r w) (after_w is r w)) f prepared at_last.1.0 (omega arith) (omega (arith, long, more)) service
-      (reached program well frames fit code formed addresses pages calls few c zeros (plain.Uncaught tag value) (states.Ended (Uncaught tag (signed (word_of value))) c.output c.input) _ zeros_allowed at_i refl
+      (reached program well frames fit code formed addresses pages calls few c zeros (plain.Uncaught tag value) (states.Ended (Uncaught tag (signed (word_of value))) c.output c.input) _ (zeros_allowed program (states.Running c)) at_i refl
       (over_within pages calls (Uncaught tag (signed (word_of value))) c.output c.input)
       (ap (λ (x : Ending). Ended x c.output c.input) same))))))

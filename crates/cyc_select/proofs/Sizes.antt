@@ -8,11 +8,12 @@ use Rattle.cyc_isa.specs.declared.instr.Instr.{Instr}
 use Rattle.cyc_plain.specs.declared.instruction.Instruction.{Instruction}
 use Rattle.cyc_plain.specs.declared.instruction.Instruction.TheVariants as plain
 use Rattle.cyc_plain.specs.declared.instruction.BinaryOperator.{BinaryOperator}
+use Rattle.cyc_plain.specs.declared.instruction.BinaryOperator.TheVariants as binary
 use Rattle.cyc_plain.specs.declared.instruction.Operand.{Operand}
 use Rattle.cyc_isa.specs.declared.instr.MemoryOp.TheVariants.{StoreWord}
 use Rattle.cyc_isa.specs.declared.instr.MoveFromOp.{MoveFromOp}
 use Rattle.cyc_machine.specs.declared.constants.TheConstants.{ARGUMENT, END_UNCAUGHT, PUT_BYTE, SECOND_ARGUMENT, SERVICE, RETURN_ADDRESS}
-use Rattle.cyc_plain.specs.Program.{Routine, Program, routine_at, instruction_size, size}
+use Rattle.cyc_plain.specs.Program.{Routine, Program, routine_at, operator_size, instruction_size, size}
 use Rattle.cyc_frame.specs.Layout.{frame_at}
 use Rattle.cyc_frame.specs.declared.frame.Frame.{Frame}
 use Rattle.cyc_select.specs.declared.code.Line.{Line}
@@ -29,7 +30,7 @@ use Rattle.cyc_select.specs.Selection.{ordinary, copies, store_all, store_slot, 
 use Rattle.cyc_isa.specs.Decoding.{register_of}
 use Rattle.cyc_isa.specs.declared.instr.BranchOp.TheVariants as branch
 use Rattle.cyc_select.proofs.Calls.{length-copies}
-use Rattle.cyc_select.proofs.Counts.{word_small, load_small, operand_small, plan_small, test_small, length_word, length_load, length_operand, length_plan, length_test, length_divided}
+use Rattle.cyc_select.proofs.Counts.{word_small, load_small, operand_small, plan_small, unary_small, test_small, length_word, length_load, length_operand, length_plan, length_test, length_divided}
 use Rattle.cyc_select.proofs.Returns.{loaded, length_loaded, length_stores, length_registers}
 use Rattle.cyc_select.proofs.Walks.{Stands}
 
@@ -57,10 +58,16 @@ module _ (program : Program) (frames : List Frame) (few_results : (function : �
   words_either true divided planned few small = few
   words_either false divided planned few small = omega (arith, small)
 
-  operator_words : (frame : Frame) (here : ℕ) (operator : BinaryOperator) (destination : ℕ) (left right : Operand) → all_words (operator_code frame here operator destination left right) ≤ 14
-  operator_words frame here operator destination left right =
+  tested_words : (frame : Frame) (here : ℕ) (operator : BinaryOperator) (destination : ℕ) (left right : Operand) → all_words (operator_code frame here operator destination left right) ≤ 14
+  tested_words frame here operator destination left right =
       words_either (is_tested operator right) (divide_code frame here (part_of operator) destination left right) (ordinary (plan_code frame (binary_plan operator left right) destination))
       (divide_words frame here (part_of operator) destination left right) (plan_words frame (binary_plan operator left right) destination)
+
+  -- only a division has the words of one that is tested
+  operator_words : (frame : Frame) (here : ℕ) (operator : BinaryOperator) (destination : ℕ) (left right : Operand) → all_words (operator_code frame here operator destination left right) ≤ operator_size operator
+  operator_words frame here binary.Divide destination left right = omega (arith, tested_words frame here binary.Divide destination left right)
+  operator_words frame here binary.Remainder destination left right = omega (arith, tested_words frame here binary.Remainder destination left right)
+  operator_words frame here operator destination left right = omega (arith, plan_words frame (binary_plan operator left right) destination)
 
   branch_words : (test : Test) (label : ℕ) → words_of (branch_line test label) ≤ 4
   branch_words (tests.Operands op left right) label = omega arith
@@ -75,10 +82,11 @@ module _ (program : Program) (frames : List Frame) (few_results : (function : �
   ending_words true frame here value = omega arith
   ending_words false frame here value = omega arith
 
-  body_words : (function here : ℕ) (i : Instruction) → all_words (body program frames function here i) + all_words (behind program frames function i) ≤ 16 * instruction_size i
+  body_words : (function here : ℕ) (i : Instruction) → all_words (body program frames function here i) + all_words (behind program frames function i) ≤ instruction_size i
   body_words function here (plain.Move destination source) =
       omega (arith, words_ordinary (operand_code (frame_at frames function) FIRST source ++ store_slot (frame_at frames function) (operand_register FIRST source) destination ∷ []), length-append (operand_code (frame_at frames function) FIRST source) (store_slot (frame_at frames function) (operand_register FIRST source) destination ∷ []), length_operand (frame_at frames function) FIRST source, operand_small source)
-  body_words function here (plain.Unary operator destination operand) = omega (arith, plan_words (frame_at frames function) (unary_plan operator operand) destination)
+  body_words function here (plain.Unary operator destination operand) =
+      omega (arith, words_ordinary (plan_code (frame_at frames function) (unary_plan operator operand) destination), length_plan (frame_at frames function) (unary_plan operator operand) destination, unary_small operator operand)
   body_words function here (plain.Binary operator destination left right) = omega (arith, operator_words (frame_at frames function) here operator destination left right)
   body_words function here (plain.Jump target) = omega arith
   body_words function here (plain.Branch comparison left right target) = omega (arith, test_words (frame_at frames function) (test_of comparison left right) (instruction_line program function target))
@@ -110,7 +118,7 @@ module _ (program : Program) (frames : List Frame) (few_results : (function : �
       let loads : List Instr = load_code (frame_at frames function) SECOND_ARGUMENT value ++ last in
       omega (arith, words_ordinary (word_code ARGUMENT tag ++ loads), length-append (word_code ARGUMENT tag) loads, length_word ARGUMENT tag, length-append (load_code (frame_at frames function) SECOND_ARGUMENT value) last, length_load (frame_at frames function) SECOND_ARGUMENT value, load_small value, word_small tag)
 
-  pub code_words : (function here : ℕ) (code : List Instruction) → all_words (code_lines program frames function here code) ≤ 16 * sum_by instruction_size code
+  pub code_words : (function here : ℕ) (code : List Instruction) → all_words (code_lines program frames function here code) ≤ sum_by instruction_size code
   code_words function here [] = omega arith
   code_words function here (i ∷ code) =
       omega (
@@ -122,7 +130,7 @@ module _ (program : Program) (frames : List Frame) (few_results : (function : �
         sum_by-cons instruction_size i code,
       )
 
-  pub functions_words : (function here : ℕ) (routines : List Routine) → all_words (function_lines program frames function here routines) ≤ 16 * sum_by size routines
+  pub functions_words : (function here : ℕ) (routines : List Routine) → all_words (function_lines program frames function here routines) ≤ sum_by size routines
   functions_words function here [] = omega arith
   functions_words function here (r ∷ routines) =
       omega (

@@ -1,5 +1,5 @@
 -- The code that is selected is the program's, and has a place in the machine's memory.
-use Rattle.std.proofs.Common.{◌≡◌, ℕ, ◌+◌, ◌*◌, ◌<◌, ◌≤◌, List, [], ◌∷◌, length, map, refl, sym, ap, arith}
+use Rattle.std.proofs.Common.{◌≡◌, ℕ, ◌+◌, ◌<◌, ◌≤◌, List, [], ◌∷◌, length, map, refl, sym, ap, arith}
 use Rattle.std.specs.Prelude.{sum_by, flat_map}
 use Rattle.std.specs.List.{range_with_len}
 use Rattle.std.proofs.lemmas.List.Sums.{sum_by-cons, sum_by-append}
@@ -8,7 +8,7 @@ use Rattle.cyc_plain.specs.WellFormed.{IsWellFormed, HasWords, IsPlain}
 use Rattle.cyc_words.proofs.Prices.{sum_by-flat_map}
 use Rattle.cyc_frame.specs.declared.frame.Frame.{Frame}
 use Rattle.cyc_frame.specs.Layout.{AreFrames}
-use Rattle.cyc_select.specs.declared.constants.TheConstants.{WORDS_FOR_EACH, MAX_START_WORDS, START_LINES}
+use Rattle.cyc_select.specs.declared.constants.TheConstants.{MAX_START_WORDS, START_LINES}
 use Rattle.cyc_select.specs.Labelled.{words_of, all_words, IsCode}
 use Rattle.cyc_select.specs.Selected.{IsCodeOf, words_at}
 use Rattle.cyc_select.specs.Selection.{function_count, function_line, code_lines, function_lines, start_lines, select_of}
@@ -27,7 +27,7 @@ sum_by-map price f (x ∷ xs) = omega (arith, sum_by-cons price (f x) (map f xs)
 module _ (program : Program) (well : IsWellFormed program) (words : HasWords program) (frames : List Frame) (fit : AreFrames program frames) where
   few_own : (function : ℕ) → function < length program.functions
       → sum_by (λ (index : ℕ). sum_by (words_at (select_of program frames)) (own_of program (record { function = function; index = index }))) (range_with_len 0 (length (routine_at program function).code))
-      ≤ WORDS_FOR_EACH * size (routine_at program function)
+      ≤ size (routine_at program function)
   few_own function known =
       let indices = range_with_len 0 (length (routine_at program function).code) in
       let price : ℕ → ℕ = words_at (select_of program frames) in
@@ -42,7 +42,7 @@ module _ (program : Program) (well : IsWellFormed program) (words : HasWords pro
   few_before : sum_by (words_at (select_of program frames)) (range_with_len 0 3) ≤ MAX_START_WORDS
   few_before = omega (arith, words_range (select_of program frames) 0 (start_lines program frames) (starts program frames (few_results program well)))
 
-  few_words : all_words (select_of program frames).lines ≤ MAX_START_WORDS + WORDS_FOR_EACH * sum_by size program.functions
+  few_words : all_words (select_of program frames).lines ≤ MAX_START_WORDS + sum_by size program.functions
   few_words =
       omega (arith, sum_by-append words_of (start_lines program frames) (function_lines program frames 0 START_LINES program.functions), functions_words program frames (few_results program well) 0 START_LINES program.functions)
 

@@ -12,7 +12,7 @@ use Rattle.cyc_plain.specs.declared.limits.TheConstants.{GREATEST_VALUE, MOST_SI
 use Rattle.cyc_frame.specs.declared.frame.TheConstants.{MOST_FRAME_WORDS}
 use Rattle.cyc_frame.specs.Layout.{AreFrames, slot_word}
 use Rattle.cyc_frame.specs.declared.frame.Frame.{Frame}
-use Rattle.cyc_select.specs.declared.constants.TheConstants.{CALLS, LINES_FOR_EACH, START_LINES}
+use Rattle.cyc_select.specs.declared.constants.TheConstants.{CALLS, START_LINES}
 use Rattle.cyc_select.specs.declared.code.Line.{Line}
 use Rattle.cyc_select.specs.Selection.{store, add_immediate, minus, push_frame, small, syscall, ordinary, count_of, function_count, function_line}
 use Rattle.cyc_select.specs.declared.emitter.Emitter.{Emitter}
@@ -60,7 +60,7 @@ IsTestFound frame (tests.Computed plan) = IsPlanFound frame plan
 
 -- so many lines a program has at most
 abbrev pub most_lines : ℕ
-most_lines = START_LINES + LINES_FOR_EACH * MOST_SIZE
+most_lines = START_LINES + MOST_SIZE
 
 -- no function returns more than a value has words
 abbrev pub AreFew : Program → Type 0

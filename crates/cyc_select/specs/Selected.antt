@@ -1,11 +1,11 @@
 -- When labelled code is the code of a plain program.
-use Rattle.std.specs.Prelude.{◌≡◌, ℕ, ◌+◌, ◌*◌, ◌<◌, ◌≤◌, List, ◌++◌, length, sum_by, Contains, slice_index_or}
+use Rattle.std.specs.Prelude.{◌≡◌, ℕ, ◌+◌, ◌<◌, ◌≤◌, List, ◌++◌, length, sum_by, Contains, slice_index_or}
 use Rattle.std.specs.List.{AllByRecursion, range_with_len, flat_map}
 use Rattle.cyc_machine.specs.Bounds.{AreAllowed}
 use Rattle.cyc_words.specs.Simulation.{NeverFails, Follows}
 use Rattle.cyc_plain.specs.Program.{Program, CodePlace, routine_at, places_of, size}
 use Rattle.cyc_plain.specs.Step as plain
-use Rattle.cyc_select.specs.declared.constants.TheConstants.{WORDS_FOR_EACH, MAX_START_WORDS}
+use Rattle.cyc_select.specs.declared.constants.TheConstants.{MAX_START_WORDS}
 use Rattle.cyc_select.specs.declared.code.Line.TheVariants as lines
 use Rattle.cyc_select.specs.Labelled.{Labelled, IsFormed, AreAddresses, words_of, all_words}
 use Rattle.cyc_select.specs.Machine as labelled
@@ -26,8 +26,8 @@ pub record IsCodeOf (program : Program) (code : Labelled) : Type 0 where
   pub few_own : (function : ℕ) → function < length program.functions
       → sum_by (λ (index : ℕ). sum_by (words_at code) (own (record { function = function; index = index })))
       (range_with_len 0 (length (routine_at program function).code))
-      ≤ WORDS_FOR_EACH * size (routine_at program function)
-  pub few_words : all_words code.lines ≤ MAX_START_WORDS + WORDS_FOR_EACH * sum_by size program.functions
+      ≤ size (routine_at program function)
+  pub few_words : all_words code.lines ≤ MAX_START_WORDS + sum_by size program.functions
   pub follows : (pages calls : ℕ) → AreAllowed pages calls → (input : List ℕ) → AllByRecursion (λ b. b < 256) input
       → (addresses : ℕ → ℕ) → AreAddresses code addresses
       → NeverFails (plain.machine program pages calls) (plain.start program input)

@@ -33,11 +33,5 @@ pub const CALLS: u8 = 30;
 /// How many lines the start has.
 pub const START_LINES: usize = 3;
 
-/// How many lines an instruction has at most for each unit of its size.
-pub const LINES_FOR_EACH: usize = 12;
-
-/// How many words a function's code has at most for each unit of its size.
-pub const WORDS_FOR_EACH: usize = 16;
-
 /// How many words the start has at most.
 pub const MAX_START_WORDS: usize = 4096;

@@ -1,11 +1,11 @@
 //! How many lines each instruction has, and which number the first of them has.
-ghost use Rattle.std.specs.Prelude.{◌≡◌, ◌+◌, ◌*◌, ◌<◌, ◌≤◌, length, map, sum_by, All, IfOk};
+ghost use Rattle.std.specs.Prelude.{◌≡◌, ◌+◌, ◌<◌, ◌≤◌, length, map, sum_by, All, IfOk};
 ghost use Rattle.cyc_plain.specs.Program.{routine_of, routine_at, instruction_size, size};
 ghost use Rattle.cyc_plain.specs.WellFormed.{IsPlain, IsInRange};
 ghost use Rattle.cyc_select.specs.Selection.{operator_count, ending_count, body_count, behind_count, count_of};
 ghost use Rattle.cyc_select.specs.Emission.{AreFew, most_lines, instruction_lines, function_starts};
 
-use crate::constants::{LINES_FOR_EACH, START_LINES};
+use crate::constants::START_LINES;
 use crate::operands::{load_count, operand_count, word_count};
 use crate::operators::{is_tested, plan_count, test_count};
 use crate::plan::{binary_plan, test_of, unary_plan};
@@ -96,7 +96,7 @@ fn count_of(plain: &Plain, function: usize, instruction: Instruction) -> usize
     requires in_range { IsInRange plain.now (routine_at plain.now function) instruction }
     requires small { instruction_size instruction ≤ MOST_SIZE }
     ensures value { result ≡ count_of plain.now function instruction }
-    ensures few { result ≤ LINES_FOR_EACH * instruction_size instruction }
+    ensures few { result ≤ instruction_size instruction }
 {
     body_count(plain, function, instruction) + behind_count(plain, function, instruction)
 }
@@ -108,7 +108,7 @@ fn code_count(plain: &Plain, function: usize, code: &[Instruction]) -> usize
     requires in_range { All (IsInRange plain.now (routine_at plain.now function)) code.now }
     requires small { sum_by instruction_size code.now ≤ MOST_SIZE }
     ensures value { result ≡ sum_by (count_of plain.now function) code.now }
-    ensures small { result ≤ LINES_FOR_EACH * sum_by instruction_size code.now }
+    ensures small { result ≤ sum_by instruction_size code.now }
 {
     let mut lines = 0;
     for instruction in code {
@@ -129,7 +129,7 @@ pub(crate) fn instruction_lines(
     requires few { AreFew plain.now }
     requires in_range { All (IsInRange plain.now (routine_at plain.now function)) code.now }
     requires small { sum_by instruction_size code.now ≤ MOST_SIZE }
-    requires fits { first + LINES_FOR_EACH * sum_by instruction_size code.now ≤ most_lines }
+    requires fits { first + sum_by instruction_size code.now ≤ most_lines }
     ensures { IfOk result (λ lines. lines.items ≡ instruction_lines plain.now function first code.now) }
 {
     let mut lines = Vec::new(alloc);

@@ -3,10 +3,11 @@
 ghost use Rattle.std.specs.Prelude.{◌≡◌, ◌≤◌, IfOk, IfErr};
 ghost use Rattle.cyc_words.specs.Decision.{Decides};
 ghost use Rattle.cyc_words.specs.Fault.{memory_fault};
+ghost use Rattle.cyc_syntax.specs.TokenRule.{max_tokens};
 ghost use Rattle.cyc_types.specs.TypedTrees.{Program};
 ghost use Rattle.cyc_types.specs.TypedTreeView.{view_program};
 ghost use Rattle.cyc_types.specs.Weight.{program_weight};
-ghost use Rattle.cyc_lower.specs.Emission.{IsTyped, most_weight};
+ghost use Rattle.cyc_lower.specs.Emission.{IsElaborated};
 ghost use Rattle.cyc_lower.specs.Lowered.{CanBeLowered, IsLowered};
 ghost use Rattle.cyc_system.specs.FullPreservation.{IsImageOf};
 ghost use Rattle.cyc_system.specs.Compiled.{IsTooLarge, IsSmall, IsCompiledText, IsRefusedAtLast, HasFaultAtLast};
@@ -34,8 +35,8 @@ fn compile_plain(alloc: Global, framed: &Framed) -> Result<Vec<u8>, Fault>
 
 /// Compiles a typed program to an image, as the bytes of a file.
 fn build(alloc: Global, program: &Flowed) -> Result<Vec<u8>, Fault>
-    requires typed { IsTyped (view_program program.now.tree) }
-    requires small { program_weight (view_program program.now.tree) ≤ most_weight }
+    requires elaborated { IsElaborated (view_program program.now.tree) }
+    requires small { program_weight (view_program program.now.tree) ≤ max_tokens }
     requires can_be { CanBeLowered (view_program program.now.tree) }
     ensures { Decides (IsSmall (view_program program.now.tree)) (λ p file. IsImageOf p file.items)
         (IsTooLarge (view_program program.now.tree)) (IsTooLarge (view_program program.now.tree)) result }

@@ -1,7 +1,7 @@
-use Rattle.std.proofs.Common.{◌≡◌, ◌+◌, ◌*◌, ◌≤◌, ◌++◌, drop, length, map}
+use Rattle.std.proofs.Common.{◌≡◌, ◌+◌, ◌≤◌, ◌++◌, drop, length, map}
 use Rattle.std.specs.Prelude.{sum_by}
 use Rattle.cyc_plain.specs.Program.{routine_of, size}
-use Rattle.cyc_select.specs.declared.constants.TheConstants.{LINES_FOR_EACH, START_LINES}
+use Rattle.cyc_select.specs.declared.constants.TheConstants.{START_LINES}
 use Rattle.cyc_select.specs.Emission.{function_starts, most_lines}
 use Rattle.cyc_select.proofs.counting.function_starts.Given as goal
 
@@ -11,5 +11,5 @@ invariant-loop-function l =
     (length l.starts.items ≡ l.function-index)
     × (l.starts.items ++ function_starts l.plain l.function-index l.here (map routine_of (drop l.function-index l.function-items))
     ≡ function_starts l.plain 0 START_LINES l.plain.functions)
-    × (l.here + LINES_FOR_EACH * sum_by size (map routine_of (drop l.function-index l.function-items)) ≤ most_lines)
-    × (map routine_of l.function-items ≡ l.plain.functions)
+    × (l.here + sum_by size (map routine_of (drop l.function-index l.function-items)) ≤ most_lines)
+    × (map routine_of l.function-items ≡ l.plain.functions) × (START_LINES ≤ l.here)

@@ -7,8 +7,8 @@ use Rattle.cyc_system.proofs.Amounts.{accepted_light}
 use Rattle.cyc_system.proofs.Refusals.{behind_answers, front_answers}
 use Rattle.cyc_system.proofs.compiler.compile.Goals as goal
 
-pub build-requires-clause-typed : goal.build-requires-clause-typed
-build-requires-clause-typed c =
+pub build-requires-clause-elaborated : goal.build-requires-clause-elaborated
+build-requires-clause-elaborated c =
     let (p, is, same) = c.in-Ok.ensures.decides.accepted in
     let a = subst (IsAcceptedText c.args.text.now) (sym same) is in
     (names_in a.tokens, a.tree, a.typed)

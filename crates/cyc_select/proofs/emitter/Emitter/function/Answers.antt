@@ -1,9 +1,8 @@
-use Rattle.std.proofs.Common.{◌≡◌, ℕ, ◌+◌, ◌*◌, ◌<◌, ◌≤◌, List, length, ap, sym, subst, ◌∙◌, arith, rules}
+use Rattle.std.proofs.Common.{◌≡◌, ℕ, ◌+◌, ◌<◌, ◌≤◌, List, length, ap, sym, subst, ◌∙◌, arith, rules}
 use Rattle.std.specs.Prelude.{sum_by, slice_index_or}
 use Rattle.cyc_plain.specs.declared.instruction.Instruction.{Instruction}
 use Rattle.cyc_plain.specs.declared.limits.TheConstants.{MOST_SIZE}
 use Rattle.cyc_plain.specs.Program.{Routine, routine_at, instruction_size, size}
-use Rattle.cyc_select.specs.declared.constants.TheConstants.{LINES_FOR_EACH}
 use Rattle.cyc_select.specs.Selection.{function_line}
 use Rattle.cyc_select.specs.Emission.{instruction_lines, most_lines}
 use Rattle.cyc_select.proofs.Numbering.{ready_starts, ready_start, ready_size, ready_fits}
@@ -27,8 +26,8 @@ pub instruction_lines-requires-clause-fits : goal.instruction_lines-requires-cla
 instruction_lines-requires-clause-fits c =
     let program = c.args.program.now.plain.now in
     let same : c.deref.result.now ≡ (routine_at program c.args.function).code = c.deref.ensures.value ∙ ap (λ (r : Routine). r.code) c.function-routine.ensures in
-    subst (λ (code : List Instruction). slice_index_or c.args.program.now.starts.now c.args.function 0 + LINES_FOR_EACH * sum_by instruction_size code ≤ most_lines) (sym same)
-    (subst (λ (n : ℕ). n + LINES_FOR_EACH * size (routine_at program c.args.function) ≤ most_lines) (sym (ready_start c.requires.ready c.args.function c.requires.function))
+    subst (λ (code : List Instruction). slice_index_or c.args.program.now.starts.now c.args.function 0 + sum_by instruction_size code ≤ most_lines) (sym same)
+    (subst (λ (n : ℕ). n + size (routine_at program c.args.function) ≤ most_lines) (sym (ready_start c.requires.ready c.args.function c.requires.function))
     (ready_fits c.requires.ready c.args.function c.requires.function))
 
 pub code-requires-clause-known : goal.code-requires-clause-known

@@ -1,0 +1,122 @@
+-- Straight code runs to the configuration that it says, and meets no place twice.
+use Rattle.std.proofs.Common.{◌≡◌, ◌≢◌, ℕ, zero, suc, ◌+◌, ◌≤◌, ◌<◌, Bool, true, false, List, [], ◌∷◌, ◌++◌, length, Some, slice_get, refl, sym, ap, subst, ◌∙◌, arith, length-append}
+use Rattle.std.specs.List.{AllByRecursion}
+use Rattle.cyc_words.specs.Simulation.{Machine, Path, Comes, IsDistinct}
+use Rattle.cyc_plain.specs.declared.instruction.Instruction.{Instruction}
+use Rattle.cyc_plain.specs.declared.instruction.Instruction.TheVariants as instructions
+use Rattle.cyc_plain.specs.declared.instruction.BinaryOperator.{BinaryOperator}
+use Rattle.cyc_plain.specs.declared.instruction.BinaryOperator.TheVariants as binary
+use Rattle.cyc_plain.specs.declared.instruction.Operand.{Operand}
+use Rattle.cyc_plain.specs.Program.{Program, CodePlace, routine_at}
+use Rattle.cyc_plain.specs.State.{Frame, Store, Configuration, State, Running}
+use Rattle.cyc_plain.specs.Step.{Choice, performed, is_within, Step, machine}
+use Rattle.cyc_plain.specs.Straight.{At, HasAt, is_total, is_straight, AreStraight, configuration_or, executed_in, places_behind}
+use Rattle.cyc_plain.proofs.Steps.{step_performs}
+
+-- ---- one instruction
+
+-- what is the same before and behind it
+record Keeps (c d : Configuration) : Type 0 where
+  pub function : d.active.function ≡ c.active.function
+  pub next : d.active.next ≡ c.active.next + 1
+  pub frames : d.frames ≡ c.frames
+  pub store : d.store ≡ c.store
+
+-- it leads to one configuration, whatever is chosen
+record IsOne (program : Program) (choice : Choice) (c : Configuration) (i : Instruction) : Type 0 where
+  pub gives : (other : Choice) → performed program other c i ≡ Running (configuration_or (performed program choice c i) c)
+  pub keeps : Keeps c (configuration_or (performed program choice c i) c)
+
+binary_one : (program : Program) (choice : Choice) (c : Configuration) (operator : BinaryOperator) (destination : ℕ) (left right : Operand) → is_total operator ≡ true → IsOne program choice c (instructions.Binary operator destination left right)
+binary_one program choice c binary.Divide destination left right total = absurd (let e : false ≡ true = total in cc)
+binary_one program choice c binary.Remainder destination left right total = absurd (let e : false ≡ true = total in cc)
+binary_one program choice c operator destination left right total = record { gives = λ other. refl; keeps = record { function = refl; next = refl; frames = refl; store = refl } }
+
+is_one : (program : Program) (choice : Choice) (c : Configuration) (i : Instruction) → is_straight i ≡ true → IsOne program choice c i
+is_one program choice c (instructions.Binary operator destination left right) straight = binary_one program choice c operator destination left right straight
+is_one program choice c (instructions.Move destination source) straight = record { gives = λ other. refl; keeps = record { function = refl; next = refl; frames = refl; store = refl } }
+is_one program choice c (instructions.Unary operator destination operand) straight = record { gives = λ other. refl; keeps = record { function = refl; next = refl; frames = refl; store = refl } }
+is_one program choice c (instructions.ReadByte destination) straight = record { gives = λ other. refl; keeps = record { function = refl; next = refl; frames = refl; store = refl } }
+is_one program choice c (instructions.WriteByte source) straight = record { gives = λ other. refl; keeps = record { function = refl; next = refl; frames = refl; store = refl } }
+is_one program choice c (instructions.LoadGlobal destination global) straight = record { gives = λ other. refl; keeps = record { function = refl; next = refl; frames = refl; store = refl } }
+is_one program choice c (instructions.StoreGlobal global source) straight = record { gives = λ other. refl; keeps = record { function = refl; next = refl; frames = refl; store = refl } }
+is_one program choice c i straight = absurd (let e : false ≡ true = straight in cc)
+
+-- ---- places
+
+abbrev place_at : (function index : ℕ) → CodePlace
+place_at function index = record { function = function; index = index }
+
+-- a place behind has a greater index
+greater : (function index first count : ℕ) → index < first → AllByRecursion (λ p. place_at function index ≢ p) (places_behind function first count)
+greater function index first zero less = tt
+greater function index first (suc count) less =
+    ((λ same. let e : index ≡ first = ap (λ (p : CodePlace). p.index) same in omega (arith, e, less)), greater function index (first + 1) count (omega (arith, less)))
+
+pub behind-distinct : (function index count : ℕ) → IsDistinct (places_behind function index count)
+behind-distinct function index zero = tt
+behind-distinct function index (suc count) = (greater function index (index + 1) count (omega arith), behind-distinct function (index + 1) count)
+
+-- ---- runs
+
+module _ (program : Program) (pages calls : ℕ) (choice : Choice) where
+  abbrev after : Configuration → Instruction → Configuration
+  after c i = configuration_or (performed program choice c i) c
+
+  abbrev IsWithin : Configuration → Type 0
+  IsWithin c = is_within pages calls (Running c) ≡ true
+
+  abbrev Stands : Configuration → List Instruction → Type 0
+  Stands c is = HasAt (routine_at program c.active.function).code c.active.next is
+
+  same_limits : (c d : Configuration) → Keeps c d → is_within pages calls (Running d) ≡ is_within pages calls (Running c)
+  same_limits c d k =
+      ap (λ (s : Store). is_within pages calls (Running (record d { store = s }))) k.store
+      ∙ ap (λ (fs : List Frame). is_within pages calls (Running (record d { frames = fs; store = c.store }))) k.frames
+
+  stands_behind : (c d : Configuration) (is : List Instruction) → Keeps c d → HasAt (routine_at program c.active.function).code (c.active.next + 1) is → Stands d is
+  stands_behind c d is k has =
+      subst (λ n. HasAt (routine_at program d.active.function).code n is) (sym k.next)
+      (subst (λ f. HasAt (routine_at program f).code (c.active.next + 1) is) (sym k.function) has)
+
+  places_same : (c d : Configuration) (count : ℕ) → Keeps c d → places_behind d.active.function d.active.next count ≡ places_behind c.active.function (c.active.next + 1) count
+  places_same c d count k =
+      ap (λ f. places_behind f d.active.next count) k.function ∙ ap (λ n. places_behind c.active.function n count) k.next
+
+  -- a step leads to the configuration that the instruction says
+  goes : (c : Configuration) (i : Instruction) (new : State) → is_straight i ≡ true → At (routine_at program c.active.function).code c.active.next i → IsWithin c
+      → Step program pages calls (Running c) new → new ≡ Running (after c i)
+  goes c i new straight at within step =
+      let one = is_one program choice c i straight in
+      let (other, allowed, is) = step_performs program pages calls c i new at (λ x. ap (is_within pages calls) (one.gives x) ∙ same_limits c (after c i) one.keeps ∙ within) step in
+      is ∙ one.gives other
+
+  -- Each run through straight code comes to the configuration that it says.
+  pub runs : (is : List Instruction) (c : Configuration) (new : State) → AreStraight is → Stands c is → IsWithin c
+      → Path (machine program pages calls) (places_behind c.active.function c.active.next (length is)) (Running c) new → new ≡ Running (executed_in program choice c is)
+  runs [] c new straight has within path = path
+  runs (i ∷ is) c new (first, rest) (at, has) within (mid, here, step, path) =
+      let one = is_one program choice c i first in
+      let d = after c i in
+      let to : mid ≡ Running d = goes c i mid first at within step in
+      runs is d new rest (stands_behind c d is one.keeps has) (same_limits c d one.keeps ∙ within)
+      (subst (λ (places : List CodePlace). Path (machine program pages calls) places (Running d) new) (sym (places_same c d (length is) one.keeps))
+      (subst (λ (s : State). Path (machine program pages calls) (places_behind c.active.function (c.active.next + 1) (length is)) s new) to path))
+
+  -- The same for what a step above is matched by, where each state on the way is on the way above.
+  pub comes : (Way Goal : State → Type 0) (others : List CodePlace) (is : List Instruction) (c : Configuration) → AreStraight is → Stands c is → IsWithin c
+      → ((front back : List Instruction) → front ++ back ≡ is → Way (Running (executed_in program choice c front)))
+      → Comes (machine program pages calls) Way Goal others (Running (executed_in program choice c is))
+      → Comes (machine program pages calls) Way Goal (places_behind c.active.function c.active.next (length is) ++ others) (Running c)
+  comes Way Goal others [] c straight has within way goal = goal
+  comes Way Goal others (i ∷ is) c (first, rest) (at, has) within way goal =
+      let one = is_one program choice c i first in
+      let d = after c i in (
+        refl,
+        way [] (i ∷ is) refl,
+        λ next step.
+            subst (λ (s : State). Comes (machine program pages calls) Way Goal (places_behind c.active.function (c.active.next + 1) (length is) ++ others) s) (sym (goes c i next first at within step))
+            (subst (λ (places : List CodePlace). Comes (machine program pages calls) Way Goal (places ++ others) (Running d)) (places_same c d (length is) one.keeps)
+            (comes Way Goal others is d rest (stands_behind c d is one.keeps has) (same_limits c d one.keeps ∙ within)
+            (λ front back same. way (i ∷ front) back (ap (λ (js : List Instruction). i ∷ js) same)) goal)),
+      )

@@ -1,0 +1,9 @@
+-- Straight code.
+use Rattle.cyc_plain.proofs.Straight.{runs, behind-distinct}
+use Rattle.cyc_plain.proofs.laws.straight_code_runs.Goals as goal
+
+pub returns-clause-runs : goal.returns-clause-runs
+returns-clause-runs c = runs
+
+pub returns-clause-distinct : goal.returns-clause-distinct
+returns-clause-distinct c = behind-distinct
