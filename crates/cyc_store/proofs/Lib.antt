@@ -6,6 +6,7 @@ pub mod KeptClosing
 pub mod KeptLoads
 pub mod KeptMaking
 pub mod KeptServices
+pub mod KeptSlots
 pub mod KeptStart
 pub mod KeptWords
 pub mod LiveWords
@@ -25,6 +26,7 @@ pub mod SlotCounts
 pub mod SlotLemmas
 pub mod SlotServices
 pub mod SlotStock
+pub mod SlotTables
 pub mod TableLemmas
 pub mod TieClosing
 pub mod TieLemmas
