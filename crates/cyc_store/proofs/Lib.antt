@@ -3,11 +3,14 @@ pub mod CountLemmas
 pub mod Examples
 pub mod HolderLemmas
 pub mod KeptClosing
+pub mod KeptFreeing
 pub mod KeptLoads
 pub mod KeptMaking
+pub mod KeptSaving
 pub mod KeptServices
 pub mod KeptSlots
 pub mod KeptStart
+pub mod KeptUnique
 pub mod KeptWords
 pub mod LiveWords
 pub mod LookupLemmas
@@ -33,3 +36,4 @@ pub mod TieLemmas
 pub mod TieMaking
 pub mod TieSlots
 pub mod TieOpening
+pub mod WordLemmas
