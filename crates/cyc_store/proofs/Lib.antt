@@ -2,6 +2,7 @@ pub mod BlockLemmas
 pub mod CountLemmas
 pub mod Examples
 pub mod HolderLemmas
+pub mod KeptBlocks
 pub mod KeptClosing
 pub mod KeptFreeing
 pub mod KeptLoads
