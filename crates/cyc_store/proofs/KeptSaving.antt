@@ -1,12 +1,11 @@
 -- A store on a table of pages stays one where a word of a live block is written: the links of dead slots stand elsewhere.
-use Rattle.std.proofs.Common.{◌≡◌, ℕ, ◌+◌, ◌*◌, ◌^◌, ◌<◌, ◌≤◌, Bool, true, false, List, [], ◌∷◌, length, Option, None, Some, refl, sym, ap, subst, ◌∙◌, length-set}
+use Rattle.std.proofs.Common.{◌≡◌, ℕ, ◌+◌, ◌*◌, ◌^◌, ◌<◌, true, false, List, [], ◌∷◌, length, None, refl, sym, ap, subst, ◌∙◌, length-set}
 use Rattle.std.specs.Prelude.{◌==◌, if◌then◌else◌, is_some, slice_index, slice_index_or, set}
 use Rattle.std.specs.List.{AllByRecursion}
-use Rattle.cyc_words.specs.Demand.{greatest_class}
 use Rattle.cyc_store.specs.State.{Memory, put, StoreState, homes, holder, word_at, has_saved, saved}
 use Rattle.cyc_store.specs.Ledger.{Blocks, memory_of, store_of}
 use Rattle.cyc_store.specs.Slots.{place_of, IsDeadSlot, IsLaidOut}
-use Rattle.cyc_store.specs.Kept.{IsStocked, IsTied, IsKept, table_of, no_slots}
+use Rattle.cyc_store.specs.Kept.{IsTied, IsKept, table_of, no_slots}
 use Rattle.cyc_store.specs.declared.row.PageTable.{PageTable}
 use Rattle.cyc_store.specs.declared.row.ClassSlots.{ClassSlots}
 use Rattle.cyc_store.specs.declared.range.TheConstants.{PAGE_WORDS}

@@ -1,13 +1,12 @@
 -- A store on a table of pages stays one where a page is cut into slots of a class, and where a unique block is made in a slot.
-use Rattle.std.proofs.Common.{◌≡◌, ℕ, zero, suc, ◌+◌, ◌-◌, ◌*◌, ◌/◌, ◌%◌, ◌^◌, ◌<◌, ◌≤◌, true, false, List, [], ◌∷◌, ◌++◌, length, None, Some, refl, sym, ap, subst, ◌∙◌, inl, inr, lit<, arith, length-set}
-use Rattle.std.specs.Prelude.{◌==◌, if◌then◌else◌, is_some, slice_index, slice_index_or, set}
+use Rattle.std.proofs.Common.{◌≡◌, ℕ, zero, suc, ◌+◌, ◌-◌, ◌*◌, ◌/◌, ◌%◌, ◌^◌, ◌<◌, ◌≤◌, true, List, [], ◌∷◌, ◌++◌, length, refl, sym, ap, subst, ◌∙◌, inl, inr, lit<, arith, length-set}
+use Rattle.std.specs.Prelude.{is_some, slice_index, slice_index_or, set}
 use Rattle.std.specs.List.{AllByRecursion}
 use Rattle.std.proofs.Math.Nat.{div-le_self, mod-lt}
 use Rattle.std.proofs.lemmas.Bool.{cases_eq}
 use Rattle.std.proofs.lemmas.Nat.{pow_pos}
 use Rattle.cyc_words.specs.Demand.{greatest_class, class_of, blocks_in_page}
-use Rattle.cyc_store.specs.Lookup.{lookup}
-use Rattle.cyc_store.specs.State.{Block, address_of, handle_of, StoreState, demand, live_in, made_unique}
+use Rattle.cyc_store.specs.State.{Block, address_of, StoreState, demand, live_in, made_unique}
 use Rattle.cyc_store.specs.Soundness.{IsSound}
 use Rattle.cyc_store.specs.Ledger.{Blocks, store_of, plain_store, blocks_of, after}
 use Rattle.cyc_store.specs.Slots.{place_of, Layout, slot_block, slots_from, IsSlot, IsDeadSlot, IsLaidOut, HasSlot, IsSpent, with_page, Fills, Stocks}

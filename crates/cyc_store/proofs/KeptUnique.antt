@@ -1,7 +1,7 @@
 -- What a store on a table of pages answers where a unique block is asked for: a slot is filled, after a page was cut into slots
 -- where there was none, and the store is full where no page is free then.
-use Rattle.std.proofs.Common.{◌≡◌, ℕ, suc, ◌+◌, ◌*◌, ◌^◌, ◌<◌, ◌≤◌, List, length, None, refl, sym, ap, subst, ◌∙◌, inl, inr, arith, get_or-set_same}
-use Rattle.std.specs.Prelude.{slice_index, set}
+use Rattle.std.proofs.Common.{◌≡◌, ℕ, suc, ◌+◌, ◌*◌, ◌^◌, ◌<◌, ◌≤◌, List, length, None, sym, ap, subst, ◌∙◌, inl, inr, arith, get_or-set_same}
+use Rattle.std.specs.Prelude.{slice_index}
 use Rattle.std.proofs.Math.Nat.{suc-mul}
 use Rattle.std.proofs.lemmas.Bool.{cases_lt}
 use Rattle.cyc_words.specs.Demand.{greatest_class, class_of, blocks_in_page, demand_of}
