@@ -1,20 +1,20 @@
 //! A store on an array of words, which grows by pages.
 
-ghost use Rattle.std.specs.Prelude.{◌≡◌, ◌≢◌, ◌+◌, ◌-◌, ◌*◌, ◌^◌, ◌<◌, ◌≤◌, ◌⊎◌, ◌↔◌, IfOk, IfErr, IfSome, OnOk, OnErr, IsTrue, true, false, None, Some, length, is_some};
+ghost use Rattle.std.specs.Prelude.{◌≡◌, ◌≢◌, ◌+◌, ◌*◌, ◌%◌, ◌^◌, ◌<◌, ◌≤◌, ◌⊎◌, IfErr, IfOk, IsTrue, MatchOption, OnErr, OnOk, true, false, None, Some, length, is_some};
 ghost use Rattle.cyc_words.specs.Demand.{class_of};
 ghost use Rattle.cyc_store.specs.Answers.{Responds, allocated};
-ghost use Rattle.cyc_store.specs.Ledger.{Stored, held_of, memory_of};
+ghost use Rattle.cyc_store.specs.Ledger.{Unwinds, held_of, memory_of};
 ghost use Rattle.cyc_store.specs.Lookup.{lookup};
 ghost use Rattle.cyc_store.specs.Services.{Allocate, Free, Done, Serves};
 ghost use Rattle.cyc_store.specs.Kept.{next_slot_of};
 ghost use Rattle.cyc_store.specs.Slots.{HasSlot, IsSpent, Stocks, Fills};
-ghost use Rattle.cyc_store.specs.State.{start, homes, holder, address_of, handle_of, lexical_count, down_to, demand, word_at};
+ghost use Rattle.cyc_store.specs.State.{start, homes, holder, address_of, handle_of, lexical_count, demand, word_at};
 
 use super::answer::{BadHandle, BadMark, No, NotABlock};
 use super::change::Change;
 use super::ledger::Ledger;
 use super::range::{LEAST_PAGES, MOST_BLOCK_WORDS, MOST_PAGES, PAGE_WORDS, STORE_BASE, UNIQUE};
-use super::row::{ClassSlots, NONE, PageTable, Role, Row};
+use super::row::{BLANK, ClassSlots, NONE, PageTable, Role, Row};
 use super::store::Store;
 use std::alloc::{AllocError, Global};
 use std::marker::Model;
@@ -84,8 +84,7 @@ fn address_at(word: u32) -> u32
 /// The number of a word among the words of all pages, by its address.
 #[inline]
 fn number_at(address: u32) -> Option<u32>
-    ensures some { IfSome result (λ word. address ≡ STORE_BASE + 4 * word) }
-    ensures none { result ≡ None → (address < STORE_BASE) ⊎ (address % 4 ≢ 0) }
+    ensures { MatchOption result ((address < STORE_BASE) ⊎ (address % 4 ≢ 0)) (λ number. address ≡ STORE_BASE + 4 * number) }
 {
     if address < STORE_BASE {
         return None;
@@ -132,10 +131,9 @@ impl PlainStore {
         let page = table.draw()?;
         table.rows[page as usize] = Row {
             role: Role::Heap,
-            filled: 0,
-            next: NONE,
             newest: page,
             count: 1,
+            ..BLANK
         };
         let none = ClassSlots {
             dead: NONE,
@@ -170,11 +168,15 @@ impl PlainStore {
     /// The number of the word with this address, where it is one of a live block.
     #[inline]
     fn word_of(&self, address: u32) -> Option<usize>
-        ensures some { IfSome result (λ word. (word < length self.now.words) × (address ≡ STORE_BASE + 4 * word) × (is_some (word_at (held_of self.now) address) ≡ true)) }
-        ensures none { result ≡ None → word_at (held_of self.now) address ≡ None }
+        ensures { MatchOption result (word_at (held_of self.now) address ≡ None)
+            (λ word. (word < length self.now.words) × (address ≡ STORE_BASE + 4 * word) × (is_some (word_at (held_of self.now) address) ≡ true)) }
     {
-        let word = number_at(address)? as usize;
-        if self.table.words.len() <= word {
+        let count = self.table.words.len();
+        let Some(number) = number_at(address) else {
+            return None;
+        };
+        let word = number as usize;
+        if count <= word {
             return None;
         }
         if self.is_live(word) {
@@ -185,26 +187,26 @@ impl PlainStore {
     }
 
     /// The first page of the open region with this handle.
-    #[inline]
     fn root_of(&self, handle: u32) -> Option<u32>
-        ensures some { IfSome result (λ root. (handle ≡ 2 * root + 1) × (is_some (lookup handle_of self.now.blocks.regions handle) ≡ true)) }
-        ensures none { result ≡ None → lookup handle_of self.now.blocks.regions handle ≡ None }
+        ensures { MatchOption result (lookup handle_of self.now.blocks.regions handle ≡ None)
+            (λ root. (handle ≡ 2 * root + 1) × (is_some (lookup handle_of self.now.blocks.regions handle) ≡ true)) }
     {
+        let count = self.table.rows.len();
         let page = handle / 2;
         if handle % 2 == 0 {
             return None;
         }
-        if self.table.rows.len() <= page as usize {
+        if count <= page as usize {
             return None;
         }
-        match self.table.rows[page as usize].role {
-            Role::Rest | Role::Slots(_) => None,
+        let first = self.table.rows[page as usize];
+        match first.role {
             Role::Heap | Role::Lexical | Role::Dynamic => Some(page),
+            _ => None,
         }
     }
 
     /// How many lexical regions are open.
-    #[inline]
     fn lexicals_open(&self) -> u32
         ensures { result ≡ lexical_count self.now.blocks.regions }
     {
@@ -214,14 +216,14 @@ impl PlainStore {
     /// Closes the newest lexical region.
     fn close_newest(&mut self)
         requires { 0 < lexical_count self.old.blocks.regions }
-        ensures regions { self.new.blocks.regions ≡ down_to (lexical_count self.old.blocks.regions - 1) self.old.blocks.regions }
-        ensures same { held_of self.new ≡ record (held_of self.old) { regions = self.new.blocks.regions } }
+        ensures { Unwinds self.old self.new }
     {
-        if let Some(handle) = self.lexicals.pop() {
-            let first = self.table.rows[(handle / 2) as usize];
-            self.table.give_back(first.newest, first.count);
-            self.ledger = Ledger::with(&self.ledger, &Change::Closed { handle });
-        }
+        let Some(handle) = self.lexicals.pop() else {
+            return;
+        };
+        let first = self.table.rows[(handle / 2) as usize];
+        self.table.give_back(first.newest, first.count);
+        self.ledger = Ledger::with(&self.ledger, &Change::Closed(handle));
     }
 
     /// Makes a block of so many words in the region with this first page.
@@ -239,14 +241,7 @@ impl PlainStore {
                 ..last
             };
             let address = address_at(1024 * first.newest + last.filled);
-            self.ledger = Ledger::with(
-                &self.ledger,
-                &Change::Made {
-                    handle: 2 * root + 1,
-                    address,
-                    words,
-                },
-            );
+            self.ledger = Ledger::with(&self.ledger, &Change::Made(2 * root + 1, address, words));
             return Ok(address);
         }
         if self.table.is_full() {
@@ -256,11 +251,9 @@ impl PlainStore {
             return Err(No::Memory);
         };
         self.table.rows[page as usize] = Row {
-            role: Role::Rest,
             filled: words,
             next: first.newest,
-            newest: NONE,
-            count: 0,
+            ..BLANK
         };
         self.table.rows[root as usize] = Row {
             newest: page,
@@ -268,24 +261,8 @@ impl PlainStore {
             ..first
         };
         let address = address_at(1024 * page);
-        self.ledger = Ledger::with(
-            &self.ledger,
-            &Change::Made {
-                handle: 2 * root + 1,
-                address,
-                words,
-            },
-        );
+        self.ledger = Ledger::with(&self.ledger, &Change::Made(2 * root + 1, address, words));
         Ok(address)
-    }
-
-    /// Whether a page of the class has a slot that no block is in.
-    fn has_slot(&self, class: u32) -> bool
-        requires { class ≤ 10 }
-        ensures { IsTrue result ↔ HasSlot (held_of self.now) class }
-    {
-        let slots = self.classes[class as usize];
-        slots.dead != NONE || 0 < slots.left
     }
 
     /// Cuts a page that is free into slots of the class.
@@ -306,17 +283,14 @@ impl PlainStore {
         };
         self.table.rows[page as usize] = Row {
             role: Role::Slots(class),
-            filled: 0,
-            next: NONE,
-            newest: NONE,
-            count: 0,
+            ..BLANK
         };
         self.classes[class as usize] = ClassSlots {
             dead: NONE,
             fresh: 1024 * page,
             left: 1024 >> class,
         };
-        self.ledger = Ledger::with(&self.ledger, &Change::Stocked { class });
+        self.ledger = Ledger::with(&self.ledger, &Change::Stocked(class));
         Ok(())
     }
 
@@ -330,13 +304,7 @@ impl PlainStore {
         self.classes[class as usize] = rest;
         self.table.live[(word / 1024 * 1024 + ((word % 1024) >> class)) as usize] = true;
         let address = address_at(word);
-        self.ledger = Ledger::with(
-            &self.ledger,
-            &Change::MadeUnique {
-                address,
-                words: size_of(class),
-            },
-        );
+        self.ledger = Ledger::with(&self.ledger, &Change::MadeUnique(address, size_of(class)));
         address
     }
 
@@ -347,7 +315,8 @@ impl PlainStore {
         ensures { Responds true (held_of self.old) (Allocate UNIQUE words) (allocated result) (held_of self.new) }
     {
         let class = class_of(words);
-        if !self.has_slot(class) {
+        let slots = self.classes[class as usize];
+        if slots.dead == NONE && slots.left == 0 {
             self.stock(class)?;
         }
         Ok(self.fill(class))
@@ -355,23 +324,25 @@ impl PlainStore {
 
     /// The first word and the class of the live unique block that begins at this address.
     fn slot_of(&self, address: u32) -> Option<(u32, u32)>
-        ensures some { IfSome result (λ slot. (address ≡ STORE_BASE + 4 * slot.0)
-            × (lookup address_of self.now.blocks.unique address ≡ Some (record { address = address; size = 2 ^ slot.1 }))) }
-        ensures none { result ≡ None → lookup address_of self.now.blocks.unique address ≡ None }
+        ensures { MatchOption result (lookup address_of self.now.blocks.unique address ≡ None)
+            (λ slot. (address ≡ STORE_BASE + 4 * slot.0) × (lookup address_of self.now.blocks.unique address ≡ Some (record { address = address; size = 2 ^ slot.1 }))) }
     {
-        let word = number_at(address)?;
-        let page = word / 1024;
-        if self.table.rows.len() <= page as usize {
+        let count = self.table.rows.len();
+        let Some(word) = number_at(address) else {
+            return None;
+        };
+        if count <= (word / 1024) as usize {
             return None;
         }
-        let Role::Slots(class) = self.table.rows[page as usize].role else {
+        let row = self.table.rows[(word / 1024) as usize];
+        let Role::Slots(class) = row.role else {
             return None;
         };
         let number = (word % 1024) >> class;
         if number * size_of(class) != word % 1024 {
             return None;
         }
-        if self.table.live[(page * 1024 + number) as usize] {
+        if self.table.live[(word / 1024 * 1024 + number) as usize] {
             Some((word, class))
         } else {
             None
@@ -386,12 +357,7 @@ impl PlainStore {
         self.table.live[(word / 1024 * 1024 + ((word % 1024) >> class)) as usize] = false;
         self.table.words[word as usize] = self.classes[class as usize].dead;
         self.classes[class as usize].dead = word;
-        self.ledger = Ledger::with(
-            &self.ledger,
-            &Change::Freed {
-                address: address_at(word),
-            },
-        );
+        self.ledger = Ledger::with(&self.ledger, &Change::Freed(address_at(word)));
     }
 }
 
@@ -422,17 +388,16 @@ impl Store for PlainStore {
         };
         self.table.rows[page as usize] = Row {
             role: Role::Lexical,
-            filled: 0,
-            next: NONE,
             newest: page,
             count: 1,
+            ..BLANK
         };
-        self.ledger = Ledger::with(&self.ledger, &Change::OpenedLexical { handle });
+        self.ledger = Ledger::with(&self.ledger, &Change::OpenedLexical(handle));
         Ok((handle, mark))
     }
 
     fn close_to(&mut self, mark: u32) -> Result<(), BadMark> {
-        if self.lexicals_open() < mark {
+        if self.lexicals.len() < mark as usize {
             return Err(BadMark);
         }
         while mark < self.lexicals_open() {
@@ -451,46 +416,42 @@ impl Store for PlainStore {
         let handle = 2 * page + 1;
         self.table.rows[page as usize] = Row {
             role: Role::Dynamic,
-            filled: 0,
-            next: NONE,
             newest: page,
             count: 1,
+            ..BLANK
         };
-        self.ledger = Ledger::with(&self.ledger, &Change::OpenedDynamic { handle });
+        self.ledger = Ledger::with(&self.ledger, &Change::OpenedDynamic(handle));
         Ok(handle)
     }
 
     fn close_dynamic(&mut self, handle: u32) -> Result<(), BadHandle> {
-        let page = handle / 2;
-        if handle % 2 == 0 {
+        let Some(root) = self.root_of(handle) else {
             return Err(BadHandle);
-        }
-        if self.table.rows.len() <= page as usize {
-            return Err(BadHandle);
-        }
-        let first = self.table.rows[page as usize];
+        };
+        let first = self.table.rows[root as usize];
         let Role::Dynamic = first.role else {
             return Err(BadHandle);
         };
         self.table.give_back(first.newest, first.count);
-        self.ledger = Ledger::with(&self.ledger, &Change::Closed { handle });
+        self.ledger = Ledger::with(&self.ledger, &Change::Closed(handle));
         Ok(())
     }
 
     fn alloc(&mut self, handle: u32, words: u32) -> Result<u32, No> {
         if handle == UNIQUE {
-            if !is_size(words) {
-                return Err(No::BadSize);
+            if is_size(words) {
+                return self.alloc_unique(words);
             }
-            return self.alloc_unique(words);
+            return Err(No::BadSize);
         }
         let Some(root) = self.root_of(handle) else {
             return Err(No::BadHandle);
         };
-        if !is_size(words) {
-            return Err(No::BadSize);
+        if is_size(words) {
+            self.alloc_in(root, words)
+        } else {
+            Err(No::BadSize)
         }
-        self.alloc_in(root, words)
     }
 
     fn free(&mut self, address: u32) -> Result<(), NotABlock> {
@@ -502,7 +463,9 @@ impl Store for PlainStore {
     }
 
     fn load(&self, address: u32) -> Option<u32> {
-        let word = self.word_of(address)?;
+        let Some(word) = self.word_of(address) else {
+            return None;
+        };
         Some(self.table.words[word])
     }
 

@@ -14,14 +14,16 @@ index-first-requires c =
     let f = c.self.inside in let k = c.self.invariant in
     let (r, named) = some-there (lookup handle_of f.ledger.blocks.regions (2 * c.args.root + 1))
         (subst (λ (v : Stored). is_some (lookup handle_of v.blocks.regions (2 * c.args.root + 1)) ≡ true) (sym c.self.view_is) c.requires.named) in
-    root-there f.table f.lexicals.items f.classes f.ledger.blocks k c.args.root r named
+    let there : c.args.root < length f.table.rows.items = root-there f.table f.lexicals.items f.classes f.ledger.blocks k c.args.root r named in
+    omega (arith, there)
 
 pub index-last-requires : goal.index-last-requires
 index-last-requires c =
     let f = c.self.inside in let k = c.self.invariant in
     let (r, named) = some-there (lookup handle_of f.ledger.blocks.regions (2 * c.args.root + 1))
         (subst (λ (v : Stored). is_some (lookup handle_of v.blocks.regions (2 * c.args.root + 1)) ≡ true) (sym c.self.view_is) c.requires.named) in
-    first-there f.table f.lexicals.items f.classes f.ledger.blocks k c.args.root r named c.index-first.result.now c.index-first.ensures
+    let there : c.index-first.result.now.newest < length f.table.rows.items = first-there f.table f.lexicals.items f.classes f.ledger.blocks k c.args.root r named c.index-first.result.now c.index-first.ensures in
+    omega (arith, there)
 
 pub overflow_add-last : goal.overflow_add-last
 overflow_add-last c =
@@ -37,7 +39,8 @@ index_mut-requires c =
     let f = c.self.inside in let k = c.self.invariant in
     let (r, named) = some-there (lookup handle_of f.ledger.blocks.regions (2 * c.args.root + 1))
         (subst (λ (v : Stored). is_some (lookup handle_of v.blocks.regions (2 * c.args.root + 1)) ≡ true) (sym c.self.view_is) c.requires.named) in
-    first-there f.table f.lexicals.items f.classes f.ledger.blocks k c.args.root r named c.index-first.result.now c.index-first.ensures
+    let there : c.index-first.result.now.newest < length f.table.rows.items = first-there f.table f.lexicals.items f.classes f.ledger.blocks k c.args.root r named c.index-first.result.now c.index-first.ensures in
+    omega (arith, there)
 
 pub overflow_mul-first : goal.overflow_mul-first
 overflow_mul-first c =
@@ -164,13 +167,13 @@ invariant_of-self-2 c =
     let (r, named) = some-there (lookup handle_of f.ledger.blocks.regions (2 * c.args.root + 1))
         (subst (λ (v : Stored). is_some (lookup handle_of v.blocks.regions (2 * c.args.root + 1)) ≡ true) (sym c.self.view_is) c.requires.named) in
     after-kept f.table f.lexicals.items f.classes f.ledger.blocks k c.args.root r named c.index-first.result.now c.index-first.ensures c.index-last.result.now c.index-last.ensures c.args.words c.requires.least c.requires.most c.if-last-words-le-PAGE_WORDS.false c.draw.new.self c.in-Ok.page c.in-Ok.ensures.draws (λ full. not-true (c.if-is_full.ensures.1 full)) c.address_at-address-2.result c.address_at-address-2.ensures
-    c.with-self-inside.result.blocks c.with-self-inside.ensures _ refl refl refl refl refl
+    c.with-self-inside-2.result.blocks c.with-self-inside-2.ensures _ refl refl refl refl refl
 
 pub returns : goal.returns
 returns c =
     let f = c.self.inside in let k = c.self.invariant in
     let (r, named) = some-there (lookup handle_of f.ledger.blocks.regions (2 * c.args.root + 1))
         (subst (λ (v : Stored). is_some (lookup handle_of v.blocks.regions (2 * c.args.root + 1)) ≡ true) (sym c.self.view_is) c.requires.named) in
-    subst (λ (v : Stored). Serves (held_of v) (Allocate (2 * c.args.root + 1) c.args.words) (Allocated c.address_at-address-2.result) (store_of c.draw.new.self.most c.draw.new.self.words.items c.with-self-inside.result.blocks)) c.self.view_is
+    subst (λ (v : Stored). Serves (held_of v) (Allocate (2 * c.args.root + 1) c.args.words) (Allocated c.address_at-address-2.result) (store_of c.draw.new.self.most c.draw.new.self.words.items c.with-self-inside-2.result.blocks)) c.self.view_is
     (after-serves f.table f.lexicals.items f.classes f.ledger.blocks k c.args.root r named c.index-first.result.now c.index-first.ensures c.index-last.result.now c.index-last.ensures c.args.words c.requires.least c.requires.most c.if-last-words-le-PAGE_WORDS.false c.draw.new.self c.in-Ok.page c.in-Ok.ensures.draws (λ full. not-true (c.if-is_full.ensures.1 full)) c.address_at-address-2.result c.address_at-address-2.ensures
-    c.with-self-inside.result.blocks c.with-self-inside.ensures)
+    c.with-self-inside-2.result.blocks c.with-self-inside-2.ensures)
