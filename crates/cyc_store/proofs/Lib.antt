@@ -12,6 +12,7 @@ pub mod KeptServices
 pub mod KeptSlots
 pub mod KeptStart
 pub mod KeptUnique
+pub mod KeptUnwinding
 pub mod KeptWords
 pub mod LiveWords
 pub mod LookupLemmas
