@@ -14,14 +14,14 @@ never count some is more none = omega (arith, is, more, none)
 pub invariant_of-self : goal.invariant_of-self
 invariant_of-self c =
     let f = c.self.inside in
-    let none : length f.lexicals.items ≡ 0 = omega (arith, c.in_default.ensures.len) in
+    let none : length f.lexicals.items ≡ 0 = omega (arith, c.in_default.ensures.cases.0) in
     absurd (never (length f.lexicals.items) (lexical_count f.ledger.blocks.regions) (kept-lexicals f.table f.lexicals.items f.classes f.ledger.blocks c.self.invariant)
     (subst (λ (v : Stored). 0 < lexical_count v.blocks.regions) (sym c.self.view_is) c.requires) none)
 
 pub returns-in_default : goal.returns-in_default
 returns-in_default c =
     let f = c.self.inside in
-    let none : length f.lexicals.items ≡ 0 = omega (arith, c.in_default.ensures.len) in
+    let none : length f.lexicals.items ≡ 0 = omega (arith, c.in_default.ensures.cases.0) in
     absurd (never (length f.lexicals.items) (lexical_count f.ledger.blocks.regions) (kept-lexicals f.table f.lexicals.items f.classes f.ledger.blocks c.self.invariant)
     (subst (λ (v : Stored). 0 < lexical_count v.blocks.regions) (sym c.self.view_is) c.requires) none)
 
