@@ -222,6 +222,7 @@ struct Lists {
     pages: u32,
     demand: u32,
     regions: Vec<Region>,
+    lexicals: u32,
     unique: Vec<Block>,
     /// Of each class, how many blocks are live, and the pages for the most of them so far.
     live: [u32; 11],
@@ -289,6 +290,7 @@ impl Lists {
             pages,
             demand: 1,
             regions,
+            lexicals: 0,
             unique: Vec::new(alloc),
             live: [0; 11],
             classes: [0; 11],
@@ -312,16 +314,6 @@ impl Lists {
         }
     }
 
-    fn lexicals(&self) -> u32 {
-        let mut count: u32 = 0;
-        for region in self.regions.iter() {
-            if region.is_lexical {
-                count = count.wrapping_add(1);
-            }
-        }
-        count
-    }
-
     /// The place of a region that is chosen at random, one of the newest mostly.
     fn any_region(&self, random: &mut Random) -> usize {
         let count = u32::try_from(self.regions.len()).unwrap_or(0);
@@ -335,10 +327,9 @@ impl Lists {
         let Ok(()) = self.regions.reserve(1) else {
             return Some(true);
         };
-        let lexicals = self.lexicals();
         let opened = if is_lexical {
             match store.open_lexical() {
-                Ok((handle, mark)) if mark == lexicals => Ok(handle),
+                Ok((handle, mark)) if mark == self.lexicals => Ok(handle),
                 Ok(_) => return Some(false),
                 Err(no) => Err(no),
             }
@@ -359,6 +350,7 @@ impl Lists {
         };
         self.regions.push(region).ok()?;
         self.demand = self.demand.wrapping_add(1);
+        self.lexicals = self.lexicals.wrapping_add(u32::from(is_lexical));
         Some(is_new && !full && handle != UNIQUE)
     }
 
@@ -367,12 +359,13 @@ impl Lists {
         if place < self.regions.len() {
             let region = self.regions.remove(place);
             self.demand = self.demand.wrapping_sub(region.pages);
+            self.lexicals = self.lexicals.wrapping_sub(u32::from(region.is_lexical));
         }
     }
 
     /// Closes the newest lexical regions, mostly one, now and then all or one more than there are.
     fn close_to<S: Store>(&mut self, store: &mut S, random: &mut Random) -> bool {
-        let count = self.lexicals();
+        let count = self.lexicals;
         let mark = match random.below(32) {
             0 => 0,
             1 => count.wrapping_add(1),
@@ -381,17 +374,16 @@ impl Lists {
         if store.close_to(mark).is_err() {
             return count < mark;
         }
-        let mut open = count;
         for place in (0..self.regions.len()).rev() {
-            let Some(region) = self.regions.get(place) else {
-                return false;
-            };
-            if region.is_lexical && mark < open {
-                open = open.wrapping_sub(1);
+            if self.lexicals == mark {
+                return true;
+            }
+            let is_lexical = self.regions.get(place).is_some_and(|region| region.is_lexical);
+            if is_lexical {
                 self.drop_region(place);
             }
         }
-        mark <= count
+        self.lexicals == mark
     }
 
     /// Closes a region by its handle, which may be no dynamic one.
@@ -537,7 +529,7 @@ fn expect_lists<A: Abort>(rt: &A, alloc: Global, pages: u32, name: &str) -> Opti
     for call in 0..100_000_u32 {
         let right = lists.step(alloc, &mut store, &mut random)?;
         expect(rt, right, name);
-        if call.checked_rem(1000) == Some(0) {
+        if call.checked_rem(10_000) == Some(0) {
             expect(rt, lists.has_all(&store), name);
         }
     }
