@@ -41,7 +41,9 @@ returns-then-number-size_of c =
 pub returns-then-index : goal.returns-then-index
 returns-then-index c =
     let f = c.self.inside in let k = c.self.invariant in
-    let there : c.in-Some.word / 1024 < length f.table.rows.items = omega (arith, c.if-count-word.false, c.len-count.ensures) in
-    (c.in-Some.ensures, subst (λ (v : Stored). lookup address_of v.blocks.unique c.args.address ≡ Some (record { address = c.args.address; size = 2 ^ c.in-Slots.class })) c.self.view_is
-    (block-live f.table f.lexicals.items f.classes f.ledger.blocks k c.args.address c.in-Some.word c.in-Some.ensures c.index-row.result.now there c.index-row.ensures c.in-Slots.class c.in-Slots.is
-    (subst (λ n. c.in-Some.word % 1024 / 2 ^ c.in-Slots.class * n ≡ c.in-Some.word % 1024) c.size_of.ensures c.if-number-size_of.false) c.index.result.now c.index.ensures c.if-index.true))
+    let there : c.in-Some.word / 1024 < length f.table.rows.items = omega (arith, c.if-count-word.false, c.len-count.ensures) in (
+      c.in-Some.ensures,
+      subst (λ (v : Stored). lookup address_of v.blocks.unique c.args.address ≡ Some (record { address = c.args.address; size = 2 ^ c.in-Slots.class })) c.self.view_is
+          (block-live f.table f.lexicals.items f.classes f.ledger.blocks k c.args.address c.in-Some.word c.in-Some.ensures c.index-row.result.now there c.index-row.ensures c.in-Slots.class c.in-Slots.is
+          (subst (λ n. c.in-Some.word % 1024 / 2 ^ c.in-Slots.class * n ≡ c.in-Some.word % 1024) c.size_of.ensures c.if-number-size_of.false) c.index.result.now c.index.ensures c.if-index.true),
+    )

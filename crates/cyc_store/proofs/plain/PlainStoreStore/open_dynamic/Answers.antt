@@ -22,9 +22,11 @@ pub returns-in_default : goal.returns-in_default
 returns-in_default c =
     let f = c.self.inside in let k = c.self.invariant in
     let some = kept-some f.table f.lexicals.items f.classes f.ledger.blocks k (λ full. not-true (c.if-is_full.ensures.1 full)) in
-    subst (λ (v : Stored). (true ≡ true) × (refusal (held_of v) OpenDynamic ≡ None) × (store_of c.draw.new.self.most c.draw.new.self.words.items f.ledger.blocks ≡ held_of v)) c.self.view_is
-    (refl, dynamic-none (store_of f.table.most f.table.words.items f.ledger.blocks) k.layout k.laid some.0 some.1 some.2,
-      held-unchanged f.table c.draw.new.self f.ledger.blocks c.in_default.ensures.same)
+    subst (λ (v : Stored). (true ≡ true) × (refusal (held_of v) OpenDynamic ≡ None) × (store_of c.draw.new.self.most c.draw.new.self.words.items f.ledger.blocks ≡ held_of v)) c.self.view_is (
+      refl,
+      dynamic-none (store_of f.table.most f.table.words.items f.ledger.blocks) k.layout k.laid some.0 some.1 some.2,
+      held-unchanged f.table c.draw.new.self f.ledger.blocks c.in_default.ensures.same,
+    )
 
 pub invariant_of-self-2 : goal.invariant_of-self-2
 invariant_of-self-2 c =
