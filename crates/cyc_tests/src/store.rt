@@ -140,10 +140,10 @@ fn told<S: Store>(alloc: Global, store: &mut S, names: &mut Names, call: &str) -
 
 /// A new store of so many pages, from 3 to 65,536.
 fn store_of(alloc: Global, pages: u32) -> Option<PlainStore> {
-    if (3..=65_536).contains(&pages) {
-        return PlainStore::new(alloc, pages).ok();
+    if pages < 3 || 65_536 < pages {
+        return None;
     }
-    None
+    PlainStore::new(alloc, pages).ok()
 }
 
 /// A new store answers calls as their row says.
@@ -237,14 +237,15 @@ fn is_size(size: u32) -> bool {
 }
 
 /// The class of a block, and how many blocks of it a page has.
-fn class_of(size: u32) -> (u32, u32) {
-    let mut class = 0;
+fn class_of(size: u32) -> (usize, u32) {
     let mut words: u32 = 1;
-    while words < size && class < 10 {
+    for class in 0..10 {
+        if size <= words {
+            return (class, 1024_u32.checked_div(words).unwrap_or(1));
+        }
         words = words.wrapping_mul(2);
-        class += 1;
     }
-    (class, 1024_u32.checked_div(words).unwrap_or(1))
+    (10, 1)
 }
 
 /// Writes the first and the last word of a new block, if it is one.
@@ -378,7 +379,10 @@ impl Lists {
             if self.lexicals == mark {
                 return true;
             }
-            let is_lexical = self.regions.get(place).is_some_and(|region| region.is_lexical);
+            let is_lexical = self
+                .regions
+                .get(place)
+                .is_some_and(|region| region.is_lexical);
             if is_lexical {
                 self.drop_region(place);
             }
@@ -436,7 +440,9 @@ impl Lists {
     /// How many pages one more live block of a class asks for.
     fn class_grows(&self, class: usize, in_page: u32) -> Option<u32> {
         let live = self.live.get(class)?.wrapping_add(1);
-        let pages = live.wrapping_add(in_page.wrapping_sub(1)).checked_div(in_page)?;
+        let pages = live
+            .wrapping_add(in_page.wrapping_sub(1))
+            .checked_div(in_page)?;
         Some(pages.saturating_sub(*self.classes.get(class)?))
     }
 
@@ -444,7 +450,6 @@ impl Lists {
     fn alloc_unique<S: Store>(&mut self, store: &mut S, random: &mut Random) -> Option<bool> {
         let size = random.size();
         let (class, in_page) = class_of(size);
-        let class = usize::try_from(class).ok()?;
         let more = self.class_grows(class, in_page)?;
         let full = self.is_full(more);
         let Ok(()) = self.unique.reserve(1) else {
@@ -476,7 +481,7 @@ impl Lists {
         }
         let block = self.unique.swap_remove(place);
         let (class, _) = class_of(block.size);
-        let live = self.live.get_mut(usize::try_from(class).ok()?)?;
+        let live = self.live.get_mut(class)?;
         *live = live.wrapping_sub(1);
         let had = has_words(store, &block);
         let inside = block.size == 1 || store.free(block.address.wrapping_add(4)).is_err();
@@ -489,14 +494,19 @@ impl Lists {
     fn has_all<S: Store>(&self, store: &S) -> bool {
         let unique = self.unique.iter().all(|block| has_words(store, block));
         unique
-            && self
-                .regions
+            && self.regions.iter().all(|region| region
+                .blocks
                 .iter()
-                .all(|region| region.blocks.iter().all(|block| has_words(store, block)))
+                .all(|block| has_words(store, block)))
     }
 
     /// Makes a call that is chosen at random. True if the answer is right.
-    fn step<S: Store>(&mut self, alloc: Global, store: &mut S, random: &mut Random) -> Option<bool> {
+    fn step<S: Store>(
+        &mut self,
+        alloc: Global,
+        store: &mut S,
+        random: &mut Random,
+    ) -> Option<bool> {
         match random.below(16) {
             0 => self.open(alloc, store, true),
             1 => self.open(alloc, store, false),

@@ -1,4 +1,4 @@
-use Rattle.std.proofs.Common.{◌≡◌, ◌<◌, Err, true, sym, ap, subst, ◌∙◌}
+use Rattle.std.proofs.Common.{◌<◌, Err, true, sym, ap, subst, ◌∙◌}
 use Rattle.std.proofs.lemmas.Result.{err_from_is_err_and}
 use Rattle.cyc_store.specs.Answers.{refused, Responds}
 use Rattle.cyc_store.specs.Ledger.{Stored, held_of}

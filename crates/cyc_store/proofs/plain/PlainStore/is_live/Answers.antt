@@ -1,4 +1,4 @@
-use Rattle.std.proofs.Common.{◌≡◌, ◌+◌, ◌*◌, ◌<◌, Bool, true, false, length, sym, ap, subst, arith}
+use Rattle.std.proofs.Common.{◌≡◌, ◌+◌, ◌*◌, ◌<◌, true, false, length, sym, subst, arith}
 use Rattle.std.specs.Prelude.{is_some}
 use Rattle.cyc_store.specs.Ledger.{Stored, held_of}
 use Rattle.cyc_store.specs.State.{homes, holder}

@@ -1,4 +1,4 @@
-use Rattle.std.proofs.Common.{◌≡◌, ◌<◌, refl, sym, subst}
+use Rattle.std.proofs.Common.{◌<◌, refl, sym, subst}
 use Rattle.cyc_store.specs.Ledger.{Stored, held_of, store_of}
 use Rattle.cyc_store.specs.Slots.{HasSlot, IsSpent, Stocks}
 use Rattle.cyc_store.specs.State.{demand}

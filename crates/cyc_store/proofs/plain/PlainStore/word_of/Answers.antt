@@ -1,7 +1,6 @@
-use Rattle.std.proofs.Common.{◌≡◌, ◌+◌, ◌*◌, ◌<◌, ◌≤◌, Bool, true, false, None, length, sym, subst, arith}
-use Rattle.std.specs.Prelude.{is_some}
-use Rattle.cyc_store.specs.Ledger.{Stored, held_of, store_of}
-use Rattle.cyc_store.specs.State.{homes, holder, word_at}
+use Rattle.std.proofs.Common.{◌≡◌, ◌<◌, None, length, subst, arith}
+use Rattle.cyc_store.specs.Ledger.{Stored, held_of}
+use Rattle.cyc_store.specs.State.{word_at}
 use Rattle.cyc_store.proofs.KeptLoads.{load-none, load-behind, load-dead, load-live}
 use Rattle.cyc_store.proofs.plain.PlainStore.word_of.Goals as goal
 

@@ -1,6 +1,6 @@
 use Rattle.std.proofs.Common.{◌≡◌, ◌+◌, ◌*◌, ◌<◌, true, length, Some, sym, ap, subst}
 use Rattle.std.specs.Prelude.{is_some}
-use Rattle.cyc_store.specs.Ledger.{Stored, Blocks, held_of, store_of}
+use Rattle.cyc_store.specs.Ledger.{Stored, held_of, store_of}
 use Rattle.cyc_store.specs.Lookup.{lookup, without}
 use Rattle.cyc_store.specs.Services.{CloseDynamic, Done, Serves, names_dynamic}
 use Rattle.cyc_store.specs.State.{handle_of}

@@ -1,7 +1,6 @@
-use Rattle.std.proofs.Common.{◌≡◌, ◌≤◌, true, None, length, refl, sym, subst, ◌∙◌}
+use Rattle.std.proofs.Common.{◌≡◌, true, None, refl, subst}
 use Rattle.cyc_store.specs.Ledger.{Stored, held_of, store_of}
 use Rattle.cyc_store.specs.Services.{OpenDynamic, Opened, Refused, Full, refusal, Serves}
-use Rattle.cyc_store.specs.State.{StoreState}
 use Rattle.cyc_store.specs.Kept.{handle_of_page}
 use Rattle.cyc_store.proofs.Responses.{dynamic-full, dynamic-none}
 use Rattle.cyc_store.proofs.KeptServices.{not-true, kept-full, kept-unchanged, held-unchanged, kept-some, dynamic-kept, dynamic-serves}

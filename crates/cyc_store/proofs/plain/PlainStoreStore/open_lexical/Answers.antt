@@ -1,7 +1,6 @@
-use Rattle.std.proofs.Common.{◌≡◌, ◌≤◌, ◌<◌, ◌^◌, true, None, [], ◌∷◌, ◌++◌, length, refl, sym, ap, subst, ◌∙◌, arith}
+use Rattle.std.proofs.Common.{◌≡◌, ◌≤◌, true, None, [], ◌∷◌, ◌++◌, length, refl, sym, ap, subst, ◌∙◌, arith}
 use Rattle.cyc_store.specs.Ledger.{Stored, held_of, store_of}
 use Rattle.cyc_store.specs.Services.{OpenLexical, OpenedLexical, Refused, Full, refusal, Serves}
-use Rattle.cyc_store.specs.State.{StoreState}
 use Rattle.cyc_store.specs.Kept.{handle_of_page, IsKept}
 use Rattle.cyc_store.proofs.Responses.{lexical-full, lexical-none}
 use Rattle.cyc_store.proofs.KeptServices.{not-true, kept-full, kept-unchanged, held-unchanged, kept-some, kept-lexicals_few, lexical-kept, lexical-serves}
