@@ -473,11 +473,7 @@ impl Emitter {
                 operator: typed::UnaryOperator::Not,
                 operand,
             } => self.with_zero(Comparison::NotEqual, operand, free),
-            Expr::Unary { .. }
-            | Expr::Number { .. }
-            | Expr::Copy { .. }
-            | Expr::Call { .. }
-            | Expr::Assign { .. } => self.with_zero(Comparison::Equal, value, free),
+            _ => self.with_zero(Comparison::Equal, value, free),
         }
     }
 
