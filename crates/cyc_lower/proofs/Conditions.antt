@@ -36,9 +36,13 @@ made_alone whole a failing answer old new t is (answers, made) = (
 pub not_single : (first : Expression) (os : List Operation) (ty : Ty) → (length os ≡ 1 → ⊥) → compared_of (Binary first (operations_of os) ty) ≡ with_zero comparisons.Equal (Binary first (operations_of os) ty)
 not_single first [] ty many = refl
 not_single first (operation.Test o e ∷ os) ty many = refl
+not_single first (operation.Pointer o e ∷ os) ty many = refl
+not_single first (operation.PointerPeek o n e ∷ os) ty many = refl
 not_single first (operation.Compute o e ∷ []) ty many = absurd (many refl)
 not_single first (operation.Compute o e ∷ operation.Compute u x ∷ os) ty many = refl
 not_single first (operation.Compute o e ∷ operation.Test u x ∷ os) ty many = refl
+not_single first (operation.Compute o e ∷ operation.Pointer u x ∷ os) ty many = refl
+not_single first (operation.Compute o e ∷ operation.PointerPeek u n x ∷ os) ty many = refl
 
 -- behind the left operand there is room for the right one
 pub room_for_first : (a : Expression) (xs : List Operation) (x : Operation) (o : Operator) (e : Expr) (old new : List Instruction) (t : ℕ) → Some x ≡ slice_get xs 0 → x ≡ operation.Compute o e
