@@ -49,7 +49,3 @@ goes_on out after start h rest rest' whole split put fits at =
 pub offset_fits : (out start : List ℕ) (h : ProgramHeader) (rest rest' whole : List ProgramHeader) → rest ≡ h ∷ rest' → IsAt out start rest whole → h.offset < 2 ^ 32
 offset_fits out start h rest rest' whole split at =
     All-head (λ g. g.offset < 2 ^ 32) h rest' (subst (All (λ g. g.offset < 2 ^ 32)) split at.fit)
-
--- behind the last
-none_left : (xs : List Segment) (i offset : ℕ) → length xs ≤ i → headers_left offset i xs ≡ []
-none_left xs i offset le = ap (λ (ys : List Segment). headers_of offset (map segment_contents ys)) (drop_all i xs le)

@@ -83,9 +83,3 @@ tokens_of-append front (p ∷ ps) qs =
     ap (λ l. part_tokens front p.piece ++ l) (tokens_of-append (front ++ p.bytes) ps qs)
     ∙ sym (append_assoc (part_tokens front p.piece) (tokens_of (front ++ p.bytes) ps) _)
     ∙ ap (λ l. (part_tokens front p.piece ++ tokens_of (front ++ p.bytes) ps) ++ tokens_of l qs) (append_assoc front p.bytes (bytes_of ps))
-
--- a cut text is the parts' bytes and the rest
-pub cut_text : (ps : List Part) (text rest : List ℕ) → IsCut ps text rest → text ≡ bytes_of ps ++ rest
-cut_text [] text rest cut = cut
-cut_text (p ∷ ps) text rest cut =
-    cut.1 ∙ ap (λ l. p.bytes ++ l) (cut_text ps cut.0 rest cut.4) ∙ sym (append_assoc p.bytes (bytes_of ps) rest)

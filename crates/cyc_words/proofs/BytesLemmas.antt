@@ -1,7 +1,6 @@
 -- A word is its four bytes.
-use Rattle.std.proofs.Common.{◌≡◌, ℕ, ◌^◌, ◌<◌, List, [], ◌∷◌, length, arith}
-use Rattle.std.proofs.lemmas.List.{get_or_past}
-use Rattle.std.specs.Prelude.{All, slice_index}
+use Rattle.std.proofs.Common.{◌≡◌, ℕ, List, [], ◌∷◌, length, arith}
+use Rattle.std.specs.Prelude.{All}
 use Rattle.cyc_words.specs.Word.{IsWord}
 use Rattle.cyc_words.specs.Bytes.{IsByte, bytes_of_word, word_of_bytes}
 
@@ -20,6 +19,3 @@ bytes_of_word-word_of_bytes (a ∷ b ∷ c ∷ []) n each = absurd (omega arith)
 bytes_of_word-word_of_bytes (a ∷ b ∷ c ∷ d ∷ []) n each =
     joined a b c d (each 0 0 (omega arith)) (each 1 0 (omega arith)) (each 2 0 (omega arith)) (each 3 0 (omega arith))
 bytes_of_word-word_of_bytes (a ∷ b ∷ c ∷ d ∷ e ∷ rest) n each = absurd (omega arith)
-
-below : (bs : List ℕ) → All IsByte bs → (k : ℕ) → slice_index bs k < 2 ^ 8
-below bs each k = grind (arith, get_or_past bs k 0, each k 0)

@@ -1,5 +1,5 @@
 -- How a step is matched: by no step below, by one, or by two.
-use Rattle.std.proofs.Common.{◌≡◌, ◌≢◌, ℕ, ◌<◌, List, [], ◌∷◌, refl, sym, subst, arith}
+use Rattle.std.proofs.Common.{◌≡◌, ℕ, ◌<◌, List, [], ◌∷◌, refl, sym, subst, arith}
 use Rattle.std.specs.Prelude.{Contains}
 use Rattle.cyc_words.specs.Prefix.{IsPrefix}
 use Rattle.cyc_words.proofs.PrefixLemmas.{IsPrefix-refl}
@@ -43,22 +43,4 @@ module _ (above below : Machine) (m : Matching above below) where
     distinct = (tt, tt);
     inside = (inside, tt);
     comes = (refl, way_before s t running (m.outputs s t matches), λ u step. matched_by_some s u (below.place t) [] (goes u step));
-  }
-
-  -- the second step is from the same place, whatever is chosen in the first
-  pub by_two : (s : above.State) (t : below.State) (second : below.Place) → m.Matches s t → below.status t ≡ Running
-      → Contains (m.own (above.place s)) (below.place t) → Contains (m.own (above.place s)) second → below.place t ≢ second
-      → ((u : below.State) → below.Step t u → (below.place u ≡ second) × IsOnTheWay above below s u × ((v : below.State) → below.Step u v → Matched s v))
-      → IsStepped above below m s t
-  by_two s t second matches running inside inside_second apart goes = record {
-    places = below.place t ∷ second ∷ [];
-    distinct = ((apart, tt), (tt, tt));
-    inside = (inside, (inside_second, tt));
-    comes = (
-      refl,
-      way_before s t running (m.outputs s t matches),
-      λ u step.
-          let (place, way, last) = goes u step in
-          (place, way, λ v then. matched_by_some s v (below.place t) (second ∷ []) (last v then)),
-    );
   }

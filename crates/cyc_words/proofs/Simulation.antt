@@ -231,14 +231,7 @@ module _ (above below : Machine) (m : Matching above below) (steps : Steps above
   continues (suc n) places state met here rest now matched short path =
       turns n (continues n) (suc (m.weight state)) places state met here rest now (omega arith) matched short path
 
-  -- from a match at the start, with nothing before it
-  pub matched_runs : (from : below.State) → m.Matches start from → (met : List below.Place) (now : below.State) → Path below met from now → Shown met now
-  matched_runs from matches met now path =
-      continues (suc (length met)) [] start [] from met now
-      (record { path = refl; matches = matches; paid = λ price. omega arith })
-      (omega arith) path
-
-  -- the same after the places before the first step
+  -- what is shown from a match at the start, after the places before the first step
   comes_first : (met back : List below.Place) (here : below.State) (rest : List below.Place) (now : below.State) → above.status start ≡ Running
       → ((price : below.Place → ℕ) → sum_by price met + sum_by price back ≤ sum_by price before)
       → Comes below (IsOnTheWay above below start) (m.Matches start) back here → Path below rest here now → Shown (met ++ rest) now
