@@ -4,15 +4,16 @@
     python3 tests/in_trees.py TEXT.cyc .. > crates/cyc_meaning/proofs/Texts.antt
 
 Each text becomes a tree as `crates/cyc_types/specs/TypedTrees.antt` has it, and three equations that hold by computation: how its run
-ends, what it prints, and how many words the frames of its functions have. A text that the rules of empty and locked variables refuse is run all the same: then the run may be dead.
-With `pub mod Texts` in `crates/cyc_meaning/proofs/Lib.antt`, `rt check` there says whether the definitions agree. Runs should be
-short: the prover makes every step.
+ends, what it prints, and how many words the frames of its functions have. A text that the rules of empty and locked variables
+refuse is run all the same: then the run may be dead. With `pub mod Texts` in `crates/cyc_meaning/proofs/Lib.antt`, `rt check` there
+says whether the definitions agree. Runs should be short: the prover makes every step.
 """
 import sys
 
 import reference
 from language import runs, types
 from language.frames import frame_words, inner_items
+from language.heads import Program
 from language.texts import LEVEL_OF, tree_of
 
 FUEL = 6_000
@@ -335,7 +336,7 @@ def status(run):
 
 def equations(name, text, read=b"", pages=None):
     """A program and its equations; None where it is refused by more than its flow, or runs for long."""
-    program = types.Program(tree_of(text))
+    program = Program(tree_of(text))
     run = runs.Run(program, read, steps=STEPS, pages=pages or runs.PAGES)
     end = status(run)
     if end is None:
