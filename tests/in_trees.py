@@ -3,15 +3,17 @@
 
     python3 tests/in_trees.py TEXT.cyc .. > crates/cyc_meaning/proofs/Texts.antt
 
-Each text becomes a tree as `crates/cyc_types/specs/TypedTrees.antt` has it, and two equations that hold by computation: how its run
-ends, and what it prints. A text that the rules of empty and locked variables refuse is run all the same: then the run may be dead.
-With `pub mod Texts` in `crates/cyc_meaning/proofs/Lib.antt`, `rt check` there says whether the definitions agree. Runs should be
-short: the prover makes every step.
+Each text becomes a tree as `crates/cyc_types/specs/TypedTrees.antt` has it, and three equations that hold by computation: how its run
+ends, what it prints, and how many words the frames of its functions have. A text that the rules of empty and locked variables
+refuse is run all the same: then the run may be dead. With `pub mod Texts` in `crates/cyc_meaning/proofs/Lib.antt`, `rt check` there
+says whether the definitions agree. Runs should be short: the prover makes every step.
 """
 import sys
 
 import reference
 from language import runs, types
+from language.frames import frame_words, inner_items
+from language.heads import Program
 from language.texts import LEVEL_OF, tree_of
 
 FUEL = 6_000
@@ -24,7 +26,7 @@ OPERATORS = {
 UNARY = {"-": "Negate", "~": "Complement", "!": "Not"}
 HEAD = """-- Made by tests/in_trees.py.
 use Rattle.std.proofs.Common.{◌≡◌, ℕ, [], ◌∷◌, Some, None, pos, negsuc, refl}
-use Rattle.std.specs.Prelude.{Bool, true, false}
+use Rattle.std.specs.Prelude.{map}
 use Rattle.cyc_words.specs.Word.{slt_of, sar_of, div_of, rem_of}
 use Rattle.cyc_words.specs.Ending.{Returned, Uncaught, Full}
 use Rattle.cyc_types.specs.declared.region.Region.TheVariants.{Heap}
@@ -38,6 +40,7 @@ use Rattle.cyc_types.specs.Types as types
 use Rattle.cyc_types.specs.TypedTrees as t
 use Rattle.cyc_meaning.specs.State.{HasEnded, IsDead, IsWrong, status_of, output_of}
 use Rattle.cyc_meaning.specs.Run.{run, limited_run}
+use Rattle.cyc_meaning.specs.FrameCount.{frame_count}
 use Rattle.cyc_meaning.proofs.ExampleTrees.{here, function, star, at, fat}
 """
 
@@ -57,6 +60,19 @@ def spelled(type):
     if types.is_pointer(type):
         return {"*": "star", "@": "at", "?": "fat"}[type[1]]
     return {"int": "types.Int", "handle": "(types.Handle Heap)", "key": "(types.Key Heap)"}[type[0]]
+
+
+def given(type):
+    """What an expression gives, which may be nothing."""
+    return "types.Void" if type == types.NOTHING else f"(types.Value {spelled(type)})"
+
+
+def declared_in(item):
+    """What a statement declares that is a local."""
+    found = [item] if item.kind in ("local", "region", "open", "alias", "key") else []
+    if item.kind == "case" and item.value:
+        found.append(item.value)
+    return found + [local for inner in inner_items(item) for local in declared_in(inner)]
 
 
 def listed(parts, last="[]"):
@@ -89,7 +105,8 @@ class Writer:
 
     def function(self, function):
         parameters = listed([spelled(parameter.type) for parameter in function.parameters])
-        return f"record (function {parameters} []) {{ body = {self.items(function.body.items)} }}"
+        declared = listed([spelled(item.type) for item in declared_in(function.body)])
+        return f"record (function {parameters} []) {{ locals = {declared}; body = {self.items(function.body.items)} }}"
 
     def items(self, items):
         if not items:
@@ -234,13 +251,13 @@ class Writer:
 
     def expression_assign(self, node):
         if node.target.kind == "variable":
-            return f"(t.Assign {self.variable(node.target)} {self.converted(node.value)} types.Void)"
-        return f"(t.Store {self.cell(node.target)} {self.converted(node.value)} types.Void)"
+            return f"(t.Assign {self.variable(node.target)} {self.converted(node.value)} {given(node.type)})"
+        return f"(t.Store {self.cell(node.target)} {self.converted(node.value)} {given(node.type)})"
 
     def expression_call(self, node):
         callee = {"putchar": "callees.Putchar", "getchar": "callees.Getchar"}.get(node.name)
         callee = callee or f"(callees.Function {self.functions.index(node.name)})"
-        return f"(t.Call {callee} {self.arguments(node.arguments)} types.Void)"
+        return f"(t.Call {callee} {self.arguments(node.arguments)} {given(node.type)})"
 
     def expression_binary(self, node):
         """A chain of operators of one level."""
@@ -317,16 +334,17 @@ def status(run):
     return f"HasEnded (Uncaught {words[1]} {integer(int(words[2]))})" if words[0] == "uncaught" else None
 
 
-def equations(name, text, given=b"", pages=None):
-    """A program and its two equations; None where it is refused by more than its flow, or runs for long."""
-    program = types.Program(tree_of(text))
-    run = runs.Run(program, given, steps=STEPS, pages=pages or runs.PAGES)
+def equations(name, text, read=b"", pages=None):
+    """A program and its equations; None where it is refused by more than its flow, or runs for long."""
+    program = Program(tree_of(text))
+    run = runs.Run(program, read, steps=STEPS, pages=pages or runs.PAGES)
     end = status(run)
     if end is None:
         return None
     unfold = "unfolding slt_of sar_of div_of rem_of"
-    given, output = (listed([str(byte) for byte in bytes]) for bytes in (given, run.output))
-    runs_for = f"run {name} {given} {FUEL}" if not pages else f"limited_run {name} {pages} {runs.CALLS} {given} {FUEL}"
+    input, output = (listed([str(byte) for byte in bytes]) for bytes in (read, run.output))
+    runs_for = f"run {name} {input} {FUEL}" if not pages else f"limited_run {name} {pages} {runs.CALLS} {input} {FUEL}"
+    frames = listed([str(frame_words(function)) for function in program.functions.values()])
     return f"""
 abbrev {name} : t.Program
 {name} = {Writer(program).program_tree()}
@@ -338,6 +356,9 @@ abbrev {name} : t.Program
 {name}_prints : output_of ({runs_for}) ≡ {output}
 {unfold}
 {name}_prints = refl
+
+{name}_frames : map frame_count {name}.functions ≡ {frames}
+{name}_frames = refl
 """
 
 

@@ -812,9 +812,10 @@ PROFILES = {"ints": Maker, "heap": HeapMaker, "exceptions": ExceptionMaker, "uni
 
 # What is said of a name where it should not be.
 STATEMENTS = [
-    "ufree(#);", "ufree(#);", "free_ukey(#);", "#;", "&#;", "*#;", "# = NULL;", "# = 1;", "show(*#);", "return #;", "break;", "continue;", "# == #;",
-    "look(#);", "get(#);", "eat(#);", "# :=: #;", "#[0] = eaten(#);", "region<`z_> z_ = open(#);", "{ let alias <`z_> int *`z_ z_ = #; }",
-    "if (#) ufree(#);", "while (1) ufree(#);", "try ufree(#); catch { default: ; }", "numelts(#);", "new #;", "throw new E1(#);", "struct T *z_ = #;",
+    "ufree(#);", "ufree(#);", "free_ukey(#);", "#;", "&#;", "*#;", "# = NULL;", "# = 1;", "show(*#);", "return #;", "break;",
+    "continue;", "# == #;", "look(#);", "get(#);", "eat(#);", "# :=: #;", "#[0] = eaten(#);", "region<`z_> z_ = open(#);",
+    "{ let alias <`z_> int *`z_ z_ = #; }", "if (#) ufree(#);", "while (1) ufree(#);", "try ufree(#); catch { default: ; }",
+    "numelts(#);", "new #;", "throw new E1(#);", "struct T *z_ = #;",
 ]
 
 

@@ -13,7 +13,7 @@ import re
 import sys
 import threading
 
-from language import types
+from language import heads
 from language.flow import Flow
 from language.frames import frame_words
 from language.runs import CALLS, PAGES, STEPS, Run
@@ -23,7 +23,7 @@ FUNCTIONS_AT_MOST = 4_096
 FRAME_AT_MOST = 256
 
 
-class Program(types.Program):
+class Program(heads.Program):
     """What a text declares, if the text is accepted."""
 
     def __init__(self, text):

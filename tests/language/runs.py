@@ -2,7 +2,7 @@
 error of the rules, not of the program: `Dead`. So is a state that no case speaks of: `Wrong`."""
 from typing import NamedTuple
 
-from .types import HEAP, INT, NOTHING, UNIQUE, is_fat, is_pointer, wrapped
+from .types import INT, NULL, is_fat, is_pointer, wrapped
 
 CALLS, PAGES, STEPS = 4_096, 1_024, 1_000_000_000
 PAGE_WORDS = 1_024
@@ -590,7 +590,7 @@ class Run:
             return BINARY[node.sign]
         if node.sign in ("+", "-"):
             return moved if node.sign == "+" else lambda value, by: moved(value, -by)
-        is_with_null = "null" in (node.left.type, node.right.type)
+        is_with_null = NULL in (node.left.type, node.right.type)
         equal = (lambda one, other: one is None and other is None) if is_with_null else equal_pointers
         return lambda one, other: int(equal(one, other) == (node.sign == "=="))
 
