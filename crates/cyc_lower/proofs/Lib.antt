@@ -28,5 +28,7 @@ pub mod NeedBounds
 -- the code that emits, and that counts
 pub mod Emitting
 pub mod NeedsFound
+-- the slots of locals of several words
+pub mod Slots
 -- worked examples
 pub mod Examples

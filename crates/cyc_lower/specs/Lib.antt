@@ -3,4 +3,5 @@ pub mod Lowered
 pub mod Words
 -- what the functions inside the crate promise each other
 pub mod Lowering
+pub mod Slots
 pub mod Emission

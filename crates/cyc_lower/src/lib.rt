@@ -8,6 +8,7 @@ mod emitter;
 mod expressions;
 mod frame_count;
 mod functions;
+pub mod laws;
 mod limits;
 mod operands;
 mod operators;

@@ -1,0 +1,18 @@
+-- Slots of locals.
+use Rattle.cyc_lower.proofs.Slots.{slot-below, slots-apart, slot-behind, slot-append, slot-number}
+use Rattle.cyc_lower.proofs.laws.slots_are_apart.Goals as goal
+
+pub returns-clause-below : goal.returns-clause-below
+returns-clause-below c = slot-below
+
+pub returns-clause-apart : goal.returns-clause-apart
+returns-clause-apart c = slots-apart
+
+pub returns-clause-all : goal.returns-clause-all
+returns-clause-all c = slot-behind
+
+pub returns-clause-behind : goal.returns-clause-behind
+returns-clause-behind c = slot-append
+
+pub returns-clause-one : goal.returns-clause-one
+returns-clause-one c = slot-number
