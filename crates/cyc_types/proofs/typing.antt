@@ -2,3 +2,6 @@
 pub mod TestLemmas
 pub mod ExpressionLemmas
 pub mod CountLemmas
+pub mod StatementLemmas
+pub mod NamingLemmas
+pub mod ProgramLemmas

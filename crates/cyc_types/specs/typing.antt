@@ -7,4 +7,5 @@ pub mod Statements
 pub mod Heads
 pub mod Programs
 pub mod WellTyped
+pub mod Readings
 pub mod Examples

@@ -9,6 +9,8 @@ ghost use Rattle.cyc_types.specs.FlowRules.{IsAllowedProgram};
 ghost use Rattle.cyc_types.specs.FlowRefusals.{IsStoppedProgram};
 ghost use Rattle.cyc_types.specs.FlowChecking.{flow_of};
 ghost use Rattle.cyc_types.specs.WellTyped.{IsWellTypedProgram};
+ghost use Rattle.cyc_types.specs.typing.Programs as typing;
+ghost use Rattle.cyc_types.specs.typing.WellTyped as judgement;
 ghost use Rattle.cyc_types.specs.Numbered.{IsNumberedProgram};
 ghost use Rattle.cyc_types.specs.Weight.{else_weight, statement_weight, function_weight, program_weight};
 
@@ -52,6 +54,18 @@ pub fn flow_checking_is_flow()
 /// What the typing rules derive is well typed.
 pub fn typed_trees_are_well_typed()
     ensures { (texts : List (List ℕ)) (tree : List Declaration) (p : Program) → IsTypedProgram texts tree p → IsWellTypedProgram p }
+{}
+
+/// The typing rules of the whole language leave no choice: a tree has one typed tree or one first fault, as the checking function
+/// computes it.
+pub fn whole_checking_is_typing()
+    ensures typed { (texts : List (List ℕ)) (tree : List Declaration) (p : Program) → (typing.check_of texts tree ≡ Ok p) ↔ typing.IsTypedProgram texts tree p }
+    ensures refused { (texts : List (List ℕ)) (tree : List Declaration) (f : Fault) → (typing.check_of texts tree ≡ Err f) ↔ typing.IsRefusedProgram texts tree f }
+{}
+
+/// What the typing rules of the whole language derive is well typed.
+pub fn whole_typed_trees_are_well_typed()
+    ensures { (texts : List (List ℕ)) (tree : List Declaration) (p : Program) → typing.IsTypedProgram texts tree p → judgement.IsWellTypedProgram p }
 {}
 
 /// The typed tree of a program keeps its numbers in range, its calls in step with its functions, and its breaks in loops.

@@ -2,15 +2,15 @@
 use Rattle.std.proofs.Common.{◌≡◌, ℕ, suc, ◌+◌, Bool, List, [], ◌∷◌, ◌++◌, Option, None, Some, length, refl, sym, ap, subst, ◌∙◌, arith}
 use Rattle.std.specs.Prelude.{option_map}
 use Rattle.cyc_syntax.specs.Symbols.{Place}
-use Rattle.cyc_syntax.specs.Trees.{Named, WrittenType, Expression, Statement, Block, Labelled, Empty, Evaluate, Swap, If, IfElse, While, Return, Break, Continue, Throw, Try, Body, Braces, Items, NoItems, MoreItems, Item, Execute, Local, Region, Alias, DynamicRegion, Clauses, NoClauses, Default, Case}
-use Rattle.cyc_types.specs.Types.{Ty, Int}
+use Rattle.cyc_syntax.specs.Trees.{Named, WrittenType, Expression, Statement, Block, Labelled, Empty, Evaluate, Swap, If, IfElse, While, Return, Break, Continue, Throw, Try, Body, Braces, Items, NoItems, MoreItems, Execute, Local, Region, Alias, DynamicRegion, Clauses, NoClauses, Default, Case}
+use Rattle.cyc_types.specs.Types.{Ty}
 use Rattle.cyc_types.specs.TypedTrees as typed
 use Rattle.cyc_types.specs.Declarations.{caught_types, declared_types, item_types, clause_types, declared_regions}
 use Rattle.cyc_types.specs.Declarations as declarations
 use Rattle.cyc_types.specs.Rules.{Derives}
 use Rattle.cyc_types.specs.typing.Scopes.{Meaning, Unknown, Fixed, Counter, Routine, Scope, meaning_of, counted, locals_in, body_locals, item_locals, clause_locals, regions_in, body_regions, item_regions, clause_regions, behind, in_block, in_labelled, in_body}
 use Rattle.cyc_types.specs.typing.Scopes as scopes
-use Rattle.cyc_types.specs.typing.Statements.{exception_among, thrown, caught, with_caught, behind_clause, opened, aliased, behind_item, rule_statement, rule_body, rule_items, rule_clauses}
+use Rattle.cyc_types.specs.typing.Statements.{exception_among, thrown, with_caught, behind_clause, opened, aliased, behind_item, rule_statement, rule_body, rule_items, rule_clauses}
 use Rattle.cyc_types.proofs.WellTypedLemmas.{count-append}
 
 -- ---- the nodes of forms that depend on what a name means

@@ -1,16 +1,15 @@
 -- What the tests on types decide.
-use Rattle.std.proofs.Common.{◌≡◌, ◌≢◌, ℕ, nat_eq, Bool, true, false, not, ◌&&◌, ◌||◌, List, [], ◌∷◌, ◌++◌, Option, Some, None, refl, sym, ap, subst, ◌∙◌}
-use Rattle.std.specs.Prelude.{Contains}
-use Rattle.std.proofs.lemmas.Bool.{and_parts, eqb-true, true≢false, not-true}
+use Rattle.std.proofs.Common.{◌≡◌, ◌≢◌, nat_eq, Bool, true, false, not, ◌&&◌, ◌||◌, List, [], ◌∷◌, ◌++◌, refl, sym, ap, subst, ◌∙◌}
+use Rattle.std.proofs.lemmas.Bool.{and_parts, eqb-true, true≢false}
 use Rattle.cyc_syntax.specs.declared.tree.PointerKind.{PointerKind}
 use Rattle.cyc_syntax.specs.declared.tree.PointerKind.TheVariants.{Nullable, NonNull, Fat}
 use Rattle.cyc_types.specs.declared.region.Region.{Region}
 use Rattle.cyc_types.specs.declared.region.Region.TheVariants as regions
-use Rattle.cyc_types.specs.Types.{Ty, Int, Pointer, Handle, Key, Struct, ValueType, Void, Null, Value}
+use Rattle.cyc_types.specs.Types.{Ty, Int, Pointer, Handle, Key, Struct, ValueType, Value}
 use Rattle.cyc_types.specs.Regions.{region_eq}
 use Rattle.cyc_types.specs.Rules.{Demand, AllKept}
-use Rattle.cyc_types.specs.typing.Tests.{mark_eq, regions_eq, ty_eq, is_thin_mark, is_pointer, is_unique, is_key, is_moved, is_int, is_value, is_fat, is_handle}
-use Rattle.cyc_types.specs.typing.Expressions.{is_any, has_members, is_movable}
+use Rattle.cyc_types.specs.typing.Tests.{mark_eq, regions_eq, ty_eq, is_thin_mark, is_unique, is_key, is_moved, is_int, is_value, is_handle}
+use Rattle.cyc_types.specs.typing.Expressions.{is_any}
 use Rattle.cyc_types.proofs.RegionLemmas.{region_eq-refl, region_eq-true}
 
 -- ---- demands

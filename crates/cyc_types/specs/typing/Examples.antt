@@ -8,9 +8,14 @@ use Rattle.cyc_syntax.specs.declared.tree.PointerKind.TheVariants as marks
 use Rattle.cyc_syntax.specs.declared.tree.PrefixOperator.TheVariants as prefixes
 use Rattle.cyc_syntax.specs.declared.tree.BinaryOperator.TheVariants as operators
 use Rattle.cyc_syntax.specs.Symbols.{Place}
-use Rattle.cyc_syntax.specs.Trees.{Named, Pointer, BaseType, Int, Struct, Handle, Key, WrittenType, Expression, Number, Character, Null, HeapRegion, UniqueRegion, Variable, Call, Bracketed, NumberOfElements, FreeUnique, FreeKey, Chained, Prefixed, New, RegionNew, Binary, Assign, Plain, Fields, Array, NoExpressions, MoreExpressions, NoPostfixes, ThenIndex, ThenField, NoOperations, ThenOperation, Block, Labelled, Empty, Evaluate, Swap, If, IfElse, While, Return, Break, Continue, Throw, Try, Braces, NoItems, MoreItems, Execute, Local, Region, Alias, DynamicRegion, NoClauses, Default, Case, Member, Constructor, Positive, Negative, Byte, NullPointer, Constraint, ParameterList, Void, Listed, Parameters, Declaration, StructType, Exceptions, Global, Function}
+use Rattle.cyc_syntax.specs.Trees.{Named, Pointer, BaseType, Int, Struct, Handle, Key, WrittenType, Number, Null, UniqueRegion, Variable, Call, Bracketed, NumberOfElements, FreeUnique, FreeKey, Chained, Prefixed, New, RegionNew, Binary, Assign, Plain, Fields, Array, NoExpressions, MoreExpressions, NoPostfixes, ThenIndex, ThenField, NoOperations, ThenOperation, Block, Labelled, Empty, Evaluate, Swap, If, While, Return, Break, Continue, Throw, Try, Braces, NoItems, MoreItems, Execute, Local, Region, Alias, DynamicRegion, NoClauses, Default, Case, Member, Constructor, Byte, NullPointer, Negative, Constraint, ParameterList, Listed, Parameters, Declaration, StructType, Exceptions, Global, Function}
+use Rattle.cyc_types.specs.declared.region.Region.TheVariants as regions
+use Rattle.cyc_types.specs.declared.typed.Kind.TheVariants as kinds
+use Rattle.cyc_types.specs.declared.typed.Callee.TheVariants as callees
+use Rattle.cyc_types.specs.Types as types
 use Rattle.cyc_types.specs.Rules.{Checked, fault_at}
 use Rattle.cyc_types.specs.TypedTrees as typed
+use Rattle.cyc_types.specs.TypingRules as ints
 use Rattle.cyc_types.specs.typing.Programs.{check_of}
 
 abbrev at : ℕ → ℕ → Place
@@ -637,3 +642,56 @@ key_is_given_back = refl
 -- int main(){ int x = 1; free_ukey(x); return 0; }
 what_is_no_key_is_not_given_back : verdict (Function (Some (written (at 1 1) Int [])) (the_main 1 5) (parameters (Listed []) None []) (Braces (at 1 11) (MoreItems (Local (written (at 1 13) Int []) (the_x 1 17) (Some (Number (at 1 21) 1))) (MoreItems (Execute (Evaluate (FreeKey (at 1 24) (the_x 1 34)))) (MoreItems (Execute (Return (at 1 38) (Some (Number (at 1 45) 0)))) NoItems))) (at 1 48)) ∷ []) ≡ fault faults.RegionOrKeyMisused 1 34
 what_is_no_key_is_not_given_back = refl
+
+-- ---- typed trees
+
+-- int get(int *`r p){ return *p; } int main(){ int @`U u = rnew(unique_region) 5; let alias <`a> int @`a x = u; return get(x); }
+typed_tree : check_of texts (Function (Some (written (at 1 1) Int [])) (the_get 1 5) (parameters (Listed ((member (written (at 1 9) Int ((mark marks.Nullable (Some (the_r 1 14))) ∷ [])) (the_p 1 17)) ∷ [])) None []) (Braces (at 1 19) (MoreItems (Execute (Return (at 1 21) (Some (Prefixed (at 1 28) prefixes.Dereference (Variable (the_p 1 29)))))) NoItems) (at 1 32)) ∷ Function (Some (written (at 1 34) Int [])) (the_main 1 38) (parameters (Listed []) None []) (Braces (at 1 44) (MoreItems (Local (written (at 1 46) Int ((mark marks.NonNull (Some (the_U 1 51))) ∷ [])) (the_u 1 54) (Some (RegionNew (at 1 58) (UniqueRegion (at 1 63)) (Plain (Number (at 1 78) 5))))) (MoreItems (Alias (the_a 1 92) (written (at 1 96) Int ((mark marks.NonNull (Some (the_a 1 101))) ∷ [])) (the_x 1 104) (the_u 1 108)) (MoreItems (Execute (Return (at 1 111) (Some (Call (the_get 1 118) (MoreExpressions (Variable (the_x 1 122)) NoExpressions))))) NoItems))) (at 1 126)) ∷ [])
+    ≡ Ok (record {
+      structs = [];
+      exceptions = [];
+      globals = [];
+      functions = record {
+        name = 28;
+        place = at 1 5;
+        parameters = types.Pointer marks.Nullable types.Int (regions.Variable 1) ∷ [];
+        result = Some types.Int;
+        variables = 1;
+        effect = regions.Variable 1 ∷ [];
+        constraints = [];
+        locals = [];
+        region = 0;
+        regions = 2;
+        body =
+            typed.MoreItems (typed.Execute (typed.Return (Some (typed.Convert kinds.Int kinds.Int (
+            typed.Load (typed.Target kinds.Nullable (typed.Copy (typed.Local (at 1 29) 0) (types.Pointer marks.Nullable types.Int (regions.Variable 1))) types.Int)))))) typed.NoItems;
+        end = at 1 32;
+      }
+          ∷ record {
+            name = 0;
+            place = at 1 38;
+            parameters = [];
+            result = Some types.Int;
+            variables = 0;
+            effect = [];
+            constraints = [];
+            locals = types.Pointer marks.NonNull types.Int regions.Unique ∷ types.Pointer marks.NonNull types.Int (regions.Variable 1) ∷ [];
+            region = 0;
+            regions = 2;
+            body =
+                typed.MoreItems (typed.Declare 0 (types.Pointer marks.NonNull types.Int regions.Unique) (Some (typed.Convert kinds.NonNull kinds.NonNull (
+                typed.New typed.AsUnique (typed.Plain kinds.Int (typed.Number 5)) (types.Pointer marks.NonNull types.Int regions.Unique)))))
+                (typed.MoreItems (typed.DeclareAlias 1 1 (types.Pointer marks.NonNull types.Int (regions.Variable 1)) (at 1 108) 0)
+                (typed.MoreItems (typed.Execute (typed.Return (Some (typed.Convert kinds.Int kinds.Int (typed.Call (callees.Function 0) (
+                typed.MoreArguments (typed.Convert kinds.NonNull kinds.Nullable (typed.Copy (typed.Local (at 1 122) 1) (types.Pointer marks.NonNull types.Int (regions.Variable 1)))) typed.NoArguments) (types.Value types.Int))))))
+                typed.NoItems));
+            end = at 1 126;
+          }
+          ∷ [];
+      main = 1;
+    })
+typed_tree = refl
+
+-- int g = -1; int v(int a){ return a; } int main(){ int x; { int y = v(g); x = y; } if (x == 1 || !x) while (x) x = x - 1; return x + 1; }
+ints_alone : check_of texts (Global (written (at 1 1) Int []) (the_g 1 5) (Some (Negative (at 1 9) 1)) ∷ Function (Some (written (at 1 13) Int [])) (the_v 1 17) (parameters (Listed ((member (written (at 1 19) Int []) (the_a 1 23)) ∷ [])) None []) (Braces (at 1 25) (MoreItems (Execute (Return (at 1 27) (Some (Variable (the_a 1 34))))) NoItems) (at 1 37)) ∷ Function (Some (written (at 1 39) Int [])) (the_main 1 43) (parameters (Listed []) None []) (Braces (at 1 49) (MoreItems (Local (written (at 1 51) Int []) (the_x 1 55) None) (MoreItems (Execute (Block (Braces (at 1 58) (MoreItems (Local (written (at 1 60) Int []) (the_y 1 64) (Some (Call (the_v 1 68) (MoreExpressions (Variable (the_g 1 70)) NoExpressions)))) (MoreItems (Execute (Evaluate (Assign (Variable (the_x 1 74)) (Variable (the_y 1 78))))) NoItems)) (at 1 81)))) (MoreItems (Execute (If (at 1 83) (Binary (Binary (Variable (the_x 1 87)) (ThenOperation operators.Equal (at 1 89) (Number (at 1 92) 1) NoOperations)) (ThenOperation operators.OrElse (at 1 94) (Prefixed (at 1 97) prefixes.Not (Variable (the_x 1 98))) NoOperations)) (While (at 1 101) (Variable (the_x 1 108)) (Evaluate (Assign (Variable (the_x 1 111)) (Binary (Variable (the_x 1 115)) (ThenOperation operators.Subtract (at 1 117) (Number (at 1 119) 1) NoOperations))))))) (MoreItems (Execute (Return (at 1 122) (Some (Binary (Variable (the_x 1 129)) (ThenOperation operators.Add (at 1 131) (Number (at 1 133) 1) NoOperations))))) NoItems)))) (at 1 136)) ∷ []) ≡ ints.check_of texts (Global (written (at 1 1) Int []) (the_g 1 5) (Some (Negative (at 1 9) 1)) ∷ Function (Some (written (at 1 13) Int [])) (the_v 1 17) (parameters (Listed ((member (written (at 1 19) Int []) (the_a 1 23)) ∷ [])) None []) (Braces (at 1 25) (MoreItems (Execute (Return (at 1 27) (Some (Variable (the_a 1 34))))) NoItems) (at 1 37)) ∷ Function (Some (written (at 1 39) Int [])) (the_main 1 43) (parameters (Listed []) None []) (Braces (at 1 49) (MoreItems (Local (written (at 1 51) Int []) (the_x 1 55) None) (MoreItems (Execute (Block (Braces (at 1 58) (MoreItems (Local (written (at 1 60) Int []) (the_y 1 64) (Some (Call (the_v 1 68) (MoreExpressions (Variable (the_g 1 70)) NoExpressions)))) (MoreItems (Execute (Evaluate (Assign (Variable (the_x 1 74)) (Variable (the_y 1 78))))) NoItems)) (at 1 81)))) (MoreItems (Execute (If (at 1 83) (Binary (Binary (Variable (the_x 1 87)) (ThenOperation operators.Equal (at 1 89) (Number (at 1 92) 1) NoOperations)) (ThenOperation operators.OrElse (at 1 94) (Prefixed (at 1 97) prefixes.Not (Variable (the_x 1 98))) NoOperations)) (While (at 1 101) (Variable (the_x 1 108)) (Evaluate (Assign (Variable (the_x 1 111)) (Binary (Variable (the_x 1 115)) (ThenOperation operators.Subtract (at 1 117) (Number (at 1 119) 1) NoOperations))))))) (MoreItems (Execute (Return (at 1 122) (Some (Binary (Variable (the_x 1 129)) (ThenOperation operators.Add (at 1 131) (Number (at 1 133) 1) NoOperations))))) NoItems)))) (at 1 136)) ∷ [])
+ints_alone = refl

@@ -34,7 +34,7 @@ use Rattle.cyc_types.specs.TypedTrees as typed
 use Rattle.cyc_types.specs.Rules.{fault_at, Demand, demand, Rule, Refused, Own, Part, gives}
 use Rattle.cyc_types.specs.typing.Scopes.{Field, Meaning, Unknown, Fixed, Counter, Routine, Scope, is_live, meaning_of, with_counter}
 use Rattle.cyc_types.specs.typing.Scopes as scopes
-use Rattle.cyc_types.specs.typing.Tests.{ty_eq, is_thin_mark, is_pointer, is_non_null, is_unique, is_key, is_struct, is_moved, is_void, is_int, is_value, is_fat, is_handle, is_tested, value_of, target_of, mark_of, region_of, struct_of, arguments_of, kind_of, kind_of_value}
+use Rattle.cyc_types.specs.typing.Tests.{ty_eq, is_thin_mark, is_pointer, is_non_null, is_unique, is_key, is_struct, is_moved, is_void, is_int, is_value, is_fat, is_handle, is_tested, value_of, target_of, region_of, struct_of, arguments_of, kind_of, kind_of_value}
 use Rattle.cyc_types.specs.typing.Formation.{struct_number, parameters_among, arguments_or, struct_demanded}
 
 -- ---- conversion

@@ -1,16 +1,15 @@
 -- The typing rules of the heads of declarations, and what the heads declare. The heads come in order, each in its parts as they are
 -- written; all names of structs, functions and globals are known in the whole text.
-use Rattle.std.specs.Prelude.{ℕ, zero, suc, pred, Bool, true, false, not, nat_eq, ◌&&◌, ◌||◌, if◌then◌else◌, List, [], ◌∷◌, ◌++◌, map, length, Option, Some, None, option_map, codes as bytes}
+use Rattle.std.specs.Prelude.{ℕ, zero, suc, pred, Bool, true, false, not, nat_eq, ◌&&◌, ◌||◌, if◌then◌else◌, List, [], ◌∷◌, ◌++◌, map, length, Option, Some, None, option_map}
 use Rattle.std.specs.List.{list_any}
 use Rattle.cyc_words.specs.declared.fault.Code.TheVariants as codes
-use Rattle.cyc_syntax.specs.Names.{number_of}
 use Rattle.cyc_syntax.specs.Symbols.{Place}
 use Rattle.cyc_syntax.specs.Trees.{Named, BaseType, WrittenType, Member, Constructor, GlobalValue, Positive, Negative, Byte, NullPointer, Constraint, ParameterList, Void, Listed, Parameters, Declaration, StructType, Exceptions, Global, Function}
 use Rattle.cyc_syntax.specs.Trees as written
 use Rattle.cyc_types.specs.declared.region.Region.{Region}
 use Rattle.cyc_types.specs.declared.region.Region.TheVariants.{Heap, Unique, Variable}
 use Rattle.cyc_types.specs.declared.typed.Callee.TheVariants as callees
-use Rattle.cyc_types.specs.Types.{Ty, Int, ValueType, Value, Null}
+use Rattle.cyc_types.specs.Types.{Ty, Value}
 use Rattle.cyc_types.specs.TypedTrees.{Signature}
 use Rattle.cyc_types.specs.TypedTrees as typed
 use Rattle.cyc_types.specs.IntPart.{is_empty, is_left_out}
@@ -18,7 +17,7 @@ use Rattle.cyc_types.specs.Rules.{Demand, demand, Rule, Part, gives, demands}
 use Rattle.cyc_types.specs.typing.Scopes.{RegionName, StructName, Field, Exception, Routine, Declared}
 use Rattle.cyc_types.specs.typing.Scopes as scopes
 use Rattle.cyc_types.specs.typing.Tests.{is_pointer, is_non_null, is_int}
-use Rattle.cyc_types.specs.typing.Formation.{Naming, region_of, type_written, types_for, after_members, is_known, is_name_of, no_unique_demanded, name_demanded, type_demanded, field_demanded, global_demanded, is_key_of}
+use Rattle.cyc_types.specs.typing.Formation.{Naming, region_of, type_written, types_for, after_members, is_name_of, no_unique_demanded, name_demanded, type_demanded, field_demanded, global_demanded, is_key_of}
 
 -- ---- what the heads declare
 

@@ -1,11 +1,11 @@
 -- The typing rules of a program: the heads of all its declarations in order, then `main`, which may be missing, then the bodies of its
 -- functions in order.
-use Rattle.std.specs.Prelude.{ℕ, suc, ◌+◌, ◌-◌, ◌%◌, ◌^◌, Bool, true, false, nat_eq, if◌then◌else◌, List, [], ◌∷◌, ◌++◌, map, length, Option, Some, None, codes as bytes}
+use Rattle.std.specs.Prelude.{ℕ, suc, ◌+◌, ◌-◌, ◌%◌, ◌^◌, false, nat_eq, if◌then◌else◌, List, [], ◌∷◌, ◌++◌, map, length, Option, Some, None, codes as bytes}
 use Rattle.cyc_words.specs.declared.fault.Code.TheVariants as codes
 use Rattle.cyc_words.specs.declared.fault.Fault.{Fault}
 use Rattle.cyc_syntax.specs.Names.{number_of}
 use Rattle.cyc_syntax.specs.Symbols.{Place}
-use Rattle.cyc_syntax.specs.Trees.{Named, WrittenType, Body, Braces, Items, Member, GlobalValue, Positive, Negative, Byte, NullPointer, Parameters, Declaration, StructType, Exceptions, Global, Function}
+use Rattle.cyc_syntax.specs.Trees.{Named, Body, Braces, Items, Member, GlobalValue, Positive, Negative, Byte, NullPointer, Parameters, Declaration, StructType, Exceptions, Global, Function}
 use Rattle.cyc_types.specs.declared.region.Region.TheVariants as regions
 use Rattle.cyc_types.specs.declared.scope.ScopeKind.TheVariants as kinds
 use Rattle.cyc_types.specs.declared.typed.Callee.TheVariants as callees
@@ -14,7 +14,7 @@ use Rattle.cyc_types.specs.Outlives.{RegionContext}
 use Rattle.cyc_types.specs.TypedTrees.{Signature}
 use Rattle.cyc_types.specs.TypedTrees as typed
 use Rattle.cyc_types.specs.Declarations.{item_types}
-use Rattle.cyc_types.specs.Rules.{Checked, Demand, demand, Rule, Part, gives, demands, Derives, Refuses, run}
+use Rattle.cyc_types.specs.Rules.{Checked, demand, Rule, Part, gives, demands, Derives, Refuses, run}
 use Rattle.cyc_types.specs.typing.Scopes.{RegionName, StructName, Field, Exception, Routine, Declared, Ordinary, LocalVariable, Scope, item_regions, with_scope}
 use Rattle.cyc_types.specs.typing.Tests.{is_pointer}
 use Rattle.cyc_types.specs.typing.Formation.{type_written}
