@@ -40,13 +40,15 @@ fn name(names: &mut Names, letter: &str, value: u32) -> Option<()> {
 
 /// The number that a word stands for: decimal digits or a letter, perhaps with more behind a plus.
 fn number(names: &Names, word: &str) -> Option<u32> {
-    if let Some((first, more)) = word.split_once('+') {
-        return Some(number(names, first)?.wrapping_add(decimal(more)?));
-    }
-    match decimal(word) {
-        Some(number) => Some(number),
-        None => names.get(place(word)?).copied(),
-    }
+    let (first, more) = match word.split_once('+') {
+        Some((first, more)) => (first, decimal(more)?),
+        None => (word, 0),
+    };
+    let number = match decimal(first) {
+        Some(number) => number,
+        None => *names.get(place(first)?)?,
+    };
+    Some(number.wrapping_add(more))
 }
 
 /// Why a region was not opened, or a block not made, in a word.
