@@ -159,13 +159,23 @@ keys_in_turn_full : end_within 1 1 keys_in_turn ≡ HasEnded Full
 keys_in_turn_full = refl
 
 -- let NewDynamicRegion{<`k> k} = new_ukey(); int *`k p = NULL; { region<`k> h = open(k); p = rnew(h) 9; }
--- try { region<`k> h = open(k); throw new E; } catch { case &E: ; } region<`k> h = open(k); return *p; a throw closes no dynamic region
+-- try throw new E; catch { case &E: ; } region<`k> h = open(k); return *p; a throw closes no dynamic region
+thrown_beside_a_key : long_end (program (
+    DeclareKey 1 0
+    ∷ define 1 star (null_as star)
+    ∷ Execute (block (OpenRegion 1 2 here 0 ∷ execute (set 1 star (convert at star (new (by 2) at (Number 9)))) ∷ []))
+    ∷ try_to (Throw 5 None) (case 5 [] NoClauses)
+    ∷ OpenRegion 1 3 here 0
+    ∷ return (Load (target star (variable 1 star)))
+    ∷ [])) ≡ HasEnded (Returned (pos 9))
+thrown_beside_a_key = refl
+
+-- nor where it leaves the block that opened it: try { region<`k> h = open(k); throw new E; } catch { case &E: return *p; }
+-- (this text is refused, since the region is not known to be open in the clause)
 thrown_past_a_key : long_end (program (
     DeclareKey 1 0
     ∷ define 1 star (null_as star)
     ∷ Execute (block (OpenRegion 1 2 here 0 ∷ execute (set 1 star (convert at star (new (by 2) at (Number 9)))) ∷ []))
-    ∷ try_to (block (OpenRegion 1 3 here 0 ∷ Execute (Throw 5 None) ∷ [])) (case 5 [] NoClauses)
-    ∷ OpenRegion 1 4 here 0
-    ∷ return (Load (target star (variable 1 star)))
+    ∷ try_to (block (OpenRegion 1 3 here 0 ∷ Execute (Throw 5 None) ∷ [])) (case 5 (return (Load (target star (variable 1 star))) ∷ []) NoClauses)
     ∷ [])) ≡ HasEnded (Returned (pos 9))
 thrown_past_a_key = refl
