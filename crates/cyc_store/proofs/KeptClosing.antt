@@ -1,6 +1,6 @@
 -- A store on a table of pages stays one where a region is closed.
 use Rattle.std.proofs.Common.{◌≡◌, ◌≢◌, ℕ, suc, ◌+◌, ◌*◌, ◌/◌, ◌%◌, ◌<◌, ◌≤◌, Bool, true, false, List, [], ◌∷◌, length, Option, None, Some, refl, sym, ap, subst, ◌∙◌, inl, inr, arith}
-use Rattle.std.specs.Prelude.{◌⊎◌, ◌==◌, if◌then◌else◌, slice_index, slice_index_or}
+use Rattle.std.specs.Prelude.{◌⊎◌, ◌==◌, if◌then◌else◌, is_some, slice_index, slice_index_or}
 use Rattle.std.specs.List.{AllByRecursion}
 use Rattle.std.proofs.lemmas.Bool.{cases_eq, cases_lt}
 use Rattle.cyc_store.specs.Lookup.{lookup, without, AreDistinct}
@@ -11,8 +11,9 @@ use Rattle.cyc_store.specs.Ledger.{Blocks, store_of}
 use Rattle.cyc_store.specs.Pages.{given_back}
 use Rattle.cyc_store.specs.Slots.{Layout, IsLaidOut}
 use Rattle.cyc_store.specs.Table.{row_at, given_rows, given_free, AreThere}
-use Rattle.cyc_store.specs.Kept.{Table, role_of, role_of_sort, sort_of, handle_of_page, IsRooted, lexical_handles, IsTied, IsKept, table_of, no_slots}
+use Rattle.cyc_store.specs.Kept.{Table, role_of, role_of_sort, role_of_owner, sort_of, handle_of_page, IsRooted, lexical_handles, IsTied, IsKept, table_of, no_slots}
 use Rattle.cyc_store.specs.declared.row.PageTable.{PageTable}
+use Rattle.cyc_store.specs.declared.row.Role.{Role}
 use Rattle.cyc_store.specs.declared.row.Role.TheVariants as role
 use Rattle.cyc_store.specs.declared.row.Row.{Row}
 use Rattle.cyc_store.specs.declared.row.ClassSlots.{ClassSlots}
@@ -50,7 +51,7 @@ role-dynamic : (so : Option Sort) (owner : Option ℕ) (class : ℕ) → role_of
 role-dynamic (Some Heap) owner class e = absurd (let k : role.Heap ≡ role.Dynamic = e in cc)
 role-dynamic (Some Lexical) owner class e = absurd (let k : role.Lexical ≡ role.Dynamic = e in cc)
 role-dynamic (Some Dynamic) owner class e = refl
-role-dynamic (Some Uniques) owner class e = absurd (let k : role.Rest ≡ role.Dynamic = e in cc)
+role-dynamic (Some Uniques) owner class e = absurd (let k : role.Heap ≡ role.Dynamic = e in cc)
 role-dynamic None None class e = absurd (let k : role.Rest ≡ role.Dynamic = e in cc)
 role-dynamic None (Some h) class e = elim (cases_eq h UNIQUE) [
   | inl same ↦ absurd (let k : role.Slots class ≡ role.Dynamic = sym (when_equal h UNIQUE (role.Slots class) role.Rest same) ∙ e in cc)
@@ -67,6 +68,25 @@ not-dynamic Lexical other = refl
 not-dynamic Dynamic other = absurd (other refl)
 not-dynamic Uniques other = refl
 
+rest-sort : (sort : Sort) → role.Rest ≡ role_of_sort sort → ⊥
+rest-sort Heap e = cc
+rest-sort Lexical e = cc
+rest-sort Dynamic e = cc
+rest-sort Uniques e = cc
+
+slots-sort : (class : ℕ) (sort : Sort) → role.Slots class ≡ role_of_sort sort → ⊥
+slots-sort class Heap e = cc
+slots-sort class Lexical e = cc
+slots-sort class Dynamic e = cc
+slots-sort class Uniques e = cc
+
+other-role : (sort : Sort) (owner : Option ℕ) (class : ℕ) → role_of_sort sort ≡ role_of_owner owner class → ⊥
+other-role sort None class e = rest-sort sort (sym e)
+other-role sort (Some h) class e = elim (cases_eq h UNIQUE) [
+  | inl same ↦ slots-sort class sort (sym (e ∙ when_equal h UNIQUE (role.Slots class) role.Rest same))
+  | inr other ↦ rest-sort sort (sym (e ∙ when_other h UNIQUE (role.Slots class) role.Rest other))
+]
+
 module _ (t : PageTable) (lexicals : List ℕ) (classes : List ClassSlots) (b : Blocks) (k : IsKept t lexicals classes b) where
   -- only the number of a page that is there, doubled and one more, is a handle
   pub handle-page : (h : ℕ) (r : Home) → lookup handle_of b.regions h ≡ Some r → (page : ℕ) × (h ≡ 2 * page + 1) × (page < length t.rows.items)
@@ -74,18 +94,18 @@ module _ (t : PageTable) (lexicals : List ℕ) (classes : List ClassSlots) (b : 
       let region : IsRooted (table_of t).row k.layout.pages r = k.tied.roots h r found in
       (region.root, sym (lookup-key handle_of b.regions h r found) ∙ region.handle, k.tied.drawn region.root r.handle region.owned)
 
-  pub even-none : (h : ℕ) → h % 2 ≡ 0 → names_dynamic (lookup handle_of b.regions h) ≡ false
+  pub even-none : (h : ℕ) → h % 2 ≡ 0 → lookup handle_of b.regions h ≡ None
   even-none h even = elim (cases_option (lookup handle_of b.regions h)) [
-    | inl none ↦ ap names_dynamic none
+    | inl none ↦ none
     | inr (r, found) ↦ let (page, is, below) = handle-page h r found in absurd (odd h page even is)
   ]
     where
       odd : (h p : ℕ) → h % 2 ≡ 0 → h ≡ 2 * p + 1 → ⊥
       odd h p even is = omega (arith, even, is)
 
-  pub past-none : (h : ℕ) → length t.rows.items ≤ h / 2 → names_dynamic (lookup handle_of b.regions h) ≡ false
+  pub past-none : (h : ℕ) → length t.rows.items ≤ h / 2 → lookup handle_of b.regions h ≡ None
   past-none h past = elim (cases_option (lookup handle_of b.regions h)) [
-    | inl none ↦ ap names_dynamic none
+    | inl none ↦ none
     | inr (r, found) ↦ let (page, is, below) = handle-page h r found in absurd (within h page (length t.rows.items) is below past)
   ]
     where
@@ -103,6 +123,31 @@ module _ (t : PageTable) (lexicals : List ℕ) (classes : List ClassSlots) (b : 
       | inl none ↦ ap names_dynamic none
       | inr (r, found) ↦ ap names_dynamic found ∙ not-dynamic r.sort (λ sort. never (ap (λ (x : Row). x.role) (sym (row_at-read t.rows.items page first there read))
           ∙ ((k.tied.rows page).plays ∙ (ap (λ o. role_of (sort_of o) (k.layout.pages.owner page) (k.layout.class page)) found ∙ ap role_of_sort sort))))
+    ]
+
+    played : (o : Option Home) → lookup handle_of b.regions (handle_of_page page) ≡ o → first.role ≡ role_of (sort_of o) (k.layout.pages.owner page) (k.layout.class page)
+    played o is =
+        ap (λ (x : Row). x.role) (sym (row_at-read t.rows.items page first there read))
+        ∙ ((k.tied.rows page).plays ∙ ap (λ (p : Option Home). role_of (sort_of p) (k.layout.pages.owner page) (k.layout.class page)) is)
+
+    -- a page that is no region's first one
+    pub other-none : (first.role ≡ role.Heap → ⊥) → (first.role ≡ role.Lexical → ⊥) → (first.role ≡ role.Dynamic → ⊥) → lookup handle_of b.regions (handle_of_page page) ≡ None
+    other-none heap lexical dynamic = elim (cases_option (lookup handle_of b.regions (handle_of_page page))) [
+      | inl none ↦ none
+      | inr (r, found) ↦ absurd (by r.sort (played (Some r) found))
+    ]
+      where
+        by : (sort : Sort) → first.role ≡ role_of_sort sort → ⊥
+        by Heap e = heap e
+        by Lexical e = lexical e
+        by Dynamic e = dynamic e
+        by Uniques e = heap e
+
+    -- a page with the role of a first one
+    pub root-named : (sort : Sort) → first.role ≡ role_of_sort sort → is_some (lookup handle_of b.regions (handle_of_page page)) ≡ true
+    root-named sort is = elim (cases_option (lookup handle_of b.regions (handle_of_page page))) [
+      | inl none ↦ absurd (other-role sort (k.layout.pages.owner page) (k.layout.class page) (sym is ∙ played None none))
+      | inr (r, found) ↦ ap is_some found
     ]
 
 pub odd-handle : (h : ℕ) → (h % 2 ≡ 0 → ⊥) → h ≡ 2 * (h / 2) + 1

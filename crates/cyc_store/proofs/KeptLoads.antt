@@ -1,7 +1,8 @@
 -- What is read of a store on a table of pages.
 use Rattle.std.proofs.Common.{◌≡◌, ℕ, ◌+◌, ◌-◌, ◌*◌, ◌/◌, ◌%◌, ◌<◌, ◌≤◌, Bool, true, false, List, length, Option, None, Some, refl, sym, ap, subst, ◌∙◌, inl, inr, arith}
-use Rattle.std.specs.Prelude.{◌==◌, ◌&&◌, ◌⊎◌, nat_le, if◌then◌else◌, is_some, slice_index}
+use Rattle.std.specs.Prelude.{◌==◌, ◌&&◌, ◌⊎◌, nat_le, if◌then◌else◌, is_some, slice_index, slice_index_or}
 use Rattle.std.proofs.lemmas.Bool.{cases_eq, cond-true, le-leb, eq-eqb}
+use Rattle.std.proofs.lemmas.List.{get_or_default}
 use Rattle.cyc_store.specs.State.{StoreState, homes, covers, Holder, holder, word_in, word_at}
 use Rattle.cyc_store.specs.Ledger.{Blocks, memory_of, store_of}
 use Rattle.cyc_store.specs.Pages.{IsLaid}
@@ -77,3 +78,42 @@ module _ (t : PageTable) (lexicals : List ℕ) (classes : List ClassSlots) (b : 
     where
       clash : (x l : ℕ) → l ≤ (x - 536870912) / 4 → 536870912 ≤ x → x < 536870912 + 4 * l → ⊥
       clash x l past low high = omega (arith, past, low, high)
+
+  pub load-none : (x : ℕ) → (x < 536870912) ⊎ (x % 4 ≡ 0 → ⊥) → word_at s x ≡ None
+  load-none x (inl less) = load-below x less
+  load-none x (inr odd) = odd-word s x odd
+
+  pub load-behind : (x n : ℕ) → x ≡ 536870912 + 4 * n → length t.words.items ≤ n → word_at s x ≡ None
+  load-behind x n place past = load-past x (quarter x n (length t.words.items) place past)
+    where
+      quarter : (x n l : ℕ) → x ≡ 536870912 + 4 * n → l ≤ n → l ≤ (x - 536870912) / 4
+      quarter x n l place past = omega (arith, place, past)
+
+-- ---- words by their numbers
+
+place-even : (x n : ℕ) → x ≡ 536870912 + 4 * n → x % 4 ≡ 0
+place-even x n place = omega (arith, place)
+
+pub load-dead : (s : StoreState) (x n : ℕ) → x ≡ 536870912 + 4 * n → false ≡ is_some (holder (homes s) (536870912 + 4 * n)) → word_at s x ≡ None
+load-dead s x n place dead = dead-word s x (none-held (holder (homes s) x) (ap (λ y. is_some (holder (homes s) y)) place ∙ sym dead))
+
+pub load-live : (s : StoreState) (x n : ℕ) → x ≡ 536870912 + 4 * n → true ≡ is_some (holder (homes s) (536870912 + 4 * n)) → is_some (word_at s x) ≡ true
+load-live s x n place live = ap is_some (live-word s x (place-even x n place) (ap (λ y. is_some (holder (homes s) y)) place ∙ sym live))
+
+-- what is read at a word that is live
+pub load-word : (pages : ℕ) (words : List ℕ) (b : Blocks) (x n r : ℕ) → x ≡ 536870912 + 4 * n → n < length words → is_some (word_at (store_of pages words b) x) ≡ true
+    → r ≡ slice_index_or words n r → Some r ≡ word_at (store_of pages words b) x
+load-word pages words b x n r place inside live read = elim (cases_option (holder (homes (store_of pages words b)) x)) [
+  | inl none ↦ absurd (none-live (word_at (store_of pages words b) x) (dead-word (store_of pages words b) x none) live)
+  | inr (h, held) ↦ sym (live-word (store_of pages words b) x (place-even x n place) (ap is_some held)
+      ∙ ap (λ w. Some w) (memory-word words x (place-even x n place) (low x n place) ∙ (ap (slice_index words) (quarter x n place) ∙ (get_or_default words n 0 r inside ∙ sym read))))
+]
+  where
+    none-live : (o : Option ℕ) → o ≡ None → is_some o ≡ true → ⊥
+    none-live o none live = let e : false ≡ true = sym (ap is_some none) ∙ live in cc
+
+    low : (x n : ℕ) → x ≡ 536870912 + 4 * n → 536870912 ≤ x
+    low x n place = omega (arith, place)
+
+    quarter : (x n : ℕ) → x ≡ 536870912 + 4 * n → (x - 536870912) / 4 ≡ n
+    quarter x n place = omega (arith, place)

@@ -77,7 +77,7 @@ rewritten-whole old new page r is whole = record {
 
 -- ---- the lexical regions
 
-lexical-length : (rs : List Home) → length (lexical_handles rs) ≡ lexical_count rs
+pub lexical-length : (rs : List Home) → length (lexical_handles rs) ≡ lexical_count rs
 lexical-length [] = refl
 lexical-length (r ∷ rs) = either (is_lexical r.sort) r.handle (lexical_handles rs) (lexical_count rs) (lexical-length rs)
   where

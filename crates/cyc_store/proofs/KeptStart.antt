@@ -1,20 +1,22 @@
 -- A table with no page in use keeps a store with no region.
-use Rattle.std.proofs.Common.{◌≡◌, ℕ, zero, suc, ◌+◌, ◌-◌, ◌*◌, ◌%◌, ◌<◌, ◌≤◌, Bool, true, false, List, [], ◌∷◌, length, None, Some, refl, sym, ap, subst, ◌∙◌, arith}
-use Rattle.std.specs.Prelude.{◌==◌, ◌&&◌, nat_le, if◌then◌else◌, slice_index, slice_index_or}
+use Rattle.std.proofs.Common.{◌≡◌, ℕ, zero, suc, ◌+◌, ◌-◌, ◌*◌, ◌%◌, ◌<◌, ◌≤◌, Bool, true, false, List, [], ◌∷◌, length, None, Some, refl, sym, ap, subst, ◌∙◌, inl, inr, arith}
+use Rattle.std.specs.Prelude.{◌==◌, ◌⊎◌, ◌&&◌, nat_le, if◌then◌else◌, slice_index, slice_index_or}
 use Rattle.cyc_words.specs.Demand.{greatest_class}
-use Rattle.cyc_store.specs.State.{AreWords, Uniques, empty_home}
+use Rattle.cyc_store.specs.State.{AreWords, Heap, Uniques, empty_home, StoreState, start, opened}
 use Rattle.cyc_store.specs.Soundness.{IsSound}
-use Rattle.cyc_store.specs.Ledger.{Blocks, memory_of, store_of}
+use Rattle.cyc_store.specs.Ledger.{Blocks, memory_of, store_of, plain_store, blocks_of, no_blocks}
 use Rattle.cyc_store.specs.Slots.{Layout, IsLaidOut}
-use Rattle.cyc_store.specs.Table.{row_at}
-use Rattle.cyc_store.specs.Kept.{numbers_from, IsStocked, IsTied, IsKept, table_of, no_slots}
+use Rattle.cyc_store.specs.Table.{Draws, row_at}
+use Rattle.cyc_store.specs.Kept.{handle_of_page, numbers_from, IsStocked, IsTied, IsKept, table_of, no_slots}
 use Rattle.cyc_store.specs.declared.row.PageTable.{PageTable}
 use Rattle.cyc_store.specs.declared.row.TheConstants.{NONE}
 use Rattle.cyc_store.specs.declared.row.ClassSlots.{ClassSlots}
 use Rattle.cyc_store.specs.declared.range.TheConstants.{UNIQUE}
 use Rattle.cyc_store.proofs.HolderLemmas.{AreSound-opened}
-use Rattle.cyc_store.proofs.ServiceLemmas.{none-sound, no-pages}
+use Rattle.cyc_store.proofs.ServiceLemmas.{none-sound, no-pages, start-sound}
 use Rattle.cyc_store.proofs.PagedStart.{all_free, bare-paged}
+use Rattle.cyc_store.proofs.TieOpening.{first_row}
+use Rattle.cyc_store.proofs.KeptServices.{Rewrites, kept-opened}
 
 abbrev pub no_regions : Blocks
 no_regions = record { regions = []; unique = []; classes = 0 ∷ 0 ∷ 0 ∷ 0 ∷ 0 ∷ 0 ∷ 0 ∷ 0 ∷ 0 ∷ 0 ∷ 0 ∷ [] }
@@ -133,3 +135,41 @@ first-kept t most words live rows free = record {
 
     whole : (n : ℕ) → n ≡ n - 0
     whole n = omega arith
+
+-- ---- the heap is opened
+
+module _ (t : PageTable) (least_pages : 1 ≤ t.most) (most : t.most ≤ 65536) (words : t.words.items ≡ []) (live : t.live.items ≡ []) (rows : t.rows.items ≡ []) (free : t.free ≡ NONE)
+    (u : PageTable) (page : ℕ) (draws : Draws t u page) where
+  first : IsKept t [] all_new no_regions
+  first = first-kept t most words live rows free
+
+  page-zero : page ≡ 0
+  page-zero = elim draws.from [
+    | inl again ↦ absurd (never (length t.rows.items) t.free (ap length rows) again.0)
+    | inr new ↦ new.1 ∙ ap length rows
+  ]
+    where
+      never : (n f : ℕ) → n ≡ 0 → f < n → ⊥
+      never n f none less = omega (arith, none, less)
+
+  room : (length t.rows.items ≤ t.free) × (t.most ≤ length t.rows.items) → ⊥
+  room full = past (length t.rows.items) t.most (ap length rows) least_pages full.1
+    where
+      past : (n m : ℕ) → n ≡ 0 → 1 ≤ m → m ≤ n → ⊥
+      past n m none some more = omega (arith, none, some, more)
+
+  -- a store in which only the heap is open, the region of this page
+  abbrev with_heap : (root : ℕ) → StoreState
+  with_heap root = opened (store_of t.most t.words.items no_regions) (handle_of_page root) Heap
+
+  heap-sound : IsSound (with_heap page)
+  heap-sound = subst (λ p. IsSound (with_heap p)) (sym page-zero) (start-sound t.most (memory_of t.words.items) (subst (λ ws. AreWords (memory_of ws)) (sym words) no-words) least_pages)
+
+  pub heap-kept : (v : PageTable) → Rewrites u v page (first_row Heap page) → (c : Blocks) → c ≡ no_blocks → (lexicals : List ℕ) → lexicals ≡ [] → IsKept v lexicals all_new c
+  heap-kept v is c noted lexicals none =
+      subst (λ xs. IsKept v xs all_new c) (sym none) (subst (IsKept v [] all_new) (sym (noted ∙ ap (λ p. blocks_of (opened (plain_store no_regions) (handle_of_page p) Heap)) (sym page-zero)))
+      (kept-opened t [] all_new no_regions first u page draws room v Heap is heap-sound))
+
+  pub heap-held : (v : PageTable) → v.most ≡ u.most → (pages : ℕ) → t.most ≡ pages → (c : Blocks) → c ≡ no_blocks
+      → store_of v.most v.words.items c ≡ start pages (memory_of v.words.items)
+  heap-held v same pages is c noted = ap (λ n. store_of n v.words.items c) (same ∙ (draws.most ∙ is)) ∙ ap (store_of pages v.words.items) noted

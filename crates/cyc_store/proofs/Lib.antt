@@ -7,6 +7,7 @@ pub mod KeptLoads
 pub mod KeptMaking
 pub mod KeptServices
 pub mod KeptStart
+pub mod KeptUnwinding
 pub mod KeptWords
 pub mod LiveWords
 pub mod LookupLemmas

@@ -41,6 +41,37 @@ full-some s call past = elim (cases_Bool (is_full s call)) [
     clash : (p d : ℕ) → p < d → d ≤ p → ⊥
     clash p d less more = omega (arith, less, more)
 
+-- ---- calls that name nothing, or ask for no size
+
+pub refuses-handle : (s : StoreState) (h n : ℕ) → lookup handle_of (homes s) h ≡ None → Serves s (Allocate h n) (Refused BadHandle) s
+refuses-handle s h n none = serves-some s (Allocate h n) BadHandle (cond-false (is_some (lookup handle_of (homes s) h)) _ (Some BadHandle) (ap is_some none))
+
+pub refuses-size : (s : StoreState) (h n : ℕ) (r : Home) → lookup handle_of (homes s) h ≡ Some r → (n ≡ 0) ⊎ (MOST_BLOCK_WORDS < n) → Serves s (Allocate h n) (Refused BadSize) s
+refuses-size s h n r named bad = serves-some s (Allocate h n) BadSize
+    (cond-true (is_some (lookup handle_of (homes s) h)) _ (Some BadHandle) (ap is_some named)
+    ∙ cond-false (is_size n) (full_at (is_full s (Allocate h n))) (Some BadSize) (by bad))
+  where
+    zero : (m : ℕ) → m ≡ 0 → m < 1
+    zero m e = omega (arith, e)
+
+    never : (a : Bool) → (a && false) ≡ false
+    never true = refl
+    never false = refl
+
+    by : (n ≡ 0) ⊎ (MOST_BLOCK_WORDS < n) → is_size n ≡ false
+    by (inl none) = ap (λ a. a && nat_le n MOST_BLOCK_WORDS) (lt-leb 1 n (zero n none))
+    by (inr more) = ap (λ a. nat_le 1 n && a) (lt-leb n MOST_BLOCK_WORDS more) ∙ never (nat_le 1 n)
+
+pub refuses-close : (s : StoreState) (h : ℕ) → names_dynamic (lookup handle_of s.regions h) ≡ false → Serves s (CloseDynamic h) (Refused BadHandle) s
+refuses-close s h not = serves-some s (CloseDynamic h) BadHandle (cond-false (names_dynamic (lookup handle_of s.regions h)) None (Some BadHandle) not)
+
+pub refuses-close_to : (s : StoreState) (mark : ℕ) → lexical_count s.regions < mark → Serves s (CloseTo mark) (Refused BadMark) s
+refuses-close_to s mark past = serves-some s (CloseTo mark) BadMark
+    (cond-false (nat_le mark (lexical_count s.regions)) None (Some BadMark) (lt-leb mark (lexical_count s.regions) past))
+
+pub refuses-free : (s : StoreState) (a : ℕ) → lookup address_of s.unique a ≡ None → Serves s (Free a) (Refused NotABlock) s
+refuses-free s a none = serves-some s (Free a) NotABlock (cond-false (is_some (lookup address_of s.unique a)) None (Some NotABlock) (ap is_some none))
+
 -- ---- opening
 
 module _ (s : StoreState) (l : Layout) (laid : IsLaidOut s l) where
@@ -93,17 +124,10 @@ module _ (s : StoreState) (l : Layout) (laid : IsLaidOut s l) where
       (cond-true (names_dynamic (lookup handle_of s.regions h)) None (Some BadHandle) (ap names_dynamic named ∙ sort))
       (record { may = tt; keeps = λ x k old new. refl; words = laid.sound.words })
 
-  pub refuses-close : (h : ℕ) → names_dynamic (lookup handle_of s.regions h) ≡ false → Serves s (CloseDynamic h) (Refused BadHandle) s
-  refuses-close h not = serves-some s (CloseDynamic h) BadHandle (cond-false (names_dynamic (lookup handle_of s.regions h)) None (Some BadHandle) not)
-
   pub serves-close_to : (mark : ℕ) → mark ≤ lexical_count s.regions → Serves s (CloseTo mark) Done (record s { regions = down_to mark s.regions })
   serves-close_to mark most = serves-none s (CloseTo mark) (chosen 0 0)
       (cond-true (nat_le mark (lexical_count s.regions)) None (Some BadMark) (le-leb mark (lexical_count s.regions) most))
       (record { may = tt; keeps = λ x k old new. refl; words = laid.sound.words })
-
-  pub refuses-close_to : (mark : ℕ) → lexical_count s.regions < mark → Serves s (CloseTo mark) (Refused BadMark) s
-  refuses-close_to mark past = serves-some s (CloseTo mark) BadMark
-      (cond-false (nat_le mark (lexical_count s.regions)) None (Some BadMark) (lt-leb mark (lexical_count s.regions) past))
 
   -- ---- making
 
@@ -188,29 +212,7 @@ module _ (s : StoreState) (l : Layout) (laid : IsLaidOut s l) where
     pub sound-unique : IsPlaced s.pages b × IsApart (homes s) b → demand (made_unique s b) ≤ s.pages → IsSound (made_unique s b)
     sound-unique may few = subst IsSound made-is_unique (served-sound s (Allocate UNIQUE n) (chosen 0 b.address) laid.sound (unique-none few) (allowed-unique may))
 
-  pub refuses-handle : (h n : ℕ) → lookup handle_of (homes s) h ≡ None → Serves s (Allocate h n) (Refused BadHandle) s
-  refuses-handle h n none = serves-some s (Allocate h n) BadHandle (cond-false (is_some (lookup handle_of (homes s) h)) _ (Some BadHandle) (ap is_some none))
-
-  pub refuses-size : (h n : ℕ) (r : Home) → lookup handle_of (homes s) h ≡ Some r → (n ≡ 0) ⊎ (MOST_BLOCK_WORDS < n) → Serves s (Allocate h n) (Refused BadSize) s
-  refuses-size h n r named bad = serves-some s (Allocate h n) BadSize
-      (cond-true (is_some (lookup handle_of (homes s) h)) _ (Some BadHandle) (ap is_some named)
-      ∙ cond-false (is_size n) (full_at (is_full s (Allocate h n))) (Some BadSize) (by bad))
-    where
-      zero : (m : ℕ) → m ≡ 0 → m < 1
-      zero m e = omega (arith, e)
-
-      never : (a : Bool) → (a && false) ≡ false
-      never true = refl
-      never false = refl
-
-      by : (n ≡ 0) ⊎ (MOST_BLOCK_WORDS < n) → is_size n ≡ false
-      by (inl none) = ap (λ a. a && nat_le n MOST_BLOCK_WORDS) (lt-leb 1 n (zero n none))
-      by (inr more) = ap (λ a. nat_le 1 n && a) (lt-leb n MOST_BLOCK_WORDS more) ∙ never (nat_le 1 n)
-
   -- ---- freeing
-
-  pub refuses-free : (a : ℕ) → lookup address_of s.unique a ≡ None → Serves s (Free a) (Refused NotABlock) s
-  refuses-free a none = serves-some s (Free a) NotABlock (cond-false (is_some (lookup address_of s.unique a)) None (Some NotABlock) (ap is_some none))
 
   -- the words of the block that is freed may change
   module _ (a : ℕ) (b : Block) (there : lookup address_of s.unique a ≡ Some b) (memory : Memory) (words : AreWords memory)

@@ -47,11 +47,12 @@ abbrev pub limit : (owner : Option ℕ) → (filled : ℕ) → ℕ
 limit None filled = 0
 limit (Some h) filled = if h == UNIQUE then 0 else filled
 
+-- Unique blocks are no region of the table, so theirs is any role of a first page.
 abbrev pub role_of_sort : Sort → Role
 role_of_sort Heap = role.Heap
 role_of_sort Lexical = role.Lexical
 role_of_sort Dynamic = role.Dynamic
-role_of_sort Uniques = role.Rest
+role_of_sort Uniques = role.Heap
 
 abbrev pub role_of_owner : (owner : Option ℕ) → (class : ℕ) → Role
 role_of_owner None class = role.Rest

@@ -1,7 +1,7 @@
 -- The blocks of a store as data, beside the words of its pages: what a store that stands on an array of words holds.
-use Rattle.std.specs.Prelude.{ℕ, ◌+◌, ◌-◌, ◌*◌, ◌/◌, ◌%◌, ◌==◌, ◌&&◌, nat_le, if◌then◌else◌, suc, List, [], ◌∷◌, slice_index, set}
+use Rattle.std.specs.Prelude.{◌≡◌, ℕ, ◌+◌, ◌-◌, ◌*◌, ◌/◌, ◌%◌, ◌==◌, ◌&&◌, nat_le, if◌then◌else◌, suc, List, [], ◌∷◌, slice_index, set}
 use Rattle.cyc_store.specs.Lookup.{without}
-use Rattle.cyc_store.specs.State.{Memory, Block, address_of, Lexical, Dynamic, Home, handle_of, StoreState, start, opened, made_in, made_unique}
+use Rattle.cyc_store.specs.State.{Memory, Block, address_of, Lexical, Dynamic, Home, handle_of, StoreState, start, opened, lexical_count, down_to, made_in, made_unique}
 use Rattle.cyc_store.specs.declared.change.Change.{Change}
 use Rattle.cyc_store.specs.declared.change.Change.TheVariants.{OpenedLexical, OpenedDynamic, Closed, Made, Stocked, MadeUnique, Freed}
 use Rattle.cyc_store.specs.declared.range.TheConstants.{STORE_BASE}
@@ -48,3 +48,9 @@ pub record Stored : Type 0 where
 
 abbrev pub held_of : Stored → StoreState
 held_of s = store_of s.pages s.words s.blocks
+
+-- the newest lexical region was closed
+pub record Unwinds (old new : Stored) : Type 0 where
+  pub count : lexical_count old.blocks.regions ≡ lexical_count new.blocks.regions + 1
+  pub regions : new.blocks.regions ≡ down_to (lexical_count new.blocks.regions) old.blocks.regions
+  pub same : new ≡ record old { blocks = record old.blocks { regions = new.blocks.regions } }

@@ -3,35 +3,18 @@
 /// A change of the blocks of a store.
 #[derive(Clone, Copy)]
 pub enum Change {
-    /// A lexical region was opened.
-    OpenedLexical {
-        handle: u32,
-    },
-    /// A dynamic region was opened.
-    OpenedDynamic {
-        handle: u32,
-    },
-    /// A region was closed.
-    Closed {
-        handle: u32,
-    },
-    /// A block was made in a region.
-    Made {
-        handle: u32,
-        address: u32,
-        words: u32,
-    },
-    /// A page was cut into slots of a class.
-    Stocked {
-        class: u32,
-    },
-    /// A unique block was made.
-    MadeUnique {
-        address: u32,
-        words: u32,
-    },
-    /// A unique block was freed.
-    Freed {
-        address: u32,
-    },
+    /// A lexical region with this handle was opened.
+    OpenedLexical(u32),
+    /// A dynamic region with this handle was opened.
+    OpenedDynamic(u32),
+    /// The region with this handle was closed.
+    Closed(u32),
+    /// In the region with this handle a block was made, at this address, with so many words.
+    Made(u32, u32, u32),
+    /// A page was cut into slots of this class.
+    Stocked(u32),
+    /// A unique block was made, at this address, with so many words.
+    MadeUnique(u32, u32),
+    /// The unique block at this address was freed.
+    Freed(u32),
 }

@@ -9,10 +9,12 @@ mod answer;
 mod change;
 pub mod laws;
 mod ledger;
+mod plain;
 mod range;
 mod row;
 mod store;
 
 pub use answer::{BadHandle, BadMark, No, NotABlock};
+pub use plain::PlainStore;
 pub use range::{HEAP, LEAST_PAGES, MOST_BLOCK_WORDS, MOST_PAGES, PAGE_WORDS, STORE_BASE, UNIQUE};
 pub use store::Store;

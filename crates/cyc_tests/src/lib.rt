@@ -15,6 +15,8 @@ mod machine;
 #[cfg(test)]
 mod rows;
 #[cfg(test)]
+mod store;
+#[cfg(test)]
 mod syntax;
 #[cfg(test)]
 mod system;

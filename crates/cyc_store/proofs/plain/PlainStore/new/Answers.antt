@@ -1,0 +1,19 @@
+use Rattle.std.proofs.Common.{◌≡◌, ◌≤◌, refl, arith}
+use Rattle.cyc_store.proofs.KeptStart.{heap-kept, heap-held}
+use Rattle.cyc_store.proofs.plain.PlainStore.new.Goals as goal
+
+pub invariant_of-result : goal.invariant_of-result
+invariant_of-result c =
+    let is : c.new-table.result.most ≡ c.args.pages = c.new-table.ensures.most in
+    let least : 3 ≤ c.args.pages = c.requires.least in
+    let most : c.args.pages ≤ 65536 = c.requires.most in
+    heap-kept c.new-table.result (omega (arith, is, least)) (omega (arith, is, most)) c.new-table.ensures.words c.new-table.ensures.live c.new-table.ensures.rows c.new-table.ensures.free
+    c.draw.new.self c.in_ok-page.page c.in_ok-page.ensures.draws _ (record { most = refl; words = refl; live = refl; free = refl; rows = refl }) c.new-2.result.blocks c.new-2.ensures _ c.new.ensures.items
+
+pub returns : goal.returns
+returns c =
+    let is : c.new-table.result.most ≡ c.args.pages = c.new-table.ensures.most in
+    let least : 3 ≤ c.args.pages = c.requires.least in
+    let most : c.args.pages ≤ 65536 = c.requires.most in
+    heap-held c.new-table.result (omega (arith, is, least)) (omega (arith, is, most)) c.new-table.ensures.words c.new-table.ensures.live c.new-table.ensures.rows c.new-table.ensures.free
+    c.draw.new.self c.in_ok-page.page c.in_ok-page.ensures.draws _ refl c.args.pages is c.new-2.result.blocks c.new-2.ensures

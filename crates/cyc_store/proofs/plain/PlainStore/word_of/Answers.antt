@@ -1,0 +1,24 @@
+use Rattle.std.proofs.Common.{◌≡◌, ◌×◌, ◌+◌, ◌*◌, ◌<◌, ◌≤◌, Bool, true, false, None, length, sym, subst, arith}
+use Rattle.std.specs.Prelude.{is_some}
+use Rattle.cyc_store.specs.Ledger.{Stored, held_of, store_of}
+use Rattle.cyc_store.specs.State.{homes, holder, word_at}
+use Rattle.cyc_store.proofs.KeptLoads.{load-none, load-behind, load-dead, load-live}
+use Rattle.cyc_store.proofs.plain.PlainStore.word_of.Goals as goal
+
+pub returns-in_default : goal.returns-in_default
+returns-in_default c =
+    let f = c.self.inside in
+    subst (λ (v : Stored). word_at (held_of v) c.args.address ≡ None) c.self.view_is
+    (load-none f.table f.lexicals.items f.classes f.ledger.blocks c.self.invariant c.args.address c.in_default.ensures)
+
+pub returns-then-count-word : goal.returns-then-count-word
+returns-then-count-word c =
+    let f = c.self.inside in
+    subst (λ (v : Stored). word_at (held_of v) c.args.address ≡ None) c.self.view_is
+    (load-behind f.table f.lexicals.items f.classes f.ledger.blocks c.self.invariant c.args.address c.in-Some.number c.in-Some.ensures (omega (arith, c.if-count-word.true, c.len-count.ensures)))
+
+pub returns-then-is_live : goal.returns-then-is_live
+returns-then-is_live c = ?
+
+pub returns-else-is_live : goal.returns-else-is_live
+returns-else-is_live c = ?

@@ -1,0 +1,20 @@
+use Rattle.std.proofs.Common.{◌≡◌, ◌<◌, Some, true, length, sym, subst, arith}
+use Rattle.std.specs.Prelude.{is_some}
+use Rattle.cyc_store.specs.Ledger.{Stored, held_of}
+use Rattle.cyc_store.specs.State.{word_at}
+use Rattle.cyc_store.proofs.KeptLoads.{load-word}
+use Rattle.cyc_store.proofs.plain.PlainStoreStore.load.Goals as goal
+
+pub index-requires : goal.index-requires
+index-requires c =
+    let f = c.self.inside in
+    let inside : c.in-Some.word < length f.table.words.items = subst (λ (v : Stored). c.in-Some.word < length v.words) (sym c.self.view_is) c.in-Some.ensures.0 in
+    omega (arith, inside)
+
+pub returns : goal.returns
+returns c =
+    let f = c.self.inside in
+    let inside : c.in-Some.word < length f.table.words.items = subst (λ (v : Stored). c.in-Some.word < length v.words) (sym c.self.view_is) c.in-Some.ensures.0 in
+    subst (λ (v : Stored). Some c.index.result.now ≡ word_at (held_of v) c.args.address) c.self.view_is
+    (load-word f.table.most f.table.words.items f.ledger.blocks c.args.address c.in-Some.word c.index.result.now c.in-Some.ensures.1 inside
+    (subst (λ (v : Stored). is_some (word_at (held_of v) c.args.address) ≡ true) (sym c.self.view_is) c.in-Some.ensures.2) c.index.ensures)
