@@ -5,7 +5,7 @@ use Rattle.std.specs.List.{AllByRecursion}
 use Rattle.std.proofs.lemmas.Bool.{cases_eq, cases_lt}
 use Rattle.cyc_store.specs.Lookup.{lookup, without, AreDistinct}
 use Rattle.cyc_store.specs.State.{Sort, Heap, Lexical, Dynamic, Uniques, Home, handle_of, is_lexical, StoreState}
-use Rattle.cyc_store.specs.Services.{is_dynamic, names_dynamic}
+use Rattle.cyc_store.specs.Services.{CloseDynamic, Done, is_dynamic, names_dynamic, Serves}
 use Rattle.cyc_store.specs.Soundness.{IsSound}
 use Rattle.cyc_store.specs.Ledger.{Blocks, store_of}
 use Rattle.cyc_store.specs.Pages.{given_back}
@@ -20,6 +20,7 @@ use Rattle.cyc_store.specs.declared.row.ClassSlots.{ClassSlots}
 use Rattle.cyc_store.specs.declared.range.TheConstants.{PAGE_WORDS, UNIQUE}
 use Rattle.cyc_store.proofs.LookupLemmas.{when_equal, when_other, cases_option, same_some, lookup-here, lookup-there, lookup-key, IsPart-without}
 use Rattle.cyc_store.proofs.ServiceLemmas.{closed-sound}
+use Rattle.cyc_store.proofs.Responses.{serves-close}
 use Rattle.cyc_store.proofs.TableLemmas.{row_at-read}
 use Rattle.cyc_store.proofs.LiveWords.{odd-apart}
 use Rattle.cyc_store.proofs.PagedClosing.{without-none, owned-apart}
@@ -144,11 +145,19 @@ module _ (t : PageTable) (lexicals : List ℕ) (classes : List ClassSlots) (b : 
         by Uniques e = heap e
 
     -- a page with the role of a first one
-    pub root-named : (sort : Sort) → first.role ≡ role_of_sort sort → is_some (lookup handle_of b.regions (handle_of_page page)) ≡ true
-    root-named sort is = elim (cases_option (lookup handle_of b.regions (handle_of_page page))) [
-      | inl none ↦ absurd (other-role sort (k.layout.pages.owner page) (k.layout.class page) (sym is ∙ played None none))
+    pub root-named : (first.role ≡ role.Heap) ⊎ ((first.role ≡ role.Lexical) ⊎ (first.role ≡ role.Dynamic)) → is_some (lookup handle_of b.regions (handle_of_page page)) ≡ true
+    root-named is = elim (cases_option (lookup handle_of b.regions (handle_of_page page))) [
+      | inl none ↦ absurd (by none is)
       | inr (r, found) ↦ ap is_some found
     ]
+      where
+        other : lookup handle_of b.regions (handle_of_page page) ≡ None → (sort : Sort) → first.role ≡ role_of_sort sort → ⊥
+        other none sort e = other-role sort (k.layout.pages.owner page) (k.layout.class page) (sym e ∙ played None none)
+
+        by : lookup handle_of b.regions (handle_of_page page) ≡ None → (first.role ≡ role.Heap) ⊎ ((first.role ≡ role.Lexical) ⊎ (first.role ≡ role.Dynamic)) → ⊥
+        by none (inl e) = other none Heap e
+        by none (inr (inl e)) = other none Lexical e
+        by none (inr (inr e)) = other none Dynamic e
 
 pub odd-handle : (h : ℕ) → (h % 2 ≡ 0 → ⊥) → h ≡ 2 * (h / 2) + 1
 odd-handle h odd = by (cases_lt 0 (h % 2))
@@ -159,6 +168,22 @@ odd-handle h odd = by (cases_lt 0 (h % 2))
       where
         zero : (n : ℕ) → n ≤ 0 → n ≡ 0
         zero n e = omega (arith, e)
+
+-- ---- a dynamic region
+
+module _ (t : PageTable) (lexicals : List ℕ) (classes : List ClassSlots) (b : Blocks) (k : IsKept t lexicals classes b)
+    (h : ℕ) (r : Home) (named : lookup handle_of b.regions h ≡ Some r) (sort : r.sort ≡ Dynamic) where
+  -- the lexical ones stay
+  pub dynamic-left : lexicals ≡ lexical_handles (without handle_of b.regions h)
+  dynamic-left = k.tied.newest ∙ sym (lexical-without b.regions h r k.laid.sound.regions.handles.1 named (ap is_lexical sort))
+
+  pub dynamic-closes : (c : Blocks) → c ≡ record b { regions = without handle_of b.regions h } → (v : PageTable) → v.most ≡ t.most → v.words.items ≡ t.words.items
+      → Serves (store_of t.most t.words.items b) (CloseDynamic h) Done (store_of v.most v.words.items c)
+  dynamic-closes c noted v most words =
+      subst (Serves (store_of t.most t.words.items b) (CloseDynamic h) Done)
+      (sym (ap (store_of v.most v.words.items) noted
+      ∙ held-same t.most t.words.items v.most v.words.items (record b { regions = without handle_of b.regions h }) most (λ i. ap (λ ws. slice_index ws i) words)))
+      (serves-close (store_of t.most t.words.items b) k.layout k.laid h r named (ap is_dynamic sort))
 
 -- ---- a region is closed
 

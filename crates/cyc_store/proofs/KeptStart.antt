@@ -170,6 +170,5 @@ module _ (t : PageTable) (least_pages : 1 ≤ t.most) (most : t.most ≤ 65536) 
       subst (λ xs. IsKept v xs all_new c) (sym none) (subst (IsKept v [] all_new) (sym (noted ∙ ap (λ p. blocks_of (opened (plain_store no_regions) (handle_of_page p) Heap)) (sym page-zero)))
       (kept-opened t [] all_new no_regions first u page draws room v Heap is heap-sound))
 
-  pub heap-held : (v : PageTable) → v.most ≡ u.most → (pages : ℕ) → t.most ≡ pages → (c : Blocks) → c ≡ no_blocks
-      → store_of v.most v.words.items c ≡ start pages (memory_of v.words.items)
-  heap-held v same pages is c noted = ap (λ n. store_of n v.words.items c) (same ∙ (draws.most ∙ is)) ∙ ap (store_of pages v.words.items) noted
+  pub heap-held : (pages : ℕ) → t.most ≡ pages → (ws : List ℕ) (c : Blocks) → c ≡ no_blocks → store_of u.most ws c ≡ start pages (memory_of ws)
+  heap-held pages is ws c noted = ap (λ n. store_of n ws c) (draws.most ∙ is) ∙ ap (store_of pages ws) noted

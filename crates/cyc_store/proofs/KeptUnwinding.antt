@@ -166,13 +166,16 @@ module _ (t : PageTable) (lexicals : List ℕ) (classes : List ClassSlots) (b : 
       where
         one-more : (xs : List ℕ) → length (xs ++ h ∷ []) ≡ length xs + 1
         one-more [] = refl
-        one-more (x ∷ xs) = ap suc (one-more xs)
+        one-more (x ∷ xs) = ap suc (one-more xs) ∙ turned (length xs)
+          where
+            turned : (n : ℕ) → suc (n + 1) ≡ suc n + 1
+            turned n = omega arith
 
     newest-down : c.regions ≡ down_to (lexical_count c.regions) b.regions
     newest-down = regions-are ∙ (newest.down ∙ ap (λ n. down_to n b.regions) (sym many-left))
 
     newest-same : (v : PageTable) → v.most ≡ t.most → v.words.items ≡ t.words.items
-        → record { pages = v.most; words = v.words.items; blocks = c } ≡ record { pages = t.most; words = t.words.items; blocks = record b { regions = c.regions } }
+        → ◌≡◌ {A = Stored} (record { pages = v.most; words = v.words.items; blocks = c }) (record { pages = t.most; words = t.words.items; blocks = record b { regions = c.regions } })
     newest-same v most words =
         ap (λ n. record { pages = n; words = v.words.items; blocks = c }) most
         ∙ (ap (λ ws. record { pages = t.most; words = ws; blocks = c }) words

@@ -45,7 +45,7 @@ pub same-words : (v w : ℕ) → place_of v ≡ place_of w → v ≡ w
 same-words v w e = omega (arith, e)
 
 -- a slot has its first address
-first-in : (c w : ℕ) → covers (slot_block c w) (place_of w) ≡ true
+pub first-in : (c w : ℕ) → covers (slot_block c w) (place_of w) ≡ true
 first-in c w = covers_from (slot_block c w) (place_of w) (starts (place_of w)) (within (place_of w) (2 ^ c) (pow_pos c))
   where
     starts : (n : ℕ) → n ≤ n
@@ -197,7 +197,7 @@ module _ (s : StoreState) (l : Layout) (laid : IsLaidOut s l) (c w : ℕ) (bound
 
 module _ (s : StoreState) (l : Layout) (laid : IsLaidOut s l) (c w : ℕ) (bound : c ≤ greatest_class) (slot : IsSlot l.pages.owner l.class c w)
     (b : Block) (there : lookup address_of s.unique (place_of w) ≡ Some b) where
-  freed-is : b ≡ slot_block c w
+  pub freed-is : b ≡ slot_block c w
   freed-is =
       let live : IsLiveSlot l.pages.owner l.class b = laid.slots.live (place_of w) b there in
       let words : live.word ≡ w = same-words live.word w (sym (ap address_of live.is) ∙ lookup-key address_of s.unique (place_of w) b there) in

@@ -121,7 +121,7 @@ module _ (s : StoreState) (l : Layout) (laid : IsLaidOut s l) (page : ℕ) (rest
           (when_equal page page (Some UNIQUE) (l.pages.owner page) refl) ordinary chain
 
   -- no live block is in the page
-  page-empty : (w u : ℕ) → w ≡ PAGE_WORDS * page + u → u < PAGE_WORDS → lookup address_of s.unique (place_of w) ≡ None
+  pub page-empty : (w u : ℕ) → w ≡ PAGE_WORDS * page + u → u < PAGE_WORDS → lookup address_of s.unique (place_of w) ≡ None
   page-empty w u is small = elim (cases_option (lookup address_of s.unique (place_of w))) [
     | inl nothing ↦ nothing
     | inr (b, there) ↦

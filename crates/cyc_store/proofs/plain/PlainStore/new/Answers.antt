@@ -16,4 +16,4 @@ returns c =
     let least : 3 ≤ c.args.pages = c.requires.least in
     let most : c.args.pages ≤ 65536 = c.requires.most in
     heap-held c.new-table.result (omega (arith, is, least)) (omega (arith, is, most)) c.new-table.ensures.words c.new-table.ensures.live c.new-table.ensures.rows c.new-table.ensures.free
-    c.draw.new.self c.in_ok-page.page c.in_ok-page.ensures.draws _ refl c.args.pages is c.new-2.result.blocks c.new-2.ensures
+    c.draw.new.self c.in_ok-page.page c.in_ok-page.ensures.draws c.args.pages is c.draw.new.self.words.items c.new-2.result.blocks c.new-2.ensures

@@ -1,8 +1,8 @@
-use Rattle.std.proofs.Common.{◌≡◌, ◌×◌, ◌+◌, ◌*◌, ◌/◌, ◌<◌, ◌≤◌, true, None, length, refl, sym, ap, subst, ◌∙◌, arith}
+use Rattle.std.proofs.Common.{◌≡◌, ◌+◌, ◌*◌, ◌/◌, ◌<◌, ◌≤◌, true, None, length, refl, sym, ap, subst, ◌∙◌, arith}
 use Rattle.std.specs.Prelude.{is_some}
 use Rattle.cyc_store.specs.Ledger.{Stored}
 use Rattle.cyc_store.specs.Lookup.{lookup}
-use Rattle.cyc_store.specs.State.{Heap, Lexical, Dynamic, handle_of}
+use Rattle.cyc_store.specs.State.{handle_of}
 use Rattle.cyc_store.proofs.KeptClosing.{even-none, past-none, other-none, root-named, odd-handle}
 use Rattle.cyc_store.proofs.plain.PlainStore.root_of.Goals as goal
 
@@ -33,4 +33,4 @@ returns-in-Heap c =
     let odd = odd-handle c.args.handle c.if-handle-eq0.false in
     subst (λ (v : Stored). (c.args.handle ≡ 2 * (c.args.handle / 2) + 1) × (is_some (lookup handle_of v.blocks.regions c.args.handle) ≡ true)) c.self.view_is
     (odd, subst (λ h. is_some (lookup handle_of f.ledger.blocks.regions h) ≡ true) (sym odd)
-    (root-named f.table f.lexicals.items f.classes f.ledger.blocks c.self.invariant (c.args.handle / 2) c.index-first.result.now there c.index-first.ensures Heap c.in-Heap.is))
+    (root-named f.table f.lexicals.items f.classes f.ledger.blocks c.self.invariant (c.args.handle / 2) c.index-first.result.now there c.index-first.ensures c.in-Heap.is))

@@ -10,28 +10,28 @@ use Rattle.cyc_store.proofs.plain.PlainStoreStore.close_to.Goals as goal
 pub returns-then-len-mark : goal.returns-then-len-mark
 returns-then-len-mark c =
     let f = c.self.inside in
-    let open : length f.lexicals.items ≡ lexical_count f.ledger.blocks.regions = kept-lexicals f.table f.lexicals.items f.classes f.ledger.blocks c.self.invariant in
+    let counted : length f.lexicals.items ≡ lexical_count f.ledger.blocks.regions = kept-lexicals f.table f.lexicals.items f.classes f.ledger.blocks c.self.invariant in
     subst (λ (v : Stored). Serves (held_of v) (CloseTo c.args.mark) (Refused BadMark) (held_of v)) c.self.view_is
-    (refuses-close_to (store_of f.table.most f.table.words.items f.ledger.blocks) c.args.mark (omega (arith, open, c.if-len-mark.true, c.len.ensures)))
+    (refuses-close_to (store_of f.table.most f.table.words.items f.ledger.blocks) c.args.mark (omega (arith, counted, c.if-len-mark.true, c.len.ensures)))
 
-pub loop-mark-preserved : goal.loop-mark-preserved
-loop-mark-preserved c =
+pub loop-self-preserved : goal.loop-self-preserved
+loop-self-preserved c =
     let closed = c.close_newest.ensures in
-    let few : c.args.mark ≤ lexical_count c.close_newest.new.self.blocks.regions = omega (arith, closed.count, c.loop-mark-test.true, c.lexicals_open.ensures) in
+    let few : c.args.mark ≤ lexical_count c.close_newest.new.self.blocks.regions = omega (arith, closed.count, c.loop-self-test.true, c.lexicals_open.ensures) in
     record {
-      same = closed.same ∙ ap (λ (v : Stored). record v { blocks = record v.blocks { regions = c.close_newest.new.self.blocks.regions } }) c.loop-mark.invariant.same;
+      same = closed.same ∙ ap (λ (v : Stored). record v { blocks = record v.blocks { regions = c.close_newest.new.self.blocks.regions } }) c.loop-self.invariant.same;
       down = ap (down_to c.args.mark) closed.regions
-          ∙ (down_to-lower c.args.mark (lexical_count c.close_newest.new.self.blocks.regions) c.loop-mark.self.blocks.regions few ∙ c.loop-mark.invariant.down);
+          ∙ (down_to-lower c.args.mark (lexical_count c.close_newest.new.self.blocks.regions) c.loop-self.self.blocks.regions few ∙ c.loop-self.invariant.down);
     }
 
 pub returns : goal.returns
 returns c =
     let f = c.self.inside in let k = c.self.invariant in
-    let open : length f.lexicals.items ≡ lexical_count f.ledger.blocks.regions = kept-lexicals f.table f.lexicals.items f.classes f.ledger.blocks k in
-    let most : c.args.mark ≤ lexical_count f.ledger.blocks.regions = omega (arith, open, c.if-len-mark.false, c.len.ensures) in
-    let few : lexical_count c.loop-mark.self.blocks.regions ≤ c.args.mark = omega (arith, c.loop-mark-test.false, c.lexicals_open.ensures) in
+    let counted : length f.lexicals.items ≡ lexical_count f.ledger.blocks.regions = kept-lexicals f.table f.lexicals.items f.classes f.ledger.blocks k in
+    let most : c.args.mark ≤ lexical_count f.ledger.blocks.regions = omega (arith, counted, c.if-len-mark.false, c.len.ensures) in
+    let few : lexical_count c.loop-self.self.blocks.regions ≤ c.args.mark = omega (arith, c.loop-self-test.false, c.lexicals_open.ensures) in
     let served : Serves (held_of c.args.self.now) (CloseTo c.args.mark) Done (record (held_of c.args.self.now) { regions = down_to c.args.mark c.args.self.now.blocks.regions }) =
     subst (λ (v : Stored). Serves (held_of v) (CloseTo c.args.mark) Done (record (held_of v) { regions = down_to c.args.mark v.blocks.regions })) c.self.view_is
     (serves-close_to (store_of f.table.most f.table.words.items f.ledger.blocks) k.layout k.laid c.args.mark most) in
     subst (λ (t : StoreState). Serves (held_of c.args.self.now) (CloseTo c.args.mark) Done t)
-    (sym (unwound c.args.self.now c.loop-mark.self c.args.mark c.loop-mark.invariant.same c.loop-mark.invariant.down few)) served
+    (sym (unwound c.args.self.now c.loop-self.self c.args.mark c.loop-self.invariant.same c.loop-self.invariant.down few)) served
