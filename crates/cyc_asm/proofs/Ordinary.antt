@@ -85,7 +85,7 @@ module _ (words : List ℕ) (inside : text_base + 4 * length words ≤ text_end)
 
   above : (address : ℕ) → (in_globals address || (in_stack address || in_store address)) ≡ true → text_end ≤ address
   above address within = elim (or_cases (in_globals address) (in_stack address || in_store address) within) [
-    | inl data ↦ behind data_base (length c.globals) address (omega arith) data
+    | inl within_data ↦ behind data_base (length c.globals) address (omega arith) within_data
     | inr others ↦ elim (or_cases (in_stack address) (in_store address) others) [
       | inl low ↦ behind (stack_base c.stack) (length c.stack) address (omega (arith, small)) low
       | inr pages ↦ behind store_base (words_per_page * c.store.pages) address (omega arith) pages
