@@ -46,7 +46,7 @@ module _ (words : List ℕ) (inside : text_base + 4 * length words ≤ text_end)
   data Known (address : ℕ) : Type 0 where
     globals : (n : ℕ) → place_of (memory_of c) address ≡ InGlobals n → place_of memory_with address ≡ InGlobals n → Known address
     stack : (n : ℕ) → place_of (memory_of c) address ≡ InStack n → place_of memory_with address ≡ InStack n → Known address
-    store : (n : ℕ) → place_of (memory_of c) address ≡ InStore n → place_of memory_with address ≡ InStore n → Known address
+    cells : (n : ℕ) → place_of (memory_of c) address ≡ InStore n → place_of memory_with address ≡ InStore n → Known address
 
   -- the rule, from what is found in the text and which range the address is in
   abbrev place_by : Option ℕ → (in_globals in_stack in_store : Bool) → (address : ℕ) → Place
@@ -70,7 +70,7 @@ module _ (words : List ℕ) (inside : text_base + 4 * length words ≤ text_end)
   range_known found false true in_store address without with none there =
       stack (word_number (stack_base c.stack) address) without (with ∙ ap (λ (f : Option ℕ). place_by f false true in_store address) (none refl))
   range_known found false false true address without with none there =
-      store address without (with ∙ ap (λ (f : Option ℕ). place_by f false false true address) (none refl))
+      cells address without (with ∙ ap (λ (f : Option ℕ). place_by f false false true address) (none refl))
   range_known found false false false address without with none there =
       let both : true ≡ false = sym (ap is_nowhere without) ∙ there in cc
 
@@ -141,13 +141,13 @@ module _ (words : List ℕ) (inside : text_base + 4 * length words ≤ text_end)
       ap (cause_at memory_with LoadWord target base offset) with ∙ sym (ap (cause_at (memory_of c) LoadWord target base offset) without) ∙ none
   memory_cause at LoadWord target base offset none (stack n without with) =
       ap (cause_at memory_with LoadWord target base offset) with ∙ sym (ap (cause_at (memory_of c) LoadWord target base offset) without) ∙ none
-  memory_cause at LoadWord target base offset none (store n without with) =
+  memory_cause at LoadWord target base offset none (cells n without with) =
       ap (cause_at memory_with LoadWord target base offset) with ∙ sym (ap (cause_at (memory_of c) LoadWord target base offset) without) ∙ none
   memory_cause at StoreWord target base offset none (globals n without with) =
       ap (cause_at memory_with StoreWord target base offset) with ∙ sym (ap (cause_at (memory_of c) StoreWord target base offset) without) ∙ none
   memory_cause at StoreWord target base offset none (stack n without with) =
       ap (cause_at memory_with StoreWord target base offset) with ∙ sym (ap (cause_at (memory_of c) StoreWord target base offset) without) ∙ none
-  memory_cause at StoreWord target base offset none (store n without with) =
+  memory_cause at StoreWord target base offset none (cells n without with) =
       ap (cause_at memory_with StoreWord target base offset) with ∙ sym (ap (cause_at (memory_of c) StoreWord target base offset) without) ∙ none
 
   -- what is not refused without the text is not refused with it
@@ -205,7 +205,7 @@ module _ (words : List ℕ) (inside : text_base + 4 * length words ≤ text_end)
       did at _ _ event s refl (
       ap (λ place. told (world_here at) Ran (loads (world_here at).machine t place)) with
       ∙ sym (ap (λ place. world_at words (from_world (told (world_of c) Ran (loads (machine_of c) t place)) 0) (add_of at 4) (add_of (add_of at 4) 4) false) without)) acts
-  memory_did at LoadWord t b h event s (store n without with) acts =
+  memory_did at LoadWord t b h event s (cells n without with) acts =
       did at _ _ event s refl (
       ap (λ place. told (world_here at) Ran (loads (world_here at).machine t place)) with
       ∙ sym (ap (λ place. world_at words (from_world (told (world_of c) Ran (loads (machine_of c) t place)) 0) (add_of at 4) (add_of (add_of at 4) 4) false) without)) acts
@@ -217,7 +217,7 @@ module _ (words : List ℕ) (inside : text_base + 4 * length words ≤ text_end)
       did at _ _ event s refl (
       ap (λ place. told (world_here at) Ran (stores (world_here at).machine t place)) with
       ∙ sym (ap (λ place. world_at words (from_world (told (world_of c) Ran (stores (machine_of c) t place)) 0) (add_of at 4) (add_of (add_of at 4) 4) false) without)) acts
-  memory_did at StoreWord t b h event s (store n without with) acts =
+  memory_did at StoreWord t b h event s (cells n without with) acts =
       did at _ _ event s refl (
       ap (λ place. told (world_here at) Ran (stores (world_here at).machine t place)) with
       ∙ sym (ap (λ place. world_at words (from_world (told (world_of c) Ran (stores (machine_of c) t place)) 0) (add_of at 4) (add_of (add_of at 4) 4) false) without)) acts
@@ -237,7 +237,7 @@ module _ (words : List ℕ) (inside : text_base + 4 * length words ≤ text_end)
   gone_on at Done store event s same_event same_state = inl (refl, told_same at event Ran s _ same_event same_state)
   gone_on at (Opened handle) store event s same_event same_state = inl (refl, told_same at event Ran s _ same_event same_state)
   gone_on at (OpenedLexical handle mark) store event s same_event same_state = inl (refl, told_same at event Ran s _ same_event same_state)
-  gone_on at (Allocated address) store event s same_event same_state = inl (refl, told_same at event Ran s _ same_event same_state)
+  gone_on at (Allocated block) store event s same_event same_state = inl (refl, told_same at event Ran s _ same_event same_state)
 
   served : (at : ℕ) (service : Option Service) (event : Event) (s : machines.State) → Acts (calls service (world_here at).machine) (world_here at).machine event s → Matched at (calls service (machine_of c)) event s
   served at (Some GetByte) event s acts = (WantsByte, _, (refl, refl), inl (refl, told_same at event WantsByte s _ acts.0 acts.1))
