@@ -1,6 +1,6 @@
 -- Which unique block begins at an address, by what a table of pages says.
-use Rattle.std.proofs.Common.{◌≡◌, ℕ, ◌+◌, ◌-◌, ◌*◌, ◌/◌, ◌%◌, ◌^◌, ◌<◌, ◌≤◌, Bool, true, false, List, length, Option, None, Some, refl, sym, ap, subst, ◌∙◌, inl, inr, lit<, arith}
-use Rattle.std.specs.Prelude.{is_some, slice_index_or}
+use Rattle.std.proofs.Common.{◌≡◌, ◌≢◌, ℕ, ◌+◌, ◌*◌, ◌/◌, ◌%◌, ◌^◌, ◌<◌, ◌≤◌, Bool, true, false, List, length, Option, None, Some, refl, sym, ap, subst, ◌∙◌, inl, inr, lit<, arith}
+use Rattle.std.specs.Prelude.{◌⊎◌, is_some, slice_index_or}
 use Rattle.std.proofs.Math.Nat.{div-le_self, mod-lt, mul-div_cancel}
 use Rattle.std.proofs.lemmas.List.{get_or_default}
 use Rattle.std.proofs.lemmas.Nat.{pow_pos}
@@ -19,10 +19,9 @@ use Rattle.cyc_store.specs.declared.range.TheConstants.{PAGE_WORDS, UNIQUE}
 use Rattle.cyc_store.proofs.LookupLemmas.{cases_option, lookup-key}
 use Rattle.cyc_store.proofs.LiveWords.{slot-fits, slots-owner, unique-role, word-split}
 use Rattle.cyc_store.proofs.ServiceLemmas.{some-there}
-use Rattle.cyc_store.proofs.SlotServices.{freed-is}
+use Rattle.cyc_store.proofs.SlotServices.{same-words, freed-is}
 use Rattle.cyc_store.proofs.SlotTables.{slot-page, slot-offset}
 use Rattle.cyc_store.proofs.TableLemmas.{row_at-read}
-use Rattle.cyc_store.proofs.KeptLoads.{word-place}
 
 none-there : {A : Type 0} (o : Option A) → is_some o ≡ false → o ≡ None
 none-there None e = refl
@@ -44,31 +43,18 @@ module _ (t : PageTable) (lexicals : List ℕ) (classes : List ClassSlots) (b : 
         absurd (never live.class live.word live.slot (sym (lookup-key address_of b.unique address x there) ∙ ap address_of live.is))
   ]
 
-  pub block-low : address < 536870912 → IsNone
-  block-low less = none-unless (λ class word slot at. below address word less at)
+  -- an address below all words, or between two
+  pub block-unplaced : (address < 536870912) ⊎ (address % 4 ≢ 0) → IsNone
+  block-unplaced bad = none-unless (λ class word slot at. clash address word at bad)
     where
-      below : (a w : ℕ) → a < 536870912 → a ≡ 536870912 + 4 * w → ⊥
-      below a w less at = omega (arith, less, at)
+      clash : (a w : ℕ) → a ≡ 536870912 + 4 * w → (a < 536870912) ⊎ (a % 4 ≢ 0) → ⊥
+      clash a w at (inl less) = omega (arith, less, at)
+      clash a w at (inr odd) = odd (omega (arith, at))
 
-  pub block-odd : (address % 4 ≡ 0 → ⊥) → IsNone
-  block-odd odd = none-unless (λ class word slot at. odd (aligned address word at))
-    where
-      aligned : (a w : ℕ) → a ≡ 536870912 + 4 * w → a % 4 ≡ 0
-      aligned a w at = omega (arith, at)
-
-  module _ (low : 536870912 ≤ address) (even : address % 4 ≡ 0) where
-    abbrev word : ℕ
-    word = (address - 536870912) / 4
-
-    word-is : (w : ℕ) → address ≡ place_of w → w ≡ word
-    word-is w at = is address w at
-      where
-        is : (a w : ℕ) → a ≡ 536870912 + 4 * w → w ≡ (a - 536870912) / 4
-        is a w at = omega (arith, at)
-
+  module _ (word : ℕ) (at : address ≡ 536870912 + 4 * word) where
     -- a slot that begins there, as one that begins at this word
     slot-unless : ((class : ℕ) → IsSlot k.layout.pages.owner k.layout.class class word → ⊥) → IsNone
-    slot-unless never = none-unless (λ class w slot at. never class (subst (IsSlot k.layout.pages.owner k.layout.class class) (word-is w at) slot))
+    slot-unless never = none-unless (λ class w slot also. never class (subst (IsSlot k.layout.pages.owner k.layout.class class) (same-words w word (sym also ∙ at)) slot))
 
     pub block-past : length t.rows.items ≤ word / 1024 → IsNone
     block-past past = slot-unless (λ class slot. clash (word / 1024) slot.page (length t.rows.items) (slot-page k.layout.pages.owner k.layout.class class word slot)
@@ -126,7 +112,7 @@ module _ (t : PageTable) (lexicals : List ℕ) (classes : List ClassSlots) (b : 
               marked ∙ (sym (get_or_default t.live.items (word / 1024 * 1024 + word % 1024 / 2 ^ class) false mark block-there)
               ∙ (ap (λ n. slice_index_or t.live.items n false) (turned (word / 1024) (word % 1024 / 2 ^ class))
               ∙ (k.tied.marked (word / 1024) (word % 1024 / 2 ^ class) page-is.0 inside
-              ∙ ap (λ n. is_some (lookup address_of b.unique n)) (ap place_of place-is ∙ word-place address even low))))
+              ∙ ap (λ n. is_some (lookup address_of b.unique n)) (ap place_of place-is ∙ sym at))))
             where
               turned : (p n : ℕ) → p * 1024 + n ≡ 1024 * p + n
               turned p n = omega arith
@@ -147,6 +133,5 @@ module _ (t : PageTable) (lexicals : List ℕ) (classes : List ClassSlots) (b : 
           pub block-live : mark ≡ true → lookup address_of b.unique address ≡ Some (record { address = address; size = 2 ^ class })
           block-live live =
               let (x, found) = some-there (lookup address_of b.unique address) (sym mark-is ∙ live) in
-              let place : place_of word ≡ address = word-place address even low in
-              found ∙ (ap (λ y. Some y) (freed-is s k.layout k.laid class word block-class slot x (ap (lookup address_of b.unique) place ∙ found))
-              ∙ ap (λ a. Some (record { address = a; size = 2 ^ class })) place)
+              found ∙ (ap (λ y. Some y) (freed-is s k.layout k.laid class word block-class slot x (ap (lookup address_of b.unique) (sym at) ∙ found))
+              ∙ ap (λ a. Some (record { address = a; size = 2 ^ class })) (sym at))

@@ -1,19 +1,17 @@
 -- A store on a table of pages stays one where a region is closed.
-use Rattle.std.proofs.Common.{◌≡◌, ◌≢◌, ℕ, suc, ◌+◌, ◌*◌, ◌/◌, ◌%◌, ◌<◌, ◌≤◌, Bool, true, false, List, [], ◌∷◌, length, Option, None, Some, refl, sym, ap, subst, ◌∙◌, inl, inr, arith}
-use Rattle.std.specs.Prelude.{◌⊎◌, ◌==◌, if◌then◌else◌, is_some, slice_index, slice_index_or}
+use Rattle.std.proofs.Common.{◌≡◌, ◌≢◌, ℕ, suc, ◌+◌, ◌*◌, ◌/◌, ◌%◌, ◌<◌, ◌≤◌, true, false, List, [], ◌∷◌, length, Option, None, Some, refl, sym, ap, subst, ◌∙◌, inl, inr, arith}
+use Rattle.std.specs.Prelude.{◌⊎◌, if◌then◌else◌, is_some, slice_index, slice_index_or}
 use Rattle.std.specs.List.{AllByRecursion}
 use Rattle.std.proofs.lemmas.Bool.{cases_eq, cases_lt}
 use Rattle.cyc_store.specs.Lookup.{lookup, without, AreDistinct}
 use Rattle.cyc_store.specs.State.{Sort, Heap, Lexical, Dynamic, Uniques, Home, handle_of, is_lexical, StoreState}
 use Rattle.cyc_store.specs.Services.{CloseDynamic, Done, is_dynamic, names_dynamic, Serves}
-use Rattle.cyc_store.specs.Soundness.{IsSound}
 use Rattle.cyc_store.specs.Ledger.{Blocks, store_of}
 use Rattle.cyc_store.specs.Pages.{given_back}
-use Rattle.cyc_store.specs.Slots.{Layout, IsLaidOut}
+use Rattle.cyc_store.specs.Slots.{IsLaidOut}
 use Rattle.cyc_store.specs.Table.{row_at, given_rows, given_free, AreThere}
-use Rattle.cyc_store.specs.Kept.{Table, role_of, role_of_sort, role_of_owner, sort_of, handle_of_page, IsRooted, lexical_handles, IsTied, IsKept, table_of, no_slots}
+use Rattle.cyc_store.specs.Kept.{role_of, role_of_sort, role_of_owner, sort_of, handle_of_page, IsRooted, lexical_handles, IsTied, IsKept, table_of, no_slots}
 use Rattle.cyc_store.specs.declared.row.PageTable.{PageTable}
-use Rattle.cyc_store.specs.declared.row.Role.{Role}
 use Rattle.cyc_store.specs.declared.row.Role.TheVariants as role
 use Rattle.cyc_store.specs.declared.row.Row.{Row}
 use Rattle.cyc_store.specs.declared.row.ClassSlots.{ClassSlots}

@@ -1,15 +1,13 @@
 -- What is read of a store on a table of pages.
-use Rattle.std.proofs.Common.{◌≡◌, ℕ, ◌+◌, ◌-◌, ◌*◌, ◌/◌, ◌%◌, ◌<◌, ◌≤◌, Bool, true, false, List, length, Option, None, Some, refl, sym, ap, subst, ◌∙◌, inl, inr, arith}
-use Rattle.std.specs.Prelude.{◌==◌, ◌&&◌, ◌⊎◌, nat_le, if◌then◌else◌, is_some, slice_index, slice_index_or}
+use Rattle.std.proofs.Common.{◌≡◌, ℕ, ◌+◌, ◌-◌, ◌*◌, ◌/◌, ◌%◌, ◌<◌, ◌≤◌, true, false, List, length, Option, None, Some, refl, sym, ap, ◌∙◌, inl, inr, arith}
+use Rattle.std.specs.Prelude.{◌==◌, ◌&&◌, ◌⊎◌, nat_le, is_some, slice_index, slice_index_or}
 use Rattle.std.proofs.lemmas.Bool.{cases_eq, cond-true, le-leb, eq-eqb}
 use Rattle.std.proofs.lemmas.List.{get_or_default}
-use Rattle.cyc_store.specs.State.{StoreState, homes, covers, Holder, holder, word_in, word_at}
+use Rattle.cyc_store.specs.State.{StoreState, homes, Holder, holder, word_in, word_at}
 use Rattle.cyc_store.specs.Ledger.{Blocks, memory_of, store_of}
-use Rattle.cyc_store.specs.Pages.{IsLaid}
 use Rattle.cyc_store.specs.Kept.{IsKept}
 use Rattle.cyc_store.specs.declared.row.PageTable.{PageTable}
 use Rattle.cyc_store.specs.declared.row.ClassSlots.{ClassSlots}
-use Rattle.cyc_store.specs.declared.range.TheConstants.{STORE_BASE}
 use Rattle.cyc_store.proofs.LookupLemmas.{when_equal, when_other, cases_option}
 use Rattle.cyc_store.proofs.ServiceLemmas.{some-there}
 use Rattle.cyc_store.proofs.PageLemmas.{covers_bounds, holder-laid}

@@ -1,18 +1,17 @@
 -- A store on a table of pages stays one where a block is made in a region, and answers as the relation says.
-use Rattle.std.proofs.Common.{◌≡◌, ◌≢◌, ℕ, suc, ◌+◌, ◌*◌, ◌<◌, ◌≤◌, false, true, List, [], ◌∷◌, length, None, Some, refl, sym, ap, subst, ◌∙◌, inl, inr, arith, length-set, get_or-set_other}
-use Rattle.std.specs.Prelude.{◌⊎◌, ◌==◌, if◌then◌else◌, slice_index, slice_index_or, set}
+use Rattle.std.proofs.Common.{◌≡◌, ℕ, suc, ◌+◌, ◌*◌, ◌<◌, ◌≤◌, false, List, [], ◌∷◌, length, None, Some, refl, sym, ap, subst, ◌∙◌, inl, inr, arith, length-set, get_or-set_other}
+use Rattle.std.specs.Prelude.{◌==◌, if◌then◌else◌, slice_index, slice_index_or, set}
 use Rattle.std.specs.List.{AllByRecursion}
 use Rattle.std.proofs.lemmas.Bool.{cases_eq}
 use Rattle.cyc_words.specs.Demand.{region_pages, demand_of}
 use Rattle.cyc_store.specs.Lookup.{lookup}
 use Rattle.cyc_store.specs.State.{Block, address_of, Home, handle_of, StoreState, homes, sizes_of, sizes_in, demand, made_in}
 use Rattle.cyc_store.specs.Services.{Allocate, Allocated, Refused, Full, refusal, IsPlaced, IsApart, Serves}
-use Rattle.cyc_store.specs.Soundness.{IsSound}
 use Rattle.cyc_store.specs.Ledger.{Blocks, store_of, plain_store, blocks_of}
-use Rattle.cyc_store.specs.Pages.{page_start, IsPaged, Pages, drawn, filled_to, mark_of, HasChain}
-use Rattle.cyc_store.specs.Slots.{Layout, IsLaidOut}
+use Rattle.cyc_store.specs.Pages.{page_start, IsPaged, drawn, filled_to, mark_of}
+use Rattle.cyc_store.specs.Slots.{IsLaidOut}
 use Rattle.cyc_store.specs.Table.{Draws, row_at}
-use Rattle.cyc_store.specs.Kept.{Table, limit, handle_of_page, IsRow, IsRooted, IsTied, IsKept, table_of, no_slots}
+use Rattle.cyc_store.specs.Kept.{limit, handle_of_page, IsRooted, IsTied, IsKept, table_of, no_slots}
 use Rattle.cyc_store.specs.declared.row.PageTable.{PageTable}
 use Rattle.cyc_store.specs.declared.row.Row.{Row}
 use Rattle.cyc_store.specs.declared.row.ClassSlots.{ClassSlots}
@@ -28,7 +27,7 @@ use Rattle.cyc_store.proofs.TableLemmas.{row_at-read}
 use Rattle.cyc_store.proofs.TieLemmas.{chain-same, IsDrawn}
 use Rattle.cyc_store.proofs.TieOpening.{with_row}
 use Rattle.cyc_store.proofs.TieMaking.{filled_row, stays-tied, next_row, longer_row, draws-tied}
-use Rattle.cyc_store.proofs.KeptServices.{held-same, Rewrites, rewritten-row, rewritten-table, rewritten-whole, kept-full, kept-some, kept-drawn, drawn-none, drawn-away}
+use Rattle.cyc_store.proofs.KeptServices.{held-same, Rewrites, rewritten-row, rewritten-table, rewritten-whole, kept-drawn, drawn-none, drawn-away}
 
 region-few : (rs : List Home) (h : ℕ) (r : Home) (classes : List ℕ) → lookup handle_of rs h ≡ Some r → region_pages (sizes_of r.blocks) ≤ demand_of (sizes_in rs) classes
 region-few [] h r classes there = absurd (let e : None ≡ Some r = there in cc)

@@ -1,28 +1,28 @@
 -- A store on a table of pages stays one, and answers as the relation says, call by call.
-use Rattle.std.proofs.Common.{◌≡◌, ◌≢◌, ℕ, zero, suc, ◌+◌, ◌-◌, ◌*◌, ◌/◌, ◌%◌, ◌^◌, ◌<◌, ◌≤◌, Bool, true, false, List, [], ◌∷◌, ◌++◌, length, Option, None, Some, refl, sym, ap, subst, ◌∙◌, inl, inr, arith, get_or-set_same, get_or-set_other, length-set}
-use Rattle.std.specs.Prelude.{◌==◌, ◌⊎◌, ◌&&◌, nat_le, if◌then◌else◌, is_some, slice_index, slice_index_or, set}
+use Rattle.std.proofs.Common.{◌≡◌, ◌≢◌, ℕ, suc, ◌+◌, ◌-◌, ◌*◌, ◌/◌, ◌%◌, ◌^◌, ◌<◌, ◌≤◌, Bool, true, false, List, [], ◌∷◌, ◌++◌, length, None, refl, sym, ap, subst, ◌∙◌, inl, inr, arith, get_or-set_same, get_or-set_other, length-set}
+use Rattle.std.specs.Prelude.{◌==◌, ◌⊎◌, ◌&&◌, nat_le, if◌then◌else◌, slice_index, slice_index_or, set}
 use Rattle.std.specs.List.{AllByRecursion}
 use Rattle.std.proofs.lemmas.Bool.{cases_eq, cases_lt, cond_both}
 use Rattle.std.proofs.lemmas.List.{append-nil}
 use mathlib.Core.Path.{fun_ext}
-use Rattle.cyc_words.specs.Demand.{page_words, greatest_class, demand_of, pages_from, region_pages}
-use Rattle.cyc_store.specs.Lookup.{lookup, without}
-use Rattle.cyc_store.specs.State.{Memory, Block, Sort, Lexical, Dynamic, Uniques, Home, handle_of, is_lexical, StoreState, homes, sizes_of, sizes_in, demand, opened, lexical_count, with_block, made_in}
+use Rattle.cyc_words.specs.Demand.{page_words, demand_of, pages_from, region_pages}
+use Rattle.cyc_store.specs.Lookup.{lookup}
+use Rattle.cyc_store.specs.State.{Sort, Lexical, Dynamic, Uniques, Home, handle_of, is_lexical, StoreState, homes, sizes_of, sizes_in, demand, opened, lexical_count}
 use Rattle.cyc_store.specs.Soundness.{IsSound}
 use Rattle.cyc_store.specs.Ledger.{Blocks, memory_of, store_of, plain_store, blocks_of}
-use Rattle.cyc_store.specs.Pages.{IsPaged, IsFree, Pages, drawn, given_back, filled_to, mark_of, HasChain}
-use Rattle.cyc_store.specs.Slots.{Layout, IsLaidOut}
-use Rattle.cyc_store.specs.Table.{IsWhole, IsSame, Draws, free_row, row_at, given_rows, given_free, AreThere}
-use Rattle.cyc_store.specs.Kept.{Table, handle_of_page, IsRooted, lexical_handles, IsTied, IsKept, table_of, no_slots}
+use Rattle.cyc_store.specs.Pages.{IsPaged, drawn}
+use Rattle.cyc_store.specs.Slots.{IsLaidOut}
+use Rattle.cyc_store.specs.Table.{IsWhole, IsSame, Draws, free_row, row_at}
+use Rattle.cyc_store.specs.Kept.{handle_of_page, lexical_handles, IsTied, IsKept, table_of, no_slots}
 use Rattle.cyc_store.specs.declared.row.PageTable.{PageTable}
 use Rattle.cyc_store.specs.declared.row.Row.{Row}
 use Rattle.cyc_store.specs.declared.row.TheConstants.{NONE}
 use Rattle.cyc_store.specs.declared.row.ClassSlots.{ClassSlots}
 use Rattle.cyc_store.specs.declared.range.TheConstants.{PAGE_WORDS, UNIQUE, MOST_PAGES}
-use Rattle.cyc_store.proofs.LookupLemmas.{when_equal, when_other, not_both, lookup-there, lookup-key}
+use Rattle.cyc_store.proofs.LookupLemmas.{when_equal, when_other, lookup-there}
 use Rattle.cyc_store.proofs.LiveWords.{odd-apart}
 use Rattle.cyc_store.specs.Services.{OpenLexical, OpenDynamic, Opened, OpenedLexical, Serves}
-use Rattle.cyc_store.proofs.Responses.{serves-lexical, sound-lexical, serves-dynamic, sound-dynamic, dynamic-none, lexical-none, dynamic-full, lexical-full}
+use Rattle.cyc_store.proofs.Responses.{serves-lexical, sound-lexical, serves-dynamic, sound-dynamic}
 use Rattle.cyc_store.proofs.RegionServices.{opened-laid}
 use Rattle.cyc_store.proofs.TieLemmas.{none-free, taken-again, taken-new, IsDrawn, drawn-tied}
 use Rattle.cyc_store.proofs.TieOpening.{first_row, with_row, lexicals_with, fresh-handle, opened-tied}

@@ -184,11 +184,15 @@ module _ (t : PageTable) (lexicals : List ℕ) (classes : List ClassSlots) (b : 
   pub slot-dead : (slots.dead ≡ NONE → ⊥) → HasSlot s class
   slot-dead some = let linked = linked-first some in dead-has (some-more slots.dead linked.rest dead linked.first)
 
-  pub slot-left : 0 < slots.left → HasSlot s class
-  slot-left some = elim (cases_eq slots.dead NONE) [
-    | inl none ↦ let fresh = fresh-first none some in dead-has (some-more slots.fresh fresh.rest dead fresh.first)
-    | inr other ↦ slot-dead other
+  pub slot-left : (slots.left ≡ 0 → ⊥) → HasSlot s class
+  slot-left other = elim (cases_eq slots.dead NONE) [
+    | inl none ↦ let fresh = fresh-first none (positive slots.left other) in dead-has (some-more slots.fresh fresh.rest dead fresh.first)
+    | inr some ↦ slot-dead some
   ]
+    where
+      positive : (n : ℕ) → (n ≡ 0 → ⊥) → 0 < n
+      positive zero other = absurd (other refl)
+      positive (suc n) other = omega arith
 
   pub slot-none : slots.dead ≡ NONE → slots.left ≡ 0 → HasSlot s class → ⊥
   slot-none none left has = clash (length dead) slots.left (has-dead has) (fresh-many none) left

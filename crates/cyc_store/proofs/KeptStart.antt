@@ -1,13 +1,13 @@
 -- A table with no page in use keeps a store with no region.
 use Rattle.std.proofs.Common.{◌≡◌, ℕ, zero, suc, ◌+◌, ◌-◌, ◌*◌, ◌%◌, ◌<◌, ◌≤◌, Bool, true, false, List, [], ◌∷◌, length, None, Some, refl, sym, ap, subst, ◌∙◌, inl, inr, arith}
-use Rattle.std.specs.Prelude.{◌==◌, ◌⊎◌, ◌&&◌, nat_le, if◌then◌else◌, slice_index, slice_index_or}
+use Rattle.std.specs.Prelude.{◌==◌, ◌&&◌, nat_le, if◌then◌else◌, slice_index, slice_index_or}
 use Rattle.cyc_words.specs.Demand.{greatest_class}
-use Rattle.cyc_store.specs.State.{AreWords, Heap, Uniques, empty_home, StoreState, start, opened}
+use Rattle.cyc_store.specs.State.{AreWords, Heap, Uniques, StoreState, start, opened}
 use Rattle.cyc_store.specs.Soundness.{IsSound}
 use Rattle.cyc_store.specs.Ledger.{Blocks, memory_of, store_of, plain_store, blocks_of, no_blocks}
 use Rattle.cyc_store.specs.Slots.{Layout, IsLaidOut}
 use Rattle.cyc_store.specs.Table.{Draws, row_at}
-use Rattle.cyc_store.specs.Kept.{handle_of_page, numbers_from, IsStocked, IsTied, IsKept, table_of, no_slots}
+use Rattle.cyc_store.specs.Kept.{handle_of_page, numbers_from, IsStocked, IsKept, no_slots}
 use Rattle.cyc_store.specs.declared.row.PageTable.{PageTable}
 use Rattle.cyc_store.specs.declared.row.TheConstants.{NONE}
 use Rattle.cyc_store.specs.declared.row.ClassSlots.{ClassSlots}

@@ -1,15 +1,18 @@
 -- What a store on a table of pages answers where a unique block is asked for: a slot is filled, after a page was cut into slots
 -- where there was none, and the store is full where no page is free then.
-use Rattle.std.proofs.Common.{◌≡◌, ℕ, suc, ◌+◌, ◌*◌, ◌^◌, ◌<◌, ◌≤◌, List, length, None, sym, ap, subst, ◌∙◌, inl, inr, arith, get_or-set_same}
-use Rattle.std.specs.Prelude.{slice_index}
+use Rattle.std.proofs.Common.{◌≡◌, ℕ, suc, ◌+◌, ◌*◌, ◌^◌, ◌<◌, ◌≤◌, List, length, None, refl, sym, ap, subst, ◌∙◌, inl, inr, arith, get_or-set_same}
+use Rattle.std.specs.Prelude.{◌⊎◌, true, slice_index}
 use Rattle.std.proofs.Math.Nat.{suc-mul}
 use Rattle.std.proofs.lemmas.Bool.{cases_lt}
 use Rattle.cyc_words.specs.Demand.{greatest_class, class_of, blocks_in_page, demand_of}
 use Rattle.cyc_store.specs.State.{Block, StoreState, sizes_in, demand, live_in, raised, made_unique}
+use Rattle.cyc_store.specs.Answers.{refused, Responds}
 use Rattle.cyc_store.specs.Services.{Allocate, Allocated, Refused, Full, refusal, Serves}
 use Rattle.cyc_store.specs.Ledger.{Blocks, store_of}
 use Rattle.cyc_store.specs.Slots.{HasSlot, IsSpent, with_page, Fills, Stocks}
 use Rattle.cyc_store.specs.Kept.{IsKept}
+use Rattle.cyc_store.specs.declared.answer.No.{No}
+use Rattle.cyc_store.specs.declared.answer.No.TheVariants as no
 use Rattle.cyc_store.specs.declared.row.PageTable.{PageTable}
 use Rattle.cyc_store.specs.declared.row.ClassSlots.{ClassSlots}
 use Rattle.cyc_store.specs.declared.range.TheConstants.{MOST_BLOCK_WORDS, UNIQUE}
@@ -98,3 +101,10 @@ module _ (t : PageTable) (lexicals : List ℕ) (classes : List ClassSlots) (b : 
       where
         few : (d p e : ℕ) → d < p → e ≡ suc d → e ≤ p
         few d p e less next = omega (arith, less, next)
+
+    -- why no page was cut into slots is why the block is refused
+    pub unique-refused : (why : No) (u : StoreState) → (why ≡ no.Full) ⊎ (why ≡ no.Memory) → (why ≡ no.Full → IsSpent s) → (why ≡ no.Memory → demand s < t.most) → u ≡ s
+        → Responds true s (Allocate UNIQUE n) (refused why) u
+    unique-refused why u (inl full) spent wants same = subst (λ w. Responds true s (Allocate UNIQUE n) (refused w) u) (sym full)
+        (subst (Serves s (Allocate UNIQUE n) (Refused Full)) (sym same) (unique-full (spent full)))
+    unique-refused why u (inr memory) spent wants same = subst (λ w. Responds true s (Allocate UNIQUE n) (refused w) u) (sym memory) (refl, unique-none (wants memory), same)

@@ -4,15 +4,15 @@ use Rattle.std.proofs.Math.Nat.{mul-le-mul_right, suc-mul}
 use Rattle.std.proofs.lemmas.Bool.{cases_Bool, cases_lt}
 use Rattle.std.proofs.lemmas.Nat.{pow_pos}
 use Rattle.cyc_store.specs.Lookup.{lookup, AreDistinct}
-use Rattle.cyc_store.specs.State.{Block, address_of, Uniques, handle_of, StoreState, homes, covers, Holder, holder_in, holder, block_in, block_at}
+use Rattle.cyc_store.specs.State.{Block, address_of, Uniques, handle_of, StoreState, homes, covers, Holder, holder_in, holder, block_in}
 use Rattle.cyc_store.specs.Services.{IsApart}
 use Rattle.cyc_store.specs.Soundness.{IsSound}
 use Rattle.cyc_store.specs.declared.range.TheConstants.{STORE_BASE, PAGE_WORDS, UNIQUE}
 use Rattle.cyc_store.proofs.LookupLemmas.{cases_option, not_both, same_some, lookup-here, lookup-there, lookup-key}
-use Rattle.cyc_store.proofs.HolderLemmas.{covers_from, or_else-cases, in-here, in-there, holder_in-handle, holder-named}
-use Rattle.cyc_store.specs.Pages.{page_start, IsLaid}
+use Rattle.cyc_store.proofs.HolderLemmas.{covers_from, or_else-cases, in-here, in-there, holder-named}
+use Rattle.cyc_store.specs.Pages.{IsLaid}
 use Rattle.cyc_store.proofs.PageLemmas.{covers_bounds, holder-laid}
-use Rattle.cyc_store.specs.Slots.{place_of, Layout, slot_block, IsSlot, IsLiveSlot, IsDeadSlot, IsCovered, IsLaidOut}
+use Rattle.cyc_store.specs.Slots.{place_of, Layout, slot_block, IsSlot, IsLiveSlot, IsCovered, IsLaidOut}
 
 -- ---- arithmetic of slots
 

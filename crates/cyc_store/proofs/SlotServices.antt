@@ -1,21 +1,21 @@
 -- A store that is laid out stays so where a unique block fills a slot that none was in, and where one is freed.
-use Rattle.std.proofs.Common.{◌≡◌, ◌≢◌, ℕ, suc, ◌+◌, ◌*◌, ◌^◌, ◌<◌, ◌≤◌, true, List, [], ◌∷◌, ◌++◌, length, Option, None, Some, refl, sym, ap, subst, ◌∙◌, inl, inr, arith}
-use Rattle.std.specs.Prelude.{◌==◌, if◌then◌else◌, slice_index}
+use Rattle.std.proofs.Common.{◌≡◌, ◌≢◌, ℕ, suc, ◌+◌, ◌*◌, ◌^◌, ◌<◌, ◌≤◌, true, List, [], ◌∷◌, ◌++◌, length, Option, Some, refl, sym, ap, subst, ◌∙◌, inl, inr, arith}
+use Rattle.std.specs.Prelude.{◌==◌, if◌then◌else◌}
 use Rattle.std.specs.List.{AllByRecursion}
 use Rattle.std.proofs.lemmas.Bool.{cases_eq}
 use Rattle.std.proofs.lemmas.Nat.{pow_pos}
-use Rattle.cyc_words.specs.Demand.{greatest_class, class_of, blocks_in_page, demand_of}
+use Rattle.cyc_words.specs.Demand.{greatest_class, class_of, demand_of}
 use Rattle.cyc_words.specs.Simulation.{IsDistinct}
-use Rattle.cyc_store.specs.Lookup.{lookup, without, AreDistinct}
-use Rattle.cyc_store.specs.State.{Memory, Block, address_of, Uniques, Home, handle_of, StoreState, homes, covers, sizes_in, demand, live_in, raised, made_unique}
+use Rattle.cyc_store.specs.Lookup.{lookup, without}
+use Rattle.cyc_store.specs.State.{Memory, Block, address_of, StoreState, homes, covers, sizes_in, demand, live_in, raised, made_unique}
 use Rattle.cyc_store.specs.Services.{IsPlaced, IsApart}
 use Rattle.cyc_store.specs.Soundness.{IsSound}
 use Rattle.cyc_store.specs.declared.range.TheConstants.{STORE_BASE, PAGE_WORDS, UNIQUE}
 use Rattle.cyc_store.proofs.LookupLemmas.{when_equal, when_other, not_both, lookup-append_cases, lookup-append_none, lookup-key, lookup-part, lookup-part_none, lookup-without, IsPart, is_empty, is_left, is_kept, IsPart-without}
 use Rattle.cyc_store.proofs.HolderLemmas.{covers_from}
 use Rattle.cyc_store.proofs.CountLemmas.{live_in-append_same, live_in-append_other}
-use Rattle.cyc_store.specs.Pages.{Pages, LiesIn, IsLaid, AreLaid, AreLaidIn, IsPaged}
-use Rattle.cyc_store.proofs.PageLemmas.{lies-placed, laid-last, laid-part}
+use Rattle.cyc_store.specs.Pages.{Pages, LiesIn, AreLaidIn, IsPaged}
+use Rattle.cyc_store.proofs.PageLemmas.{lies-placed, laid-last}
 use Rattle.cyc_store.specs.Slots.{place_of, Layout, slot_block, IsSlot, IsLiveSlot, IsDeadSlot, AreSlots, IsLaidOut}
 use Rattle.cyc_store.proofs.SlotCounts.{class-power, raised-fits, live_in-without_same, live_in-without_other}
 use Rattle.cyc_store.proofs.SlotLemmas.{slots-one, slot-apart}

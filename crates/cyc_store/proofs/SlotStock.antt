@@ -1,24 +1,23 @@
 -- A store that is laid out stays so where a free page is cut into slots of a class.
-use Rattle.std.proofs.Common.{◌≡◌, ◌≢◌, ℕ, zero, suc, ◌+◌, ◌*◌, ◌/◌, ◌^◌, ◌<◌, ◌≤◌, List, [], ◌∷◌, length, Option, None, Some, refl, sym, ap, subst, ◌∙◌, inl, inr, arith, length-set, get_or-set_same, get_or-set_other, zero-add}
+use Rattle.std.proofs.Common.{◌≡◌, ◌≢◌, ℕ, zero, suc, ◌+◌, ◌*◌, ◌^◌, ◌<◌, ◌≤◌, List, [], ◌∷◌, length, None, Some, refl, sym, ap, subst, ◌∙◌, inl, inr, arith, length-set, get_or-set_same, get_or-set_other, zero-add}
 use Rattle.std.specs.Prelude.{◌==◌, if◌then◌else◌, slice_index, set}
 use Rattle.std.specs.List.{AllByRecursion}
 use Rattle.std.proofs.Math.Nat.{mul-le-mul_right, suc-mul, div-mul-le_self}
 use Rattle.std.proofs.lemmas.Bool.{cases_eq}
 use Rattle.std.proofs.lemmas.Nat.{pow_pos}
-use Rattle.cyc_words.specs.Demand.{page_words, greatest_class, blocks_in_page, pages_for, demand_of}
+use Rattle.cyc_words.specs.Demand.{page_words, greatest_class, blocks_in_page, pages_for}
 use Rattle.cyc_words.specs.Simulation.{IsDistinct}
 use Rattle.cyc_store.specs.Lookup.{lookup}
-use Rattle.cyc_store.specs.State.{put, Block, address_of, Home, handle_of, StoreState, homes, sizes_in, demand, live_in}
+use Rattle.cyc_store.specs.State.{put, address_of, Home, handle_of, StoreState, homes, sizes_in, demand, live_in}
 use Rattle.cyc_store.specs.Soundness.{IsSound}
 use Rattle.cyc_store.specs.declared.range.TheConstants.{PAGE_WORDS, UNIQUE}
 use Rattle.cyc_store.proofs.LookupLemmas.{when_equal, when_other, cases_option, not_both, same_some, lookup-key}
-use Rattle.cyc_store.proofs.CountLemmas.{class_of-bound}
-use Rattle.cyc_store.specs.Pages.{Pages, filled_to, drawn, HasChain, IsFree, IsPaged}
+use Rattle.cyc_store.specs.Pages.{Pages, filled_to, drawn, HasChain, IsPaged}
 use Rattle.cyc_store.proofs.PageLemmas.{laid-drawn, filled-stays, stays-all}
 use Rattle.cyc_store.proofs.PagedRegions.{frees-stay, frees-rest, still-filled, chain-filled, still-chained, least}
-use Rattle.cyc_store.specs.Slots.{with_page, slots_from, place_of, Layout, slot_block, IsSlot, IsLiveSlot, IsDeadSlot, AreSlots, IsLaidOut}
+use Rattle.cyc_store.specs.Slots.{with_page, slots_from, place_of, Layout, IsSlot, IsLiveSlot, IsDeadSlot, AreSlots, IsLaidOut}
 use Rattle.cyc_store.proofs.SlotCounts.{demand-set}
-use Rattle.cyc_store.proofs.SlotServices.{with_dead, same-words}
+use Rattle.cyc_store.proofs.SlotServices.{same-words}
 
 pub slots-many : (size word count : ℕ) → length (slots_from size word count) ≡ count
 slots-many size word zero = refl

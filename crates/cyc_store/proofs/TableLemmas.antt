@@ -1,5 +1,5 @@
 -- The table of pages, a page at a time.
-use Rattle.std.proofs.Common.{◌≡◌, ℕ, zero, suc, ◌-◌, ◌<◌, List, length, refl, sym, ap, ◌∙◌, arith}
+use Rattle.std.proofs.Common.{◌≡◌, ℕ, zero, suc, ◌-◌, ◌<◌, List, length, sym, ◌∙◌, arith}
 use Rattle.std.specs.Prelude.{slice_index_or, set}
 use Rattle.std.proofs.lemmas.List.{get_or_default}
 use Rattle.cyc_store.specs.declared.row.Row.{Row}

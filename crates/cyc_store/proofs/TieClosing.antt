@@ -1,22 +1,22 @@
 -- A table keeps its layout where the chain of a region that is closed is freed, one page after another.
-use Rattle.std.proofs.Common.{◌≡◌, ◌≢◌, ℕ, zero, suc, ◌+◌, ◌-◌, ◌*◌, ◌<◌, ◌≤◌, List, [], ◌∷◌, ◌++◌, length, Option, None, Some, refl, sym, ap, subst, ◌∙◌, inl, inr, arith, get_or-set_same, get_or-set_other, length-set}
-use Rattle.std.specs.Prelude.{◌==◌, ◌⊎◌, if◌then◌else◌, set}
+use Rattle.std.proofs.Common.{◌≡◌, ◌≢◌, ℕ, zero, suc, ◌-◌, ◌<◌, List, [], ◌∷◌, ◌++◌, length, Option, None, Some, refl, sym, ap, subst, ◌∙◌, inl, inr, arith, get_or-set_same, get_or-set_other, length-set}
+use Rattle.std.specs.Prelude.{◌⊎◌, set}
 use Rattle.std.specs.List.{AllByRecursion}
 use Rattle.std.proofs.lemmas.Bool.{cases_eq}
 use Rattle.cyc_words.specs.Simulation.{IsDistinct}
 use Rattle.cyc_store.specs.Lookup.{lookup, without}
 use Rattle.cyc_store.specs.State.{Home, handle_of}
 use Rattle.cyc_store.specs.Ledger.{Blocks}
-use Rattle.cyc_store.specs.Pages.{Pages, owner_without, given_back, HasChain}
+use Rattle.cyc_store.specs.Pages.{owner_without, given_back}
 use Rattle.cyc_store.specs.Slots.{Layout}
 use Rattle.cyc_store.specs.Table.{free_row, row_at, given_rows, given_free, AreThere}
-use Rattle.cyc_store.specs.Kept.{Table, IsChain, IsOneOf, numbers_from, limit, role_of, sort_of, handle_of_page, IsRow, IsRooted, lexical_handles, IsTied}
+use Rattle.cyc_store.specs.Kept.{Table, IsChain, IsOneOf, numbers_from, limit, role_of, sort_of, handle_of_page, IsRooted, lexical_handles, IsTied}
 use Rattle.cyc_store.specs.declared.row.Role.TheVariants as role
 use Rattle.cyc_store.specs.declared.row.Row.{Row}
 use Rattle.cyc_store.specs.declared.row.TheConstants.{NONE}
 use Rattle.cyc_store.specs.declared.row.ClassSlots.{ClassSlots}
 use Rattle.cyc_store.specs.declared.range.TheConstants.{UNIQUE}
-use Rattle.cyc_store.proofs.LookupLemmas.{when_equal, when_other, cases_option, not_both, same_some, lookup-key, lookup-part, lookup-without, lookup-without_other, IsPart-without}
+use Rattle.cyc_store.proofs.LookupLemmas.{when_equal, when_other, cases_option, not_both, same_some, lookup-key, lookup-without, lookup-without_other}
 use Rattle.cyc_store.proofs.PagedClosing.{owner-kept, owner-stays, chain-stays}
 use Rattle.cyc_store.proofs.RegionServices.{moved, all-moved}
 use Rattle.cyc_store.proofs.TieLemmas.{chain-same, all-left}

@@ -1,21 +1,18 @@
 -- Chains of a table of pages, and a page that is taken from the free ones.
-use Rattle.std.proofs.Common.{◌≡◌, ◌≢◌, ℕ, zero, suc, ◌+◌, ◌-◌, ◌*◌, ◌<◌, ◌≤◌, true, List, [], ◌∷◌, ◌++◌, length, Option, None, Some, refl, sym, ap, subst, ◌∙◌, inl, inr, arith}
+use Rattle.std.proofs.Common.{◌≡◌, ◌≢◌, ℕ, suc, ◌-◌, ◌<◌, ◌≤◌, List, [], ◌∷◌, ◌++◌, length, refl, sym, ap, subst, ◌∙◌, inl, inr, arith}
 use Rattle.std.specs.Prelude.{◌⊎◌, ◌==◌, if◌then◌else◌}
 use Rattle.std.specs.List.{AllByRecursion}
 use Rattle.std.proofs.lemmas.Bool.{cases_lt}
 use mathlib.Core.Path.{fun_ext}
-use Rattle.cyc_words.specs.Simulation.{IsDistinct}
 use Rattle.cyc_store.specs.Ledger.{Blocks}
-use Rattle.cyc_store.specs.Pages.{IsPaged}
 use Rattle.cyc_store.specs.Slots.{Layout}
 use Rattle.cyc_store.specs.Table.{row_at, Draws}
-use Rattle.cyc_store.specs.Kept.{Table, IsChain, IsOneOf, numbers_from, IsTied, table_of}
+use Rattle.cyc_store.specs.Kept.{Table, IsChain, numbers_from, IsTied, table_of}
 use Rattle.cyc_store.specs.declared.row.PageTable.{PageTable}
 use Rattle.cyc_store.specs.declared.row.Row.{Row}
 use Rattle.cyc_store.specs.declared.row.TheConstants.{NONE}
 use Rattle.cyc_store.specs.declared.row.ClassSlots.{ClassSlots}
-use Rattle.cyc_store.specs.declared.range.TheConstants.{MOST_PAGES}
-use Rattle.cyc_store.proofs.LookupLemmas.{when_equal, when_other, not_both}
+use Rattle.cyc_store.proofs.LookupLemmas.{when_other}
 
 -- ---- chains
 

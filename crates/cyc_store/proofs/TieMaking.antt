@@ -1,22 +1,22 @@
 -- A table keeps its layout where a block is made in a region.
-use Rattle.std.proofs.Common.{◌≡◌, ◌≢◌, ℕ, suc, ◌+◌, ◌-◌, ◌*◌, ◌<◌, ◌≤◌, Bool, false, true, List, [], ◌∷◌, ◌++◌, length, Option, None, Some, refl, sym, ap, subst, ◌∙◌, inl, inr, arith}
-use Rattle.std.specs.Prelude.{◌==◌, ◌⊎◌, if◌then◌else◌}
+use Rattle.std.proofs.Common.{◌≡◌, ◌≢◌, ℕ, suc, ◌+◌, ◌<◌, ◌≤◌, List, [], ◌∷◌, length, None, Some, refl, sym, ap, subst, ◌∙◌, inl, inr, arith}
+use Rattle.std.specs.Prelude.{if◌then◌else◌}
 use Rattle.std.specs.List.{AllByRecursion}
 use Rattle.std.proofs.lemmas.Bool.{cases_eq}
 use Rattle.cyc_store.specs.Lookup.{lookup, changed}
-use Rattle.cyc_store.specs.State.{Block, Sort, Home, handle_of, is_lexical, with_block, made_in}
+use Rattle.cyc_store.specs.State.{Block, Home, handle_of, is_lexical, with_block, made_in}
 use Rattle.cyc_store.specs.Ledger.{Blocks, plain_store, blocks_of}
 use Rattle.cyc_store.specs.Pages.{Pages, filled_to, drawn, Mark, mark_of, HasChain}
 use Rattle.cyc_store.specs.Slots.{Layout}
-use Rattle.cyc_store.specs.Kept.{Table, IsChain, IsOneOf, limit, role_of, sort_of, handle_of_page, IsRow, IsRooted, lexical_handles, IsTied}
+use Rattle.cyc_store.specs.Kept.{Table, IsChain, limit, role_of, sort_of, handle_of_page, IsRow, IsRooted, lexical_handles, IsTied}
 use Rattle.cyc_store.specs.declared.row.Role.TheVariants as role
 use Rattle.cyc_store.specs.declared.row.Row.{Row}
 use Rattle.cyc_store.specs.declared.row.TheConstants.{NONE}
 use Rattle.cyc_store.specs.declared.row.ClassSlots.{ClassSlots}
 use Rattle.cyc_store.specs.declared.range.TheConstants.{PAGE_WORDS, UNIQUE}
-use Rattle.cyc_store.proofs.LookupLemmas.{when_equal, when_other, not_both, same_some, lookup-key, lookup-changed_same, lookup-changed_other}
+use Rattle.cyc_store.proofs.LookupLemmas.{when_equal, when_other, same_some, lookup-key, lookup-changed_same, lookup-changed_other}
 use Rattle.cyc_store.proofs.PageServices.{mark-made, mark-stays, mark-goes}
-use Rattle.cyc_store.proofs.PagedRegions.{block_in_page, chain-filled, still-chained, owned-drawn, free-apart}
+use Rattle.cyc_store.proofs.PagedRegions.{block_in_page, chain-filled, owned-drawn, free-apart}
 use Rattle.cyc_store.proofs.TieLemmas.{chain-same, all-away}
 use Rattle.cyc_store.proofs.TieOpening.{with_row, owner-away, owned-away, fresh-handle, free-linked, rooted-drawn}
 

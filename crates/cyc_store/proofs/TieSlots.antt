@@ -1,30 +1,29 @@
 -- A table keeps its layout where a unique block fills a slot, where one is freed, and where a page that was taken is cut into
 -- slots.
-use Rattle.std.proofs.Common.{◌≡◌, ◌≢◌, ℕ, zero, suc, ◌+◌, ◌-◌, ◌*◌, ◌^◌, ◌<◌, ◌≤◌, Bool, false, true, List, [], ◌∷◌, ◌++◌, length, Option, None, Some, refl, sym, ap, subst, ◌∙◌, inl, inr, arith}
-use Rattle.std.specs.Prelude.{◌==◌, ◌⊎◌, if◌then◌else◌, is_some}
+use Rattle.std.proofs.Common.{◌≡◌, ◌≢◌, ℕ, ◌+◌, ◌*◌, ◌^◌, ◌<◌, ◌≤◌, Bool, List, [], None, Some, refl, sym, ap, subst, ◌∙◌, inl, inr, arith}
+use Rattle.std.specs.Prelude.{◌==◌, if◌then◌else◌, is_some}
 use Rattle.std.specs.List.{AllByRecursion}
 use Rattle.std.proofs.lemmas.Bool.{cases_eq}
 use Rattle.std.proofs.Math.Nat.{le-mul_of_pos_right}
 use Rattle.std.proofs.lemmas.Nat.{pow_pos}
 use Rattle.cyc_words.specs.Demand.{greatest_class, blocks_in_page}
-use Rattle.cyc_store.specs.Lookup.{lookup, without, AreDistinct}
+use Rattle.cyc_store.specs.Lookup.{lookup}
 use Rattle.cyc_store.specs.State.{Block, address_of, Home, handle_of}
 use Rattle.cyc_store.specs.Ledger.{Blocks}
-use Rattle.cyc_store.specs.Pages.{Pages, filled_to, drawn, HasChain}
-use Rattle.cyc_store.specs.Slots.{place_of, Layout, slot_block, IsSlot, slots_from}
-use Rattle.cyc_store.specs.Kept.{Table, IsChain, IsOneOf, limit, role_of, role_of_owner, sort_of, handle_of_page, IsRow, IsRooted, IsStocked, IsTied}
+use Rattle.cyc_store.specs.Pages.{drawn}
+use Rattle.cyc_store.specs.Slots.{place_of, Layout, IsSlot, slots_from}
+use Rattle.cyc_store.specs.Kept.{Table, limit, role_of, role_of_owner, sort_of, handle_of_page, IsRow, IsRooted, IsStocked, IsTied}
 use Rattle.cyc_store.specs.declared.row.Role.TheVariants as role
 use Rattle.cyc_store.specs.declared.row.Row.{Row}
 use Rattle.cyc_store.specs.declared.row.TheConstants.{NONE}
 use Rattle.cyc_store.specs.declared.row.ClassSlots.{ClassSlots}
 use Rattle.cyc_store.specs.declared.range.TheConstants.{PAGE_WORDS, UNIQUE}
-use Rattle.cyc_store.proofs.LookupLemmas.{when_equal, when_other, cases_option, not_both, same_some, lookup-key}
+use Rattle.cyc_store.proofs.LookupLemmas.{when_equal, when_other, not_both, same_some, lookup-key}
 use Rattle.cyc_store.proofs.PagedRegions.{chain-filled}
 use Rattle.cyc_store.proofs.SlotLemmas.{multiples-one}
 use Rattle.cyc_store.proofs.SlotServices.{with_dead, same-words}
-use Rattle.cyc_store.proofs.SlotStock.{stocked, stocked_pages}
-use Rattle.cyc_store.proofs.TieLemmas.{chain-same, all-away}
-use Rattle.cyc_store.proofs.TieOpening.{with_row, owner-away, owned-away, fresh-handle, free-linked, rooted-drawn}
+use Rattle.cyc_store.proofs.SlotStock.{stocked}
+use Rattle.cyc_store.proofs.TieOpening.{with_row, owner-away, fresh-handle, free-linked, rooted-drawn}
 
 -- ---- what changes in a table
 

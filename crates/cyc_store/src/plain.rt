@@ -179,11 +179,7 @@ impl PlainStore {
         if count <= word {
             return None;
         }
-        if self.is_live(word) {
-            Some(word)
-        } else {
-            None
-        }
+        if self.is_live(word) { Some(word) } else { None }
     }
 
     /// The first page of the open region with this handle.

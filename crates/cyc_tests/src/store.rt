@@ -140,10 +140,10 @@ fn told<S: Store>(alloc: Global, store: &mut S, names: &mut Names, call: &str) -
 
 /// A new store of so many pages, from 3 to 65,536.
 fn store_of(alloc: Global, pages: u32) -> Option<PlainStore> {
-    if (3..=65_536).contains(&pages) {
-        return PlainStore::new(alloc, pages).ok();
+    if pages < 3 || 65_536 < pages {
+        return None;
     }
-    None
+    PlainStore::new(alloc, pages).ok()
 }
 
 /// A new store answers calls as their row says.
@@ -222,6 +222,7 @@ struct Lists {
     pages: u32,
     demand: u32,
     regions: Vec<Region>,
+    lexicals: u32,
     unique: Vec<Block>,
     /// Of each class, how many blocks are live, and the pages for the most of them so far.
     live: [u32; 11],
@@ -236,14 +237,15 @@ fn is_size(size: u32) -> bool {
 }
 
 /// The class of a block, and how many blocks of it a page has.
-fn class_of(size: u32) -> (u32, u32) {
-    let mut class = 0;
+fn class_of(size: u32) -> (usize, u32) {
     let mut words: u32 = 1;
-    while words < size && class < 10 {
+    for class in 0..10 {
+        if size <= words {
+            return (class, 1024_u32.checked_div(words).unwrap_or(1));
+        }
         words = words.wrapping_mul(2);
-        class += 1;
     }
-    (class, 1024_u32.checked_div(words).unwrap_or(1))
+    (10, 1)
 }
 
 /// Writes the first and the last word of a new block, if it is one.
@@ -289,6 +291,7 @@ impl Lists {
             pages,
             demand: 1,
             regions,
+            lexicals: 0,
             unique: Vec::new(alloc),
             live: [0; 11],
             classes: [0; 11],
@@ -312,16 +315,6 @@ impl Lists {
         }
     }
 
-    fn lexicals(&self) -> u32 {
-        let mut count: u32 = 0;
-        for region in self.regions.iter() {
-            if region.is_lexical {
-                count = count.wrapping_add(1);
-            }
-        }
-        count
-    }
-
     /// The place of a region that is chosen at random, one of the newest mostly.
     fn any_region(&self, random: &mut Random) -> usize {
         let count = u32::try_from(self.regions.len()).unwrap_or(0);
@@ -335,10 +328,9 @@ impl Lists {
         let Ok(()) = self.regions.reserve(1) else {
             return Some(true);
         };
-        let lexicals = self.lexicals();
         let opened = if is_lexical {
             match store.open_lexical() {
-                Ok((handle, mark)) if mark == lexicals => Ok(handle),
+                Ok((handle, mark)) if mark == self.lexicals => Ok(handle),
                 Ok(_) => return Some(false),
                 Err(no) => Err(no),
             }
@@ -359,6 +351,7 @@ impl Lists {
         };
         self.regions.push(region).ok()?;
         self.demand = self.demand.wrapping_add(1);
+        self.lexicals = self.lexicals.wrapping_add(u32::from(is_lexical));
         Some(is_new && !full && handle != UNIQUE)
     }
 
@@ -367,12 +360,13 @@ impl Lists {
         if place < self.regions.len() {
             let region = self.regions.remove(place);
             self.demand = self.demand.wrapping_sub(region.pages);
+            self.lexicals = self.lexicals.wrapping_sub(u32::from(region.is_lexical));
         }
     }
 
     /// Closes the newest lexical regions, mostly one, now and then all or one more than there are.
     fn close_to<S: Store>(&mut self, store: &mut S, random: &mut Random) -> bool {
-        let count = self.lexicals();
+        let count = self.lexicals;
         let mark = match random.below(32) {
             0 => 0,
             1 => count.wrapping_add(1),
@@ -381,17 +375,19 @@ impl Lists {
         if store.close_to(mark).is_err() {
             return count < mark;
         }
-        let mut open = count;
         for place in (0..self.regions.len()).rev() {
-            let Some(region) = self.regions.get(place) else {
-                return false;
-            };
-            if region.is_lexical && mark < open {
-                open = open.wrapping_sub(1);
+            if self.lexicals == mark {
+                return true;
+            }
+            let is_lexical = self
+                .regions
+                .get(place)
+                .is_some_and(|region| region.is_lexical);
+            if is_lexical {
                 self.drop_region(place);
             }
         }
-        mark <= count
+        self.lexicals == mark
     }
 
     /// Closes a region by its handle, which may be no dynamic one.
@@ -444,7 +440,9 @@ impl Lists {
     /// How many pages one more live block of a class asks for.
     fn class_grows(&self, class: usize, in_page: u32) -> Option<u32> {
         let live = self.live.get(class)?.wrapping_add(1);
-        let pages = live.wrapping_add(in_page.wrapping_sub(1)).checked_div(in_page)?;
+        let pages = live
+            .wrapping_add(in_page.wrapping_sub(1))
+            .checked_div(in_page)?;
         Some(pages.saturating_sub(*self.classes.get(class)?))
     }
 
@@ -452,7 +450,6 @@ impl Lists {
     fn alloc_unique<S: Store>(&mut self, store: &mut S, random: &mut Random) -> Option<bool> {
         let size = random.size();
         let (class, in_page) = class_of(size);
-        let class = usize::try_from(class).ok()?;
         let more = self.class_grows(class, in_page)?;
         let full = self.is_full(more);
         let Ok(()) = self.unique.reserve(1) else {
@@ -484,7 +481,7 @@ impl Lists {
         }
         let block = self.unique.swap_remove(place);
         let (class, _) = class_of(block.size);
-        let live = self.live.get_mut(usize::try_from(class).ok()?)?;
+        let live = self.live.get_mut(class)?;
         *live = live.wrapping_sub(1);
         let had = has_words(store, &block);
         let inside = block.size == 1 || store.free(block.address.wrapping_add(4)).is_err();
@@ -497,14 +494,19 @@ impl Lists {
     fn has_all<S: Store>(&self, store: &S) -> bool {
         let unique = self.unique.iter().all(|block| has_words(store, block));
         unique
-            && self
-                .regions
+            && self.regions.iter().all(|region| region
+                .blocks
                 .iter()
-                .all(|region| region.blocks.iter().all(|block| has_words(store, block)))
+                .all(|block| has_words(store, block)))
     }
 
     /// Makes a call that is chosen at random. True if the answer is right.
-    fn step<S: Store>(&mut self, alloc: Global, store: &mut S, random: &mut Random) -> Option<bool> {
+    fn step<S: Store>(
+        &mut self,
+        alloc: Global,
+        store: &mut S,
+        random: &mut Random,
+    ) -> Option<bool> {
         match random.below(16) {
             0 => self.open(alloc, store, true),
             1 => self.open(alloc, store, false),
@@ -537,7 +539,7 @@ fn expect_lists<A: Abort>(rt: &A, alloc: Global, pages: u32, name: &str) -> Opti
     for call in 0..100_000_u32 {
         let right = lists.step(alloc, &mut store, &mut random)?;
         expect(rt, right, name);
-        if call.checked_rem(1000) == Some(0) {
+        if call.checked_rem(10_000) == Some(0) {
             expect(rt, lists.has_all(&store), name);
         }
     }

@@ -1,5 +1,4 @@
-use Rattle.std.proofs.Common.{◌≡◌, ℕ, suc, ◌+◌, ◌-◌, ◌<◌, ◌≤◌, sym, ap, subst, ◌∙◌, arith}
-use Rattle.cyc_words.specs.Demand.{class_from}
+use Rattle.std.proofs.Common.{◌+◌, ◌-◌, ◌<◌, ◌≤◌, sym, subst, ◌∙◌, arith}
 use Rattle.cyc_store.proofs.CountLemmas.{class_from-here, class_from-next}
 use Rattle.cyc_store.proofs.plain.class_of.Goals as goal
 

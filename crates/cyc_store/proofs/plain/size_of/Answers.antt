@@ -1,4 +1,4 @@
-use Rattle.std.proofs.Common.{ℕ, ◌+◌, ◌*◌, ◌^◌, ◌<◌, ◌≤◌, ◌%◌, ◌≡◌, ap, ◌∙◌, arith}
+use Rattle.std.proofs.Common.{◌^◌, ◌≤◌, ◌%◌, ap, ◌∙◌, arith}
 use Rattle.std.proofs.Math.Nat.{pow-le-pow_right, mod-eq_of_lt, one-mul}
 use Rattle.cyc_store.proofs.plain.size_of.Goals as goal
 

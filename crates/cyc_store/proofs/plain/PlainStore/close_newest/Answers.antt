@@ -1,4 +1,4 @@
-use Rattle.std.proofs.Common.{◌≡◌, ℕ, ◌*◌, ◌+◌, ◌/◌, ◌<◌, length, sym, subst, arith}
+use Rattle.std.proofs.Common.{◌≡◌, ℕ, ◌/◌, ◌<◌, length, sym, subst, arith}
 use Rattle.cyc_store.specs.Ledger.{Stored, Unwinds}
 use Rattle.cyc_store.specs.State.{lexical_count}
 use Rattle.cyc_store.proofs.KeptServices.{kept-lexicals}

@@ -1,4 +1,4 @@
-use Rattle.std.proofs.Common.{◌≡◌, ◌+◌, ◌*◌, ◌<◌, Bool, true, false, length, sym, ap, subst, arith}
+use Rattle.std.proofs.Common.{◌≡◌, ◌+◌, ◌*◌, ◌<◌, true, false, length, sym, subst, arith}
 use Rattle.std.specs.Prelude.{is_some}
 use Rattle.cyc_store.specs.Ledger.{Stored, held_of}
 use Rattle.cyc_store.specs.State.{homes, holder}
@@ -16,8 +16,11 @@ returns-then-offset-row c =
 pub overflow_shr-offset : goal.overflow_shr-offset
 overflow_shr-offset c =
     let f = c.self.inside in
-    omega (arith, kept-class f.table f.lexicals.items f.classes f.ledger.blocks c.self.invariant c.args.word
-    (subst (λ (v : Stored). c.args.word < length v.words) (sym c.self.view_is) c.requires) c.index-row.result.now c.index-row.ensures c.in-Slots.class c.in-Slots.is)
+    omega (
+      arith,
+      kept-class f.table f.lexicals.items f.classes f.ledger.blocks c.self.invariant c.args.word
+          (subst (λ (v : Stored). c.args.word < length v.words) (sym c.self.view_is) c.requires) c.index-row.result.now c.index-row.ensures c.in-Slots.class c.in-Slots.is,
+    )
 
 pub returns-in-Slots : goal.returns-in-Slots
 returns-in-Slots c =

@@ -1,4 +1,4 @@
-use Rattle.std.proofs.Common.{◌≡◌, ◌+◌, ◌*◌, ◌/◌, ◌<◌, ◌≤◌, true, None, length, refl, sym, ap, subst, ◌∙◌, arith}
+use Rattle.std.proofs.Common.{◌≡◌, ◌+◌, ◌*◌, ◌/◌, ◌<◌, true, None, length, sym, subst, arith}
 use Rattle.std.specs.Prelude.{is_some}
 use Rattle.cyc_store.specs.Ledger.{Stored}
 use Rattle.cyc_store.specs.Lookup.{lookup}
@@ -31,6 +31,8 @@ returns-in-Heap c =
     let f = c.self.inside in
     let there : c.args.handle / 2 < length f.table.rows.items = omega (arith, c.if-count-page.false, c.len-count.ensures) in
     let odd = odd-handle c.args.handle c.if-handle-eq0.false in
-    subst (λ (v : Stored). (c.args.handle ≡ 2 * (c.args.handle / 2) + 1) × (is_some (lookup handle_of v.blocks.regions c.args.handle) ≡ true)) c.self.view_is
-    (odd, subst (λ h. is_some (lookup handle_of f.ledger.blocks.regions h) ≡ true) (sym odd)
-    (root-named f.table f.lexicals.items f.classes f.ledger.blocks c.self.invariant (c.args.handle / 2) c.index-first.result.now there c.index-first.ensures c.in-Heap.is))
+    subst (λ (v : Stored). (c.args.handle ≡ 2 * (c.args.handle / 2) + 1) × (is_some (lookup handle_of v.blocks.regions c.args.handle) ≡ true)) c.self.view_is (
+      odd,
+      subst (λ h. is_some (lookup handle_of f.ledger.blocks.regions h) ≡ true) (sym odd)
+          (root-named f.table f.lexicals.items f.classes f.ledger.blocks c.self.invariant (c.args.handle / 2) c.index-first.result.now there c.index-first.ensures c.in-Heap.is),
+    )

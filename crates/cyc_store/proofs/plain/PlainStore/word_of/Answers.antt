@@ -1,7 +1,6 @@
-use Rattle.std.proofs.Common.{◌≡◌, ◌+◌, ◌*◌, ◌<◌, ◌≤◌, Bool, true, false, None, length, sym, subst, arith}
-use Rattle.std.specs.Prelude.{is_some}
-use Rattle.cyc_store.specs.Ledger.{Stored, held_of, store_of}
-use Rattle.cyc_store.specs.State.{homes, holder, word_at}
+use Rattle.std.proofs.Common.{◌≡◌, ◌<◌, None, length, subst, arith}
+use Rattle.cyc_store.specs.Ledger.{Stored, held_of}
+use Rattle.cyc_store.specs.State.{word_at}
 use Rattle.cyc_store.proofs.KeptLoads.{load-none, load-behind, load-dead, load-live}
 use Rattle.cyc_store.proofs.plain.PlainStore.word_of.Goals as goal
 
@@ -20,9 +19,11 @@ returns-then-count-word c =
 pub returns-then-is_live : goal.returns-then-is_live
 returns-then-is_live c =
     let f = c.self.inside in
-    let inside : c.in-Some.number < length f.table.words.items = omega (arith, c.if-count-word.false, c.len-count.ensures) in
-    (subst (λ (v : Stored). c.in-Some.number < length v.words) c.self.view_is inside, c.in-Some.ensures,
-      load-live (held_of c.args.self.now) c.args.address c.in-Some.number c.in-Some.ensures c.if-is_live.ensures)
+    let inside : c.in-Some.number < length f.table.words.items = omega (arith, c.if-count-word.false, c.len-count.ensures) in (
+      subst (λ (v : Stored). c.in-Some.number < length v.words) c.self.view_is inside,
+      c.in-Some.ensures,
+      load-live (held_of c.args.self.now) c.args.address c.in-Some.number c.in-Some.ensures c.if-is_live.ensures,
+    )
 
 pub returns-else-is_live : goal.returns-else-is_live
 returns-else-is_live c = load-dead (held_of c.args.self.now) c.args.address c.in-Some.number c.in-Some.ensures c.if-is_live.ensures

@@ -1,6 +1,6 @@
 use Rattle.std.proofs.Common.{◌≡◌, ◌+◌, ◌*◌, ◌<◌, true, length, Some, sym, ap, subst}
 use Rattle.std.specs.Prelude.{is_some}
-use Rattle.cyc_store.specs.Ledger.{Stored, Blocks, held_of, store_of}
+use Rattle.cyc_store.specs.Ledger.{Stored, held_of, store_of}
 use Rattle.cyc_store.specs.Lookup.{lookup, without}
 use Rattle.cyc_store.specs.Services.{CloseDynamic, Done, Serves, names_dynamic}
 use Rattle.cyc_store.specs.State.{handle_of}
@@ -17,8 +17,8 @@ pub give_back-requires : goal.give_back-requires
 give_back-requires c =
     let f = c.self.inside in let k = c.self.invariant in
     let (q, found) = some-there (lookup handle_of f.ledger.blocks.regions (2 * c.in-Some.root + 1))
-        (subst (λ h. is_some (lookup handle_of f.ledger.blocks.regions h) ≡ true) c.in-Some.ensures.0
-        (subst (λ (v : Stored). is_some (lookup handle_of v.blocks.regions c.args.handle) ≡ true) (sym c.self.view_is) c.in-Some.ensures.1)) in
+    (subst (λ h. is_some (lookup handle_of f.ledger.blocks.regions h) ≡ true) c.in-Some.ensures.0
+    (subst (λ (v : Stored). is_some (lookup handle_of v.blocks.regions c.args.handle) ≡ true) (sym c.self.view_is) c.in-Some.ensures.1)) in
     close-there f.table f.lexicals.items f.classes f.ledger.blocks k c.in-Some.root q found c.index-first.result.now c.index-first.ensures
     (first-counted f.table f.lexicals.items f.classes f.ledger.blocks k c.in-Some.root q found c.index-first.result.now c.index-first.ensures)
 
@@ -26,8 +26,8 @@ pub invariant_of-self : goal.invariant_of-self
 invariant_of-self c =
     let f = c.self.inside in let k = c.self.invariant in
     let (q, found) = some-there (lookup handle_of f.ledger.blocks.regions (2 * c.in-Some.root + 1))
-        (subst (λ h. is_some (lookup handle_of f.ledger.blocks.regions h) ≡ true) c.in-Some.ensures.0
-        (subst (λ (v : Stored). is_some (lookup handle_of v.blocks.regions c.args.handle) ≡ true) (sym c.self.view_is) c.in-Some.ensures.1)) in
+    (subst (λ h. is_some (lookup handle_of f.ledger.blocks.regions h) ≡ true) c.in-Some.ensures.0
+    (subst (λ (v : Stored). is_some (lookup handle_of v.blocks.regions c.args.handle) ≡ true) (sym c.self.view_is) c.in-Some.ensures.1)) in
     let there : c.in-Some.root < length f.table.rows.items = root-there f.table f.lexicals.items f.classes f.ledger.blocks k c.in-Some.root q found in
     let (r, named, sort) = dynamic-named f.table f.lexicals.items f.classes f.ledger.blocks k c.in-Some.root c.index-first.result.now there c.index-first.ensures c.in-Dynamic.is in
     close-kept f.table f.lexicals.items f.classes f.ledger.blocks k c.in-Some.root r named c.index-first.result.now c.index-first.ensures
@@ -41,8 +41,8 @@ pub returns : goal.returns
 returns c =
     let f = c.self.inside in let k = c.self.invariant in
     let (q, found) = some-there (lookup handle_of f.ledger.blocks.regions (2 * c.in-Some.root + 1))
-        (subst (λ h. is_some (lookup handle_of f.ledger.blocks.regions h) ≡ true) c.in-Some.ensures.0
-        (subst (λ (v : Stored). is_some (lookup handle_of v.blocks.regions c.args.handle) ≡ true) (sym c.self.view_is) c.in-Some.ensures.1)) in
+    (subst (λ h. is_some (lookup handle_of f.ledger.blocks.regions h) ≡ true) c.in-Some.ensures.0
+    (subst (λ (v : Stored). is_some (lookup handle_of v.blocks.regions c.args.handle) ≡ true) (sym c.self.view_is) c.in-Some.ensures.1)) in
     let there : c.in-Some.root < length f.table.rows.items = root-there f.table f.lexicals.items f.classes f.ledger.blocks k c.in-Some.root q found in
     let (r, named, sort) = dynamic-named f.table f.lexicals.items f.classes f.ledger.blocks k c.in-Some.root c.index-first.result.now there c.index-first.ensures c.in-Dynamic.is in
     subst (λ (v : Stored). Serves (held_of v) (CloseDynamic c.args.handle) Done (store_of c.give_back.new.self.most c.give_back.new.self.words.items c.with-self-inside.result.blocks)) c.self.view_is

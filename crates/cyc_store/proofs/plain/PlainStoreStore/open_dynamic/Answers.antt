@@ -1,7 +1,6 @@
-use Rattle.std.proofs.Common.{◌≡◌, ◌≤◌, true, None, length, refl, sym, subst, ◌∙◌}
+use Rattle.std.proofs.Common.{◌≡◌, true, None, refl, subst}
 use Rattle.cyc_store.specs.Ledger.{Stored, held_of, store_of}
 use Rattle.cyc_store.specs.Services.{OpenDynamic, Opened, Refused, Full, refusal, Serves}
-use Rattle.cyc_store.specs.State.{StoreState}
 use Rattle.cyc_store.specs.Kept.{handle_of_page}
 use Rattle.cyc_store.proofs.Responses.{dynamic-full, dynamic-none}
 use Rattle.cyc_store.proofs.KeptServices.{not-true, kept-full, kept-unchanged, held-unchanged, kept-some, dynamic-kept, dynamic-serves}
@@ -22,9 +21,11 @@ pub returns-in_default : goal.returns-in_default
 returns-in_default c =
     let f = c.self.inside in let k = c.self.invariant in
     let some = kept-some f.table f.lexicals.items f.classes f.ledger.blocks k (λ full. not-true (c.if-is_full.ensures.1 full)) in
-    subst (λ (v : Stored). (true ≡ true) × (refusal (held_of v) OpenDynamic ≡ None) × (store_of c.draw.new.self.most c.draw.new.self.words.items f.ledger.blocks ≡ held_of v)) c.self.view_is
-    (refl, dynamic-none (store_of f.table.most f.table.words.items f.ledger.blocks) k.layout k.laid some.0 some.1 some.2,
-      held-unchanged f.table c.draw.new.self f.ledger.blocks c.in_default.ensures.same)
+    subst (λ (v : Stored). (true ≡ true) × (refusal (held_of v) OpenDynamic ≡ None) × (store_of c.draw.new.self.most c.draw.new.self.words.items f.ledger.blocks ≡ held_of v)) c.self.view_is (
+      refl,
+      dynamic-none (store_of f.table.most f.table.words.items f.ledger.blocks) k.layout k.laid some.0 some.1 some.2,
+      held-unchanged f.table c.draw.new.self f.ledger.blocks c.in_default.ensures.same,
+    )
 
 pub invariant_of-self-2 : goal.invariant_of-self-2
 invariant_of-self-2 c =

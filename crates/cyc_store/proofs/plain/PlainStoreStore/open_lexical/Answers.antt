@@ -1,7 +1,6 @@
-use Rattle.std.proofs.Common.{◌≡◌, ◌≤◌, ◌<◌, ◌^◌, true, None, [], ◌∷◌, ◌++◌, length, refl, sym, ap, subst, ◌∙◌, arith}
+use Rattle.std.proofs.Common.{◌≡◌, ◌≤◌, true, None, [], ◌∷◌, ◌++◌, length, refl, sym, ap, subst, ◌∙◌, arith}
 use Rattle.cyc_store.specs.Ledger.{Stored, held_of, store_of}
 use Rattle.cyc_store.specs.Services.{OpenLexical, OpenedLexical, Refused, Full, refusal, Serves}
-use Rattle.cyc_store.specs.State.{StoreState}
 use Rattle.cyc_store.specs.Kept.{handle_of_page, IsKept}
 use Rattle.cyc_store.proofs.Responses.{lexical-full, lexical-none}
 use Rattle.cyc_store.proofs.KeptServices.{not-true, kept-full, kept-unchanged, held-unchanged, kept-some, kept-lexicals_few, lexical-kept, lexical-serves}
@@ -30,9 +29,11 @@ pub returns-in_default-draw : goal.returns-in_default-draw
 returns-in_default-draw c =
     let f = c.self.inside in let k = c.self.invariant in
     let some = kept-some f.table f.lexicals.items f.classes f.ledger.blocks k (λ full. not-true (c.if-is_full.ensures.1 full)) in
-    subst (λ (v : Stored). (true ≡ true) × (refusal (held_of v) OpenLexical ≡ None) × (store_of c.draw.new.self.most c.draw.new.self.words.items f.ledger.blocks ≡ held_of v)) c.self.view_is
-    (refl, lexical-none (store_of f.table.most f.table.words.items f.ledger.blocks) k.layout k.laid some.0 some.1 some.2,
-      held-unchanged f.table c.draw.new.self f.ledger.blocks c.in_default-draw.ensures.same)
+    subst (λ (v : Stored). (true ≡ true) × (refusal (held_of v) OpenLexical ≡ None) × (store_of c.draw.new.self.most c.draw.new.self.words.items f.ledger.blocks ≡ held_of v)) c.self.view_is (
+      refl,
+      lexical-none (store_of f.table.most f.table.words.items f.ledger.blocks) k.layout k.laid some.0 some.1 some.2,
+      held-unchanged f.table c.draw.new.self f.ledger.blocks c.in_default-draw.ensures.same,
+    )
 
 pub overflow_cast-mark : goal.overflow_cast-mark
 overflow_cast-mark c =

@@ -1,5 +1,4 @@
 use Rattle.std.proofs.Common.{◌≡◌}
-use Rattle.cyc_store.specs.Table.{given_rows, given_free, AreThere}
 use Rattle.cyc_store.proofs.TableLemmas.{IsGiving}
 use Rattle.cyc_store.proofs.row.PageTable.give_back.Given as goal
 
