@@ -21,8 +21,8 @@ pub returns-in-Some-clause-runs : goal.returns-in-Some-clause-runs
 returns-in-Some-clause-runs g c =
     stops_after _ _ _ _ _ _ _ _ _ c.respond.new.seen _ _ (state_of g.S.Store.held c.respond.new.machine) c.go-stretch.result.event _ c.loop-count.invariant.progress c.loop-count-test.true c.in_default.not-Ran c.in_default.not-NoMemory c.go-stretch.ensures (rw c.in-Some.is at c.in_ok-end-in_default.ensures.turned)
 
-pub returns-in_NoMemory-clause-runs : goal.returns-in_NoMemory-clause-runs
-returns-in_NoMemory-clause-runs g c =
+pub returns-in-NoMemory-clause-runs : goal.returns-in-NoMemory-clause-runs
+returns-in-NoMemory-clause-runs g c =
     wants_after _ _ _ _ _ _ _ _ _ _ c.loop-count.invariant.progress c.loop-count-test.true (rw c.in-NoMemory.is at c.go-stretch.ensures)
 
 pub loop-count-preserved : goal.loop-count-preserved
