@@ -5,7 +5,8 @@
 
 Five loops are laid out twice: as images for `cyclone run` and for the interpreter (interpreter.c, compiled by gcc -O2), which
 end by the machine's service, and as Linux executables for qemu-mips, which end by a system call. Each is run five times, in
-turn, and the least processor time counts.
+turn, and the least processor time counts. One more loop, of loads and stores alone, is run by `cyclone run` on words of the
+stack and of two blocks of the store.
 """
 import os
 import shutil
@@ -99,9 +100,28 @@ LOOPS = [
     ("calls", CALLS, 3 + 11 * TURNS + 2),
     ("some of each", loop(MIXED, registers(38, 12, 11, 8)), 3 + 7 * TURNS),
 ]
+
+SYSCALL = 0x0000000C
+
+
+def allocate(handle, size):
+    """Service 9 makes a block in the region with this handle, and register 9 points to it."""
+    return [addiu(4, 0, handle), addiu(5, 0, size), addiu(2, 0, 9), SYSCALL, addu(9, 2, 0)]
+
+
+ACCESSES = [
+    lw(10, 0, 9), lw(11, 4, 9), sw(10, 8, 9), sw(11, 12, 9), lw(12, 8, 9), sw(12, 0, 9), lw(13, 12, 9), sw(13, 4, 9),
+    addiu(8, 8, -1), branch(5, 8, 0, -10), NOP,
+]
+# where the words of the loop lie, and how register 9 comes to point to them
+RANGES = [
+    ("the stack", [addiu(9, 29, -16)]),
+    ("a block of the heap", allocate(1, 4)),
+    ("a unique block", allocate(2, 4)),
+]
 # service 3 returns register 4; system call 4001 is exit
-OURS = [addiu(4, 0, 7), addiu(2, 0, 3), 0x0000000C]
-LINUX = [addiu(4, 0, 7), addiu(2, 0, 4001), 0x0000000C]
+OURS = [addiu(4, 0, 7), addiu(2, 0, 3), SYSCALL]
+LINUX = [addiu(4, 0, 7), addiu(2, 0, 4001), SYSCALL]
 
 
 def executable(words):
@@ -140,6 +160,19 @@ def runners(folder):
     return found
 
 
+def range_times(folder):
+    """The least processor time of the loop of loads and stores on the words of each range."""
+    path = os.path.join(folder, "range.elf")
+    best = {}
+    for _ in range(5):
+        for name, to_words in RANGES:
+            with open(path, "wb") as file:
+                file.write(executable(START[:2] + to_words + ACCESSES + OURS))
+            taken = processor_time([PROGRAM, "run", "--steps", str(MOST), path], 7)
+            best[name] = min(best.get(name, taken), taken)
+    return best
+
+
 def load_time(folder):
     """The least wall time of a run of three instructions, and of a call that does nothing, in seconds."""
     path = os.path.join(folder, "short.elf")
@@ -172,6 +205,9 @@ def main():
             speeds = [f"{(count + 3) / best[runner] / 1e6:.0f}" for runner, _, _ in found]
             ratio = f", {best['C interpreter'] / best['cyclone run']:.2f}" if "C interpreter" in best else ""
             print(f"{name}: {', '.join(speeds)}{ratio}")
+        best = range_times(folder)
+        for name in list(best)[1:]:
+            print(f"loads and stores in {name}: {best[name] / best['the stack']:.2f} of the time of those in the stack")
         run, nothing = load_time(folder)
         print(f"loading and running three instructions: {run * 1e3:.1f} ms, a call that does nothing: {nothing * 1e3:.1f} ms")
 

@@ -1,18 +1,20 @@
 -- Words by computation.
-use Rattle.std.proofs.Common.{◌≡◌, [], ◌∷◌, Some, pos, refl}
+use Rattle.std.proofs.Common.{◌≡◌, ℕ, [], ◌∷◌, Some, pos, refl}
 use Rattle.cyc_isa.specs.Decoding.{register_of, trap_code_of}
 use Rattle.cyc_isa.specs.declared.instr.Instr.TheVariants.{Immediate, Arithmetic, Exception}
 use Rattle.cyc_isa.specs.declared.instr.ArithmeticOp.TheVariants as operations
 use Rattle.cyc_isa.specs.declared.instr.ExceptionOp.TheVariants.{Syscall}
 use Rattle.cyc_isa.specs.declared.instr.ImmediateOp.TheVariants as immediates
 use Rattle.cyc_isa.specs.declared.instr.BranchOp.TheVariants.{Equal, NotEqual}
+use Rattle.cyc_store.specs.State.{StoreState, start}
+use Rattle.cyc_store.specs.Services.{any_choice}
 use Rattle.cyc_select.specs.Labelled.{Labelled}
 use Rattle.cyc_select.specs.declared.code.Condition.TheVariants as conditions
 use Rattle.cyc_select.specs.declared.code.Line.TheVariants as lines
 use Rattle.cyc_machine.specs.declared.event.End.TheVariants.{Returned}
 use Rattle.cyc_machine.specs.Run.{end_of}
 use Rattle.cyc_machine.specs.Step.{instruction_of}
-use Rattle.cyc_machine.proofs.RunLaws.{world_after}
+use Rattle.cyc_machine.proofs.Choosing.{after}
 use Rattle.cyc_words.specs.Word.{sign_extended}
 use Rattle.cyc_asm.specs.Words.{assembled}
 use Rattle.cyc_asm.specs.Machine.{start_in}
@@ -63,6 +65,10 @@ summing = record {
   globals = [];
 }
 
-sum_is_six : end_of (world_after 36 (start_in (assembled summing) [] [] 1 [])) ≡ Some (Returned (pos 6))
+-- a store, which is not asked
+abbrev empty_store : StoreState
+empty_store = start 3 (λ (x : ℕ). 0)
+
+sum_is_six : end_of (after 36 (any_choice empty_store) (start_in (assembled summing) [] [] empty_store 1 [])) ≡ Some (Returned (pos 6))
 unfolding instruction_of sign_extended
 sum_is_six = refl

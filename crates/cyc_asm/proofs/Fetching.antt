@@ -21,7 +21,7 @@ abbrev pub world_at : List ℕ → Configuration → (counter next : ℕ) → (i
 world_at words c counter next in_slot = record {
   machine = record {
     core = record { registers = c.registers; high = c.high; low = c.low; counter = counter; next = next; in_slot = in_slot };
-    memory = record { text = text_of words; globals = c.globals; stack = c.stack };
+    memory = record { text = text_of words; globals = c.globals; stack = c.stack; store = c.store };
     phase = phases.Running;
   };
   output = c.output;

@@ -1,6 +1,7 @@
 -- An ordinary instruction does the same in the labelled machine and in the machine with text.
-use Rattle.std.proofs.Common.{◌≡◌, ℕ, ◌+◌, ◌*◌, ◌≤◌, List, [], ◌∷◌, length, Bool, true, false, cond, nat_le, Option, None, Some, refl, sym, ap, ◌∙◌, arith, inl, inr}
+use Rattle.std.proofs.Common.{◌≡◌, ℕ, ◌+◌, ◌*◌, ◌≤◌, List, [], ◌∷◌, length, Bool, true, false, ◌||◌, cond, nat_le, Option, None, Some, refl, sym, ap, ◌∙◌, arith, inl, inr}
 use Rattle.std.specs.Prelude.{◌⊎◌, is_some, slice_index_or}
+use Rattle.std.proofs.lemmas.Bool.{or_cases}
 use Rattle.cyc_words.specs.Word.{add_of}
 use Rattle.cyc_isa.specs.declared.operand.Register.{Register}
 use Rattle.cyc_isa.specs.declared.instr.Instr.{Instr}
@@ -10,6 +11,8 @@ use Rattle.cyc_isa.specs.declared.instr.MemoryOp.TheVariants.{LoadWord, StoreWor
 use Rattle.cyc_isa.specs.declared.instr.ExceptionOp.TheVariants.{Syscall, Break}
 use Rattle.cyc_isa.specs.declared.instr.MoveFromOp.TheVariants.{High, Low}
 use Rattle.cyc_isa.specs.declared.instr.MultiplyDivideOp.TheVariants.{Multiply, Divide}
+use Rattle.cyc_store.specs.State.{StoreState}
+use Rattle.cyc_store.specs.Services.{Answer, Refused, Done, Opened, OpenedLexical, Allocated}
 use Rattle.cyc_machine.specs.declared.event.Cause.{Cause}
 use Rattle.cyc_machine.specs.declared.event.Cause.TheVariants as causes
 use Rattle.cyc_machine.specs.declared.event.End.{End}
@@ -17,8 +20,8 @@ use Rattle.cyc_machine.specs.declared.event.Event.{Event}
 use Rattle.cyc_machine.specs.declared.event.Event.TheVariants.{Ran, WantsByte, Puts, Ended}
 use Rattle.cyc_machine.specs.declared.phase.Phase.TheVariants as phases
 use Rattle.cyc_machine.specs.State as machines
-use Rattle.cyc_machine.specs.State.{text_base, text_end, data_base, stack_base, text_at, place_of, is_within, Place, InText, InGlobals, InStack, Nowhere, word_number, register, with_register, advanced, loaded, stored}
-use Rattle.cyc_machine.specs.Step.{Action, Does, Acts, Service, GetByte, PutByte, EndReturned, EndUncaught, EndFull, cause_of, first_of, after, performs, calls, asked, address_of, is_nowhere, is_text, is_misaligned}
+use Rattle.cyc_machine.specs.State.{text_base, text_end, data_base, stack_base, store_base, words_per_page, text_at, place_of, is_within, Place, InText, InGlobals, InStack, InStore, Nowhere, is_dead, word_number, register, with_register, advanced, loaded, stored}
+use Rattle.cyc_machine.specs.Step.{Action, Does, Acts, Service, GetByte, PutByte, EndReturned, EndUncaught, Asks, EndFull, refused_by, told_by, answered, with_store, cause_of, first_of, after, performs, calls, asked, address_of, is_nowhere, is_text, is_misaligned}
 use Rattle.cyc_machine.specs.Run.{World, told}
 use Rattle.cyc_select.specs.Labelled.{is_ordinary}
 use Rattle.cyc_select.specs.Machine.{Configuration, machine_of, memory_of, world_of, from_world}
@@ -37,18 +40,20 @@ stores s target place = record s { core = advanced s.core; memory = stored s.mem
 module _ (words : List ℕ) (inside : text_base + 4 * length words ≤ text_end) (c : Configuration) (small : length c.stack ≤ 1048576) where
   -- the memory with the text
   abbrev memory_with : machines.Memory
-  memory_with = record { text = text_of words; globals = c.globals; stack = c.stack }
+  memory_with = record { text = text_of words; globals = c.globals; stack = c.stack; store = c.store }
 
   -- a place that the labelled machine knows is the same with the text
   data Known (address : ℕ) : Type 0 where
     globals : (n : ℕ) → place_of (memory_of c) address ≡ InGlobals n → place_of memory_with address ≡ InGlobals n → Known address
     stack : (n : ℕ) → place_of (memory_of c) address ≡ InStack n → place_of memory_with address ≡ InStack n → Known address
+    cells : (n : ℕ) → place_of (memory_of c) address ≡ InStore n → place_of memory_with address ≡ InStore n → Known address
 
-  -- the rule, from what is found in the text
-  abbrev place_by : Option ℕ → Bool → Bool → (address : ℕ) → Place
-  place_by found in_globals in_stack address =
+  -- the rule, from what is found in the text and which range the address is in
+  abbrev place_by : Option ℕ → (in_globals in_stack in_store : Bool) → (address : ℕ) → Place
+  place_by found in_globals in_stack in_store address =
       cond (is_some found) (InText (word_number text_base address))
-      (cond in_globals (InGlobals (word_number data_base address)) (cond in_stack (InStack (word_number (stack_base c.stack) address)) Nowhere))
+      (cond in_globals (InGlobals (word_number data_base address))
+      (cond in_stack (InStack (word_number (stack_base c.stack) address)) (cond in_store (InStore address) Nowhere)))
 
   none_found : (address : ℕ) → text_at [] address ≡ None
   none_found address = elim (nat_le text_base address) as (λ b. cond b (slice_index_or (memory_of c).text (word_number text_base address) None) None ≡ None) [ true ↦ refl | false ↦ refl ]
@@ -56,48 +61,60 @@ module _ (words : List ℕ) (inside : text_base + 4 * length words ≤ text_end)
   behind : (base count address : ℕ) → text_end ≤ base → is_within base count address ≡ true → text_end ≤ address
   behind base count address above within = grind (arith, above, within)
 
+  -- an address of a range above the text has the same place without the text and with it
+  range_known : (found : Option ℕ) (in_globals in_stack in_store : Bool) (address : ℕ)
+      → place_of (memory_of c) address ≡ place_by None in_globals in_stack in_store address → place_of memory_with address ≡ place_by found in_globals in_stack in_store address
+      → ((in_globals || (in_stack || in_store)) ≡ true → found ≡ None) → is_nowhere (place_of (memory_of c) address) ≡ false → Known address
+  range_known found true in_stack in_store address without with none there =
+      globals (word_number data_base address) without (with ∙ ap (λ (f : Option ℕ). place_by f true in_stack in_store address) (none refl))
+  range_known found false true in_store address without with none there =
+      stack (word_number (stack_base c.stack) address) without (with ∙ ap (λ (f : Option ℕ). place_by f false true in_store address) (none refl))
+  range_known found false false true address without with none there =
+      cells address without (with ∙ ap (λ (f : Option ℕ). place_by f false false true address) (none refl))
+  range_known found false false false address without with none there =
+      let both : true ≡ false = sym (ap is_nowhere without) ∙ there in cc
+
+  abbrev in_globals : ℕ → Bool
+  in_globals address = is_within data_base (length c.globals) address
+
+  abbrev in_stack : ℕ → Bool
+  in_stack address = is_within (stack_base c.stack) (length c.stack) address
+
+  abbrev in_store : ℕ → Bool
+  in_store address = is_within store_base (words_per_page * c.store.pages) address
+
+  above : (address : ℕ) → (in_globals address || (in_stack address || in_store address)) ≡ true → text_end ≤ address
+  above address within = elim (or_cases (in_globals address) (in_stack address || in_store address) within) [
+    | inl within_data ↦ behind data_base (length c.globals) address (omega arith) within_data
+    | inr others ↦ elim (or_cases (in_stack address) (in_store address) others) [
+      | inl low ↦ behind (stack_base c.stack) (length c.stack) address (omega (arith, small)) low
+      | inr pages ↦ behind store_base (words_per_page * c.store.pages) address (omega arith) pages
+    ]
+  ]
+
   known : (address : ℕ) → is_nowhere (place_of (memory_of c) address) ≡ false → Known address
   known address there =
-      let without : place_of (memory_of c) address ≡ place_by None (is_within data_base (length c.globals) address) (is_within (stack_base c.stack) (length c.stack) address) address =
-      ap (λ (found : Option ℕ). place_by found (is_within data_base (length c.globals) address) (is_within (stack_base c.stack) (length c.stack) address) address) (none_found address) in
-      elim (is_within data_base (length c.globals) address) as (λ b. is_within data_base (length c.globals) address ≡ b → Known address) [
-        | true ↦ λ in_globals.
-            let nothing = no_text words address inside (behind data_base (length c.globals) address (omega arith) in_globals) in
-            globals (word_number data_base address)
-            (without ∙ ap (λ b. place_by None b (is_within (stack_base c.stack) (length c.stack) address) address) in_globals)
-            (ap (λ (found : Option ℕ). place_by found (is_within data_base (length c.globals) address) (is_within (stack_base c.stack) (length c.stack) address) address) nothing
-            ∙ ap (λ b. place_by None b (is_within (stack_base c.stack) (length c.stack) address) address) in_globals)
-        | false ↦ λ not_globals.
-            elim (is_within (stack_base c.stack) (length c.stack) address) as (λ b. is_within (stack_base c.stack) (length c.stack) address ≡ b → Known address) [
-              | true ↦ λ in_stack.
-                  let nothing = no_text words address inside (behind (stack_base c.stack) (length c.stack) address (omega (arith, small)) in_stack) in
-                  stack (word_number (stack_base c.stack) address)
-                  (without ∙ ap (λ b. place_by None b (is_within (stack_base c.stack) (length c.stack) address) address) not_globals ∙ ap (λ b. place_by None false b address) in_stack)
-                  (ap (λ (found : Option ℕ). place_by found (is_within data_base (length c.globals) address) (is_within (stack_base c.stack) (length c.stack) address) address) nothing
-                  ∙ ap (λ b. place_by None b (is_within (stack_base c.stack) (length c.stack) address) address) not_globals ∙ ap (λ b. place_by None false b address) in_stack)
-              | false ↦ λ not_stack.
-                  let nowhere : place_of (memory_of c) address ≡ Nowhere =
-                  without ∙ ap (λ b. place_by None b (is_within (stack_base c.stack) (length c.stack) address) address) not_globals ∙ ap (λ b. place_by None false b address) not_stack in
-                  let both : true ≡ false = sym (ap is_nowhere nowhere) ∙ there in
-                  cc
-            ] refl
-      ] refl
+      range_known (text_at (text_of words) address) (in_globals address) (in_stack address) (in_store address) address
+      (ap (λ (found : Option ℕ). place_by found (in_globals address) (in_stack address) (in_store address) address) (none_found address)) refl
+      (λ within. no_text words address inside (above address within)) there
 
   -- ---- refusals
 
-  abbrev cause_at : MemoryOp → (target base : Register) → (offset : ℕ) → Place → Option Cause
-  cause_at LoadWord target base offset place = first_of (
+  abbrev cause_at : machines.Memory → MemoryOp → (target base : Register) → (offset : ℕ) → Place → Option Cause
+  cause_at memory LoadWord target base offset place = first_of (
       (false, causes.Unpredictable)
       ∷ (is_misaligned (machine_of c).core (Memory LoadWord target base offset), causes.Misaligned)
       ∷ (is_nowhere place, causes.NoSuchAddress)
+      ∷ (is_dead memory place, causes.DeadCell)
       ∷ (false, causes.WriteToText)
       ∷ (false, causes.Break)
       ∷ (false, causes.BadService)
       ∷ [])
-  cause_at StoreWord target base offset place = first_of (
+  cause_at memory StoreWord target base offset place = first_of (
       (false, causes.Unpredictable)
       ∷ (is_misaligned (machine_of c).core (Memory StoreWord target base offset), causes.Misaligned)
       ∷ (is_nowhere place, causes.NoSuchAddress)
+      ∷ (is_dead memory place, causes.DeadCell)
       ∷ (is_text place, causes.WriteToText)
       ∷ (false, causes.Break)
       ∷ (false, causes.BadService)
@@ -114,20 +131,24 @@ module _ (words : List ℕ) (inside : text_base + 4 * length words ≤ text_end)
 
   there : (op : MemoryOp) (target base : Register) (offset : ℕ) → cause_of (machine_of c) (Memory op target base offset) ≡ None → Known (address base offset)
   there LoadWord target base offset none =
-      known (address base offset) (third _ _ ((false, causes.WriteToText) ∷ (false, causes.Break) ∷ (false, causes.BadService) ∷ []) none)
+      known (address base offset) (third _ _ ((is_dead (memory_of c) (place_of (memory_of c) (address base offset)), causes.DeadCell) ∷ (false, causes.WriteToText) ∷ (false, causes.Break) ∷ (false, causes.BadService) ∷ []) none)
   there StoreWord target base offset none =
-      known (address base offset) (third _ _ ((is_text (place_of (memory_of c) (address base offset)), causes.WriteToText) ∷ (false, causes.Break) ∷ (false, causes.BadService) ∷ []) none)
+      known (address base offset) (third _ _ ((is_dead (memory_of c) (place_of (memory_of c) (address base offset)), causes.DeadCell) ∷ (is_text (place_of (memory_of c) (address base offset)), causes.WriteToText) ∷ (false, causes.Break) ∷ (false, causes.BadService) ∷ []) none)
 
   memory_cause : (at : ℕ) (op : MemoryOp) (target base : Register) (offset : ℕ) → cause_of (machine_of c) (Memory op target base offset) ≡ None → Known (address base offset)
       → cause_of (world_at words c at (add_of at 4) false).machine (Memory op target base offset) ≡ None
   memory_cause at LoadWord target base offset none (globals n without with) =
-      ap (cause_at LoadWord target base offset) with ∙ sym (ap (cause_at LoadWord target base offset) without) ∙ none
+      ap (cause_at memory_with LoadWord target base offset) with ∙ sym (ap (cause_at (memory_of c) LoadWord target base offset) without) ∙ none
   memory_cause at LoadWord target base offset none (stack n without with) =
-      ap (cause_at LoadWord target base offset) with ∙ sym (ap (cause_at LoadWord target base offset) without) ∙ none
+      ap (cause_at memory_with LoadWord target base offset) with ∙ sym (ap (cause_at (memory_of c) LoadWord target base offset) without) ∙ none
+  memory_cause at LoadWord target base offset none (cells n without with) =
+      ap (cause_at memory_with LoadWord target base offset) with ∙ sym (ap (cause_at (memory_of c) LoadWord target base offset) without) ∙ none
   memory_cause at StoreWord target base offset none (globals n without with) =
-      ap (cause_at StoreWord target base offset) with ∙ sym (ap (cause_at StoreWord target base offset) without) ∙ none
+      ap (cause_at memory_with StoreWord target base offset) with ∙ sym (ap (cause_at (memory_of c) StoreWord target base offset) without) ∙ none
   memory_cause at StoreWord target base offset none (stack n without with) =
-      ap (cause_at StoreWord target base offset) with ∙ sym (ap (cause_at StoreWord target base offset) without) ∙ none
+      ap (cause_at memory_with StoreWord target base offset) with ∙ sym (ap (cause_at (memory_of c) StoreWord target base offset) without) ∙ none
+  memory_cause at StoreWord target base offset none (cells n without with) =
+      ap (cause_at memory_with StoreWord target base offset) with ∙ sym (ap (cause_at (memory_of c) StoreWord target base offset) without) ∙ none
 
   -- what is not refused without the text is not refused with it
   pub same_cause : (at : ℕ) (i : Instr) → is_ordinary i ≡ true → cause_of (machine_of c) i ≡ None → cause_of (world_at words c at (add_of at 4) false).machine i ≡ None
@@ -184,11 +205,19 @@ module _ (words : List ℕ) (inside : text_base + 4 * length words ≤ text_end)
       did at _ _ event s refl (
       ap (λ place. told (world_here at) Ran (loads (world_here at).machine t place)) with
       ∙ sym (ap (λ place. world_at words (from_world (told (world_of c) Ran (loads (machine_of c) t place)) 0) (add_of at 4) (add_of (add_of at 4) 4) false) without)) acts
+  memory_did at LoadWord t b h event s (cells n without with) acts =
+      did at _ _ event s refl (
+      ap (λ place. told (world_here at) Ran (loads (world_here at).machine t place)) with
+      ∙ sym (ap (λ place. world_at words (from_world (told (world_of c) Ran (loads (machine_of c) t place)) 0) (add_of at 4) (add_of (add_of at 4) 4) false) without)) acts
   memory_did at StoreWord t b h event s (globals n without with) acts =
       did at _ _ event s refl (
       ap (λ place. told (world_here at) Ran (stores (world_here at).machine t place)) with
       ∙ sym (ap (λ place. world_at words (from_world (told (world_of c) Ran (stores (machine_of c) t place)) 0) (add_of at 4) (add_of (add_of at 4) 4) false) without)) acts
   memory_did at StoreWord t b h event s (stack n without with) acts =
+      did at _ _ event s refl (
+      ap (λ place. told (world_here at) Ran (stores (world_here at).machine t place)) with
+      ∙ sym (ap (λ place. world_at words (from_world (told (world_of c) Ran (stores (machine_of c) t place)) 0) (add_of at 4) (add_of (add_of at 4) 4) false) without)) acts
+  memory_did at StoreWord t b h event s (cells n without with) acts =
       did at _ _ event s refl (
       ap (λ place. told (world_here at) Ran (stores (world_here at).machine t place)) with
       ∙ sym (ap (λ place. world_at words (from_world (told (world_of c) Ran (stores (machine_of c) t place)) 0) (add_of at 4) (add_of (add_of at 4) 4) false) without)) acts
@@ -199,11 +228,24 @@ module _ (words : List ℕ) (inside : text_base + 4 * length words ≤ text_end)
       let same = told_same at event (Ended end) s (machines.over (world_here at).machine end) acts.0 acts.1 in
       inr (end, refl, ap (λ (w : World). w.machine.phase) same, ap (λ (w : World). w.output) same)
 
+  -- with the store's answer
+  gone_on : (at : ℕ) (answer : Answer) (store : StoreState) (event : Event) (s : machines.State) → event ≡ told_by answer → s ≡ answered (with_store (world_here at).machine store) answer
+      → Shown (add_of at 4) (told (world_of c) (told_by answer) (answered (with_store (machine_of c) store) answer)) (told (world_here at) event s)
+  gone_on at (Refused why) store event s same_event same_state =
+      let same = told_same at event (Ended (refused_by why)) s _ same_event same_state in
+      inr (refused_by why, refl, ap (λ (w : World). w.machine.phase) same, ap (λ (w : World). w.output) same)
+  gone_on at Done store event s same_event same_state = inl (refl, told_same at event Ran s _ same_event same_state)
+  gone_on at (Opened handle) store event s same_event same_state = inl (refl, told_same at event Ran s _ same_event same_state)
+  gone_on at (OpenedLexical handle mark) store event s same_event same_state = inl (refl, told_same at event Ran s _ same_event same_state)
+  gone_on at (Allocated block) store event s same_event same_state = inl (refl, told_same at event Ran s _ same_event same_state)
+
   served : (at : ℕ) (service : Option Service) (event : Event) (s : machines.State) → Acts (calls service (world_here at).machine) (world_here at).machine event s → Matched at (calls service (machine_of c)) event s
   served at (Some GetByte) event s acts = (WantsByte, _, (refl, refl), inl (refl, told_same at event WantsByte s _ acts.0 acts.1))
   served at (Some PutByte) event s acts = (Puts _, _, (refl, refl), inl (refl, told_same at event (Puts _) s _ acts.0 acts.1))
   served at (Some EndReturned) event s acts = (Ended _, _, (refl, refl), ended at _ event s acts)
   served at (Some EndUncaught) event s acts = (Ended _, _, (refl, refl), ended at _ event s acts)
+  served at (Some (Asks call)) event s (answer, store, serves, same_event, same_state) =
+      (told_by answer, answered (with_store (machine_of c) store) answer, (answer, store, serves, refl, refl), gone_on at answer store event s same_event same_state)
   served at (Some EndFull) event s acts = (Ended _, _, (refl, refl), ended at _ event s acts)
   served at None event s acts = (Ended _, _, (refl, refl), ended at _ event s acts)
 

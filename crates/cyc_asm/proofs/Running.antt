@@ -2,6 +2,7 @@
 use Rattle.std.proofs.Common.{◌≡◌, ℕ, ◌*◌, List, [], replicate, refl, sym, ap, subst, arith, false}
 use Rattle.std.specs.Prelude.{slice_set}
 use Rattle.std.proofs.lemmas.List.{length-replicate}
+use Rattle.cyc_store.specs.State.{StoreState}
 use Rattle.cyc_machine.specs.declared.constants.TheConstants.{ARGUMENT, STACK_POINTER}
 use Rattle.cyc_words.specs.Ending.{Ending}
 use Rattle.cyc_words.specs.Word.{add_of}
@@ -41,22 +42,23 @@ lawful = record {
 }
 
 -- the configuration in which the labelled machine starts
-abbrev started : Labelled → (calls : ℕ) → (input : List ℕ) → Configuration
-started code calls input = record {
+abbrev started : Labelled → StoreState → (calls : ℕ) → (input : List ℕ) → Configuration
+started code store calls input = record {
   registers = slice_set (slice_set (replicate 32 0) ARGUMENT calls) STACK_POINTER stack_end;
   high = 0;
   low = 0;
   globals = labelled.globals_of code.globals;
   stack = replicate (words_per_call * calls) 0;
+  store = store;
   output = [];
   input = input;
   line = 0;
 }
 
 pub runs : (code : Labelled) (addresses : ℕ → ℕ) (words : List ℕ) → IsTextOf code addresses words → Runs code addresses words
-runs code addresses words text calls input few never =
+runs code addresses words text store calls input few never =
     simulates (above code addresses words text) world_machine (matching code addresses words text) (matched code addresses words text) lawful []
-    (labelled.start code calls input) never (start code words calls input) refl (
+    (labelled.start code store calls input) never (start code words store calls input) refl (
       (let nothing : ℕ = 0 in let long = length-replicate (words_per_call * calls) nothing in omega (arith, long, few)),
-      ap (λ (a : ℕ). world_at words (started code calls input) a (add_of a 4) false) (sym text.first),
+      ap (λ (a : ℕ). world_at words (started code store calls input) a (add_of a 4) false) (sym text.first),
     )

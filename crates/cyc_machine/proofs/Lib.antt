@@ -9,5 +9,6 @@ pub mod MemoryLaws
 pub mod Operations
 -- loading
 pub mod Segments
--- a run by computation, which nothing cites
+-- runs by computation
+pub mod Choosing
 pub mod Examples

@@ -7,6 +7,8 @@ pub mod Start
 -- the same as a machine among others, and what no step changes
 pub mod WorldMachine
 pub mod Shape
+-- the machine over a store of some type
+pub mod Held
 -- how the code keeps its memory, which only the crate's own functions speak of
 pub mod Arrays
 pub mod Operations

@@ -49,11 +49,32 @@ pub const END_RETURNED: u32 = 3;
 /// The service that ends a run: an exception was not caught.
 pub const END_UNCAUGHT: u32 = 4;
 
+/// The service that opens a lexical region. It answers the region's handle, and the number of those that were open.
+pub const OPEN_LEXICAL: u32 = 5;
+
+/// The service that closes the newest lexical regions, until so many are open.
+pub const CLOSE_LEXICAL: u32 = 6;
+
+/// The service that opens a dynamic region. It answers the region's handle.
+pub const OPEN_DYNAMIC: u32 = 7;
+
+/// The service that closes a dynamic region.
+pub const CLOSE_DYNAMIC: u32 = 8;
+
+/// The service that makes a block of so many words in a region. It answers the block's address.
+pub const ALLOCATE: u32 = 9;
+
+/// The service that frees a unique block.
+pub const FREE: u32 = 10;
+
 /// The service that ends a run: there was no room.
 pub const END_FULL: u32 = 11;
 
 /// The register with the number of the service that is asked for, and then with what it answers.
 pub const SERVICE: u8 = 2;
+
+/// The register with the second word that a service answers.
+pub const SECOND_ANSWER: u8 = 3;
 
 /// The register with the first argument of a service, and at the start of a run with the call limit.
 pub const ARGUMENT: u8 = 4;

@@ -50,10 +50,12 @@ pub enum Event {
     Puts(u8),
     /// The run is over.
     Ended(End),
+    /// The store wants memory that it was not given. No instruction was executed, and nothing changed.
+    NoMemory,
 }
 
 /// So many instructions, of which all but the last told only that they ran, and what the last one told: an event that is not `Ran`,
-/// or `Ran`, where there were to be no more.
+/// or `Ran`, where there were to be no more. Where that event is `NoMemory`, the instruction that wanted memory is not counted.
 #[derive(Clone, Copy, Debug, PartialEq, Eq)]
 pub struct Stretch {
     pub count: u64,

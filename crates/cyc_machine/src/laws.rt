@@ -3,12 +3,13 @@
 
 ghost use Rattle.std.specs.Prelude.{◌≡◌, ◌≢◌, ℕ, ◌+◌, ◌<◌, List, ◌++◌, length, Some};
 ghost use Rattle.cyc_words.specs.Prefix.{IsPrefix};
+ghost use Rattle.cyc_store.specs.State.{word_at};
 ghost use Rattle.cyc_machine.specs.declared.event.End.{End};
 ghost use Rattle.cyc_machine.specs.Run.{World, Run, end_of};
 ghost use Rattle.cyc_machine.specs.declared.event.Event.{Event};
 ghost use Rattle.cyc_machine.specs.Shape.{SameShape, phase_after};
 ghost use Rattle.cyc_machine.specs.Step.{Step};
-ghost use Rattle.cyc_machine.specs.State.{Core, Memory, State, Place, InText, InGlobals, InStack, Nowhere, register, with_register, place_of, loaded, stored};
+ghost use Rattle.cyc_machine.specs.State.{Core, Memory, State, Place, InText, InGlobals, InStack, InStore, register, with_register, place_of, loaded, stored};
 
 /// A run that is over stays as it is.
 pub fn ended_stays()
@@ -21,18 +22,13 @@ pub fn output_grows()
     ensures input { (count : ℕ) (old new : World) → Run count old new → (read : List ℕ) × (old.input ≡ read ++ new.input) }
 {}
 
-/// From every world there is a run of every number of instructions.
-pub fn always_goes_on()
-    ensures { (count : ℕ) (old : World) → (new : World) × Run count old new }
-{}
-
 /// One run after another is a run, and each run can be cut in two.
 pub fn runs_compose()
     ensures joined { (m n : ℕ) (u v w : World) → Run m u v → Run n v w → Run (m + n) u w }
     ensures split { (m n : ℕ) (u w : World) → Run (m + n) u w → (v : World) × Run m u v × Run n v w }
 {}
 
-/// No run changes the text, nor how many words of memory and registers there are.
+/// No run changes the text, nor how many words of memory and registers there are, nor the store's pages.
 pub fn shape_stays()
     ensures { (count : ℕ) (old new : World) → Run count old new → SameShape old.machine new.machine }
 {}
@@ -49,10 +45,11 @@ pub fn registers_hold()
     ensures other { (core : Core) (number other value : ℕ) → other ≢ number → register (with_register core number value) other ≡ register core other }
 {}
 
-/// A place of the data range or of the stack holds what was last stored there.
+/// A place of the data range or of the stack holds what was last stored there, and so does one in a live block.
 pub fn memory_holds()
     ensures globals { (m : Memory) (number word : ℕ) → number < length m.globals → loaded (stored m (InGlobals number) word) (InGlobals number) ≡ word }
     ensures stack { (m : Memory) (number word : ℕ) → number < length m.stack → loaded (stored m (InStack number) word) (InStack number) ≡ word }
+    ensures store { (m : Memory) (address word old : ℕ) → word_at m.store address ≡ Some old → loaded (stored m (InStore address) word) (InStore address) ≡ word }
     ensures other { (m : Memory) (place other : Place) (word : ℕ) → other ≢ place → loaded (stored m place word) other ≡ loaded m other }
     ensures places { (m : Memory) (place : Place) (word address : ℕ) → place_of (stored m place word) address ≡ place_of m address }
 {}

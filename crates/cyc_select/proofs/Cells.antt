@@ -2,7 +2,8 @@
 use Rattle.std.proofs.Common.{◌≡◌, ◌≢◌, ℕ, ◌+◌, ◌-◌, ◌*◌, ◌%◌, ◌<◌, ◌≤◌, Bool, true, false, List, [], length, None, refl, sym, ap, ◌∙◌, arith, inl, inr}
 use Rattle.std.specs.Prelude.{◌⊎◌, nat_le, nat_lt, if◌then◌else◌, is_some, Option, slice_index_or}
 use Rattle.std.proofs.lemmas.Bool.{cases_eq, le-leb, lt-ltb, le-ltb, and_from, and_right, cond-true, cond-false}
-use Rattle.cyc_machine.specs.State.{Memory, Place, InText, InGlobals, InStack, Nowhere, text_base, text_at, data_base, stack_end, stack_base, word_number, is_within, place_of, loaded, stored}
+use Rattle.cyc_store.specs.State.{StoreState}
+use Rattle.cyc_machine.specs.State.{Memory, Place, InText, InGlobals, InStack, InStore, Nowhere, text_base, text_at, data_base, stack_end, stack_base, word_number, is_within, place_of, loaded, stored}
 use Rattle.cyc_machine.proofs.MemoryLaws.{place_of-stored, loaded-stored_globals, loaded-stored_stack, loaded-stored_other}
 use Rattle.cyc_plain.specs.State.{put}
 use Rattle.cyc_plain.proofs.SlotLaws.{put-same, put-other}
@@ -22,8 +23,8 @@ abbrev pub cell : Memory → ℕ → ℕ
 cell m a = loaded m (place_of m a)
 
 -- the memory of labelled code has no text
-abbrev pub memory : (globals stack : List ℕ) → Memory
-memory globals stack = record { text = []; globals = globals; stack = stack }
+abbrev pub memory : (globals stack : List ℕ) → StoreState → Memory
+memory globals stack store = record { text = []; globals = globals; stack = stack; store = store }
 
 abbrev nothing : List (Option ℕ)
 nothing = []
@@ -41,32 +42,33 @@ within base count a from below = and_from (nat_le base a) (nat_lt a (base + 4 * 
 outside : (base count a : ℕ) → base + 4 * count ≤ a → is_within base count a ≡ false
 outside base count a past = and_right (nat_le base a) (nat_lt a (base + 4 * count)) (le-ltb a (base + 4 * count) past)
 
-pub place_of-data : (globals stack : List ℕ) (a : ℕ) → IsData (length globals) a → place_of (memory globals stack) a ≡ InGlobals (word_number data_base a)
-place_of-data globals stack a (aligned, from, below) =
+pub place_of-data : (globals stack : List ℕ) (store : StoreState) (a : ℕ) → IsData (length globals) a → place_of (memory globals stack store) a ≡ InGlobals (word_number data_base a)
+place_of-data globals stack store a (aligned, from, below) =
     cond-false _ _ _ (no_text a) ∙ cond-true _ _ _ (within data_base (length globals) a from below)
 
-pub place_of-stack : (globals stack : List ℕ) (a : ℕ) → length globals ≤ 1048576 → length stack ≤ 1048576 → IsStack (length stack) a → place_of (memory globals stack) a ≡ InStack (word_number (stack_base stack) a)
-place_of-stack globals stack a few_globals few_stack (aligned, from, below) =
+pub place_of-stack : (globals stack : List ℕ) (store : StoreState) (a : ℕ) → length globals ≤ 1048576 → length stack ≤ 1048576 → IsStack (length stack) a → place_of (memory globals stack store) a ≡ InStack (word_number (stack_base stack) a)
+place_of-stack globals stack store a few_globals few_stack (aligned, from, below) =
     cond-false _ _ _ (no_text a)
     ∙ (cond-false _ _ _ (outside data_base (length globals) a (omega arith)) ∙ cond-true _ _ _ (within (stack_base stack) (length stack) a from (omega arith)))
 
 -- a store changes one word
-module _ (globals stack : List ℕ) (few_globals : length globals ≤ 1048576) (few_stack : length stack ≤ 1048576) where
+module _ (globals stack : List ℕ) (store : StoreState) (few_globals : length globals ≤ 1048576) (few_stack : length stack ≤ 1048576) where
   abbrev m : Memory
-  m = memory globals stack
+  m = memory globals stack store
 
   written : (a word : ℕ) → IsCell (length globals) (length stack) a → loaded (stored m (place_of m a) word) (place_of m a) ≡ word
   written a word (inl (aligned, from, below)) =
-      let at = place_of-data globals stack a (aligned, from, below) in
+      let at = place_of-data globals stack store a (aligned, from, below) in
       ap (λ (p : Place). loaded (stored m p word) p) at ∙ loaded-stored_globals m (word_number data_base a) word (omega arith)
   written a word (inr (aligned, from, below)) =
-      let at = place_of-stack globals stack a few_globals few_stack (aligned, from, below) in
+      let at = place_of-stack globals stack store a few_globals few_stack (aligned, from, below) in
       ap (λ (p : Place). loaded (stored m p word) p) at ∙ loaded-stored_stack m (word_number (stack_base stack) a) word (omega arith)
 
   number_in : Place → ℕ
   number_in (InText n) = n
   number_in (InGlobals n) = n
   number_in (InStack n) = n
+  number_in (InStore a) = a
   number_in Nowhere = 0
 
   is_data : Place → Bool
@@ -77,19 +79,19 @@ module _ (globals stack : List ℕ) (few_globals : length globals ≤ 1048576) (
   unfolding number_in is_data
   apart a b (inl (a_aligned, a_from, a_below)) (inl (b_aligned, b_from, b_below)) other same =
       let e : word_number data_base b ≡ word_number data_base a =
-      ap number_in (sym (place_of-data globals stack b (b_aligned, b_from, b_below)) ∙ (same ∙ place_of-data globals stack a (a_aligned, a_from, a_below))) in
+      ap number_in (sym (place_of-data globals stack store b (b_aligned, b_from, b_below)) ∙ (same ∙ place_of-data globals stack store a (a_aligned, a_from, a_below))) in
       other (omega arith)
   apart a b (inr (a_aligned, a_from, a_below)) (inr (b_aligned, b_from, b_below)) other same =
       let e : word_number (stack_base stack) b ≡ word_number (stack_base stack) a =
-      ap number_in (sym (place_of-stack globals stack b few_globals few_stack (b_aligned, b_from, b_below)) ∙ (same ∙ place_of-stack globals stack a few_globals few_stack (a_aligned, a_from, a_below))) in
+      ap number_in (sym (place_of-stack globals stack store b few_globals few_stack (b_aligned, b_from, b_below)) ∙ (same ∙ place_of-stack globals stack store a few_globals few_stack (a_aligned, a_from, a_below))) in
       other (omega arith)
   apart a b (inl a_data) (inr b_stack) other same =
       let e : false ≡ true =
-      ap is_data (sym (place_of-stack globals stack b few_globals few_stack b_stack) ∙ (same ∙ place_of-data globals stack a a_data)) in
+      ap is_data (sym (place_of-stack globals stack store b few_globals few_stack b_stack) ∙ (same ∙ place_of-data globals stack store a a_data)) in
       cc
   apart a b (inr a_stack) (inl b_data) other same =
       let e : true ≡ false =
-      ap is_data (sym (place_of-data globals stack b b_data) ∙ (same ∙ place_of-stack globals stack a few_globals few_stack a_stack)) in
+      ap is_data (sym (place_of-data globals stack store b b_data) ∙ (same ∙ place_of-stack globals stack store a few_globals few_stack a_stack)) in
       cc
 
   pub cell-stored : (a word b : ℕ) → IsCell (length globals) (length stack) a → IsCell (length globals) (length stack) b

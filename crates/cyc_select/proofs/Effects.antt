@@ -19,7 +19,7 @@ use Rattle.cyc_machine.specs.declared.event.Event.{Event}
 use Rattle.cyc_machine.specs.declared.event.Event.TheVariants.{Ran, WantsByte, Puts, Ended}
 use Rattle.cyc_machine.specs.declared.phase.Phase.TheVariants as phases
 use Rattle.cyc_machine.specs.State as machines
-use Rattle.cyc_machine.specs.State.{Core, Place, InText, InGlobals, InStack, Nowhere, register, with_register, place_of, loaded, stored, over, data_base, stack_base, word_number}
+use Rattle.cyc_machine.specs.State.{Core, Place, InText, InGlobals, InStack, Nowhere, register, with_register, place_of, is_dead, loaded, stored, over, data_base, stack_base, word_number}
 use Rattle.cyc_machine.specs.Step.{Action, Does, Calls, Acts, Service, GetByte, PutByte, EndReturned, EndUncaught, EndFull, Serves, service_of, asked, calls, executes, after, cause_of, first_of, is_nowhere, is_text, is_aligned}
 use Rattle.cyc_machine.specs.Run.{told}
 use Rattle.cyc_machine.proofs.StepLaws.{executes-performs}
@@ -41,13 +41,14 @@ performs_to c i left next does running (event, s, acts, is) =
 
 -- ---- division and memory, which may trap
 
-no_cause : (a b c d : Bool) → a ≡ false → b ≡ false → c ≡ false → d ≡ false
-    → first_of ((a, causes.Unpredictable) ∷ (b, causes.Misaligned) ∷ (c, causes.NoSuchAddress) ∷ (d, causes.WriteToText) ∷ (false, causes.Break) ∷ (false, causes.BadService) ∷ []) ≡ None
-no_cause false false false false ea eb ec ed = refl
-no_cause true b c d ea eb ec ed = absurd (let e : true ≡ false = ea in cc)
-no_cause false true c d ea eb ec ed = absurd (let e : true ≡ false = eb in cc)
-no_cause false false true d ea eb ec ed = absurd (let e : true ≡ false = ec in cc)
-no_cause false false false true ea eb ec ed = absurd (let e : true ≡ false = ed in cc)
+no_cause : (a b c d f : Bool) → a ≡ false → b ≡ false → c ≡ false → d ≡ false → f ≡ false
+    → first_of ((a, causes.Unpredictable) ∷ (b, causes.Misaligned) ∷ (c, causes.NoSuchAddress) ∷ (d, causes.DeadCell) ∷ (f, causes.WriteToText) ∷ (false, causes.Break) ∷ (false, causes.BadService) ∷ []) ≡ None
+no_cause false false false false false ea eb ec ed ef = refl
+no_cause true b c d f ea eb ec ed ef = absurd (let e : true ≡ false = ea in cc)
+no_cause false true c d f ea eb ec ed ef = absurd (let e : true ≡ false = eb in cc)
+no_cause false false true d f ea eb ec ed ef = absurd (let e : true ≡ false = ec in cc)
+no_cause false false false true f ea eb ec ed ef = absurd (let e : true ≡ false = ed in cc)
+no_cause false false false false true ea eb ec ed ef = absurd (let e : true ≡ false = ef in cc)
 
 divides : (a b : ℕ) → b ≢ 0 → (a ≡ 2 ^ 31 → b ≡ 2 ^ 32 - 1 → ⊥) → (b == 0 || (a == 2 ^ 31 && b == 2 ^ 32 - 1)) ≡ false
 divides a b nonzero least = or_from (b == 0) (a == 2 ^ 31 && b == 2 ^ 32 - 1) (ne_eqb b 0 nonzero) (elim (cases_eq a (2 ^ 31)) [
@@ -57,13 +58,13 @@ divides a b nonzero least = or_from (b == 0) (a == 2 ^ 31 && b == 2 ^ 32 - 1) (n
 
 -- a cell has a place that can be written
 module _ (globals stack : ℕ) (c : Configuration) (r w : Words) (view : View globals stack c r w) where
-  stands : (a : ℕ) → IsCell globals stack a → (is_nowhere (place_of (memory_of c) a) ≡ false) × (is_text (place_of (memory_of c) a) ≡ false)
+  stands : (a : ℕ) → IsCell globals stack a → (is_nowhere (place_of (memory_of c) a) ≡ false) × (is_dead (memory_of c) (place_of (memory_of c) a) ≡ false) × (is_text (place_of (memory_of c) a) ≡ false)
   stands a (inl (aligned, from, below)) =
-      let there = place_of-data c.globals c.stack a (aligned, from, omega (arith, below, view.data_words)) in
-      (ap is_nowhere there, ap is_text there)
+      let there = place_of-data c.globals c.stack c.store a (aligned, from, omega (arith, below, view.data_words)) in
+      (ap is_nowhere there, ap (is_dead (memory_of c)) there, ap is_text there)
   stands a (inr (aligned, from, below)) =
-      let there = place_of-stack c.globals c.stack a (omega (arith, view.data_words, view.few_globals)) (omega (arith, view.stack_words, view.few_stack)) (aligned, omega (arith, from, view.stack_words), below) in
-      (ap is_nowhere there, ap is_text there)
+      let there = place_of-stack c.globals c.stack c.store a (omega (arith, view.data_words, view.few_globals)) (omega (arith, view.stack_words, view.few_stack)) (aligned, omega (arith, from, view.stack_words), below) in
+      (ap is_nowhere there, ap (is_dead (memory_of c)) there, ap is_text there)
 
   aligned : (a : ℕ) → IsCell globals stack a → not (is_aligned a) ≡ false
   aligned a (inl (fine, from, below)) = not_from_true (is_aligned a) (eq-eqb (a % 4) 0 fine)
@@ -86,13 +87,13 @@ module _ (globals stack : ℕ) (c : Configuration) (r w : Words) (view : View gl
       let a : ℕ = memory_address (word_in c base.number) offset in
       let there = stands a (at_cell base offset at) in
       let fine = executes-performs (machine_of c) (Memory LoadWord target base offset)
-      (no_cause false _ _ false refl (aligned a (at_cell base offset at)) there.0 refl) in
+      (no_cause false _ _ _ false refl (aligned a (at_cell base offset at)) there.0 there.1 refl) in
       performs_to c (Memory LoadWord target base offset) (after (machine_of c) (Memory LoadWord target base offset)) next fine refl goes
   performed (Memory StoreWord source base offset) next at goes =
       let a : ℕ = memory_address (word_in c base.number) offset in
       let there = stands a (at_cell base offset at) in
       let fine = executes-performs (machine_of c) (Memory StoreWord source base offset)
-      (no_cause false _ _ _ refl (aligned a (at_cell base offset at)) there.0 there.1) in
+      (no_cause false _ _ _ _ refl (aligned a (at_cell base offset at)) there.0 there.1 there.2) in
       performs_to c (Memory StoreWord source base offset) (after (machine_of c) (Memory StoreWord source base offset)) next fine refl goes
   performed (ShiftVariable op destination source by) next safe goes = performs_to c (ShiftVariable op destination source by) (after (machine_of c) (ShiftVariable op destination source by)) next refl refl goes
   performed (MoveFrom High destination) next safe goes = performs_to c (MoveFrom High destination) (after (machine_of c) (MoveFrom High destination)) next refl refl goes
@@ -102,7 +103,7 @@ module _ (globals stack : ℕ) (c : Configuration) (r w : Words) (view : View gl
       let a = view.reg left.number left.in_range in
       let b = view.reg right.number right.in_range in
       let fine = executes-performs (machine_of c) (MultiplyDivide Divide left right)
-      (no_cause _ false false false (divides (word_in c left.number) (word_in c right.number) (λ e. nonzero (sym b ∙ e)) (λ e f. least (sym a ∙ e) (sym b ∙ f))) refl refl refl) in
+      (no_cause _ false false false false (divides (word_in c left.number) (word_in c right.number) (λ e. nonzero (sym b ∙ e)) (λ e f. least (sym a ∙ e) (sym b ∙ f))) refl refl refl refl) in
       performs_to c (MultiplyDivide Divide left right) (after (machine_of c) (MultiplyDivide Divide left right)) next fine refl goes
   performed (Arithmetic op destination left right) next safe goes = performs_to c (Arithmetic op destination left right) (after (machine_of c) (Arithmetic op destination left right)) next refl refl goes
   performed (Branch op left right offset) next safe goes = absurd safe
@@ -161,9 +162,9 @@ Served c service next =
     (event : Event) × (s : machines.State) × Serves service (machine_of c) event s
     × (next ≡ settled (told (world_of c) event s) (c.line + 1) (told (world_of c) event s).machine.phase)
 
-serves : (c : Configuration) (code : TrapCode) (service : Service) (number : ℕ) (next : State) → word_in c 2 ≡ number → service_of number ≡ Some service → Performs c (Exception Syscall code) next → Served c service next
+serves : (c : Configuration) (code : TrapCode) (service : Service) (number : ℕ) (next : State) → word_in c 2 ≡ number → service_of (core_of c) number ≡ Some service → Performs c (Exception Syscall code) next → Served c service next
 serves c code service number next is_number asks (event, s, acts, is) =
-    (event, s, subst (λ (a : Action). Acts a (machine_of c) event s) (called c code service (ap service_of is_number ∙ asks)) acts, is)
+    (event, s, subst (λ (a : Action). Acts a (machine_of c) event s) (called c code service (ap (service_of (core_of c)) is_number ∙ asks)) acts, is)
 
 -- from an event and a state to the state that is seen
 seen : (c : Configuration) (next : State) (event told_event : Event) (s left : machines.State) → event ≡ told_event → s ≡ left

@@ -7,7 +7,7 @@ use Rattle.cyc_isa.specs.declared.instr.Instr.{Instr}
 use Rattle.cyc_machine.specs.State as machines
 use Rattle.cyc_machine.specs.Run.{World, told, ending_of}
 use Rattle.cyc_machine.specs.declared.event.Event.{Event}
-use Rattle.cyc_machine.specs.declared.event.Event.TheVariants.{Ran, WantsByte, Puts, Ended}
+use Rattle.cyc_machine.specs.declared.event.Event.TheVariants.{Ran, WantsByte, Puts, Ended, NoMemory}
 use Rattle.cyc_machine.specs.declared.phase.Phase.{Phase}
 use Rattle.cyc_machine.specs.declared.phase.Phase.TheVariants as phases
 use Rattle.cyc_words.specs.Simulation as simulation
@@ -35,6 +35,7 @@ told_grows w Ran s = IsPrefix-refl w.output
 told_grows w WantsByte s = IsPrefix-refl w.output
 told_grows w (Puts byte) s = IsPrefix-append w.output (byte ∷ [])
 told_grows w (Ended end) s = IsPrefix-refl w.output
+told_grows w NoMemory s = IsPrefix-refl w.output
 
 ordinary_grows : (b : Bool) (c : Configuration) (i : Instr) (new : State) → PerformsOrdinary b c i new → Grows c new
 ordinary_grows true c i new (event, s, acts, is) =

@@ -8,8 +8,11 @@ use Rattle.cyc_select.specs.declared.constants.TheConstants.{CALLS, FRAME}
 use Rattle.cyc_machine.specs.declared.constants.TheConstants.{RETURN_ADDRESS}
 use Rattle.cyc_words.specs.Word.{IsWord}
 use Rattle.cyc_isa.specs.declared.instr.Instr.{Instr}
+use Rattle.cyc_store.specs.State as stores
+use Rattle.cyc_store.specs.State.{StoreState, Holder, homes, holder, word_at}
 use Rattle.cyc_machine.specs.Bounds.{AreAllowed}
-use Rattle.cyc_machine.specs.State.{Place, InText, InGlobals, InStack, Nowhere, loaded, place_of, data_base, stack_base, stack_end, word_number, globals_length, words_per_call}
+use Rattle.cyc_machine.specs.Start.{IsNew}
+use Rattle.cyc_machine.specs.State.{Place, InText, InGlobals, InStack, InStore, Nowhere, loaded, place_of, data_base, stack_base, stack_end, word_number, globals_length, words_per_call}
 use Rattle.cyc_plain.specs.declared.instruction.Instruction.{Instruction}
 use Rattle.cyc_plain.specs.Program.{Program}
 use Rattle.cyc_words.specs.Simulation.{Comes, Follows, IsOnTheWay, NeverFails}
@@ -78,6 +81,15 @@ all_words xs all n = elim (cases_lt n (length xs)) [
   | inr past ↦ subst IsWord (sym (get_or_past xs n 0 past)) (let e : 0 < 2 ^ 32 = omega arith in e)
 ]
 
+-- what is read of a store that holds words is a word
+live_word : (s : StoreState) → stores.AreWords s.memory → (a : ℕ) → IsWord (unwrap_or (word_at s a) 0)
+live_word s words a = found (a % 4 == 0) (holder (homes s) a)
+  where
+    found : (aligned : Bool) (h : Option Holder) → IsWord (unwrap_or (if aligned then stores.word_in h s.memory a else None) 0)
+    found false h = omega arith
+    found true None = omega arith
+    found true (Some h) = words a
+
 globals_hold : (globals : List ℕ) (n : ℕ) → slice_index (globals_of globals) n ≡ slice_index globals n
 unfolding globals_of
 globals_hold globals n = elim (cases_lt n (length globals)) [
@@ -103,7 +115,7 @@ module _ (program : Program) (well : IsWellFormed program) (words : HasWords pro
     → Stands code (instruction_line program function index) (body program frames function (instruction_line program function index) i ++ behind program frames function i))
     (long : (function line : ℕ) (i : Instruction) → length (body program frames function line i) ≡ body_count program function i)
     (starts : Stands code 0 (start_lines program frames)) (same_globals : code.globals ≡ program.globals)
-    (input : List ℕ) (bytes : AllByRecursion (λ b. b < 256) input) where
+    (store : StoreState) (new : IsNew pages store) (input : List ℕ) (bytes : AllByRecursion (λ b. b < 256) input) where
   abbrev few : calls ≤ 4096
   few = allowed.few_calls
 
@@ -123,6 +135,7 @@ module _ (program : Program) (well : IsWellFormed program) (words : HasWords pro
     low = 0;
     globals = globals_of code.globals;
     stack = replicate (words_per_call * calls) 0;
+    store = store;
     output = [];
     input = input;
     line = 0;
@@ -153,6 +166,7 @@ module _ (program : Program) (well : IsWellFormed program) (words : HasWords pro
       no_text n = omega arith
   is_word_at (InGlobals n) = subst IsWord (sym (global_is n)) (all_words program.globals words.globals n)
   is_word_at (InStack n) = subst IsWord (sym (zeros_are (words_per_call * calls) n)) (let e : 0 < 2 ^ 32 = omega arith in e)
+  is_word_at (InStore a) = live_word store (subst (λ (s : StoreState). stores.AreWords s.memory) (sym new.2) new.1) a
   is_word_at Nowhere = omega arith
 
   words_w : AreWords w
@@ -186,12 +200,12 @@ module _ (program : Program) (well : IsWellFormed program) (words : HasWords pro
   -- the stack holds zeros, and the data range the globals
   stack_zero : (a : ℕ) → a % 4 ≡ 0 → stack_end - 4 * (words_per_call * calls) ≤ a → a < stack_end → w a ≡ 0
   stack_zero a aligned from below =
-      ap (loaded (memory_of run)) (place_of-stack (globals_of code.globals) (replicate (words_per_call * calls) 0) a (omega (arith, long_globals)) (omega (arith, long_stack, few)) (aligned, (omega (arith, from, long_stack)), below))
+      ap (loaded (memory_of run)) (place_of-stack (globals_of code.globals) (replicate (words_per_call * calls) 0) store a (omega (arith, long_globals)) (omega (arith, long_stack, few)) (aligned, (omega (arith, from, long_stack)), below))
       ∙ zeros_are (words_per_call * calls) (word_number (stack_base (replicate (words_per_call * calls) 0)) a)
 
   global_word : (global : ℕ) → global < length program.globals → w (data_base + 4 * global) ≡ slice_index program.globals global
   global_word global below =
-      ap (loaded (memory_of run)) (place_of-data (globals_of code.globals) (replicate (words_per_call * calls) 0) (data_base + 4 * global) ((omega arith), (omega arith), (omega (arith, below, well.globals, long_globals))))
+      ap (loaded (memory_of run)) (place_of-data (globals_of code.globals) (replicate (words_per_call * calls) 0) store (data_base + 4 * global) ((omega arith), (omega arith), (omega (arith, below, well.globals, long_globals))))
       ∙ (global_is (word_number data_base (data_base + 4 * global))
       ∙ ap (slice_index program.globals) (let e : word_number data_base (data_base + 4 * global) ≡ global = omega arith in e))
 
@@ -267,7 +281,7 @@ module _ (program : Program) (well : IsWellFormed program) (words : HasWords pro
       })))))
 
   pub follows : NeverFails (steps.machine program pages calls) (steps.start program input)
-      → Follows (steps.machine program pages calls) (machine code addresses) (range_with_len 0 3) (own_of program) (steps.start program input) (start code calls input)
+      → Follows (steps.machine program pages calls) (machine code addresses) (range_with_len 0 3) (own_of program) (steps.start program input) (start code store calls input)
   follows never =
       let above = steps.machine program pages calls in
       let below_machine = machine code addresses in

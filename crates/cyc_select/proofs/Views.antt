@@ -10,7 +10,7 @@ use Rattle.cyc_isa.specs.declared.instr.MoveFromOp.TheVariants.{High, Low}
 use Rattle.cyc_isa.specs.declared.instr.MultiplyDivideOp.TheVariants.{Multiply, Divide}
 use Rattle.cyc_isa.specs.Effect.{immediate_result, load_upper_result, arithmetic_result, shift_result, high_result, low_result, memory_address}
 use Rattle.cyc_machine.specs.State as machines
-use Rattle.cyc_machine.specs.State.{Core, Place, InText, InGlobals, InStack, Nowhere, register, with_register, place_of, loaded, stored, data_base, stack_base, word_number}
+use Rattle.cyc_machine.specs.State.{Core, Place, InText, InGlobals, InStack, InStore, Nowhere, register, with_register, place_of, loaded, stored, data_base, stack_base, word_number}
 use Rattle.cyc_machine.specs.Step.{after}
 use Rattle.cyc_machine.proofs.MemoryLaws.{length-globals-stored, length-stack-stored}
 use Rattle.cyc_plain.specs.State.{Words, put}
@@ -145,17 +145,19 @@ module _ (globals stack : ℕ) (c : Configuration) (r w : Words) (view : View gl
 
   -- a word of memory is written
   same_memory : (place : Place) (word : ℕ)
-      → let m : machines.Memory = record { text = []; globals = (stored (memory_of c) place word).globals; stack = (stored (memory_of c) place word).stack } in
+      → let m : machines.Memory = record { text = []; globals = (stored (memory_of c) place word).globals; stack = (stored (memory_of c) place word).stack; store = (stored (memory_of c) place word).store } in
       m ≡ stored (memory_of c) place word
   same_memory (InText n) word = refl
   same_memory (InGlobals n) word = refl
   same_memory (InStack n) word = refl
+  same_memory (InStore n) word = refl
   same_memory Nowhere word = refl
 
   pub view_store : (a address v word line : ℕ) → IsCell globals stack a → address ≡ a → v ≡ word
       → View globals stack (record c {
         globals = (stored (memory_of c) (place_of (memory_of c) address) v).globals;
         stack = (stored (memory_of c) (place_of (memory_of c) address) v).stack;
+        store = (stored (memory_of c) (place_of (memory_of c) address) v).store;
         line = line;
       }) r (put w a word)
   view_store a address v word line at same_address same = record {
@@ -171,7 +173,7 @@ module _ (globals stack : ℕ) (c : Configuration) (r w : Words) (view : View gl
         ap (λ (m : machines.Memory). cell m b) (same_memory (place_of (memory_of c) address) v)
         ∙ (ap (λ (x : ℕ). cell (stored (memory_of c) (place_of (memory_of c) x) v) b) same_address
         ∙ (ap (λ (x : ℕ). cell (stored (memory_of c) (place_of (memory_of c) a) x) b) same
-        ∙ (cell-stored c.globals c.stack (omega (arith, view.data_words, view.few_globals)) (omega (arith, view.stack_words, view.few_stack)) a word b
+        ∙ (cell-stored c.globals c.stack c.store (omega (arith, view.data_words, view.few_globals)) (omega (arith, view.stack_words, view.few_stack)) a word b
         (subst (λ (n : ℕ). IsCell n (length c.stack) a) (sym view.data_words) (subst (λ (n : ℕ). IsCell globals n a) (sym view.stack_words) at))
         (subst (λ (n : ℕ). IsCell n (length c.stack) b) (sym view.data_words) (subst (λ (n : ℕ). IsCell globals n b) (sym view.stack_words) b_at))
         ∙ kept b b_at)));

@@ -56,9 +56,9 @@ module _ (program : Program) (well : IsWellFormed program) (words : HasWords pro
     few_before = few_before;
     few_own = few_own;
     few_words = few_words;
-    follows = λ pages calls allowed input bytes addresses lie never.
+    follows = λ pages calls allowed store new input bytes addresses lie never.
         follows program well words frames fit (select_of program frames) (formed program well words frames fit) addresses lie pages calls allowed
-        (stand program frames (few_results program well)) (λ function line i. length_body program frames (few_results program well) function line i) (starts program frames (few_results program well)) refl input bytes never;
+        (stand program frames (few_results program well)) (λ function line i. length_body program frames (few_results program well) function line i) (starts program frames (few_results program well)) refl store new input bytes never;
   }
 
 pub is_code : (program : Program) (frames : List Frame) → IsPlain program → AreFrames program frames → IsCode (select_of program frames)

@@ -5,6 +5,7 @@ use Rattle.std.specs.Prelude.{◌≡◌, ◌≢◌, ℕ, ◌+◌, ◌-◌, ◌*�
 use Rattle.cyc_words.specs.Ending.{Ending}
 use Rattle.cyc_isa.specs.Effect.{branch_taken, branch_zero_taken}
 use Rattle.cyc_isa.specs.declared.instr.Instr.{Instr}
+use Rattle.cyc_store.specs.State.{StoreState}
 use Rattle.cyc_machine.specs.declared.constants.TheConstants.{ARGUMENT, RETURN_ADDRESS, STACK_POINTER}
 use Rattle.cyc_machine.specs.State as machines
 use Rattle.cyc_machine.specs.State.{register, with_register, globals_length, words_per_call, stack_end}
@@ -20,14 +21,15 @@ use Rattle.cyc_select.specs.declared.code.Condition.TheVariants as conditions
 use Rattle.cyc_select.specs.declared.code.Line.{Line}
 use Rattle.cyc_select.specs.declared.code.Line.TheVariants as lines
 
--- A run that goes on: the registers, HI and LO, the words of the data range and of the stack, what was printed, what is
--- still to be read, and the line that is executed next.
+-- A run that goes on: the registers, HI and LO, the words of the data range and of the stack, the store, what was printed,
+-- what is still to be read, and the line that is executed next.
 pub record Configuration : Type 0 where
   pub registers : List ℕ
   pub high : ℕ
   pub low : ℕ
   pub globals : List ℕ
   pub stack : List ℕ
+  pub store : StoreState
   pub output : List ℕ
   pub input : List ℕ
   pub line : ℕ
@@ -45,7 +47,7 @@ core_of c =
     record { registers = c.registers; high = c.high; low = c.low; counter = 0; next = 4; in_slot = false }
 
 abbrev pub memory_of : Configuration → machines.Memory
-memory_of c = record { text = []; globals = c.globals; stack = c.stack }
+memory_of c = record { text = []; globals = c.globals; stack = c.stack; store = c.store }
 
 abbrev pub machine_of : Configuration → machines.State
 machine_of c = record { core = core_of c; memory = memory_of c; phase = phases.Running }
@@ -62,6 +64,7 @@ from_world w line =
       low = w.machine.core.low;
       globals = w.machine.memory.globals;
       stack = w.machine.memory.stack;
+      store = w.machine.memory.store;
       output = w.output;
       input = w.input;
       line = line;
@@ -160,14 +163,15 @@ machine code addresses = record {
 -- The start. Register 29 points to the end of the stack and register 4 has the call limit, as for the machine, and the
 -- data range begins with the globals.
 
-abbrev pub start_in : (globals stack : List ℕ) → (calls : ℕ) → (input : List ℕ) → State
-start_in globals stack calls input =
+abbrev pub start_in : (globals stack : List ℕ) → StoreState → (calls : ℕ) → (input : List ℕ) → State
+start_in globals stack store calls input =
     Running (record {
       registers = slice_set (slice_set (replicate 32 0) ARGUMENT calls) STACK_POINTER stack_end;
       high = 0;
       low = 0;
       globals = globals;
       stack = stack;
+      store = store;
       output = [];
       input = input;
       line = 0;
@@ -177,5 +181,5 @@ start_in globals stack calls input =
 unfoldable pub globals_of : List ℕ → List ℕ
 globals_of globals = globals ++ replicate (globals_length - length globals) 0
 
-abbrev pub start : Labelled → (calls : ℕ) → (input : List ℕ) → State
-start code calls input = start_in (globals_of code.globals) (replicate (words_per_call * calls) 0) calls input
+abbrev pub start : Labelled → StoreState → (calls : ℕ) → (input : List ℕ) → State
+start code store calls input = start_in (globals_of code.globals) (replicate (words_per_call * calls) 0) store calls input

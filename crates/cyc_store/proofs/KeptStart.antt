@@ -1,5 +1,5 @@
 -- A table with no page in use keeps a store with no region.
-use Rattle.std.proofs.Common.{◌≡◌, ℕ, zero, suc, ◌+◌, ◌-◌, ◌*◌, ◌%◌, ◌<◌, ◌≤◌, Bool, true, false, List, [], ◌∷◌, length, None, Some, refl, sym, ap, subst, ◌∙◌, inl, inr, arith}
+use Rattle.std.proofs.Common.{◌≡◌, ℕ, zero, suc, ◌+◌, ◌-◌, ◌*◌, ◌/◌, ◌%◌, ◌<◌, ◌≤◌, Bool, true, false, List, [], ◌∷◌, length, None, Some, refl, sym, ap, subst, ◌∙◌, inl, inr, arith}
 use Rattle.std.specs.Prelude.{◌==◌, ◌&&◌, nat_le, if◌then◌else◌, slice_index, slice_index_or}
 use Rattle.cyc_words.specs.Demand.{greatest_class}
 use Rattle.cyc_store.specs.State.{AreWords, Heap, Uniques, StoreState, start, opened}
@@ -11,7 +11,7 @@ use Rattle.cyc_store.specs.Kept.{handle_of_page, numbers_from, IsStocked, IsKept
 use Rattle.cyc_store.specs.declared.row.PageTable.{PageTable}
 use Rattle.cyc_store.specs.declared.row.TheConstants.{NONE}
 use Rattle.cyc_store.specs.declared.row.ClassSlots.{ClassSlots}
-use Rattle.cyc_store.specs.declared.range.TheConstants.{UNIQUE}
+use Rattle.cyc_store.specs.declared.range.TheConstants.{STORE_BASE, UNIQUE}
 use Rattle.cyc_store.proofs.HolderLemmas.{AreSound-opened}
 use Rattle.cyc_store.proofs.ServiceLemmas.{none-sound, no-pages, start-sound}
 use Rattle.cyc_store.proofs.PagedStart.{all_free, bare-paged}
@@ -172,3 +172,15 @@ module _ (t : PageTable) (least_pages : 1 ≤ t.most) (most : t.most ≤ 65536) 
 
   pub heap-held : (pages : ℕ) → t.most ≡ pages → (ws : List ℕ) (c : Blocks) → c ≡ no_blocks → store_of u.most ws c ≡ start pages (memory_of ws)
   heap-held pages is ws c noted = ap (λ n. store_of n ws c) (draws.most ∙ is) ∙ ap (store_of pages ws) noted
+
+  -- what lies in its words
+  pub heap-words : AreWords (memory_of u.words.items)
+  heap-words address = found ((address % 4 == 0) && nat_le STORE_BASE address) ((address - STORE_BASE) / 4)
+    where
+      nothing : (word : ℕ) → slice_index (let none : List ℕ = [] in none) word < 4294967296
+      nothing zero = omega arith
+      nothing (suc word) = omega arith
+
+      found : (b : Bool) (word : ℕ) → (if b then slice_index u.words.items word else 0) < 4294967296
+      found true word = subst (λ n. n < 4294967296) (sym (draws.words word ∙ ap (λ ws. slice_index ws word) words)) (nothing word)
+      found false word = omega arith

@@ -8,7 +8,7 @@ ghost use Rattle.cyc_store.specs.Lookup.{lookup};
 ghost use Rattle.cyc_store.specs.Services.{Allocate, Free, Done, Serves};
 ghost use Rattle.cyc_store.specs.Kept.{next_slot_of};
 ghost use Rattle.cyc_store.specs.Slots.{HasSlot, IsSpent, Stocks, Fills};
-ghost use Rattle.cyc_store.specs.State.{start, homes, holder, address_of, handle_of, lexical_count, demand, word_at};
+ghost use Rattle.cyc_store.specs.State.{AreWords, start, homes, holder, address_of, handle_of, lexical_count, demand, word_at};
 
 use super::answer::{BadHandle, BadMark, No, NotABlock};
 use super::change::Change;
@@ -125,7 +125,8 @@ impl PlainStore {
     pub fn new(alloc: Global, pages: u32) -> Result<PlainStore, AllocError>
         requires least { LEAST_PAGES ≤ pages }
         requires most { pages ≤ MOST_PAGES }
-        ensures { IfOk result (λ s. held_of s ≡ start pages (memory_of s.words)) }
+        ensures held { IfOk result (λ s. held_of s ≡ start pages (memory_of s.words)) }
+        ensures words { IfOk result (λ s. AreWords (memory_of s.words)) }
     {
         let mut table = PageTable::new(alloc, pages);
         let page = table.draw()?;

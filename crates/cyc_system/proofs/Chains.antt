@@ -75,15 +75,15 @@ module _ (p : Program) (lowered : PlainProgram) (code : Labelled) (addresses : �
   some = text_has_words code addresses words is_code.some text
 
   does : DoesTheSame p (program_image words code.globals)
-  does limits input allowed bytes never =
+  does limits store input allowed new bytes never =
       let pages = limits.pages in
       let calls = limits.calls in
-      let together = chain_preserves p lowered code addresses words pages calls input
-      (is.follows pages calls input (omega (arith, allowed.enough_pages)) allowed.enough_calls) selected text runs allowed bytes (never_fails p limits input never) in
-      subst (λ each. Preserves (source_machine p pages calls) world_machine each (start p input) (start_world (program_image words code.globals) limits input))
+      let together = chain_preserves p lowered code addresses words pages calls store input
+      (is.follows pages calls input (omega (arith, allowed.enough_pages)) allowed.enough_calls) selected text runs allowed new bytes (never_fails p limits input never) in
+      subst (λ each. Preserves (source_machine p pages calls) world_machine each (start p input) (start_world (program_image words code.globals) limits store input))
       (sym (text_words-image words code.globals some text.inside few fit fit_globals))
       (subst (λ (w : World). Preserves (source_machine p pages calls) world_machine (length words) (start p input) w)
-      (sym (image_starts words code.globals some text.inside few fit fit_globals code limits input refl)) together)
+      (sym (image_starts words code.globals some text.inside few fit fit_globals code limits store input refl)) together)
 
   pub image_of_chain : (file : List ℕ) → reading file ≡ Ok (program_image words code.globals) → file ≡ layout (program_image words code.globals) → IsImageOf p file
   image_of_chain file read written = record {

@@ -12,6 +12,7 @@ use Rattle.cyc_machine.specs.declared.fault.LoadFault.TheVariants as load
 use Rattle.cyc_machine.specs.Bounds.{Bounds, AreAllowed}
 use Rattle.cyc_machine.specs.Run.{World, Run, end_of}
 use Rattle.cyc_machine.specs.Start.{has_outside, start_world}
+use Rattle.cyc_store.specs.State.{StoreState}
 use Rattle.cyc_machine.proofs.RunLaws.{world_after, Run-world_after, Run-over, Run-output, Run-append, Run-split, over-end_of}
 use Rattle.cyc_types.specs.TypedTrees.{Program}
 use Rattle.cyc_meaning.specs.State.{output_of}
@@ -20,7 +21,7 @@ use Rattle.cyc_system.specs.declared.report.RunFault.{RunFault}
 use Rattle.cyc_system.specs.declared.report.RunFault.TheVariants.{Elf, Load, Read, Write, Memory}
 use Rattle.cyc_system.specs.declared.report.Stop.{Stop}
 use Rattle.cyc_system.specs.declared.report.Stop.TheVariants as stops
-use Rattle.cyc_system.specs.Engine.{Devices, Rests, Tells, Executes, Stops, Runs, Refuses, Starts, Answers}
+use Rattle.cyc_system.specs.Engine.{Devices, Rests, Tells, Executes, Stops, Runs, Refuses, Starts, Answers, AnswersAnew}
 use Rattle.cyc_system.specs.FullPreservation.{text_words, limited, NeverGoesWrong, AreAlike, IsImageOf}
 use Rattle.cyc_system.specs.CompiledRuns.{IsEndOf, IsAsFar, AnswersAs, RunsAs}
 use Rattle.cyc_system.proofs.Engines.{counted_run}
@@ -51,9 +52,9 @@ input_told told input bytes is tells = sym (let same : input ≡ bytes = subst (
 
 -- ---- against the program
 
-module _ (p : Program) (image : ImageContents) (limits : Bounds) (input : List ℕ) (alike : AreAlike p image limits input) (budget : ℕ) (old new : Devices) where
+module _ (p : Program) (image : ImageContents) (limits : Bounds) (store : StoreState) (input : List ℕ) (alike : AreAlike p image limits store input) (grows : Bool) (budget : ℕ) (old new : Devices) where
   started : World
-  started = start_world image limits input
+  started = start_world image limits store input
 
   -- what is answered before anything is read or written
   kept : (result : Result Report RunFault) → result ≡ Err Memory → Rests old new → RunsAs p limits input (text_words image) budget old new result
@@ -66,10 +67,10 @@ module _ (p : Program) (image : ImageContents) (limits : Bounds) (input : List �
         answers = tt;
       })
 
-  module _ (tells : old.remaining ≡ Some input) (count : ℕ) (w : World) (x : Executes (start_world image limits) old new count w) where
+  module _ (tells : old.remaining ≡ Some input) (count : ℕ) (w : World) (x : Executes (start_world image limits store) old new count w) where
     run : Run count started w
     unfolding started
-    run = subst (λ (bytes : List ℕ). Run count (start_world image limits bytes) w) (input_told old.remaining input x.input tells x.told) (counted_run count (start_world image limits x.input) w x.counted)
+    run = subst (λ (bytes : List ℕ). Run count (start_world image limits store bytes) w) (input_told old.remaining input x.input tells x.told) (counted_run count (start_world image limits store x.input) w x.counted)
 
     -- what was written, whatever is answered
     so_far : (result : Result Report RunFault) → AnswersAs p limits input (text_words image) budget w.output result → RunsAs p limits input (text_words image) budget old new result
@@ -101,28 +102,28 @@ module _ (p : Program) (image : ImageContents) (limits : Bounds) (input : List �
               (end, stopped_at stop budget count w end stopped (ap end_of rests ∙ over), shown),
         )
 
-  runs_as : old.remaining ≡ Some input → (result : Result Report RunFault) → Runs (start_world image limits) budget old new result → RunsAs p limits input (text_words image) budget old new result
+  runs_as : old.remaining ≡ Some input → (result : Result Report RunFault) → Runs grows (start_world image limits store) budget old new result → RunsAs p limits input (text_words image) budget old new result
   runs_as tells (Ok report) (w, x, few, stopped) =
       so_far tells report.count w x (Ok report) (is_end tells report.count w x report.stop stopped, is_as_far tells report.count w x report.stop few stopped)
   runs_as tells (Err Read) (count, w, x, below, not_over, wants) = so_far tells count w x (Err Read) tt
   runs_as tells (Err Write) (count, w, x, below, not_over, prints) = so_far tells count w x (Err Write) tt
   runs_as tells (Err (Elf f)) none = absurd none
   runs_as tells (Err (Load f)) none = absurd none
-  runs_as tells (Err Memory) none = absurd none
+  runs_as tells (Err Memory) (count, w, x, below, not_over, wants) = so_far tells count w x (Err Memory) tt
 
-  starts_as : old.remaining ≡ Some input → (result : Result Report RunFault) → Starts (start_world image limits) budget old new result → RunsAs p limits input (text_words image) budget old new result
+  starts_as : old.remaining ≡ Some input → (result : Result Report RunFault) → Starts grows (start_world image limits store) budget old new result → RunsAs p limits input (text_words image) budget old new result
   starts_as tells result (inl (memory, rests)) = kept result memory rests
   starts_as tells result (inr runs) = runs_as tells result runs
 
-  pub answers_as : old.remaining ≡ Some input → has_outside image ≡ false → (result : Result Report RunFault) → Answers (Ok image) limits budget old new result
+  pub answers_as : old.remaining ≡ Some input → has_outside image ≡ false → (result : Result Report RunFault) → Answers grows store (Ok image) limits budget old new result
       → RunsAs p limits input (text_words image) budget old new result
   answers_as tells loads result answers =
       starts_as tells result
-      (subst (λ (b : Bool). MatchBool b (Refuses (Load load.Outside) old new result) (Starts (start_world image limits) budget old new result)) loads answers)
+      (subst (λ (b : Bool). MatchBool b (Refuses (Load load.Outside) old new result) (Starts grows (start_world image limits store) budget old new result)) loads answers)
 
 pub compiled_runs : (p : Program) (file : List ℕ) (is : IsImageOf p file) (limits : Bounds) (input : List ℕ) → AreAllowed limits.pages limits.calls → AllByRecursion (λ b. b < 256) input
-    → NeverGoesWrong p limits input → (budget : ℕ) (old new : Devices) (result : Result Report RunFault) → old.remaining ≡ Some input
-    → Answers (reading file) limits budget old new result → RunsAs p limits input (text_words is.image) budget old new result
-compiled_runs p file is limits input allowed bytes never budget old new result tells answers =
-    answers_as p is.image limits input (are_alike p is.image is.does limits input allowed bytes never) budget old new tells is.loads result
-    (subst (λ (read : Result ImageContents ElfFault). Answers read limits budget old new result) is.read answers)
+    → NeverGoesWrong p limits input → (grows : Bool) (budget : ℕ) (old new : Devices) (result : Result Report RunFault) → old.remaining ≡ Some input
+    → AnswersAnew grows (reading file) limits budget old new result → RunsAs p limits input (text_words is.image) budget old new result
+compiled_runs p file is limits input allowed bytes never grows budget old new result tells (store, new_store, answers) =
+    answers_as p is.image limits store input (are_alike p is.image is.does limits store input allowed new_store bytes never) grows budget old new tells is.loads result
+    (subst (λ (read : Result ImageContents ElfFault). Answers grows store read limits budget old new result) is.read answers)

@@ -26,7 +26,9 @@ use Rattle.cyc_asm.specs.Text.{IsTextOf, stretch, own}
 use Rattle.cyc_asm.proofs.Stretches.{length-stretch}
 use Rattle.cyc_asm.specs.Machine as words
 use Rattle.cyc_asm.specs.Machine.{Runs}
+use Rattle.cyc_machine.specs.Start.{IsNew}
 use Rattle.cyc_machine.specs.WorldMachine.{world_machine}
+use Rattle.cyc_store.specs.State.{StoreState}
 
 -- ---- the source as a machine
 
@@ -42,9 +44,9 @@ source_lawful p pages calls = record {
 
 -- ---- the chain
 
-module _ (p : Program) (lowered : PlainProgram) (code : Labelled) (addresses : ℕ → ℕ) (text : List ℕ) (pages calls : ℕ) (input : List ℕ)
+module _ (p : Program) (lowered : PlainProgram) (code : Labelled) (addresses : ℕ → ℕ) (text : List ℕ) (pages calls : ℕ) (store : StoreState) (input : List ℕ)
     (follows : FollowsSource p lowered pages calls input) (selected : IsCodeOf lowered code) (assembled : IsTextOf code addresses text) (runs : Runs code addresses text)
-    (allowed : AreAllowed pages calls) (bytes : AllByRecursion (λ b. b < 256) input) (never : NeverFails (source_machine p pages calls) (start p input)) where
+    (allowed : AreAllowed pages calls) (new : IsNew pages store) (bytes : AllByRecursion (λ b. b < 256) input) (never : NeverFails (source_machine p pages calls) (start p input)) where
   abbrev source : Machine
   source = source_machine p pages calls
 
@@ -57,15 +59,15 @@ module _ (p : Program) (lowered : PlainProgram) (code : Labelled) (addresses : �
   first : Follows source middle [] (λ s. places_of lowered) (start p input) (plain.start lowered input)
   first = follows never
 
-  second : Follows middle lines selected.before selected.own (plain.start lowered input) (labelled.start code calls input)
+  second : Follows middle lines selected.before selected.own (plain.start lowered input) (labelled.start code store calls input)
   second =
-      selected.follows pages calls allowed input bytes addresses assembled.places
+      selected.follows pages calls allowed store new input bytes addresses assembled.places
       (follows-never_fails source middle (source_lawful p pages calls) [] (λ s. places_of lowered) (start p input) (plain.start lowered input) first)
 
-  third : Follows lines world_machine [] (own addresses) (labelled.start code calls input) (words.start code text calls input)
+  third : Follows lines world_machine [] (own addresses) (labelled.start code store calls input) (words.start code text store calls input)
   third =
-      runs calls input allowed.few_calls
-      (follows-never_fails middle lines (lawful lowered pages calls) selected.before selected.own (plain.start lowered input) (labelled.start code calls input) second)
+      runs store calls input allowed.few_calls
+      (follows-never_fails middle lines (lawful lowered pages calls) selected.before selected.own (plain.start lowered input) (labelled.start code store calls input) second)
 
   -- the words met before the first step of the source, and those of a step
   abbrev words_before : List ℕ
@@ -74,12 +76,12 @@ module _ (p : Program) (lowered : PlainProgram) (code : Labelled) (addresses : �
   abbrev words_of_step : List ℕ
   words_of_step = flat_map (own addresses) (flat_map selected.own (places_of lowered))
 
-  whole : Follows source world_machine words_before (λ s. words_of_step) (start p input) (words.start code text calls input)
+  whole : Follows source world_machine words_before (λ s. words_of_step) (start p input) (words.start code text store calls input)
   whole =
       in_a_row source lines world_machine (selected.before ++ flat_map selected.own []) (λ s. flat_map selected.own (places_of lowered)) [] (own addresses)
-      (start p input) (labelled.start code calls input) (words.start code text calls input)
+      (start p input) (labelled.start code store calls input) (words.start code text store calls input)
       (in_a_row source middle lines [] (λ s. places_of lowered) selected.before selected.own
-      (start p input) (plain.start lowered input) (labelled.start code calls input) first second)
+      (start p input) (plain.start lowered input) (labelled.start code store calls input) first second)
       third
 
   -- together they are the words of the text, each once
@@ -99,7 +101,7 @@ module _ (p : Program) (lowered : PlainProgram) (code : Labelled) (addresses : �
         length-stretch text_base (length text),
       )
 
-  pub chain_preserves : Preserves source world_machine (length text) (start p input) (words.start code text calls input)
+  pub chain_preserves : Preserves source world_machine (length text) (start p input) (words.start code text store calls input)
   chain_preserves =
-      follows-preserves source world_machine (source_lawful p pages calls) words_before (λ s. words_of_step) (start p input) (words.start code text calls input) whole
+      follows-preserves source world_machine (source_lawful p pages calls) words_before (λ s. words_of_step) (start p input) (words.start code text store calls input) whole
       (length text) (λ s. bound)

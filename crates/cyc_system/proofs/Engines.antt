@@ -1,12 +1,12 @@
 -- The loop of the engine: what it has done so far is a run of the machine on every input that goes on from what was
 -- read.
-use Rattle.std.proofs.Common.{◌≡◌, ℕ, zero, suc, ◌+◌, ◌-◌, ◌<◌, ◌≤◌, List, [], ◌∷◌, ◌++◌, drop, Bool, true, false, Option, None, Some, Result, Ok, Err, refl, sym, ap, subst, ◌∙◌, arith, append_assoc, append-nil, inr}
+use Rattle.std.proofs.Common.{◌≡◌, ℕ, zero, suc, ◌+◌, ◌-◌, ◌<◌, ◌≤◌, List, [], ◌∷◌, ◌++◌, drop, Bool, true, false, Option, None, Some, Result, Ok, Err, refl, sym, ap, subst, ◌∙◌, arith, append_assoc, append-nil, inl, inr}
 use Rattle.std.specs.Prelude.{unwrap_or, is_none, slice_get, MatchBool}
 use Rattle.std.specs.Io.KnownBytes.{Keeps, Appends, Consumes, IsAtEnd}
 use Rattle.cyc_words.proofs.DeviceLemmas.{Keeps-refl, Appends-nil, Appends-append, Consumes-nil, Consumes-append}
 use Rattle.cyc_machine.specs.declared.event.End.{End}
 use Rattle.cyc_machine.specs.declared.event.Event.{Event}
-use Rattle.cyc_machine.specs.declared.event.Event.TheVariants.{Ran, WantsByte, Puts, Ended}
+use Rattle.cyc_machine.specs.declared.event.Event.TheVariants.{Ran, WantsByte, Puts, Ended, NoMemory}
 use Rattle.cyc_machine.specs.declared.phase.Phase.TheVariants.{Running, Waiting}
 use Rattle.cyc_machine.specs.State.{State}
 use Rattle.cyc_machine.specs.Step.{Step, given, given_in}
@@ -14,6 +14,7 @@ use Rattle.cyc_machine.specs.Run.{World, told, Goes, Run, RunsQuietly, TellsLast
 use Rattle.cyc_elf.specs.declared.fault.ElfFault.{ElfFault}
 use Rattle.cyc_elf.specs.Image.{ImageContents}
 use Rattle.cyc_machine.specs.declared.fault.LoadFault.TheVariants as load
+use Rattle.cyc_store.specs.State.{StoreState}
 use Rattle.cyc_machine.specs.Bounds.{Bounds}
 use Rattle.cyc_machine.specs.Shape.{phase_after}
 use Rattle.cyc_machine.specs.Start.{has_outside, start_state, start_world}
@@ -169,6 +170,7 @@ Progress-turn start old now new count seen seen' machine machine' p (Puts byte, 
     subst (λ b. Progress start old new (count + 1) b machine') (sym same)
     (quiet start old now new count seen machine machine' (Puts byte) s (byte ∷ []) p step is refl kept printed (λ rest. refl))
 Progress-turn start old now new count seen seen' machine machine' p (Ended end, s, step, none) = absurd none
+Progress-turn start old now new count seen seen' machine machine' p (NoMemory, s, step, none) = absurd none
 
 -- instructions that only ran
 pub Progress-quiet : (start : List ℕ → World) (old now : Devices) (count more : ℕ) (seen : Bool) (machine machine' : State)
@@ -181,23 +183,26 @@ Progress-quiet start old now count (suc more) seen machine machine' p (mid, run,
     (Progress-turn start old now now (count + more) seen seen mid machine' (Progress-quiet start old now count more seen machine mid p run)
     (Ran, machine', step, (refl, refl, (Keeps-refl now.remaining, Keeps-refl now.written))))
 
--- a stretch that ends with something else than that it ran
-pub tells_last : (most : ℕ) (old : State) (count : ℕ) (event : Event) (new : State) → (event ≡ Ran → ⊥) → IsStretch most old count event new → TellsLast most old count event new
-tells_last most old count Ran new other stretch = absurd (other refl)
-tells_last most old count WantsByte new other stretch = stretch
-tells_last most old count (Puts byte) new other stretch = stretch
-tells_last most old count (Ended end) new other stretch = stretch
+-- a stretch that ends with something else than that it ran, or that memory is wanted
+pub tells_last : (grows : Bool) (most : ℕ) (old : State) (count : ℕ) (event : Event) (new : State) → (event ≡ Ran → ⊥) → (event ≡ NoMemory → ⊥) → IsStretch grows most old count event new
+    → TellsLast most old count event new
+tells_last grows most old count Ran new other memory stretch = absurd (other refl)
+tells_last grows most old count WantsByte new other memory stretch = stretch
+tells_last grows most old count (Puts byte) new other memory stretch = stretch
+tells_last grows most old count (Ended end) new other memory stretch = stretch
+tells_last grows most old count NoMemory new other memory stretch = absurd (memory refl)
 
 -- no stretch is too long
-pub stretch_few : (most : ℕ) (old : State) (count : ℕ) (event : Event) (new : State) → IsStretch most old count event new → count ≤ most
-stretch_few most old count Ran new stretch = omega (arith, stretch.0)
-stretch_few most old count WantsByte new stretch = stretch.few
-stretch_few most old count (Puts byte) new stretch = stretch.few
-stretch_few most old count (Ended end) new stretch = stretch.few
+pub stretch_few : (grows : Bool) (most : ℕ) (old : State) (count : ℕ) (event : Event) (new : State) → IsStretch grows most old count event new → count ≤ most
+stretch_few grows most old count Ran new stretch = omega (arith, stretch.0)
+stretch_few grows most old count WantsByte new stretch = stretch.few
+stretch_few grows most old count (Puts byte) new stretch = stretch.few
+stretch_few grows most old count (Ended end) new stretch = stretch.few
+stretch_few grows most old count NoMemory new stretch = omega (arith, stretch.0)
 
 -- a stretch that does not
-pub only_ran : (most : ℕ) (old : State) (count : ℕ) (event : Event) (new : State) → event ≡ Ran → IsStretch most old count event new → RunsQuietly count old new
-only_ran most old count event new ran stretch = (subst (λ (e : Event). IsStretch most old count e new) ran stretch).1
+pub only_ran : (grows : Bool) (most : ℕ) (old : State) (count : ℕ) (event : Event) (new : State) → event ≡ Ran → IsStretch grows most old count event new → RunsQuietly count old new
+only_ran grows most old count event new ran stretch = (subst (λ (e : Event). IsStretch grows most old count e new) ran stretch).1
 
 -- What the loop answers.
 
@@ -246,9 +251,9 @@ executes_kept start old now new count w x (kept, silent) = record {
 }
 
 -- the budget is used up
-pub spends : (start : List ℕ → World) (old now : Devices) (count budget : ℕ) (seen : Bool) (machine : State) → Progress start old now count seen machine → count ≡ budget
-    → Runs start budget old now (Ok (record { stop = stops.Spent; count = budget }))
-spends start old now count budget seen machine p is = (
+pub spends : (grows : Bool) (start : List ℕ → World) (old now : Devices) (count budget : ℕ) (seen : Bool) (machine : State) → Progress start old now count seen machine → count ≡ budget
+    → Runs grows start budget old now (Ok (record { stop = stops.Spent; count = budget }))
+spends grows start old now count budget seen machine p is = (
   record { machine = machine; output = p.output; input = rest_of old.remaining now.remaining },
   subst (λ k. Executes start old now k (record { machine = machine; output = p.output; input = rest_of old.remaining now.remaining })) is (executes_of start old now count seen machine p),
   (omega arith),
@@ -256,9 +261,9 @@ spends start old now count budget seen machine p is = (
 )
 
 -- the run ends
-pub stops_at : (start : List ℕ → World) (old now new : Devices) (count budget : ℕ) (seen seen' : Bool) (machine machine' : State) (end : End) → Progress start old now count seen machine → count < budget
-    → Turned machine machine' seen seen' now new (Ok (Some end)) → Runs start budget old new (Ok (record { stop = stops.End end; count = count + 1 }))
-stops_at start old now new count budget seen seen' machine machine' end p below (step, rests) =
+pub stops_at : (grows : Bool) (start : List ℕ → World) (old now new : Devices) (count budget : ℕ) (seen seen' : Bool) (machine machine' : State) (end : End) → Progress start old now count seen machine → count < budget
+    → Turned machine machine' seen seen' now new (Ok (Some end)) → Runs grows start budget old new (Ok (record { stop = stops.End end; count = count + 1 }))
+stops_at grows start old now new count budget seen seen' machine machine' end p below (step, rests) =
     let rest = rest_of old.remaining now.remaining in
     let x = executes_kept start old now new count (record { machine = machine; output = p.output; input = rest }) (executes_of start old now count seen machine p) rests in
     let here : World = record { machine = machine; output = p.output; input = rest } in
@@ -276,56 +281,78 @@ stops_at start old now new count budget seen seen' machine machine' end p below 
     )
 
 -- a device fails
-pub fails_at : (start : List ℕ → World) (old now new : Devices) (count budget : ℕ) (seen seen' : Bool) (machine machine' : State) (e : RunFault) → Progress start old now count seen machine → count < budget
-    → Turned machine machine' seen seen' now new (Err e) → Runs start budget old new (Err e)
-fails_at start old now new count budget seen seen' machine machine' Read p below (s, step, rests) =
+pub fails_at : (grows : Bool) (start : List ℕ → World) (old now new : Devices) (count budget : ℕ) (seen seen' : Bool) (machine machine' : State) (e : RunFault) → Progress start old now count seen machine → count < budget
+    → Turned machine machine' seen seen' now new (Err e) → Runs grows start budget old new (Err e)
+fails_at grows start old now new count budget seen seen' machine machine' Read p below (s, step, rests) =
     let rest = rest_of old.remaining now.remaining in
     let here : World = record { machine = machine; output = p.output; input = rest } in
     (count, here, executes_kept start old now new count here (executes_of start old now count seen machine p) rests, below, ap end_in p.running, (s, step))
-fails_at start old now new count budget seen seen' machine machine' Write p below (byte, s, step, rests) =
+fails_at grows start old now new count budget seen seen' machine machine' Write p below (byte, s, step, rests) =
     let rest = rest_of old.remaining now.remaining in
     let here : World = record { machine = machine; output = p.output; input = rest } in
     (count, here, executes_kept start old now new count here (executes_of start old now count seen machine p) rests, below, ap end_in p.running, (byte, s, step))
-fails_at start old now new count budget seen seen' machine machine' (Elf f) p below none = absurd none
-fails_at start old now new count budget seen seen' machine machine' (Load f) p below none = absurd none
-fails_at start old now new count budget seen seen' machine machine' Memory p below none = absurd none
+fails_at grows start old now new count budget seen seen' machine machine' (Elf f) p below none = absurd none
+fails_at grows start old now new count budget seen seen' machine machine' (Load f) p below none = absurd none
+fails_at grows start old now new count budget seen seen' machine machine' Memory p below none = absurd none
 
 -- a loaded image is run
 loaded : (inside : Bool) (refused runs : Type 0) → (inside ≡ true → ⊥) → runs → MatchBool inside refused runs
 loaded true refused runs not_so go = absurd (not_so refl)
 loaded false refused runs not_so go = go
 
-pub answers_run : (read : Result ImageContents ElfFault) (image : ImageContents) (limits : Bounds) (budget : ℕ) (machine : State) (old new : Devices) (result : Result Report RunFault)
-    → read ≡ Ok image → (has_outside image ≡ true → ⊥) → machine ≡ start_state image limits
-    → Runs (λ input. record { machine = machine; output = []; input = input }) budget old new result → Answers read limits budget old new result
-answers_run read image limits budget machine old new result is inside begins runs =
-    subst (λ r. Answers r limits budget old new result) (sym is)
-    (loaded (has_outside image) (Refuses (Load load.Outside) old new result) (Starts (start_world image limits) budget old new result) inside
-    (inr (subst (λ m. Runs (λ input. record { machine = m; output = []; input = input }) budget old new result) begins runs)))
+pub answers_run : (grows : Bool) (store : StoreState) (read : Result ImageContents ElfFault) (image : ImageContents) (limits : Bounds) (budget : ℕ) (machine : State) (old new : Devices) (result : Result Report RunFault)
+    → read ≡ Ok image → (has_outside image ≡ true → ⊥) → machine ≡ start_state image limits store
+    → Runs grows (λ input. record { machine = machine; output = []; input = input }) budget old new result → Answers grows store read limits budget old new result
+answers_run grows store read image limits budget machine old new result is inside begins runs =
+    subst (λ r. Answers grows store r limits budget old new result) (sym is)
+    (loaded (has_outside image) (Refuses (Load load.Outside) old new result) (Starts grows (start_world image limits store) budget old new result) inside
+    (inr (subst (λ m. Runs grows (λ input. record { machine = m; output = []; input = input }) budget old new result) begins runs)))
+
+-- want of memory before an image is read
+refuses_memory : (fault : RunFault) (old new : Devices) → Rests old new → Refuses fault old new (Err Memory)
+refuses_memory fault old new rests = (inr refl, rests)
+
+answers_inside : (outside : Bool) (grows : Bool) (start : List ℕ → World) (budget : ℕ) (old new : Devices) → Rests old new
+    → MatchBool outside (Refuses (Load load.Outside) old new (Err Memory)) (Starts grows start budget old new (Err Memory))
+answers_inside true grows start budget old new rests = refuses_memory (Load load.Outside) old new rests
+answers_inside false grows start budget old new rests = inl (refl, rests)
+
+pub answers_memory : (grows : Bool) (store : StoreState) (read : Result ImageContents ElfFault) (limits : Bounds) (budget : ℕ) (old new : Devices) → Rests old new
+    → Answers grows store read limits budget old new (Err Memory)
+answers_memory grows store (Err f) limits budget old new rests = refuses_memory (Elf f) old new rests
+answers_memory grows store (Ok image) limits budget old new rests = answers_inside (has_outside image) grows (start_world image limits store) budget old new rests
 
 -- A stretch that ends with something else than that it ran: what was told is answered.
 
-pub Progress-stretch : (start : List ℕ → World) (old now new : Devices) (count most more : ℕ) (seen seen' : Bool) (machine mid machine' : State) (event : Event) → Progress start old now count seen machine
-    → (event ≡ Ran → ⊥) → IsStretch most machine more event mid → ((before : State) → Step before event mid → Turned before machine' seen seen' now new (Ok None))
+pub Progress-stretch : (grows : Bool) (start : List ℕ → World) (old now new : Devices) (count most more : ℕ) (seen seen' : Bool) (machine mid machine' : State) (event : Event) → Progress start old now count seen machine
+    → (event ≡ Ran → ⊥) → (event ≡ NoMemory → ⊥) → IsStretch grows most machine more event mid → ((before : State) → Step before event mid → Turned before machine' seen seen' now new (Ok None))
     → Progress start old new (count + more) seen' machine'
-Progress-stretch start old now new count most more seen seen' machine mid machine' event p other stretch turned =
-    let t = tells_last most machine more event mid other stretch in
+Progress-stretch grows start old now new count most more seen seen' machine mid machine' event p other memory stretch turned =
+    let t = tells_last grows most machine more event mid other memory stretch in
     let same : count + t.quiet + 1 ≡ count + more = omega (arith, t.counted) in
     subst (λ (k : ℕ). Progress start old new k seen' machine') same
     (Progress-turn start old now new (count + t.quiet) seen seen' t.before machine' (Progress-quiet start old now count t.quiet seen machine t.before p t.runs) (turned t.before t.last))
 
-pub stops_after : (start : List ℕ → World) (old now new : Devices) (count budget more : ℕ) (seen seen' : Bool) (machine mid machine' : State) (event : Event) (end : End) → Progress start old now count seen machine → count < budget
-    → (event ≡ Ran → ⊥) → IsStretch (budget - count) machine more event mid → ((before : State) → Step before event mid → Turned before machine' seen seen' now new (Ok (Some end)))
-    → Runs start budget old new (Ok (record { stop = stops.End end; count = count + more }))
-stops_after start old now new count budget more seen seen' machine mid machine' event end p below other stretch turned =
-    let t = tells_last (budget - count) machine more event mid other stretch in
+pub stops_after : (grows : Bool) (start : List ℕ → World) (old now new : Devices) (count budget more : ℕ) (seen seen' : Bool) (machine mid machine' : State) (event : Event) (end : End) → Progress start old now count seen machine → count < budget
+    → (event ≡ Ran → ⊥) → (event ≡ NoMemory → ⊥) → IsStretch grows (budget - count) machine more event mid → ((before : State) → Step before event mid → Turned before machine' seen seen' now new (Ok (Some end)))
+    → Runs grows start budget old new (Ok (record { stop = stops.End end; count = count + more }))
+stops_after grows start old now new count budget more seen seen' machine mid machine' event end p below other memory stretch turned =
+    let t = tells_last grows (budget - count) machine more event mid other memory stretch in
     let same : count + t.quiet + 1 ≡ count + more = omega (arith, t.counted) in
-    subst (λ (k : ℕ). Runs start budget old new (Ok (record { stop = stops.End end; count = k }))) same
-    (stops_at start old now new (count + t.quiet) budget seen seen' t.before machine' end (Progress-quiet start old now count t.quiet seen machine t.before p t.runs) (omega (arith, t.counted, t.few)) (turned t.before t.last))
+    subst (λ (k : ℕ). Runs grows start budget old new (Ok (record { stop = stops.End end; count = k }))) same
+    (stops_at grows start old now new (count + t.quiet) budget seen seen' t.before machine' end (Progress-quiet start old now count t.quiet seen machine t.before p t.runs) (omega (arith, t.counted, t.few)) (turned t.before t.last))
 
-pub fails_after : (start : List ℕ → World) (old now new : Devices) (count budget more : ℕ) (seen seen' : Bool) (machine mid machine' : State) (event : Event) (e : RunFault) → Progress start old now count seen machine → count < budget
-    → (event ≡ Ran → ⊥) → IsStretch (budget - count) machine more event mid → ((before : State) → Step before event mid → Turned before machine' seen seen' now new (Err e))
-    → Runs start budget old new (Err e)
-fails_after start old now new count budget more seen seen' machine mid machine' event e p below other stretch turned =
-    let t = tells_last (budget - count) machine more event mid other stretch in
-    fails_at start old now new (count + t.quiet) budget seen seen' t.before machine' e (Progress-quiet start old now count t.quiet seen machine t.before p t.runs) (omega (arith, t.counted, t.few)) (turned t.before t.last)
+pub fails_after : (grows : Bool) (start : List ℕ → World) (old now new : Devices) (count budget more : ℕ) (seen seen' : Bool) (machine mid machine' : State) (event : Event) (e : RunFault) → Progress start old now count seen machine → count < budget
+    → (event ≡ Ran → ⊥) → (event ≡ NoMemory → ⊥) → IsStretch grows (budget - count) machine more event mid → ((before : State) → Step before event mid → Turned before machine' seen seen' now new (Err e))
+    → Runs grows start budget old new (Err e)
+fails_after grows start old now new count budget more seen seen' machine mid machine' event e p below other memory stretch turned =
+    let t = tells_last grows (budget - count) machine more event mid other memory stretch in
+    fails_at grows start old now new (count + t.quiet) budget seen seen' t.before machine' e (Progress-quiet start old now count t.quiet seen machine t.before p t.runs) (omega (arith, t.counted, t.few)) (turned t.before t.last)
+
+-- The store wants memory, before any more is executed.
+pub wants_after : (grows : Bool) (start : List ℕ → World) (old now : Devices) (count budget more : ℕ) (seen : Bool) (machine mid : State) → Progress start old now count seen machine → count < budget
+    → IsStretch grows (budget - count) machine more NoMemory mid → Runs grows start budget old now (Err Memory)
+wants_after grows start old now count budget more seen machine mid p below (few, runs, wants) =
+    let q = Progress-quiet start old now count more seen machine mid p runs in
+    let here : World = record { machine = mid; output = q.output; input = rest_of old.remaining now.remaining } in
+    (count + more, here, executes_of start old now (count + more) seen mid q, (omega (arith, few)), ap end_in q.running, wants)

@@ -5,7 +5,8 @@ use Rattle.cyc_words.specs.Ending.{Ending}
 use Rattle.cyc_elf.specs.Image.{ImageContents}
 use Rattle.cyc_machine.specs.Bounds.{Bounds, AreAllowed}
 use Rattle.cyc_machine.specs.Run.{World, Run, end_in, ending_of}
-use Rattle.cyc_machine.specs.Start.{start_world}
+use Rattle.cyc_machine.specs.Start.{start_world, IsNew}
+use Rattle.cyc_store.specs.State.{StoreState}
 use Rattle.cyc_machine.specs.declared.event.Cause.{Cause}
 use Rattle.cyc_machine.specs.declared.event.End.{End}
 use Rattle.cyc_machine.specs.declared.event.End.TheVariants.{Trap}
@@ -80,11 +81,11 @@ never_fails p limits input never n s run failed =
 
 -- ---- and the two runs
 
-module _ (p : Program) (image : ImageContents) (limits : Bounds) (input : List ℕ)
-    (does : Preserves (source_machine p limits.pages limits.calls) world_machine (text_words image) (start p input) (start_world image limits input)) where
-  ahead : (n : ℕ) (w : World) → Run ((n + 1) * text_words image) (start_world image limits input) w → IsAhead (limited p limits input n) w
+module _ (p : Program) (image : ImageContents) (limits : Bounds) (store : StoreState) (input : List ℕ)
+    (does : Preserves (source_machine p limits.pages limits.calls) world_machine (text_words image) (start p input) (start_world image limits store input)) where
+  ahead : (n : ℕ) (w : World) → Run ((n + 1) * text_words image) (start_world image limits store input) w → IsAhead (limited p limits input n) w
   ahead n w run =
-      let (state, made, prefix, ends) = does.ahead n w (world_run ((n + 1) * text_words image) (start_world image limits input) w run) in
+      let (state, made, prefix, ends) = does.ahead n w (world_run ((n + 1) * text_words image) (start_world image limits store input) w run) in
       let is : state ≡ limited p limits input n = source_run p limits.pages limits.calls n (start p input) state made in
       subst (λ (s : meaning.State). IsAhead s w) is (
         prefix,
@@ -93,12 +94,12 @@ module _ (p : Program) (image : ImageContents) (limits : Bounds) (input : List �
             (end_shown w.machine.phase ending over, output),
       )
 
-  fine : (m : ℕ) (w : World) → Run m (start_world image limits input) w → world_status w.machine.phase ≡ simulation.Failed → ⊥
-  fine m w run failed = does.never_fails m w (world_run m (start_world image limits input) w run) failed
+  fine : (m : ℕ) (w : World) → Run m (start_world image limits store input) w → world_status w.machine.phase ≡ simulation.Failed → ⊥
+  fine m w run failed = does.never_fails m w (world_run m (start_world image limits store input) w run) failed
 
-  behind : (m : ℕ) (w : World) → Run m (start_world image limits input) w → (k : ℕ) × IsBehind w (limited p limits input k)
+  behind : (m : ℕ) (w : World) → Run m (start_world image limits store input) w → (k : ℕ) × IsBehind w (limited p limits input k)
   behind m w run =
-      let (k, state, made, prefix, ends) = does.behind m w (world_run m (start_world image limits input) w run) in
+      let (k, state, made, prefix, ends) = does.behind m w (world_run m (start_world image limits store input) w run) in
       let is : state ≡ limited p limits input k = source_run p limits.pages limits.calls k (start p input) state made in (
         k,
         subst (λ (s : meaning.State). IsBehind w s) is (
@@ -110,7 +111,7 @@ module _ (p : Program) (image : ImageContents) (limits : Bounds) (input : List �
         ),
       )
 
-  pub alike_of : AreAlike p image limits input
+  pub alike_of : AreAlike p image limits store input
   alike_of = record {
     ahead = ahead;
     behind = behind;
@@ -118,7 +119,7 @@ module _ (p : Program) (image : ImageContents) (limits : Bounds) (input : List �
   }
 
 pub are_alike : (p : Program) (image : ImageContents) → DoesTheSame p image
-    → (limits : Bounds) (input : List ℕ) → AreAllowed limits.pages limits.calls → AllByRecursion (λ b. b < 256) input → NeverGoesWrong p limits input
-    → AreAlike p image limits input
-are_alike p image does limits input allowed bytes never =
-    alike_of p image limits input (does limits input allowed bytes never)
+    → (limits : Bounds) (store : StoreState) (input : List ℕ) → AreAllowed limits.pages limits.calls → IsNew limits.pages store
+    → AllByRecursion (λ b. b < 256) input → NeverGoesWrong p limits input → AreAlike p image limits store input
+are_alike p image does limits store input allowed new bytes never =
+    alike_of p image limits store input (does limits store input allowed new bytes never)

@@ -18,6 +18,7 @@ use Rattle.cyc_elf.specs.Layout.{header_of, headers_of, bytes_start, FitsFields}
 use Rattle.cyc_machine.specs.Bounds.{Bounds}
 use Rattle.cyc_machine.specs.State.{text_base, text_end, data_base, data_end, globals_length, word_number, words_per_call}
 use Rattle.cyc_machine.specs.Run.{World}
+use Rattle.cyc_store.specs.State.{StoreState}
 use Rattle.cyc_machine.specs.Start.{lies_in_text, lies_in_data, is_outside, segment_end, segment_word, word_in, image_word, image_words, text_length, start_core, start_world}
 use Rattle.cyc_machine.specs.declared.phase.Phase.TheVariants.{Running}
 use Rattle.cyc_select.specs.Labelled.{Labelled}
@@ -179,11 +180,11 @@ some_at (w ∷ words) zero below = refl
 some_at (w ∷ words) (suc k) below = some_at words k (omega arith)
 
 -- the machine at the start, with its text and its data range
-abbrev started : Bounds → (input : List ℕ) → (text : List (Option ℕ)) → (globals : List ℕ) → World
-started limits input text globals = record {
+abbrev started : Bounds → StoreState → (input : List ℕ) → (text : List (Option ℕ)) → (globals : List ℕ) → World
+started limits store input text globals = record {
   machine = record {
     core = start_core text_base limits.calls;
-    memory = record { text = text; globals = globals; stack = replicate (words_per_call * limits.calls) 0 };
+    memory = record { text = text; globals = globals; stack = replicate (words_per_call * limits.calls) 0; store = store };
     phase = Running;
   };
   output = [];
@@ -235,10 +236,11 @@ module _ (words globals : List ℕ) (some : 0 < length words) (inside : text_bas
   data_at_start = data_laid globals_length few
 
   -- the machine starts with these words in its text and its data range
-  pub image_starts : (code : Labelled) (limits : Bounds) (input : List ℕ) → code.globals ≡ globals → start_world (program_image words globals) limits input ≡ assembled.start code words limits.calls input
-  image_starts code limits input same =
-      ap (λ text. started limits input text (map (λ (word : Option ℕ). unwrap_or word 0) (image_words segments data_base globals_length))) text_at_start
-      ∙ ap (started limits input (text_of words)) (data_at_start ∙ ap globals_of (sym same))
+  pub image_starts : (code : Labelled) (limits : Bounds) (store : StoreState) (input : List ℕ) → code.globals ≡ globals
+      → start_world (program_image words globals) limits store input ≡ assembled.start code words store limits.calls input
+  image_starts code limits store input same =
+      ap (λ text. started limits store input text (map (λ (word : Option ℕ). unwrap_or word 0) (image_words segments data_base globals_length))) text_at_start
+      ∙ ap (started limits store input (text_of words)) (data_at_start ∙ ap globals_of (sym same))
 
   -- ---- and can be written
 

@@ -1,15 +1,16 @@
 -- What it means to run an image between a reader and a writer. This project's own choice.
-use Rattle.std.specs.Prelude.{◌≡◌, ℕ, zero, suc, ◌≤◌, ◌<◌, List, Option, None, Some, Result, Ok, Err, MatchBool, ◌⊎◌}
+use Rattle.std.specs.Prelude.{◌≡◌, ℕ, zero, suc, ◌≤◌, ◌<◌, Bool, List, Option, None, Some, Result, Ok, Err, MatchBool, ◌⊎◌}
 use Rattle.std.specs.Io.KnownBytes.{Keeps, Appends}
+use Rattle.cyc_store.specs.State.{StoreState}
 use Rattle.cyc_elf.specs.declared.fault.ElfFault.{ElfFault}
 use Rattle.cyc_elf.specs.Image.{ImageContents}
 use Rattle.cyc_machine.specs.declared.fault.LoadFault.TheVariants as load
 use Rattle.cyc_machine.specs.declared.event.Event.TheVariants.{WantsByte, Puts}
 use Rattle.cyc_machine.specs.Bounds.{Bounds}
 use Rattle.cyc_machine.specs.State.{State}
-use Rattle.cyc_machine.specs.Step.{Step}
+use Rattle.cyc_machine.specs.Step.{Step, WantsMemory}
 use Rattle.cyc_machine.specs.Run.{World, Goes, Run, end_of}
-use Rattle.cyc_machine.specs.Start.{has_outside, start_world}
+use Rattle.cyc_machine.specs.Start.{has_outside, start_world, IsNew}
 use Rattle.cyc_system.specs.declared.report.Report.{Report}
 use Rattle.cyc_system.specs.declared.report.Stop.{Stop}
 use Rattle.cyc_system.specs.declared.report.Stop.TheVariants as stops
@@ -62,30 +63,36 @@ WantsByteNext w = (s : State) × Step w.machine WantsByte s
 abbrev pub PrintsNext : World → Type 0
 PrintsNext w = (byte : ℕ) × (s : State) × Step w.machine (Puts byte) s
 
--- What a run answers that begins in this world, on whatever input. Where a device failed, the instruction that used
--- it was not executed.
-abbrev pub Runs : (start : List ℕ → World) (budget : ℕ) (old new : Devices) → Result Report RunFault → Type 0
-Runs start budget old new (Ok report) =
+-- What a run answers that begins in this world, on whatever input, over a store that grows or does not. Where a device failed, or
+-- the store wanted memory that it was not given, the instruction was not executed.
+abbrev pub Runs : (grows : Bool) (start : List ℕ → World) (budget : ℕ) (old new : Devices) → Result Report RunFault → Type 0
+Runs grows start budget old new (Ok report) =
     (w : World) × Executes start old new report.count w × (report.count ≤ budget) × Stops report.stop budget report.count w
-Runs start budget old new (Err Read) =
+Runs grows start budget old new (Err Read) =
     (count : ℕ) × (w : World) × Executes start old new count w × (count < budget) × (end_of w ≡ None) × WantsByteNext w
-Runs start budget old new (Err Write) =
+Runs grows start budget old new (Err Write) =
     (count : ℕ) × (w : World) × Executes start old new count w × (count < budget) × (end_of w ≡ None) × PrintsNext w
-Runs start budget old new (Err e) = ⊥
+Runs grows start budget old new (Err Memory) =
+    (count : ℕ) × (w : World) × Executes start old new count w × (count < budget) × (end_of w ≡ None) × WantsMemory grows w.machine
+Runs grows start budget old new (Err e) = ⊥
 
 -- an answer that is given before anything is read or written: a fault, or want of memory
 abbrev pub Refuses : RunFault → (old new : Devices) → Result Report RunFault → Type 0
 Refuses fault old new result = ((result ≡ Err fault) ⊎ (result ≡ Err Memory)) × Rests old new
 
 -- what a loaded image answers
-abbrev pub Starts : (start : List ℕ → World) (budget : ℕ) (old new : Devices) → Result Report RunFault → Type 0
-Starts start budget old new result = ((result ≡ Err Memory) × Rests old new) ⊎ Runs start budget old new result
+abbrev pub Starts : (grows : Bool) (start : List ℕ → World) (budget : ℕ) (old new : Devices) → Result Report RunFault → Type 0
+Starts grows start budget old new result = ((result ≡ Err Memory) × Rests old new) ⊎ Runs grows start budget old new result
 
--- What a call answers, where `read` is what the image's bytes denote: the fault of reading; that the machine has no
--- place for the image; or what running it answers.
-abbrev pub Answers : Result ImageContents ElfFault → Bounds → (budget : ℕ) (old new : Devices) → Result Report RunFault → Type 0
-Answers (Err f) limits budget old new result = Refuses (Elf f) old new result
-Answers (Ok image) limits budget old new result =
+-- What a call answers that is handed this store, where `read` is what the image's bytes denote: the fault of reading; that the
+-- machine has no place for the image; or what running it answers.
+abbrev pub Answers : (grows : Bool) → StoreState → Result ImageContents ElfFault → Bounds → (budget : ℕ) (old new : Devices) → Result Report RunFault → Type 0
+Answers grows store (Err f) limits budget old new result = Refuses (Elf f) old new result
+Answers grows store (Ok image) limits budget old new result =
     MatchBool (has_outside image)
     (Refuses (Load load.Outside) old new result)
-    (Starts (start_world image limits) budget old new result)
+    (Starts grows (start_world image limits store) budget old new result)
+
+-- The same, where the call makes a new store itself, of the limits' pages.
+abbrev pub AnswersAnew : (grows : Bool) → Result ImageContents ElfFault → Bounds → (budget : ℕ) (old new : Devices) → Result Report RunFault → Type 0
+AnswersAnew grows read limits budget old new result = (store : StoreState) × IsNew limits.pages store × Answers grows store read limits budget old new result

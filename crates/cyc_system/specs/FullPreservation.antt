@@ -10,9 +10,10 @@ use Rattle.cyc_words.specs.Prefix.{IsPrefix}
 use Rattle.cyc_elf.specs.Image.{ImageContents, padded}
 use Rattle.cyc_elf.specs.Layout.{layout}
 use Rattle.cyc_elf.specs.Reading.{reading}
+use Rattle.cyc_store.specs.State.{StoreState}
 use Rattle.cyc_machine.specs.Bounds.{Bounds, AreAllowed}
 use Rattle.cyc_machine.specs.Run.{World, Run, end_of, ending_of}
-use Rattle.cyc_machine.specs.Start.{lies_in_text, has_outside, start_world}
+use Rattle.cyc_machine.specs.Start.{lies_in_text, has_outside, start_world, IsNew}
 use Rattle.cyc_machine.specs.declared.event.Cause.{Cause}
 use Rattle.cyc_machine.specs.declared.event.End.{End}
 use Rattle.cyc_machine.specs.declared.event.End.TheVariants.{Trap}
@@ -44,14 +45,14 @@ NeverGoesWrong p limits input =
     (n : ℕ) → (meaning.status_of (limited p limits input n) ≢ IsDead)
     × (meaning.status_of (limited p limits input n) ≢ IsWrong)
 
--- The image does what the program means: for all limits that are allowed, and each input on which the program never goes
--- wrong. With T words of text, T instructions are enough for each step of the program, and T before the first.
+-- The image does what the program means: for all limits that are allowed, a new store with any words, and each input on which the
+-- program never goes wrong. With T words of text, T instructions are enough for each step of the program, and T before the first.
 abbrev pub DoesTheSame : Program → ImageContents → Type 0
 DoesTheSame p image =
-    (limits : Bounds) (input : List ℕ) → AreAllowed limits.pages limits.calls → AllByRecursion (λ b. b < 256) input
-    → NeverGoesWrong p limits input
+    (limits : Bounds) (store : StoreState) (input : List ℕ) → AreAllowed limits.pages limits.calls → IsNew limits.pages store
+    → AllByRecursion (λ b. b < 256) input → NeverGoesWrong p limits input
     → Preserves (source_machine p limits.pages limits.calls) world_machine (text_words image)
-    (start p input) (start_world image limits input)
+    (start p input) (start_world image limits store input)
 
 -- A file is an image that the machine can load, and that does what the program means. The file is the one that is written of the
 -- image, and the image has the form of the image of a program with so many globals, so there is nothing else in either.
@@ -83,10 +84,10 @@ IsBehind w s =
     × (meaning.output_of s ≡ w.output))
 
 -- one run of the machine after another, against the one of the program
-pub record AreAlike (p : Program) (image : ImageContents) (limits : Bounds) (input : List ℕ) : Type 0 where
-  pub ahead : (n : ℕ) (w : World) → Run ((n + 1) * text_words image) (start_world image limits input) w
+pub record AreAlike (p : Program) (image : ImageContents) (limits : Bounds) (store : StoreState) (input : List ℕ) : Type 0 where
+  pub ahead : (n : ℕ) (w : World) → Run ((n + 1) * text_words image) (start_world image limits store input) w
       → IsAhead (limited p limits input n) w
-  pub behind : (m : ℕ) (w : World) → Run m (start_world image limits input) w
+  pub behind : (m : ℕ) (w : World) → Run m (start_world image limits store input) w
       → (k : ℕ) × IsBehind w (limited p limits input k)
-  pub never_traps : (m : ℕ) (w : World) → Run m (start_world image limits input) w
+  pub never_traps : (m : ℕ) (w : World) → Run m (start_world image limits store input) w
       → (cause : Cause) → end_of w ≡ Some (Trap cause) → ⊥

@@ -5,7 +5,7 @@ use Rattle.cyc_words.specs.Device.{Gives}
 use Rattle.cyc_words.specs.declared.device.Failed.{Failed}
 use Rattle.cyc_machine.specs.declared.event.End.{End}
 use Rattle.cyc_machine.specs.declared.event.Event.{Event}
-use Rattle.cyc_machine.specs.declared.event.Event.TheVariants.{Ran, WantsByte, Puts, Ended}
+use Rattle.cyc_machine.specs.declared.event.Event.TheVariants.{Ran, WantsByte, Puts, Ended, NoMemory}
 use Rattle.cyc_machine.specs.State.{State}
 use Rattle.cyc_machine.specs.Step.{Step, given}
 use Rattle.cyc_system.specs.Engine.{Devices, Rests}
@@ -26,6 +26,7 @@ WentOn WantsByte s machine seen seen' old new =
 WentOn (Puts byte) s machine seen seen' old new =
     (machine ≡ s) × (seen' ≡ seen) × Keeps old.remaining new.remaining × Appends old.written new.written (byte ∷ [])
 WentOn (Ended end) s machine seen seen' old new = ⊥
+WentOn NoMemory s machine seen seen' old new = ⊥
 
 -- what a turn answers: nothing, so the run goes on; its end; or that a device failed, before the instruction was done
 abbrev pub Turned : (machine machine' : State) (seen seen' : Bool) (old new : Devices) → Result (Option End) RunFault → Type 0

@@ -10,7 +10,7 @@ mod listing;
 mod report;
 
 pub use compiler::compile;
-pub use engine::run;
+pub use engine::{run, run_with};
 pub use front::accept;
 pub use listing::disassemble;
 pub use report::{Report, RunFault, Stop};

@@ -4,6 +4,7 @@ ghost use Rattle.std.specs.Prelude.{◌≡◌};
 
 use cyc_elf::ElfFault;
 use cyc_machine::{End, LoadFault};
+use std::alloc::AllocError;
 use thiserror::Error;
 
 /// How a run stopped.
@@ -41,6 +42,16 @@ pub enum RunFault {
     /// Memory ran out.
     #[error("out of memory")]
     Memory,
+}
+
+impl From<AllocError> for RunFault {
+    ghost use Rattle.cyc_system.specs.declared.report.RunFault.TheVariants.{Memory};
+
+    ghost from_gives = { λ _ e. e ≡ Memory };
+
+    fn from(_e: AllocError) -> RunFault {
+        RunFault::Memory
+    }
 }
 
 impl From<ElfFault> for RunFault {

@@ -5,7 +5,8 @@ use crate::rows::{
     decimal, expect, expect_number, expect_text, hexadecimal, put_numbers, put_words,
 };
 use cyc_elf::read_image;
-use cyc_machine::{Event, Limits, LoadFault, Machine};
+use cyc_machine::{Event, Limits, LoadFault};
+use cyc_store::PlainStore;
 use std::alloc::Global;
 use std::process::Abort;
 
@@ -45,17 +46,37 @@ a fetch past the text|00000000||Ended(Trap(NoSuchAddress)) after 2||
 a branch at the last word of text|10000001||Ended(Trap(NoSuchAddress)) after 2||
 a breakpoint|0000000d||Ended(Trap(Break)) after 1||
 no service|24020063 0000000c||Ended(Trap(BadService)) after 2||
-a service of the store|24020009 2404004d 24050001 0000000c||Ended(Trap(BadService)) after 4||
+a block in no region|24020009 2404004d 24050001 0000000c||Ended(Trap(BadService)) after 4||
+a block of no words|24020009 24040001 24050000 0000000c||Ended(Trap(BadService)) after 4||
+a block of 1001 words|24020009 24040001 240503e9 0000000c||Ended(Trap(BadService)) after 4||
+freed twice|24020009 24040002 24050001 0000000c 00402021 2402000a 0000000c 2402000a 0000000c||Ended(Trap(BadService)) after 9||
+no block to free|24040001 2402000a 0000000c||Ended(Trap(BadService)) after 3||
+no dynamic region to close|24040001 24020008 0000000c||Ended(Trap(BadService)) after 3||
+a mark above|24040001 24020006 0000000c||Ended(Trap(BadService)) after 3||
+a load from a freed block|24020009 24040002 24050001 0000000c 00408021 00402021 2402000a 0000000c 8e080000||Ended(Trap(DeadCell)) after 9||
+a store to a freed block|24020009 24040002 24050001 0000000c 00408021 00402021 2402000a 0000000c ae080000||Ended(Trap(DeadCell)) after 9||
+a unique block of 3 words has 4|24020009 24040002 24050003 0000000c 8c48000c 8c480010||Ended(Trap(DeadCell)) after 6||
+a block of 3 words in the heap|24020009 24040001 24050003 0000000c 8c480008 8c48000c||Ended(Trap(DeadCell)) after 6||
+past the store's pages|3c082000 35083000 8d090000||Ended(Trap(NoSuchAddress)) after 3||
+off a word in the store|3c082000 8d090002||Ended(Trap(Misaligned)) after 2||
+a lexical region until it is closed|24020005 0000000c 00608821 00402021 24050002 24020009 0000000c 00408021 ae040004 8e080004 02202021 24020006 0000000c 8e090004||Ended(Trap(DeadCell)) after 14||17=0 9=0
+the newer of two lexical regions is closed|24020005 0000000c 24020005 0000000c 00402021 24050001 24020009 0000000c 00408021 ae000000 24040001 24020006 0000000c 8e090000||Ended(Trap(DeadCell)) after 14||3=1
+a dynamic region closed twice|24020007 0000000c 00402021 24020008 0000000c 24020008 0000000c||Ended(Trap(BadService)) after 7||
+no page for a third region|24020007 0000000c 24020007 0000000c 24020007 0000000c||Ended(Full) after 6||
+a word of a block|24020009 24040001 24050001 0000000c 24080007 ac480000 8c490000 24020003 01202021 0000000c||Ended(Returned(7)) after 10||9=7
 ";
 
-/// The first and the last word of the data range and of the stack, and the words beside them: a line has the limit of
-/// calls, an address, and what lies there.
+/// The first and the last word of the data range, of a store of three pages and of the stack, and the words beside them: a line has
+/// the limit of calls, an address, and what lies there.
 const ENDS_OF_RANGES: &str = "\
 1 0ffffffc nothing
 1 10000000 word
 1 103ffffc word
 1 10400000 nothing
-1 20000000 nothing
+1 1ffffffc nothing
+1 20000000 dead
+1 20002ffc dead
+1 20003000 nothing
 1 7fffebfc nothing
 1 7fffec00 word
 1 7fffeffc word
@@ -101,10 +122,14 @@ fn file_of(alloc: Global, segments: &str) -> Option<Vec<u8>> {
     Some(file)
 }
 
+/// A machine over the store of `run`.
+type Machine = cyc_machine::Machine<PlainStore>;
+
 /// What loading the image of a file comes to, if it is one.
 fn load(alloc: Global, file: &[u8], limits: Limits) -> Option<Result<Machine, LoadFault>> {
     let image = read_image(alloc, file).ok()?;
-    Some(Machine::load(alloc, &image, limits))
+    let store = PlainStore::new(alloc, limits.pages()).ok()?;
+    Some(Machine::load(alloc, &image, limits, store))
 }
 
 /// A machine with an image of these segments loaded.
@@ -134,6 +159,7 @@ fn run(machine: &mut Machine, input: &[u8], output: &mut Vec<u8>) -> Option<(Eve
             }
             Event::Puts(byte) => output.push(byte).ok()?,
             Event::Ended(end) => return Some((Event::Ended(end), count)),
+            Event::NoMemory => return None,
         }
     }
     Some((Event::Ran, 1000))
@@ -208,6 +234,7 @@ fn expect_end<A: Abort>(rt: &A, alloc: Global, row: &str) -> Option<()> {
     let told = told(alloc, &mut machine, b"", &mut Vec::new(alloc))?;
     let (story, loaded) = match what {
         "word" => ("Ended(Trap(Break)) after 6", 7),
+        "dead" => ("Ended(Trap(DeadCell)) after 4", 0),
         _ => ("Ended(Trap(NoSuchAddress)) after 4", 0),
     };
     expect_text(rt, &told, story, row);

@@ -1,11 +1,11 @@
 -- What the program answers to a check, a run and a listing, by what the layers below it answered.
-use Rattle.std.specs.Prelude.{◌≡◌, ◌⊎◌, ℕ, List, Option, Result, Ok, Err}
+use Rattle.std.specs.Prelude.{◌≡◌, ◌⊎◌, ℕ, true, List, Option, Result, Ok, Err}
 use Rattle.cyc_words.specs.declared.fault.Fault.{Fault}
 use Rattle.cyc_words.specs.Fault.{memory_fault}
 use Rattle.cyc_types.specs.TypedTrees.{Program}
 use Rattle.cyc_elf.specs.Reading.{reading}
 use Rattle.cyc_machine.specs.Bounds.{Bounds}
-use Rattle.cyc_system.specs.Engine.{Answers, Devices}
+use Rattle.cyc_system.specs.Engine.{AnswersAnew, Devices}
 use Rattle.cyc_system.specs.Front.{IsAcceptedText, IsRefusedText}
 use Rattle.cyc_system.specs.Listing.{Shows}
 use Rattle.cyc_system.specs.declared.report.Report.{Report}
@@ -30,7 +30,7 @@ answer_of_listing (Err fault) = answer_of_run_fault fault
 -- the image was run between the devices, and the answer is for what came of it
 pub record AnswersRun (image : List ℕ) (limits : Bounds) (budget : ℕ) (old new : Devices) (answer : Answer) : Type 0 where
   pub outcome : Result Report RunFault
-  pub runs : Answers (reading image) limits budget old new outcome
+  pub runs : AnswersAnew true (reading image) limits budget old new outcome
   pub answered : answer ≡ answer_of_run outcome
 
 -- the image was listed to the device, and the answer is for what came of it

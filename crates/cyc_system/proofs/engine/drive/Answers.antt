@@ -1,32 +1,37 @@
 use Rattle.std.proofs.Common.{◌∙◌, arith}
 use Rattle.std.proofs.lemmas.Result.{err_from_is_err_and}
-use Rattle.cyc_system.proofs.Engines.{Progress-quiet, Progress-stretch, only_ran, stretch_few, spends, stops_after, fails_after}
+use Rattle.cyc_machine.specs.Held.{state_of}
+use Rattle.cyc_system.proofs.Engines.{Progress-quiet, Progress-stretch, only_ran, stretch_few, spends, stops_after, fails_after, wants_after}
 use Rattle.cyc_system.proofs.engine.drive.Goals as goal
 
 pub loop-count-preserved-in-Ran : goal.loop-count-preserved-in-Ran
 loop-count-preserved-in-Ran g c = record {
-  progress = Progress-quiet _ _ _ _ _ _ _ _ c.loop-count.invariant.progress (only_ran _ _ _ c.go-stretch.result.event _ c.in-Ran.is c.go-stretch.ensures);
+  progress = Progress-quiet _ _ _ _ _ _ _ _ c.loop-count.invariant.progress (only_ran _ _ _ _ c.go-stretch.result.event _ c.in-Ran.is c.go-stretch.ensures);
   reader = c.loop-count.invariant.reader;
   writer = c.loop-count.invariant.writer;
-  few = omega (arith, stretch_few _ _ _ c.go-stretch.result.event _ c.go-stretch.ensures);
+  few = omega (arith, stretch_few _ _ _ _ c.go-stretch.result.event _ c.go-stretch.ensures);
 }
 
 pub returns-in_err-end-in_default-clause-runs : goal.returns-in_err-end-in_default-clause-runs
 returns-in_err-end-in_default-clause-runs g c =
     let p = err_from_is_err_and c.from_residual.result c.from_residual.ensures.1 in
-    rw (p.1, p.2) (fails_after _ _ _ _ _ _ _ _ c.respond.new.seen _ _ c.respond.new.machine c.go-stretch.result.event _ c.loop-count.invariant.progress c.loop-count-test.true c.in_default.not-Ran c.go-stretch.ensures c.in_err-end-in_default.ensures.turned)
+    rw (p.1, p.2) (fails_after _ _ _ _ _ _ _ _ _ c.respond.new.seen _ _ (state_of g.S.Store.held c.respond.new.machine) c.go-stretch.result.event _ c.loop-count.invariant.progress c.loop-count-test.true c.in_default.not-Ran c.in_default.not-NoMemory c.go-stretch.ensures c.in_err-end-in_default.ensures.turned)
 
 pub returns-in-Some-clause-runs : goal.returns-in-Some-clause-runs
 returns-in-Some-clause-runs g c =
-    stops_after _ _ _ _ _ _ _ _ c.respond.new.seen _ _ c.respond.new.machine c.go-stretch.result.event _ c.loop-count.invariant.progress c.loop-count-test.true c.in_default.not-Ran c.go-stretch.ensures (rw c.in-Some.is at c.in_ok-end-in_default.ensures.turned)
+    stops_after _ _ _ _ _ _ _ _ _ c.respond.new.seen _ _ (state_of g.S.Store.held c.respond.new.machine) c.go-stretch.result.event _ c.loop-count.invariant.progress c.loop-count-test.true c.in_default.not-Ran c.in_default.not-NoMemory c.go-stretch.ensures (rw c.in-Some.is at c.in_ok-end-in_default.ensures.turned)
+
+pub returns-in-NoMemory-clause-runs : goal.returns-in-NoMemory-clause-runs
+returns-in-NoMemory-clause-runs g c =
+    wants_after _ _ _ _ _ _ _ _ _ _ c.loop-count.invariant.progress c.loop-count-test.true (rw c.in-NoMemory.is at c.go-stretch.ensures)
 
 pub loop-count-preserved : goal.loop-count-preserved
 loop-count-preserved g c = record {
-  progress = Progress-stretch _ _ _ _ _ _ _ _ _ _ _ _ c.go-stretch.result.event c.loop-count.invariant.progress c.in_default.not-Ran c.go-stretch.ensures (rw c.in_default-2.is at c.in_ok-end-in_default.ensures.turned);
+  progress = Progress-stretch _ _ _ _ _ _ _ _ _ _ _ _ _ c.go-stretch.result.event c.loop-count.invariant.progress c.in_default.not-Ran c.in_default.not-NoMemory c.go-stretch.ensures (rw c.in_default-2.is at c.in_ok-end-in_default.ensures.turned);
   reader = c.in_ok-end-in_default.ensures.reader ∙ c.loop-count.invariant.reader;
   writer = c.in_ok-end-in_default.ensures.writer ∙ c.loop-count.invariant.writer;
-  few = omega (arith, stretch_few _ _ _ c.go-stretch.result.event _ c.go-stretch.ensures);
+  few = omega (arith, stretch_few _ _ _ _ c.go-stretch.result.event _ c.go-stretch.ensures);
 }
 
 pub returns-clause-runs : goal.returns-clause-runs
-returns-clause-runs g c = spends _ _ _ _ _ _ _ c.loop-count.invariant.progress (omega arith)
+returns-clause-runs g c = spends _ _ _ _ _ _ _ _ c.loop-count.invariant.progress (omega arith)
