@@ -23,6 +23,7 @@ use Rattle.cyc_types.specs.TypingRules.{type_written, is_int, conversion, conver
 use Rattle.cyc_types.specs.Declarations.{declared_types, item_types, declared_regions, item_regions}
 use Rattle.cyc_types.specs.WellTyped.{FunctionType, LocalInScope, Context, HasLocal, IsVariable, function_type, IsCallee, WellTyped, IsConverted, ArePassed, IsChain, behind, open_block, IsInitial, IsReturned, WellTypedStatement, WellTypedItems, type_of_function, parameters_in_scope, body_context, IsWellTypedFunction, AreWellTypedFunctions, IsWellTypedProgram}
 use Rattle.cyc_types.proofs.ProgramParts.{parts}
+use Rattle.cyc_types.proofs.typing.TestLemmas.{kept_append}
 
 -- ---- what a typed statement declares, by its tree
 
@@ -91,10 +92,6 @@ mutual
 int_of : (t : ValueType) → is_int t ≡ true → t ≡ Value Int
 int_of (Value Int) e = refl
 int_of t e = absurd (cc)
-
-kept_append : (ds es : List Demand) → AllKept (ds ++ es) → AllKept ds × AllKept es
-kept_append [] es h = (tt, h)
-kept_append (d ∷ ds) es (k, h) = let (l, r) = kept_append ds es h in ((k, l), r)
 
 -- there are as many expressions as typed ones
 abbrev Aligned : Expressions → List typed.Expression → Type 0
@@ -481,7 +478,7 @@ main_type (Some w) ps h = go (members_of ps.list) h
     go [] e = refl
     go (m ∷ ms) e = absurd (cc)
 
-not_main : (c d : Bool) → not c ≡ true → c || d ≡ true → d ≡ true
+pub not_main : (c d : Bool) → not c ≡ true → c || d ≡ true → d ≡ true
 not_main true d e h = absurd (cc)
 not_main false d e h = h
 

@@ -17,17 +17,17 @@ use Rattle.cyc_types.specs.TypedTrees.{Signature}
 use Rattle.cyc_types.specs.TypedTrees as typed
 use Rattle.cyc_types.specs.IntPart.{is_empty, is_left_out}
 use Rattle.cyc_types.specs.Rules.{AllKept, Derives}
-use Rattle.cyc_types.specs.typing.Scopes.{RegionName, StructName, Field, Exception, Routine, Declared, Ordinary, LocalVariable, Scope, meaning_in, item_regions}
+use Rattle.cyc_types.specs.typing.Scopes.{signature_of_ints, RegionName, StructName, Field, Exception, Routine, Declared, Ordinary, LocalVariable, Scope, meaning_in, item_regions}
 use Rattle.cyc_types.specs.typing.Scopes as scopes
 use Rattle.cyc_types.specs.typing.Tests.{is_key, is_non_null, is_int}
 use Rattle.cyc_types.specs.typing.Formation.{Naming, region_or, left_out_at, base_written, pointers_written, type_written, types_for, after_type, parameters_among, struct_number, type_demanded, is_global_shape, global_demanded}
 use Rattle.cyc_types.specs.typing.Statements.{exception_number, exception_among, rule_items}
 use Rattle.cyc_types.specs.typing.Heads.{Known, members_of, structs_of, fields_of, exceptions_of, parameter_naming, and_result, signature_of, declared_from, value_demanded, is_int_written, is_main_head, rule_function_head, Before, after_head, rule_heads, declares}
-use Rattle.cyc_types.specs.typing.Programs.{regions_before, exceptions_before, int_function, declared_before, known_of, before_all, Program, program_known, parameter_locals, body_scope, function_of, rule_functions, global_of, globals_of, struct_types, function_number, program_of, IsTypedProgram}
-use Rattle.cyc_types.specs.typing.WellTyped.{LocalInScope, signature_of_ints, WellTypedItems, parameters_in_scope, body_context, IsWellTypedFunction, AreWellTypedFunctions, IsWellTypedGlobal, AreWellTypedGlobals, IsWellTypedProgram}
+use Rattle.cyc_types.specs.typing.Programs.{regions_before, exceptions_before, declared_before, known_of, before_all, Program, program_known, parameter_locals, body_scope, function_of, rule_functions, global_of, globals_of, struct_types, function_number, program_of, IsTypedProgram}
+use Rattle.cyc_types.specs.typing.WellTyped.{LocalInScope, WellTypedItems, parameters_in_scope, body_context, IsWellTypedFunction, AreWellTypedFunctions, IsWellTypedGlobal, AreWellTypedGlobals, IsWellTypedProgram}
 use Rattle.cyc_types.specs.typing.WellTyped as judgement
 use Rattle.cyc_types.proofs.ClosureLemmas.{Contains-head}
-use Rattle.cyc_types.proofs.WellTypedLemmas.{Holds, front_of, back_of}
+use Rattle.cyc_types.proofs.WellTypedLemmas.{Holds, front_of, back_of, not_main}
 use Rattle.cyc_types.proofs.typing.TestLemmas.{kept_append, not_so}
 use Rattle.cyc_types.proofs.typing.ExpressionLemmas.{in_scope, all_variables, all_globals, at, IsMeantDeclared, AreKnown, IsExceptionOf, Fits}
 use Rattle.cyc_types.proofs.typing.CountLemmas.{items_counted}
@@ -181,8 +181,8 @@ module _ (p : typed.Program) (h : typed.Function) where
   all_meant : (texts : List (List ℕ)) (k : Known) (tree : List Declaration) → Holds (all_globals p h) 0 (types_of_globals (globals_of k tree)) → AreWellTypedGlobals (globals_of k tree)
       → Holds (map judgement.signature_of p.functions) 0 (signatures k tree) → (x : ℕ) → IsMeantDeclared p h (meaning_in (declared_before texts ++ declared_from k 0 0 tree) x)
   all_meant texts k tree i w j x =
-      by_cond (nat_eq (number_of texts (bytes "putchar")) x) (Routine callees.Putchar (int_function (Int ∷ []))) _ refl
-      (by_cond (nat_eq (number_of texts (bytes "getchar")) x) (Routine callees.Getchar (int_function [])) _ refl (declared_meant k 0 0 tree i w j x))
+      by_cond (nat_eq (number_of texts (bytes "putchar")) x) (Routine callees.Putchar (signature_of_ints (Int ∷ []))) _ refl
+      (by_cond (nat_eq (number_of texts (bytes "getchar")) x) (Routine callees.Getchar (signature_of_ints [])) _ refl (declared_meant k 0 0 tree i w j x))
 
 -- ---- functions
 
@@ -306,10 +306,6 @@ main_type k r ps e =
     let (effect, constraints) = and_parts (is_left_out ps.effect) (is_empty ps.constraints) others in
     ap (λ ms. of_parts k r ms ps.effect ps.constraints) (nothing_in (members_of ps.list) none)
     ∙ (ap (λ o. of_parts k r [] o ps.constraints) (left_out ps.effect effect) ∙ (ap (λ cs. of_parts k r [] None cs) (nothing_in ps.constraints constraints) ∙ int_written k r result))
-
-not_main : (c d : Bool) → not c ≡ true → c || d ≡ true → d ≡ true
-not_main true d e h = absurd (cc)
-not_main false d e h = h
 
 main_well : (k : Known) (b : Before) (tree : List Declaration) → Derives (rule_heads k b tree) tt → declares k.main tree ≡ true → slice_get (signatures k tree) (function_number k.main tree) ≡ Some (signature_of_ints [])
 main_well k b [] heads d = absurd (cc)

@@ -15,7 +15,7 @@ use Rattle.cyc_types.specs.TypedTrees.{Signature}
 use Rattle.cyc_types.specs.TypedTrees as typed
 use Rattle.cyc_types.specs.Declarations.{item_types}
 use Rattle.cyc_types.specs.Rules.{Checked, demand, Rule, Part, gives, demands, Derives, Refuses, run}
-use Rattle.cyc_types.specs.typing.Scopes.{RegionName, StructName, Field, Exception, Routine, Declared, Ordinary, LocalVariable, Scope, item_regions, with_scope}
+use Rattle.cyc_types.specs.typing.Scopes.{signature_of_ints, RegionName, StructName, Field, Exception, Routine, Declared, Ordinary, LocalVariable, Scope, item_regions, with_scope}
 use Rattle.cyc_types.specs.typing.Tests.{is_pointer}
 use Rattle.cyc_types.specs.typing.Formation.{type_written}
 use Rattle.cyc_types.specs.typing.Statements.{rule_items}
@@ -33,14 +33,11 @@ exceptions_before texts =
     map (λ (x : List ℕ). record { name = number_of texts x; has_int = false })
     (bytes "Null_Exception" ∷ bytes "Array_bounds" ∷ bytes "Array_size" ∷ bytes "Div_zero" ∷ [])
 
-abbrev pub int_function : List Ty → Signature
-int_function ts = record { variables = 0; parameters = ts; result = Some Int; effect = []; constraints = [] }
-
 -- `int putchar(int)` and `int getchar()`
 abbrev pub declared_before : List (List ℕ) → List Declared
 declared_before texts =
-    record { name = number_of texts (bytes "putchar"); meaning = Routine callees.Putchar (int_function (Int ∷ [])) }
-    ∷ record { name = number_of texts (bytes "getchar"); meaning = Routine callees.Getchar (int_function []) }
+    record { name = number_of texts (bytes "putchar"); meaning = Routine callees.Putchar (signature_of_ints (Int ∷ [])) }
+    ∷ record { name = number_of texts (bytes "getchar"); meaning = Routine callees.Getchar (signature_of_ints []) }
     ∷ []
 
 abbrev pub known_of : List (List ℕ) → List Declaration → Known

@@ -52,6 +52,10 @@ pub record Declared : Type 0 where
   pub name : ℕ
   pub meaning : Meaning
 
+-- the signature of a function of the language, which takes values of these types and gives an int
+abbrev pub signature_of_ints : List Ty → Signature
+signature_of_ints ts = record { variables = 0; parameters = ts; result = Some Int; effect = []; constraints = [] }
+
 -- what declares a local
 pub data Sort : Type 0 where
   Ordinary : Sort

@@ -19,6 +19,7 @@ use Rattle.cyc_types.specs.Types.{Ty, Int, Pointer, Handle, Key, Struct, ValueTy
 use Rattle.cyc_types.specs.Outlives.{RegionContext, OutlivesIn, live_regions}
 use Rattle.cyc_types.specs.Declarations.{declared_types, item_types, caught_types, declared_regions, item_regions}
 use Rattle.cyc_types.specs.TypedTrees.{Lvalue, Local, Global, Expression, Number, NullPointer, HeapRegion, Counter, Copy, Move, Peek, Load, AddressOf, AddressOfCell, NumberOfElements, FreeUnique, FreeKey, Call, Unary, Binary, Assign, Store, New, Dereference, Target, Member, Element, Placement, OnHeap, AsUnique, ByHandle, Initial, Plain, Fields, Array, Converted, Convert, Arguments, NoArguments, MoreArguments, Operations, NoOperations, ThenCompute, ThenTest, ThenPointer, ThenPointerPeek, Side, VariableSide, CellSide, Statement, Block, Empty, Evaluate, Swap, If, While, Return, Break, Continue, Throw, Try, Items, NoItems, MoreItems, Execute, Declare, DeclareRegion, OpenRegion, DeclareAlias, DeclareKey, Clauses, NoClauses, Default, Case, StructType, GlobalVariable, Signature, Function, Program}
+use Rattle.cyc_types.specs.typing.Scopes.{signature_of_ints, with_scope}
 use Rattle.cyc_types.specs.typing.Tests.{is_thin_mark, is_non_null, is_unique, is_key, is_struct, is_moved, is_tested, kind_of_mark, kind_of, kind_of_value}
 use Rattle.cyc_types.specs.typing.Expressions.{assigned_type, instantiated}
 use Rattle.cyc_types.specs.typing.Statements.{with_region_of}
@@ -88,9 +89,6 @@ IsVariable c (Global n) t = slice_get c.globals n ≡ Some t
 abbrev pub IsPlace : Context → Lvalue → Ty → Region → Type 0
 IsPlace c (Local p n) t r = (m : ℕ) × HasPlace c.locals n t m × (r ≡ regions.Variable m) × (slice_get c.variables n ≡ Some t)
 IsPlace c (Global n) t r = (r ≡ regions.Heap) × (slice_get c.globals n ≡ Some t)
-
-abbrev pub signature_of_ints : List Ty → Signature
-signature_of_ints ts = record { variables = 0; parameters = ts; result = Some Int; effect = []; constraints = [] }
 
 -- what is called has this signature
 abbrev pub IsCallee : Context → Callee → Signature → Type 0
@@ -238,10 +236,6 @@ IsCondition c a = (v : ValueType) × (WellTyped c a v ⊎ IsPeek c a v) × (is_t
 -- behind a statement: what it declares is out of scope, and its numbers are used
 abbrev pub behind : Context → Statement → Context
 behind c s = record c { next_local = c.next_local + length (declared_types s); next_region = c.next_region + declared_regions s }
-
--- with a scope of this region open
-abbrev pub with_scope : ScopeKind → Region → RegionContext → RegionContext
-with_scope k r c = record c { opened = record { region = r; kind = k } ∷ c.opened }
 
 abbrev pub in_block : Context → Context
 in_block c = record c { region = c.next_region; next_region = suc c.next_region; regions = with_scope scopes.Block (regions.Variable c.next_region) c.regions }
