@@ -6,6 +6,7 @@ pub mod TypedTreeViewLemmas
 pub mod WellTypedLemmas
 pub mod NumberedLemmas
 pub mod WeightLemmas
+pub mod typing
 -- what the proofs of this crate cite
 pub mod RegionLemmas
 pub mod ClosureLemmas

@@ -1,7 +1,13 @@
--- What a typed statement of the int language declares: its locals and its regions, in order of their numbers.
-use Rattle.std.specs.Prelude.{ℕ, suc, ◌+◌, List, [], ◌∷◌, ◌++◌}
-use Rattle.cyc_types.specs.Types.{Ty}
-use Rattle.cyc_types.specs.TypedTrees.{Statement, Block, If, While, Items, NoItems, MoreItems, Execute, Declare}
+-- What a typed statement declares: its locals and its regions, in order of their numbers.
+use Rattle.std.specs.Prelude.{ℕ, suc, ◌+◌, List, [], ◌∷◌, ◌++◌, Option, None, Some}
+use Rattle.cyc_types.specs.declared.region.Region.TheVariants as regions
+use Rattle.cyc_types.specs.Types.{Ty, Int, Handle, Key}
+use Rattle.cyc_types.specs.TypedTrees.{Statement, Block, If, While, Try, Items, NoItems, MoreItems, Execute, Declare, DeclareRegion, OpenRegion, DeclareAlias, DeclareKey, Clauses, NoClauses, Default, Case}
+
+-- the local that gets an exception's int, where there is one
+abbrev pub caught_types : Option ℕ → List Ty
+caught_types None = []
+caught_types (Some n) = Int ∷ []
 
 -- the types of its locals, in order
 abbrev mutual
@@ -9,23 +15,42 @@ abbrev mutual
   declared_types (Block r js) = item_types js
   declared_types (If a s t) = declared_types s ++ declared_types t
   declared_types (While p a s) = declared_types s
+  declared_types (Try s cs) = declared_types s ++ clause_types cs
   declared_types s = []
 
   pub item_types : Items → List Ty
   item_types NoItems = []
   item_types (MoreItems (Execute s) js) = declared_types s ++ item_types js
   item_types (MoreItems (Declare n t v) js) = t ∷ item_types js
-  item_types (MoreItems j js) = item_types js
+  item_types (MoreItems (DeclareRegion r n) js) = Handle (regions.Variable r) ∷ item_types js
+  item_types (MoreItems (OpenRegion r n p k) js) = Handle (regions.Variable r) ∷ item_types js
+  item_types (MoreItems (DeclareAlias r n t p m) js) = t ∷ item_types js
+  item_types (MoreItems (DeclareKey r n) js) = Key (regions.Variable r) ∷ item_types js
 
--- and how many regions
+  pub clause_types : Clauses → List Ty
+  clause_types NoClauses = []
+  clause_types (Default r js) = item_types js
+  clause_types (Case e n r js cs) = caught_types n ++ (item_types js ++ clause_types cs)
+
+-- and how many regions: an opened one is that of its key
 abbrev mutual
   pub declared_regions : Statement → ℕ
   declared_regions (Block r js) = suc (item_regions js)
   declared_regions (If a s t) = declared_regions s + declared_regions t
   declared_regions (While p a s) = declared_regions s
+  declared_regions (Try s cs) = declared_regions s + clause_regions cs
   declared_regions s = 0
 
   pub item_regions : Items → ℕ
   item_regions NoItems = 0
   item_regions (MoreItems (Execute s) js) = declared_regions s + item_regions js
-  item_regions (MoreItems j js) = item_regions js
+  item_regions (MoreItems (Declare n t v) js) = item_regions js
+  item_regions (MoreItems (DeclareRegion r n) js) = suc (item_regions js)
+  item_regions (MoreItems (OpenRegion r n p k) js) = item_regions js
+  item_regions (MoreItems (DeclareAlias r n t p m) js) = suc (item_regions js)
+  item_regions (MoreItems (DeclareKey r n) js) = suc (item_regions js)
+
+  pub clause_regions : Clauses → ℕ
+  clause_regions NoClauses = 0
+  clause_regions (Default r js) = suc (item_regions js)
+  clause_regions (Case e n r js cs) = suc (item_regions js) + clause_regions cs

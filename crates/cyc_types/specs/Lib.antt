@@ -9,6 +9,7 @@ pub mod IntPart
 pub mod Scopes
 pub mod Rules
 pub mod TypingRules
+pub mod typing
 pub mod FlowRules
 pub mod FlowRefusals
 pub mod WellTyped

@@ -211,9 +211,20 @@ pub record StructType : Type 0 where
   -- their types, in order; a region parameter is the region variable of its number
   pub fields : List Ty
 
+-- what a caller knows of a function
+pub record Signature : Type 0 where
+  -- How many regions its parameters name or leave out: in its types they are the region variables from 1 on.
+  pub variables : ℕ
+  pub parameters : List Ty
+  -- a `void` function has none
+  pub result : Option Ty
+  -- the regions that must be live where it is called, and pairs of which the first outlives the second
+  pub effect : List Region
+  pub constraints : List (Region × Region)
+
 -- The locals of a function are numbered from 0: first its parameters, then what its body declares, in order. So are its regions:
 -- first its own, in which its parameters and the body's own variables live, then those that its parameters name, then those that its
--- body declares, in order: blocks and clauses, lexical regions, opened ones, those of aliases and dynamic ones.
+-- body declares, in order: blocks and clauses, lexical regions, those of aliases and dynamic ones. Opening a dynamic region declares none.
 pub record Function : Type 0 where
   pub name : ℕ
   -- of its name

@@ -1,0 +1,281 @@
+-- What names mean where an expression or a statement stands, and how a function's locals and regions are numbered. Identifiers and region
+-- names are numbered alike; structs, exceptions, functions with globals, and regions are name spaces of their own.
+use Rattle.std.specs.Prelude.{ℕ, suc, ◌+◌, Bool, true, false, nat_eq, ◌&&◌, ◌||◌, if◌then◌else◌, List, [], ◌∷◌, ◌++◌, Option, None, Some}
+use Rattle.std.specs.List.{list_any}
+use Rattle.cyc_syntax.specs.Symbols.{Place}
+use Rattle.cyc_syntax.specs.Trees.{Named, Statement, Block, Labelled, Empty, Evaluate, Swap, If, IfElse, While, Return, Break, Continue, Throw, Try, Body, Braces, Items, NoItems, MoreItems, Item, Execute, Region, Alias, DynamicRegion, Clauses, NoClauses, Default, Case}
+use Rattle.cyc_syntax.specs.Trees as written
+use Rattle.cyc_types.specs.declared.region.Region.{Region as RegionCode}
+use Rattle.cyc_types.specs.declared.region.Region.TheVariants as regions
+use Rattle.cyc_types.specs.declared.scope.ScopeKind.{ScopeKind}
+use Rattle.cyc_types.specs.declared.scope.ScopeKind.TheVariants as kinds
+use Rattle.cyc_types.specs.declared.typed.Callee.{Callee}
+use Rattle.cyc_types.specs.Types.{Ty, Int}
+use Rattle.cyc_types.specs.Outlives.{RegionContext, live_regions}
+use Rattle.cyc_types.specs.Regions.{is_region_among}
+use Rattle.cyc_types.specs.TypedTrees.{Lvalue, Local, Signature}
+
+-- ---- what is declared
+
+-- a region name, and what it stands for
+pub record RegionName : Type 0 where
+  pub name : ℕ
+  pub region : RegionCode
+
+-- a struct by its name, and how many region parameters it has
+pub record StructName : Type 0 where
+  pub name : ℕ
+  pub parameters : ℕ
+
+-- a field of a struct, whose i-th region parameter is the region variable i in its type
+pub record Field : Type 0 where
+  pub name : ℕ
+  pub of_type : Ty
+
+pub record Exception : Type 0 where
+  pub name : ℕ
+  pub has_int : Bool
+
+-- what a name means
+pub data Meaning : Type 0 where
+  Unknown : Meaning
+  -- a variable that is a place, and the region that it lives in
+  Variable : Lvalue → Ty → (home : RegionCode) → Meaning
+  -- the variable of a `region` item, which is no place
+  Fixed : Lvalue → Ty → Meaning
+  -- the variable of a `for`, which is no place, by how many are around that one
+  Counter : (level : ℕ) → Meaning
+  Routine : Callee → Signature → Meaning
+
+-- a function or a global
+pub record Declared : Type 0 where
+  pub name : ℕ
+  pub meaning : Meaning
+
+-- what declares a local
+pub data Sort : Type 0 where
+  Ordinary : Sort
+  -- a `region` item
+  OfRegion : Sort
+  -- a `for`
+  OfLoop : Sort
+
+-- a local or a parameter, or the variable of a `for`
+pub record LocalVariable : Type 0 where
+  pub name : ℕ
+  -- its number in its function; the variable of a `for` has its level
+  pub number : ℕ
+  pub of_type : Ty
+  -- the number of the region of the block that declares it
+  pub region : ℕ
+  pub sort : Sort
+
+pub record Scope : Type 0 where
+  -- of the program, by number: its structs and their fields, and its exceptions, of which the first has the number 1
+  pub structs : List StructName
+  pub fields : List (List Field)
+  pub exceptions : List Exception
+  -- the functions and globals of the program
+  pub program : List Declared
+  -- of the function
+  pub result : Option Ty
+  -- the region names in scope, the newest first
+  pub names : List RegionName
+  -- the region names that the function has declared so far, in scope or not
+  pub taken : List ℕ
+  -- which regions are live, and which outlives which
+  pub regions : RegionContext
+  -- the locals in scope, the newest first
+  pub locals : List LocalVariable
+  -- the numbers that the next local and the next region get
+  pub next_local : ℕ
+  pub next_region : ℕ
+  -- the region of the innermost block
+  pub region : ℕ
+  pub in_loop : Bool
+  -- how many `for` stand around
+  pub counters : ℕ
+
+-- ---- regions
+
+-- what a region name stands for, where it is known
+abbrev pub region_among : List RegionName → ℕ → Option RegionCode
+region_among [] x = None
+region_among (r ∷ rs) x = if nat_eq r.name x then Some r.region else region_among rs x
+
+abbrev pub is_taken : Scope → Named → Bool
+is_taken g x = list_any (nat_eq x.name) g.taken
+
+abbrev pub is_live : Scope → RegionCode → Bool
+is_live g r = is_region_among r (live_regions g.regions.live g.regions.opened)
+
+-- ---- what a name means: the innermost local of that name, or else the function or global
+
+abbrev pub meaning_in : List Declared → ℕ → Meaning
+meaning_in [] x = Unknown
+meaning_in (d ∷ ds) x = if nat_eq d.name x then d.meaning else meaning_in ds x
+
+abbrev pub local_meaning : Sort → LocalVariable → Place → Meaning
+local_meaning Ordinary v p = Variable (Local p v.number) v.of_type (regions.Variable v.region)
+local_meaning OfRegion v p = Fixed (Local p v.number) v.of_type
+local_meaning OfLoop v p = Counter v.number
+
+abbrev pub meaning_among : List LocalVariable → List Declared → Named → Meaning
+meaning_among [] ds x = meaning_in ds x.name
+meaning_among (v ∷ vs) ds x = if nat_eq v.name x.name then local_meaning v.sort v x.place else meaning_among vs ds x
+
+abbrev pub meaning_of : Scope → Named → Meaning
+meaning_of g x = meaning_among g.locals g.program x
+
+-- the block with this region declares a local of this name
+abbrev pub is_declared_in : ℕ → List LocalVariable → ℕ → Bool
+is_declared_in region [] x = false
+is_declared_in region (v ∷ vs) x = (nat_eq v.name x && nat_eq v.region region) || is_declared_in region vs x
+
+abbrev pub is_declared : Scope → Named → Bool
+is_declared g x = is_declared_in g.region g.locals x.name
+
+-- ---- numbers: how many locals and how many regions a statement declares, and the names of regions
+
+abbrev pub counted : Option Named → ℕ
+counted None = 0
+counted (Some x) = 1
+
+abbrev mutual
+  pub locals_in : Statement → ℕ
+  locals_in (Block b) = body_locals b
+  locals_in (Labelled l b) = body_locals b
+  locals_in (If p c s) = locals_in s
+  locals_in (IfElse p c s t) = locals_in s + locals_in t
+  locals_in (While p c s) = locals_in s
+  locals_in (Try p s cs) = locals_in s + clause_locals cs
+  locals_in s = 0
+
+  pub body_locals : Body → ℕ
+  body_locals (Braces p is q) = item_locals is
+
+  pub item_locals : Items → ℕ
+  item_locals NoItems = 0
+  item_locals (MoreItems i is) = one_item_locals i + item_locals is
+
+  pub one_item_locals : Item → ℕ
+  one_item_locals (Execute s) = locals_in s
+  one_item_locals i = 1
+
+  pub clause_locals : Clauses → ℕ
+  clause_locals NoClauses = 0
+  clause_locals (Default is) = item_locals is
+  clause_locals (Case x v is cs) = counted v + item_locals is + clause_locals cs
+
+-- A block has a region, labelled or not, and so have the items of a clause. An opened region is the key's.
+abbrev mutual
+  pub regions_in : Statement → ℕ
+  regions_in (Block b) = suc (body_regions b)
+  regions_in (Labelled l b) = suc (body_regions b)
+  regions_in (If p c s) = regions_in s
+  regions_in (IfElse p c s t) = regions_in s + regions_in t
+  regions_in (While p c s) = regions_in s
+  regions_in (Try p s cs) = regions_in s + clause_regions cs
+  regions_in s = 0
+
+  pub body_regions : Body → ℕ
+  body_regions (Braces p is q) = item_regions is
+
+  pub item_regions : Items → ℕ
+  item_regions NoItems = 0
+  item_regions (MoreItems i is) = one_item_regions i + item_regions is
+
+  pub one_item_regions : Item → ℕ
+  one_item_regions (Execute s) = regions_in s
+  one_item_regions (written.Local t x v) = 0
+  one_item_regions (Region r h None) = 1
+  one_item_regions (Region r h (Some k)) = 0
+  one_item_regions (Alias r t x y) = 1
+  one_item_regions (DynamicRegion r k) = 1
+
+  pub clause_regions : Clauses → ℕ
+  clause_regions NoClauses = 0
+  clause_regions (Default is) = suc (item_regions is)
+  clause_regions (Case x v is cs) = suc (item_regions is) + clause_regions cs
+
+abbrev mutual
+  pub names_in : Statement → List ℕ
+  names_in (Block b) = body_names b
+  names_in (Labelled l b) = l.name ∷ body_names b
+  names_in (If p c s) = names_in s
+  names_in (IfElse p c s t) = names_in s ++ names_in t
+  names_in (While p c s) = names_in s
+  names_in (Try p s cs) = names_in s ++ clause_names cs
+  names_in s = []
+
+  pub body_names : Body → List ℕ
+  body_names (Braces p is q) = item_names is
+
+  pub item_names : Items → List ℕ
+  item_names NoItems = []
+  item_names (MoreItems i is) = one_item_names i ++ item_names is
+
+  pub one_item_names : Item → List ℕ
+  one_item_names (Execute s) = names_in s
+  one_item_names (written.Local t x v) = []
+  one_item_names (Region r h None) = r.name ∷ []
+  one_item_names (Region r h (Some k)) = []
+  one_item_names (Alias r t x y) = r.name ∷ []
+  one_item_names (DynamicRegion r k) = r.name ∷ []
+
+  pub clause_names : Clauses → List ℕ
+  clause_names NoClauses = []
+  clause_names (Default is) = item_names is
+  clause_names (Case x v is cs) = item_names is ++ clause_names cs
+
+-- ---- scopes
+
+-- behind a statement: what it declares is out of scope, its numbers are used, and its names of regions are taken
+abbrev pub behind : Scope → Statement → Scope
+behind g s = record g { next_local = g.next_local + locals_in s; next_region = g.next_region + regions_in s; taken = names_in s ++ g.taken }
+
+-- with a scope of this region open
+abbrev pub with_scope : ScopeKind → RegionCode → RegionContext → RegionContext
+with_scope k r c = record c { opened = record { region = r; kind = k } ∷ c.opened }
+
+-- inside a block
+abbrev pub in_block : Scope → Scope
+in_block g = record g { region = g.next_region; next_region = suc g.next_region; regions = with_scope kinds.Block (regions.Variable g.next_region) g.regions }
+
+-- where the next region has a name
+abbrev pub with_name : Named → Scope → Scope
+with_name r g = record g { names = record { name = r.name; region = regions.Variable g.next_region } ∷ g.names; taken = r.name ∷ g.taken }
+
+-- inside a block with a label
+abbrev pub in_labelled : Named → Scope → Scope
+in_labelled l g = in_block (with_name l g)
+
+-- inside the body of a loop
+abbrev pub in_body : Scope → Scope
+in_body g = record g { in_loop = true }
+
+-- behind the declaration of a local
+abbrev pub with_local : Sort → Named → Ty → Scope → Scope
+with_local s x t g = record g {
+  locals = record { name = x.name; number = g.next_local; of_type = t; region = g.region; sort = s } ∷ g.locals;
+  next_local = suc g.next_local;
+}
+
+-- inside the element of a `for` with this variable
+abbrev pub with_counter : Named → Scope → Scope
+with_counter x g = record g {
+  locals = record { name = x.name; number = g.counters; of_type = Int; region = g.region; sort = OfLoop } ∷ g.locals;
+  counters = suc g.counters;
+}
+
+-- behind an item that declares a region of this name, and opens a scope of it
+abbrev pub with_opened : ScopeKind → Named → Scope → Scope
+with_opened k r g = record (with_name r g) { next_region = suc g.next_region; regions = with_scope k (regions.Variable g.next_region) g.regions }
+
+-- behind one that declares a region that is not opened
+abbrev pub with_region : Named → Scope → Scope
+with_region r g = record (with_name r g) { next_region = suc g.next_region }
+
+-- behind one that opens the region of a key
+abbrev pub with_key_opened : RegionCode → Scope → Scope
+with_key_opened r g = record g { regions = with_scope kinds.Dynamic r g.regions }
