@@ -11,9 +11,9 @@ use Rattle.std.proofs.lemmas.Option.{slice_get_within, get_or_from_slice_get, sl
 use Rattle.cyc_machine.specs.State.{text_base}
 use Rattle.cyc_select.specs.declared.code.Line.{Line}
 use Rattle.cyc_select.specs.declared.code.Line.TheVariants as lines
-use Rattle.cyc_select.specs.Labelled.{Labelled, AreAddresses, words_of, all_words}
+use Rattle.cyc_select.specs.Labelled.{Labelled, Fits, AreAddresses, words_of, all_words}
 use Rattle.cyc_asm.specs.declared.constants.TheConstants.{MAX_REACH}
-use Rattle.cyc_asm.specs.Layout.{Fits, most_before, is_near, width_of, width_in, width_at, position, addresses_of}
+use Rattle.cyc_asm.specs.Layout.{most_before, is_near, width_of, width_in, width_at, position, addresses_of}
 use Rattle.cyc_asm.specs.Text.{stretch, own}
 use Rattle.cyc_asm.proofs.Stretches.{own-stretch, stretch-append}
 

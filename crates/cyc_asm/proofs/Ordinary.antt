@@ -17,7 +17,7 @@ use Rattle.cyc_machine.specs.declared.event.Event.{Event}
 use Rattle.cyc_machine.specs.declared.event.Event.TheVariants.{Ran, WantsByte, Puts, Ended}
 use Rattle.cyc_machine.specs.declared.phase.Phase.TheVariants as phases
 use Rattle.cyc_machine.specs.State as machines
-use Rattle.cyc_machine.specs.State.{text_base, text_end, data_base, stack_base, stack_end, text_at, place_of, is_within, Place, InText, InGlobals, InStack, Nowhere, word_number, register, with_register, advanced, loaded, stored}
+use Rattle.cyc_machine.specs.State.{text_base, text_end, data_base, stack_base, text_at, place_of, is_within, Place, InText, InGlobals, InStack, Nowhere, word_number, register, with_register, advanced, loaded, stored}
 use Rattle.cyc_machine.specs.Step.{Action, Does, Acts, Service, GetByte, PutByte, EndReturned, EndUncaught, EndFull, cause_of, first_of, after, performs, calls, asked, address_of, is_nowhere, is_text, is_misaligned}
 use Rattle.cyc_machine.specs.Run.{World, told}
 use Rattle.cyc_select.specs.Labelled.{is_ordinary}

@@ -20,9 +20,9 @@ use Rattle.cyc_select.specs.declared.code.Condition.{Condition}
 use Rattle.cyc_select.specs.declared.code.Condition.TheVariants as conditions
 use Rattle.cyc_select.specs.declared.code.Line.{Line}
 use Rattle.cyc_select.specs.declared.code.Line.TheVariants as lines
-use Rattle.cyc_select.specs.Labelled.{Labelled, IsFormed, IsFormedLine}
+use Rattle.cyc_select.specs.Labelled.{Labelled, Fits, IsFormed, IsFormedLine}
 use Rattle.cyc_asm.specs.declared.constants.TheConstants.{ROUND_OFFSET, FIRST_INDEX}
-use Rattle.cyc_asm.specs.Layout.{Fits, is_near, width_of, width_in, position, addresses_of}
+use Rattle.cyc_asm.specs.Layout.{is_near, width_of, width_in, position, addresses_of}
 use Rattle.cyc_asm.specs.Text.{text_of, IsAt, nothing, return_register, branch_of, inverse_of, IsJumpAt, StandsBranch, Stands, stretch, IsTextOf}
 use Rattle.cyc_asm.specs.Words.{offset_of, words_of_branch, words_of_line, words_in, words_before, assembled}
 use Rattle.cyc_asm.proofs.Layouts.{position-suc, position-most, position-less, addresses_fit, near_below, near_above, own_words}

@@ -23,7 +23,7 @@ use Rattle.cyc_machine.specs.declared.event.Event.TheVariants as events
 use Rattle.cyc_machine.specs.declared.phase.Phase.{Phase}
 use Rattle.cyc_machine.specs.declared.phase.Phase.TheVariants as phases
 use Rattle.cyc_machine.specs.State as machines
-use Rattle.cyc_machine.specs.State.{text_base, text_end}
+use Rattle.cyc_machine.specs.State.{text_end}
 use Rattle.cyc_machine.specs.Step.{Action, Acts, Does, cause_of, executes, performs, refuses_or_performs}
 use Rattle.cyc_machine.specs.Run.{World, told, Goes, ending_of}
 use Rattle.cyc_machine.proofs.StepLaws.{executes-performs, Step-action}
@@ -37,7 +37,7 @@ use Rattle.cyc_select.specs.declared.code.Line.{Line}
 use Rattle.cyc_select.specs.declared.code.Line.TheVariants as lines
 use Rattle.cyc_select.specs.Labelled.{Labelled, is_ordinary}
 use Rattle.cyc_select.specs.Machine as labelled
-use Rattle.cyc_select.specs.Machine.{Configuration, machine_of, world_of, from_world, word_in, holds_of, linked, core_of}
+use Rattle.cyc_select.specs.Machine.{Configuration, machine_of, world_of, from_world, word_in, holds_of, linked}
 use Rattle.cyc_asm.specs.Layout.{is_near}
 use Rattle.cyc_asm.specs.Text.{IsAt, IsTextOf, Stands, StandsBranch, own, nothing, branch_of, inverse_of, return_register}
 use Rattle.cyc_machine.specs.WorldMachine.{world_machine, status_in, status_at}

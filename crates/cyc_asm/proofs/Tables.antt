@@ -5,14 +5,13 @@ use Rattle.std.specs.List.{range_with_len}
 use Rattle.std.proofs.lemmas.Bool.{cases_lt}
 use Rattle.std.proofs.lemmas.List.FromFn.{length-map-range_with_len, get_or-map-range_with_len, map-range_with_len_more}
 use Rattle.std.proofs.lemmas.Option.{slice_get-get_or}
-use Rattle.cyc_isa.specs.declared.operand.Register.{Register}
 use Rattle.cyc_machine.specs.declared.constants.TheConstants.{TEXT_WORDS}
 use Rattle.cyc_select.specs.declared.code.Condition.{Condition}
 use Rattle.cyc_select.specs.declared.code.Line.{Line}
 use Rattle.cyc_select.specs.declared.code.Line.TheVariants as lines
-use Rattle.cyc_select.specs.Labelled.{IsFormedLine, words_of}
+use Rattle.cyc_select.specs.Labelled.{Fits, IsFormedLine, words_of}
 use Rattle.cyc_asm.specs.declared.constants.TheConstants.{MAX_REACH}
-use Rattle.cyc_asm.specs.Layout.{Fits, most_before, most_of_each, is_near, width_of, width_in, width_at, position, position_of_each}
+use Rattle.cyc_asm.specs.Layout.{most_before, most_of_each, is_near, width_of, width_in, width_at, position, position_of_each}
 use Rattle.cyc_asm.specs.Words.{offset_of, branch_words, words_of_branch, words_of_line, words_in}
 use Rattle.cyc_asm.proofs.Layouts.{between_lines, most_before-suc, most_before-all, position-most}
 use Rattle.cyc_asm.proofs.Standing.{are_near_at}

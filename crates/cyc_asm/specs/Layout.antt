@@ -1,16 +1,12 @@
 -- Where the lines of labelled code lie in the text: each behind the one before, with as many words as it needs. This
 -- project's own choice.
-use Rattle.std.specs.Prelude.{ℕ, zero, suc, ◌+◌, ◌*◌, ◌≤◌, Bool, ◌&&◌, nat_le, if◌then◌else◌, List, length, map, take, Option, Some, None, slice_get}
+use Rattle.std.specs.Prelude.{ℕ, zero, suc, ◌+◌, ◌*◌, Bool, ◌&&◌, nat_le, if◌then◌else◌, List, length, map, take, Option, Some, None, slice_get}
 use Rattle.std.specs.List.{range_with_len}
-use Rattle.cyc_machine.specs.State.{text_base, text_end}
+use Rattle.cyc_machine.specs.State.{text_base}
 use Rattle.cyc_select.specs.Labelled.{Labelled, all_words}
 use Rattle.cyc_select.specs.declared.code.Line.{Line}
 use Rattle.cyc_select.specs.declared.code.Line.TheVariants as lines
 use Rattle.cyc_asm.specs.declared.constants.TheConstants.{MAX_REACH}
-
--- the code fits the text range, each line with the words that it takes at most
-abbrev pub Fits : List Line → Type 0
-Fits code = text_base + 4 * all_words code ≤ text_end
 
 -- how many words the lines before this one take at most
 abbrev pub most_before : List Line → ℕ → ℕ

@@ -2,8 +2,8 @@
 
 ghost use Rattle.std.specs.Prelude.{◌≡◌, length, All, IfOk, IfErr};
 ghost use Rattle.cyc_words.specs.Fault.{memory_fault};
-ghost use Rattle.cyc_select.specs.Labelled.{labelled_of, IsFormed, IsFormedLine};
-ghost use Rattle.cyc_asm.specs.Layout.{Fits, addresses_of};
+ghost use Rattle.cyc_select.specs.Labelled.{Fits, IsFormedLine};
+ghost use Rattle.cyc_asm.specs.Layout.{addresses_of};
 ghost use Rattle.cyc_asm.specs.Text.{IsTextOf};
 ghost use Rattle.cyc_asm.specs.Words.{words_before};
 ghost use Rattle.cyc_asm.specs.Machine.{Runs};
@@ -25,18 +25,14 @@ fn words_of(alloc: Global, lines: &[Line]) -> Result<Vec<u32>, AllocError>
 
 /// The words of labelled code, as they stand from the beginning of the machine's text range on.
 ///
-/// The code fits the range where a branch counts four words, a jump, a call or a return two, and another instruction one.
 /// Only want of memory is refused.
 pub fn assemble(alloc: Global, code: &Code) -> Result<Vec<u32>, Fault>
-    requires formed { IsFormed (labelled_of code.now) }
-    requires fits { Fits (labelled_of code.now).lines }
-
     // The words mean the code: each line's instruction stands once, each label is its line's address, each delay slot is
     // empty, and there is nothing else.
-    ensures means { IfOk result (λ words. IsTextOf (labelled_of code.now) (addresses_of (labelled_of code.now)) words.items) }
+    ensures means { IfOk result (λ words. IsTextOf code.now (addresses_of code.now) words.items) }
     // And the machine that runs them does what the labelled machine does.
-    ensures runs { IfOk result (λ words. Runs (labelled_of code.now) (addresses_of (labelled_of code.now)) words.items) }
+    ensures runs { IfOk result (λ words. Runs code.now (addresses_of code.now) words.items) }
     ensures refused { IfErr result (λ e. e ≡ memory_fault) }
 {
-    Ok(words_of(alloc, &code.lines)?)
+    Ok(words_of(alloc, code.lines())?)
 }

@@ -2,8 +2,8 @@
 
 ghost use Rattle.std.specs.Prelude.{◌≡◌, ◌∷◌, [], ◌++◌, ◌+◌, ◌<◌, ◌≤◌, length, slice_get, All, OnOk, IfOk};
 ghost use Rattle.cyc_isa.specs.Encoding.{word_of};
-ghost use Rattle.cyc_select.specs.Labelled.{IsFormedLine};
-ghost use Rattle.cyc_asm.specs.Layout.{Fits, most_of_each, position_of_each};
+ghost use Rattle.cyc_select.specs.Labelled.{Fits, IsFormedLine};
+ghost use Rattle.cyc_asm.specs.Layout.{most_of_each, position_of_each};
 ghost use Rattle.cyc_asm.specs.Text.{branch_of, inverse_of};
 ghost use Rattle.cyc_asm.specs.Words.{offset_of, jump_words, words_before, words_in};
 

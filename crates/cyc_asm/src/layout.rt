@@ -1,8 +1,8 @@
 //! Where lines lie: how many words stand before each.
 
 ghost use Rattle.std.specs.Prelude.{◌≡◌, ◌+◌, ◌<◌, ◌≤◌, ◌&&◌, nat_le, length, All, IfOk};
-ghost use Rattle.cyc_select.specs.Labelled.{IsFormedLine, words_of};
-ghost use Rattle.cyc_asm.specs.Layout.{Fits, most_of_each, position_of_each, width_at};
+ghost use Rattle.cyc_select.specs.Labelled.{Fits, IsFormedLine, words_of};
+ghost use Rattle.cyc_asm.specs.Layout.{most_of_each, position_of_each, width_at};
 
 use crate::constants::MAX_REACH;
 use cyc_machine::constants::TEXT_WORDS;

@@ -8,6 +8,7 @@ use Rattle.cyc_syntax.specs.Trees.{Named, Expression, Variable, Bracketed, Call,
 use Rattle.cyc_syntax.specs.TreeView.{view_expression, expressions_of, operations_of}
 use Rattle.cyc_types.specs.declared.typed.Converted.{Converted}
 use Rattle.cyc_types.specs.declared.typed.Operation.{Operation}
+use Rattle.cyc_types.specs.declared.typed.Operation.TheVariants as operation
 use Rattle.cyc_types.specs.Types.{Int, ValueType, Value}
 use Rattle.cyc_types.specs.TypedTrees as typed
 use Rattle.cyc_types.specs.TypedTreeView as view
@@ -53,7 +54,10 @@ module _ (g : Scope) (p : Place) where
 
 pub onto_operations : (os : List Operation) → onto put_operation (λ f rest. f rest) os typed.NoOperations ≡ view.operations_of os
 onto_operations [] = refl
-onto_operations (o ∷ os) = ap (view.then_operation o) (onto_operations os)
+onto_operations (operation.Compute o e ∷ os) = ap (typed.ThenCompute o (view.view_expression e)) (onto_operations os)
+onto_operations (operation.Test o e ∷ os) = ap (typed.ThenTest o (view.view_expression e)) (onto_operations os)
+onto_operations (operation.Pointer o e ∷ os) = ap (typed.ThenPointer o (view.view_expression e)) (onto_operations os)
+onto_operations (operation.PointerPeek n o e ∷ os) = ap (typed.ThenPointerPeek n o (view.view_expression e)) (onto_operations os)
 
 -- ---- an expression of its parts, where the code holds copies of them
 

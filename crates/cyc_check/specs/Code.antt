@@ -9,6 +9,7 @@ use Rattle.cyc_types.specs.declared.typed.Expr.{Expr}
 use Rattle.cyc_types.specs.declared.typed.Stmt.{Stmt}
 use Rattle.cyc_types.specs.declared.typed.Converted.{Converted as ConvertedCode}
 use Rattle.cyc_types.specs.declared.typed.Operation.{Operation}
+use Rattle.cyc_types.specs.declared.typed.Operation.TheVariants as operation
 use Rattle.cyc_types.specs.declared.region.Region.TheVariants.{Heap}
 use Rattle.cyc_types.specs.Types.{Ty, Int, Handle, ValueType, Void, Null, Value}
 use Rattle.cyc_types.specs.TypeView.{view_ty}
@@ -79,4 +80,7 @@ AreOfInts (c ∷ cs) = (view.view_converted c ≡ typed.Convert kinds.Int kinds.
 
 -- an operation in front of the rest of its chain
 abbrev pub put_operation : Operation → typed.Operations → typed.Operations
-put_operation o = view.then_operation o
+put_operation (operation.Compute o e) = typed.ThenCompute o (view.view_expression e)
+put_operation (operation.Test o e) = typed.ThenTest o (view.view_expression e)
+put_operation (operation.Pointer o e) = typed.ThenPointer o (view.view_expression e)
+put_operation (operation.PointerPeek n o e) = typed.ThenPointerPeek n o (view.view_expression e)

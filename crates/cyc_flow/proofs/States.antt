@@ -1,10 +1,9 @@
 -- The loops over two lists of what is known, and the meeting of states.
-use Rattle.std.proofs.Common.{◌≡◌, ℕ, ◌+◌, ◌<◌, ◌≤◌, min, Bool, true, false, ◌&&◌, List, [], ◌∷◌, ◌++◌, length, get_or, take, drop, map, replicate, refl, sym, ap, subst, ◌∙◌, arith}
-use Rattle.std.proofs.Math.ListN.{set}
-use Rattle.std.proofs.lemmas.List.{take_more_set, drop-set-lt, drop_more, length-drop}
+use Rattle.std.proofs.Common.{◌≡◌, ℕ, ◌+◌, ◌<◌, ◌≤◌, min, Bool, true, List, [], ◌∷◌, ◌++◌, length, get_or, take, drop, map, replicate, refl, sym, ap, subst, ◌∙◌, arith}
+use Rattle.std.proofs.lemmas.List.{drop_more, length-drop}
 use Rattle.cyc_flow.specs.declared.state.Fullness.{Fullness as FullnessCode}
 use Rattle.cyc_types.specs.Types.{Ty}
-use Rattle.cyc_types.specs.FlowRules.{Fullness, Vacant, Locked, Full, State, Unreached, Reached, lower, lower_each, meet, is_as_full, are_as_full, each_is}
+use Rattle.cyc_types.specs.FlowRules.{Fullness, Vacant, Locked, Full, State, Unreached, Reached, lower, lower_each, meet, are_as_full, each_is}
 use Rattle.cyc_flow.specs.Code.{view_fullness}
 
 abbrev views : List FullnessCode → List Fullness
@@ -19,24 +18,6 @@ next xs i x h e = drop_more xs i x h ∙ ap (λ y. y ∷ drop (i + 1) xs) (sym e
 -- so many are done, the rest are as they were
 abbrev pub Lowered : List FullnessCode → List FullnessCode → ℕ → List Fullness → Type 0
 Lowered xs ys i whole = map view_fullness (take i xs) ++ lower_each (map view_fullness (drop i xs)) (map view_fullness (drop i ys)) ≡ whole
-
-joined : (front xs ys : List FullnessCode) (r x y : FullnessCode) → view_fullness r ≡ lower (view_fullness x) (view_fullness y)
-    → views (front ++ r ∷ []) ++ lower_each (views xs) (views ys) ≡ views front ++ lower_each (views (x ∷ xs)) (views (y ∷ ys))
-joined [] xs ys r x y e = ap (λ a. a ∷ lower_each (views xs) (views ys)) e
-joined (f ∷ front) xs ys r x y e = ap (λ as'. view_fullness f ∷ as') (joined front xs ys r x y e)
-
-pub lowered_more : (xs ys : List FullnessCode) (whole : List Fullness) (i : ℕ) (r x y : FullnessCode) → i < length xs → i < length ys → x ≡ get_or xs i x → y ≡ get_or ys i y
-    → view_fullness r ≡ lower (view_fullness x) (view_fullness y) → Lowered xs ys i whole → Lowered (set xs i r) ys (i + 1) whole
-lowered_more xs ys whole i r x y lx ly ex ey e h =
-    let a : take (i + 1) (set xs i r) ≡ take i xs ++ r ∷ [] = take_more_set xs i r lx in
-    let b : drop (i + 1) (set xs i r) ≡ drop (i + 1) xs = drop-set-lt (i + 1) xs i r (omega arith) in
-    let p = next xs i x lx ex in
-    let q = next ys i y ly ey in
-    let k : views (take i xs) ++ lower_each (views (x ∷ drop (i + 1) xs)) (views (y ∷ drop (i + 1) ys)) ≡ whole
-    = ap (λ (zs : List FullnessCode). views (take i xs) ++ lower_each (views zs) (views (y ∷ drop (i + 1) ys))) (sym p) ∙ ap (λ (zs : List FullnessCode). views (take i xs) ++ lower_each (views (drop i xs)) (views zs)) (sym q) ∙ h in
-    ap (λ (zs : List FullnessCode). views zs ++ lower_each (views (drop (i + 1) (set xs i r))) (views (drop (i + 1) ys))) a
-    ∙ ap (λ (zs : List FullnessCode). views (take i xs ++ r ∷ []) ++ lower_each (views zs) (views (drop (i + 1) ys))) b
-    ∙ joined (take i xs) (drop (i + 1) xs) (drop (i + 1) ys) r x y e ∙ k
 
 none_left : (xs ys : List FullnessCode) → min (length xs) (length ys) ≡ 0 → lower_each (views xs) (views ys) ≡ []
 none_left [] ys h = refl
@@ -58,29 +39,6 @@ lowered_all xs ys whole i n d e k =
 -- all before is as full
 abbrev pub Compared : List FullnessCode → List FullnessCode → ℕ → Bool → Type 0
 Compared xs ys i whole = are_as_full (map view_fullness (drop i xs)) (map view_fullness (drop i ys)) ≡ whole
-
-and_true : (a b whole : Bool) → true ≡ a → (a && b) ≡ whole → b ≡ whole
-and_true true b whole e h = h
-and_true false b whole e h = absurd (cc)
-
-and_false : (a b whole : Bool) → false ≡ a → (a && b) ≡ whole → false ≡ whole
-and_false true b whole e h = absurd (cc)
-and_false false b whole e h = h
-
-at_next : (xs ys : List FullnessCode) (whole : Bool) (i : ℕ) (x y : FullnessCode) → i < length xs → i < length ys → x ≡ get_or xs i x → y ≡ get_or ys i y
-    → Compared xs ys i whole → (is_as_full (view_fullness x) (view_fullness y) && are_as_full (views (drop (i + 1) xs)) (views (drop (i + 1) ys))) ≡ whole
-at_next xs ys whole i x y lx ly ex ey h =
-    let p = next xs i x lx ex in
-    let q = next ys i y ly ey in
-    ap (λ (zs : List FullnessCode). are_as_full (views zs) (views (y ∷ drop (i + 1) ys))) (sym p) ∙ ap (λ (zs : List FullnessCode). are_as_full (views (drop i xs)) (views zs)) (sym q) ∙ h
-
-pub compared_more : (xs ys : List FullnessCode) (whole : Bool) (i : ℕ) (x y : FullnessCode) → i < length xs → i < length ys → x ≡ get_or xs i x → y ≡ get_or ys i y
-    → true ≡ is_as_full (view_fullness x) (view_fullness y) → Compared xs ys i whole → Compared xs ys (i + 1) whole
-compared_more xs ys whole i x y lx ly ex ey e h = and_true _ _ whole e (at_next xs ys whole i x y lx ly ex ey h)
-
-pub compared_fails : (xs ys : List FullnessCode) (whole : Bool) (i : ℕ) (x y : FullnessCode) → i < length xs → i < length ys → x ≡ get_or xs i x → y ≡ get_or ys i y
-    → false ≡ is_as_full (view_fullness x) (view_fullness y) → Compared xs ys i whole → false ≡ whole
-compared_fails xs ys whole i x y lx ly ex ey e h = and_false _ _ whole e (at_next xs ys whole i x y lx ly ex ey h)
 
 none_to_compare : (xs ys : List FullnessCode) → min (length xs) (length ys) ≡ 0 → are_as_full (views xs) (views ys) ≡ true
 none_to_compare [] ys h = refl

@@ -151,12 +151,3 @@ keep_written fs u = keep_functions (map view_function fs)
 
 abbrev pub after_written : List FunctionCode → Unit {0} → Unit {0}
 after_written fs u = tt
-
-abbrev pub keep_one_written : FunctionCode → Unit {0} → Kept
-keep_one_written f u = keep_function (view_function f)
-
-abbrev pub after_one_written : FunctionCode → Unit {0} → Unit {0}
-after_one_written f u = tt
-
-pub functions_steps : Steps keep_written after_written keep_one_written after_one_written
-functions_steps = record { none_kept = λ u. refl; none_after = λ u. refl; kept = λ f fs u. refl; follows = λ f fs u k. refl }

@@ -29,9 +29,6 @@ is_frame r fits small = record {
 
 -- ---- the first that is too large
 
-name_at : List Routine → ℕ → Span
-name_at routines k = (slice_index_or routines k no_routine).name
-
 abbrev count_at : List Routine → ℕ → ℕ
 count_at routines k = (slice_index_or routines k no_routine).frame_count
 

@@ -6,7 +6,7 @@ use Rattle.std.proofs.Math.IntN.{pos-*ℤ-pos, pos-*ℤ-negsuc, negsuc-*ℤ-pos,
 use Rattle.std.proofs.Math.Nat.{mod-eq_of_lt}
 use Rattle.cyc_words.specs.Word.{IsWord, IsHalf, unsigned, signed, signed_half, sign_extended, mul_of}
 use Rattle.cyc_words.proofs.WordLemmas.{IsWord-add_of, IsWord-sub_of, IsWord-shl_of, IsWord-shr_of, IsWord-sar_of, IsWord-div_of, IsWord-rem_of, IsWord-slt_of, IsWord-sltu_of, IsWord-bit_and, IsWord-bit_or, IsWord-bit_xor, unsigned-add, unsigned-mul, FitsSigned-signed}
-use Rattle.cyc_isa.specs.Effect.{immediate_result, load_upper_result, arithmetic_result, shift_result, product_of, high_result, low_result, memory_address, slot_address, return_address, branch_target, jump_target}
+use Rattle.cyc_isa.specs.Effect.{immediate_result, load_upper_result, arithmetic_result, shift_result, product_of, high_result, low_result, memory_address, slot_address, branch_target, jump_target}
 use Rattle.cyc_isa.specs.declared.instr.ImmediateOp.{ImmediateOp}
 use Rattle.cyc_isa.specs.declared.instr.ShiftOp.{ShiftOp}
 use Rattle.cyc_isa.specs.declared.instr.ShiftOp.TheVariants.{Left, RightLogical, RightArithmetic}
@@ -46,9 +46,6 @@ IsWord-low_result Divide a b = IsWord-div_of a b
 
 pub IsWord-memory_address : (base offset : ℕ) → IsWord (memory_address base offset)
 IsWord-memory_address b o = IsWord-add_of b (sign_extended o)
-
-pub IsWord-return_address : (addr : ℕ) → IsWord (return_address addr)
-IsWord-return_address a = IsWord-add_of a 8
 
 pub IsWord-branch_target : (addr offset : ℕ) → IsWord (branch_target addr offset)
 IsWord-branch_target a o = IsWord-add_of (slot_address a) (mul_of 4 (sign_extended o))

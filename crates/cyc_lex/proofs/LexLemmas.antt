@@ -2,7 +2,7 @@
 use Rattle.std.proofs.Common.{◌≡◌, ◌≢◌, ℕ, ◌+◌, ◌-◌, ◌<◌, ◌≤◌, ⊎_elim, Option, Some, None, List, [], ◌∷◌, ◌++◌, length, take, drop, map, refl, sym, ap, subst, ◌∙◌, append-nil, arith}
 use Rattle.std.specs.Prelude.{All, slice_range}
 use Rattle.std.proofs.lemmas.Bool.{cases_lt}
-use Rattle.std.proofs.lemmas.List.{take-append-drop, length-drop, length_push, length-map, drop-drop, drop_all, map_push}
+use Rattle.std.proofs.lemmas.List.{take-append-drop, length-drop, length_push, length-map, drop-drop, map_push}
 use Rattle.std.proofs.Math.Seq.{take-add}
 use Rattle.std.proofs.lemmas.List.Elements.{All-push, All-append, All-cons, All-nil}
 use Rattle.cyc_words.specs.declared.span.Span.{Span}
@@ -10,11 +10,10 @@ use Rattle.cyc_syntax.specs.declared.tokens.Token.{Token as CodeToken}
 use Rattle.cyc_syntax.specs.declared.tokens.TokenKind.{TokenKind}
 use Rattle.cyc_syntax.specs.Spelling.{Piece, Lexeme, Space, Comment, OpenComment, SpellsToken}
 use Rattle.cyc_syntax.specs.Tokens.{kind_of, token_of}
-use Rattle.cyc_syntax.specs.TokenRule.{IsRead, Part, IsCut, bytes_of, part_tokens, tokens_of, IsSmall, IsWithinLimits, LiesIn, line_behind, column_behind, max_bytes, max_tokens}
+use Rattle.cyc_syntax.specs.TokenRule.{IsRead, Part, IsCut, bytes_of, part_tokens, tokens_of, IsSmall, IsWithinLimits, LiesIn, line_behind, column_behind, max_tokens}
 use Rattle.cyc_syntax.proofs.CutLemmas.{piece_nonempty, IsCut-push, bytes_of-push, tokens_of-append}
 use Rattle.cyc_lex.specs.Found.{IsReadAs, IsFound}
 use Rattle.cyc_syntax.specs.Place.{IsBehind}
-use Rattle.cyc_lex.specs.Refusals.{IsAccepted}
 
 -- a piece that was found has bytes
 pub found_some : (text : List ℕ) (kind : Option TokenKind) (len : ℕ) → IsFound text kind len → 0 < len
@@ -35,18 +34,6 @@ pub record IsReadUpTo (text : List ℕ) (tokens : List CodeToken) (start : ℕ) 
   pub lie : All (LiesIn text) tokens
   pub behind : IsBehind place (take start text)
   pub inside : start ≤ length text
-
-pub nothing_read : (text : List ℕ) → IsReadUpTo text [] 0 (record { line = 1; column = 1 })
-nothing_read text = record {
-  parts = [];
-  cut = refl;
-  front = refl;
-  views = refl;
-  within = record { count = omega arith; numbers = λ k d less. absurd (omega arith) };
-  lie = λ k d less. absurd (omega arith);
-  behind = record { line = refl; column = refl };
-  inside = omega arith;
-}
 
 -- so many tokens are read at most
 pub tokens_within : (text : List ℕ) (tokens : List CodeToken) (start : ℕ) (place : Span) → IsReadUpTo text tokens start place → length tokens ≤ max_tokens
@@ -157,12 +144,3 @@ module _ (text : List ℕ) (tokens : List CodeToken) (start len : ℕ) (place ne
           behind = next_behind;
           inside = inside;
         }
-
--- the end of the text
-pub all_read : (text : List ℕ) (tokens : List CodeToken) (start : ℕ) (place : Span) → IsReadUpTo text tokens start place → length text ≤ start
-    → length text ≤ max_bytes → IsAccepted text (map (token_of text) tokens)
-all_read text tokens start place done end short = record {
-  short = short;
-  rule = (done.parts, subst (IsCut done.parts text) (drop_all start text end) done.cut, sym done.views);
-  within = subst IsWithinLimits (sym done.views) done.within;
-}

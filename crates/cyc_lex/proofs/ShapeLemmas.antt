@@ -1,5 +1,5 @@
 -- What a piece looks like that begins with a given byte, and what follows for the longest piece at the head of a text.
-use Rattle.std.proofs.Common.{◌≡◌, ℕ, ◌+◌, ◌<◌, ◌≤◌, Bool, true, cond, Some, ◌⊎◌, inl, inr, ⊎_elim, List, [], ◌∷◌, ◌++◌, length, get_or, take, drop, refl, sym, ap, subst, ◌∙◌, arith}
+use Rattle.std.proofs.Common.{◌≡◌, ℕ, ◌+◌, ◌≤◌, Bool, true, cond, Some, ◌⊎◌, inl, inr, ⊎_elim, List, [], ◌∷◌, ◌++◌, length, get_or, take, drop, refl, sym, ap, subst, ◌∙◌, arith}
 use Rattle.std.specs.Prelude.{codes}
 use Rattle.std.specs.List.{list_all, prefix_len}
 use Rattle.std.proofs.lemmas.List.{take-append-drop, length-take-le}
@@ -12,7 +12,6 @@ use Rattle.cyc_syntax.specs.Tokens.{Identifier, RegionName, Number, Character, W
 use Rattle.cyc_syntax.specs.Spelling.{sign_text, is_name, is_decimal, is_hexadecimal, is_plain, escaped, IsLineComment, IsBlockComment, IsOpenComment, Piece, Lexeme, Space, Comment, OpenComment, Spells}
 use Rattle.cyc_syntax.specs.TokenRule.{IsRead}
 use Rattle.cyc_syntax.proofs.PieceLemmas.{Start, AtName, AtNumber, AtRegion, AtQuote, AtSpace, AtSlash, AtSign, start_of, starts_as, sign_start, piece_start, piece_starts, is_name-keyword_text}
-use Rattle.cyc_lex.specs.Refusals.{FailsHere}
 
 -- a character constant, plain or escaped
 abbrev pub IsCharacter : List ℕ → Type 0
@@ -65,14 +64,6 @@ read_at m s text n start within spelled bound = record {
       let small = bound front rest whole (subst (λ t. Shape t front) start (front_shape other text front rest whole also)) in
       omega (arith, size, small);
 }
-
--- no piece stands at the head of a text, where no front has this shape
-pub unread : (s : Start) (text : List ℕ) → start_of (get_or text 0 0) ≡ s → 0 < length text
-    → ((front rest : List ℕ) → text ≡ front ++ rest → Shape s front → ⊥) → FailsHere codes_of.UnknownByte text
-unread s text start within none = (
-  λ empty. absurd (omega (arith, ap length empty)),
-  λ m front rest whole spelled. none front rest whole (subst (λ t. Shape t front) start (front_shape m text front rest whole spelled)),
-)
 
 -- runs of one class
 

@@ -9,6 +9,7 @@ use Rattle.std.specs.declared.boxed.Box.{Box}
 use Rattle.std.specs.declared.alloc.Global.{Global as Heap}
 use Rattle.cyc_types.specs.declared.ty.Ty.{Ty as TyCode}
 use Rattle.cyc_types.specs.declared.typed.ValueType.{ValueType as ValueTypeCode}
+use Rattle.cyc_types.specs.declared.typed.Lvalue.{Lvalue as LvalueCode}
 use Rattle.cyc_types.specs.declared.typed.Callee.{Callee}
 use Rattle.cyc_types.specs.declared.typed.Callee.TheVariants as callees
 use Rattle.cyc_types.specs.declared.typed.Kind.TheVariants as kinds
@@ -23,14 +24,14 @@ use Rattle.cyc_types.specs.declared.typed.Operation.TheVariants as operation
 use Rattle.cyc_types.specs.Types.{ValueType, Void}
 use Rattle.cyc_types.specs.TypeView.{view_ty, view_value_type}
 use Rattle.cyc_types.specs.TypedTrees.{Lvalue, Local, Global, Expression, Number, Copy, Call, Unary, Binary, Assign, Converted, Convert, Arguments, Operations, NoOperations, ThenCompute, ThenTest}
-use Rattle.cyc_types.specs.TypedTreeView.{view_expression, view_converted, arguments_of, operations_of}
+use Rattle.cyc_types.specs.TypedTreeView.{view_lvalue, view_expression, view_converted, arguments_of, operations_of}
 use Rattle.cyc_types.specs.Numbered.{argument_count}
 use Rattle.cyc_types.proofs.TypedTreeViewLemmas.{view_call, view_binary}
 use Rattle.cyc_plain.specs.declared.instruction.Operand.{Operand}
 use Rattle.cyc_plain.specs.declared.instruction.Operand.TheVariants as operands
 use Rattle.cyc_plain.specs.declared.instruction.Instruction.{Instruction}
 use Rattle.cyc_plain.specs.declared.instruction.Instruction.TheVariants as instructions
-use Rattle.cyc_lower.specs.Lowering.{slot_of, operand_of, operand_or, code_unless, left_with, left_of, slot_with, left_slot, low_byte, value_operand, next_slot, converted_operand, printed_operand, divisor_code, operator_code, load_code, compute_code, test_jump, truth_code, test_code, copy_code, expression_code, arguments_code, converted_code, converted_operand_code, printed_code, initial_code, operations_code, discarded_code}
+use Rattle.cyc_lower.specs.Lowering.{slot_of, operand_of, operand_or, code_unless, left_with, left_of, slot_with, left_slot, low_byte, value_operand, next_slot, converted_operand, printed_operand, divisor_code, operator_code, load_code, compute_code, test_jump, truth_code, test_code, copy_code, expression_code, arguments_code, converted_code, converted_operand_code, printed_code, initial_code, assignment_code, assigned_operand, operations_code, discarded_code}
 use Rattle.cyc_lower.specs.Emission.{most_locals, value_code, print_code, left_code, takes_operand, HasRoom, HasRoomFor, operation_code}
 
 -- ---- no expression is without code
@@ -428,3 +429,23 @@ pub made_discarded : (value : Expr) (f : Callee) (v : Vec ConvertedCode Heap) (t
 made_discarded value f v ty items old new t is same made =
     made ∙ ap (λ (l : List Instruction). old ++ l) (discarded_alike f (arguments_of items) Void (view_value_type ty) (length old) t)
     ∙ ap (λ (a : Expression). old ++ discarded_code a (length old) t) (sym (call_viewed value f v ty is items same))
+
+-- ---- assignments
+
+assigned_code : (l : Lvalue) (c : Converted) (ty : ValueType) (p d t : ℕ) → assignment_code l c p t ++ copy_code (assigned_operand l c t) d ≡ expression_code (Assign l c ty) p d t
+assigned_code (Local w n) c ty p d t = refl
+assigned_code (Global n) c ty p d t = refl
+
+-- an assignment, whose value comes to a slot then
+pub made_assigned : (value : Expr) (l : LvalueCode) (b : Box ConvertedCode Heap) (ty : ValueTypeCode) → value ≡ expr.Assign l b ty → (x : ConvertedCode) → x ≡ b.value → (old m1 m2 : List Instruction) (o : Operand) (d t : ℕ)
+    → o ≡ assigned_operand (view_lvalue l) (view_converted x) t → m1 ≡ old ++ assignment_code (view_lvalue l) (view_converted x) (length old) t → m2 ≡ m1 ++ copy_code o d
+    → m2 ≡ old ++ expression_code (view_expression value) (length old) d t
+made_assigned value l b ty is x at old m1 m2 o d t o_is e1 e2 =
+    let c = view_converted x in
+    let front = assignment_code (view_lvalue l) c (length old) t in
+    let tree : view_expression value ≡ Assign (view_lvalue l) c (view_value_type ty)
+    = ap view_expression is ∙ ap (λ (z : ConvertedCode). Assign (view_lvalue l) (view_converted z) (view_value_type ty)) (sym at) in
+    joined old front (λ p. copy_code o d) m1 m2 e1 e2
+    ∙ ap (λ (q : Operand). old ++ (front ++ copy_code q d)) o_is
+    ∙ ap (λ (k : List Instruction). old ++ k) (assigned_code (view_lvalue l) c (view_value_type ty) (length old) d t)
+    ∙ ap (λ (y : Expression). old ++ expression_code y (length old) d t) (sym tree)

@@ -22,7 +22,7 @@ use Rattle.cyc_types.specs.declared.typed.Clause.{Clause}
 use Rattle.cyc_types.specs.declared.typed.Body.{Body}
 use Rattle.cyc_types.specs.Types.{Ty, words_of}
 use Rattle.cyc_types.specs.TypeView.{view_ty, view_value_type}
-use Rattle.cyc_types.specs.TypedTrees.{type_of, Clauses, NoClauses}
+use Rattle.cyc_types.specs.TypedTrees.{type_of, Arguments, Clauses, NoClauses}
 use Rattle.cyc_types.specs.TypedTreeView.{view_expression, view_initial, view_converted, view_statement, arguments_of, operations_of, items_of, clauses_of, default_of}
 use Rattle.cyc_types.proofs.TypedTreeViewLemmas.{view_call, view_binary, view_fields, view_block, view_try}
 use Rattle.cyc_meaning.specs.FrameCount.{result_words, operand_words, converted_words, expression_need, initial_value_need, converted_need, argument_words, arguments_need, operations_need, statement_need, items_need, clauses_need, kept_by, kept_by_items, kept_by_clauses, words_of_all}
@@ -92,10 +92,10 @@ ItemsLeft js i need = max need (items_need (items_of (drop i js))) ≡ items_nee
 one_item : (j : ItemCode) (js : List ItemCode) → items_need (items_of (j ∷ js)) ≡ max (item_need j) (items_need (items_of js))
 one_item (item.Execute s) js = refl
 one_item (item.Local n t v) js = refl
-one_item (item.Region r n) js = refl
-one_item (item.Open r n s k) js = refl
-one_item (item.Alias r n t s m) js = refl
-one_item (item.DynamicRegion r n) js = refl
+one_item (item.Region r n) js = omega arith
+one_item (item.Open r n s k) js = omega arith
+one_item (item.Alias r n t s m) js = omega arith
+one_item (item.DynamicRegion r n) js = omega arith
 
 module _ (js : List ItemCode) (i need : ℕ) (j : ItemCode) (inside : i < length js) (at : j ≡ get_or js i j) where
   pub item_left : ItemsLeft js i need → max need (max (item_need j) (items_need (items_of (drop (i + 1) js)))) ≡ items_need (items_of js)
@@ -118,11 +118,11 @@ ItemsKeptLeft js i words = words + kept_by_items (items_of (drop i js)) ≡ kept
 
 one_item_kept : (j : ItemCode) (js : List ItemCode) → kept_by_items (items_of (j ∷ js)) ≡ kept_by_item j + kept_by_items (items_of js)
 one_item_kept (item.Execute s) js = refl
-one_item_kept (item.Local n t v) js = refl
+one_item_kept (item.Local n t v) js = omega arith
 one_item_kept (item.Region r n) js = refl
-one_item_kept (item.Open r n s k) js = refl
-one_item_kept (item.Alias r n t s m) js = refl
-one_item_kept (item.DynamicRegion r n) js = refl
+one_item_kept (item.Open r n s k) js = omega arith
+one_item_kept (item.Alias r n t s m) js = omega arith
+one_item_kept (item.DynamicRegion r n) js = omega arith
 
 module _ (js : List ItemCode) (i words : ℕ) (j : ItemCode) (inside : i < length js) (at : j ≡ get_or js i j) where
   pub item_kept_left : ItemsKeptLeft js i words → words + (kept_by_item j + kept_by_items (items_of (drop (i + 1) js))) ≡ kept_by_items (items_of js)
@@ -177,11 +177,11 @@ clauses_kept_done cs i words done h =
 
 -- the default clause stands behind the others
 pub clauses_with : (cs : List Clause) (default : Clauses) → clauses_need (clauses_of cs default) ≡ max (clauses_need (clauses_of cs NoClauses)) (clauses_need default)
-clauses_with [] default = refl
+clauses_with [] default = omega arith
 clauses_with (c ∷ cs) default = omega (arith, clauses_with cs default)
 
 pub clauses_kept_with : (cs : List Clause) (default : Clauses) → kept_by_clauses (clauses_of cs default) ≡ kept_by_clauses (clauses_of cs NoClauses) + kept_by_clauses default
-clauses_kept_with [] default = refl
+clauses_kept_with [] default = omega arith
 clauses_kept_with (c ∷ cs) default = omega (arith, clauses_kept_with cs default)
 
 -- ---- types
@@ -206,10 +206,13 @@ words_done ts i words done h =
 
 -- ---- nodes with lists
 
+nothing_before : (cs : Arguments) (own : ℕ) → max (argument_words cs + own) (arguments_need cs 0) ≡ operands_need cs 0 own
+nothing_before cs own = omega arith
+
 pub call_needs : (value : Expr) (f : Callee) (v : Vec ConvertedCode Heap) (t : ValueTypeCode) → value ≡ expr.Call f v t → (items : List ConvertedCode) → items ≡ v.items
     → expression_need (view_expression value) ≡ operands_need (arguments_of items) 0 (result_words (view_value_type t))
 call_needs value f v t is items same =
-    ap (λ (x : Expr). expression_need (view_expression x)) is ∙ ap expression_need (view_call f v t)
+    ap (λ (x : Expr). expression_need (view_expression x)) is ∙ ap expression_need (view_call f v t) ∙ nothing_before (arguments_of v.items) (result_words (view_value_type t))
     ∙ ap (λ (cs : List ConvertedCode). operands_need (arguments_of cs) 0 (result_words (view_value_type t))) (sym same)
 
 pub fields_need : (value : Initial) (v : Vec ConvertedCode Heap) (handle own : ℕ) → value ≡ initial.Fields v → (items : List ConvertedCode) → items ≡ v.items

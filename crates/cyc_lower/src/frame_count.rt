@@ -10,8 +10,8 @@ ghost use Rattle.cyc_lower.specs.Emission.{most_frame_count, operands_need, oper
 
 use cyc_types::Ty;
 use cyc_types::typed::{
-    Body, Clause, Converted, Dereference, Expr, Function, Initial, Item, Kind, Operation, Placement, Side,
-    Stmt, ValueType,
+    Body, Clause, Converted, Dereference, Expr, Function, Initial, Item, Kind, Operation,
+    Placement, Side, Stmt, ValueType,
 };
 
 /// A place counts as many words: what is assigned, what has its address taken, and both sides of a swap.
@@ -411,7 +411,11 @@ fn kept_by(statement: &Stmt) -> usize
 {
     match statement {
         Stmt::Block { items, .. } => kept_by_items(items),
-        Stmt::If { then, otherwise, .. } => kept_by(then) + kept_by(otherwise),
+        Stmt::If {
+            then,
+            otherwise,
+            ..
+        } => kept_by(then) + kept_by(otherwise),
         Stmt::While { body, .. } => kept_by(body),
         Stmt::Try {
             body,

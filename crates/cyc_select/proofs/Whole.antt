@@ -1,15 +1,15 @@
--- The code that is selected is the program's.
+-- The code that is selected is the program's, and has a place in the machine's memory.
 use Rattle.std.proofs.Common.{◌≡◌, ℕ, ◌+◌, ◌*◌, ◌<◌, ◌≤◌, List, [], ◌∷◌, length, map, refl, sym, ap, arith}
 use Rattle.std.specs.Prelude.{sum_by, flat_map}
 use Rattle.std.specs.List.{range_with_len}
 use Rattle.std.proofs.lemmas.List.Sums.{sum_by-cons, sum_by-append}
 use Rattle.cyc_plain.specs.Program.{Program, CodePlace, routine_at, size}
-use Rattle.cyc_plain.specs.WellFormed.{IsWellFormed, HasWords}
+use Rattle.cyc_plain.specs.WellFormed.{IsWellFormed, HasWords, IsPlain}
 use Rattle.cyc_words.proofs.Prices.{sum_by-flat_map}
 use Rattle.cyc_frame.specs.declared.frame.Frame.{Frame}
 use Rattle.cyc_frame.specs.Layout.{AreFrames}
 use Rattle.cyc_select.specs.declared.constants.TheConstants.{WORDS_FOR_EACH, MAX_START_WORDS, START_LINES}
-use Rattle.cyc_select.specs.Labelled.{words_of, all_words}
+use Rattle.cyc_select.specs.Labelled.{words_of, all_words, IsCode}
 use Rattle.cyc_select.specs.Selected.{IsCodeOf, words_at}
 use Rattle.cyc_select.specs.Selection.{function_count, function_line, code_lines, function_lines, start_lines, select_of}
 use Rattle.cyc_select.proofs.Formed.{few_results, formed}
@@ -60,3 +60,13 @@ module _ (program : Program) (well : IsWellFormed program) (words : HasWords pro
         follows program well words frames fit (select_of program frames) (formed program well words frames fit) addresses lie pages calls allowed
         (stand program frames (few_results program well)) (λ function line i. length_body program frames (few_results program well) function line i) (starts program frames (few_results program well)) refl input bytes never;
   }
+
+pub is_code : (program : Program) (frames : List Frame) → IsPlain program → AreFrames program frames → IsCode (select_of program frames)
+is_code program frames plain fit =
+    let selected = is_code_of program plain.well_formed plain.words frames fit in
+    record {
+      some = omega arith;
+      formed = selected.formed;
+      fits = omega (arith, selected.few_words, plain.small);
+      few_globals = omega (arith, plain.well_formed.globals);
+    }

@@ -1,21 +1,17 @@
 -- Labelled code, as mathematical data: machine code before its addresses are known. This project's own choice, after the
 -- form that assemblers read.
-use Rattle.std.specs.Prelude.{◌≡◌, ℕ, ◌%◌, ◌<◌, ◌≤◌, Bool, true, false, List, length, All, sum_by}
+use Rattle.std.specs.Prelude.{◌≡◌, ℕ, ◌+◌, ◌*◌, ◌%◌, ◌<◌, ◌≤◌, Bool, true, false, List, length, All, sum_by}
 use Rattle.cyc_isa.specs.Encoding.{IsEncodable}
 use Rattle.cyc_isa.specs.declared.instr.Instr.{Instr}
 use Rattle.cyc_isa.specs.declared.instr.Instr.TheVariants.{Branch, BranchZero, Jump, JumpRegister, JumpRegisterLink}
-use Rattle.cyc_machine.specs.State.{text_base, text_end}
+use Rattle.cyc_machine.specs.State.{text_base, text_end, globals_length}
 use Rattle.cyc_select.specs.declared.code.Line.{Line}
 use Rattle.cyc_select.specs.declared.code.Line.TheVariants as lines
-use Rattle.cyc_select.specs.declared.code.Code.{Code}
 
 -- the lines, of which the first is executed first, and what the data range begins with
 pub record Labelled : Type 0 where
   pub lines : List Line
   pub globals : List ℕ
-
-abbrev pub labelled_of : Code → Labelled
-labelled_of code = record { lines = code.lines.items; globals = code.globals.items }
 
 -- an instruction that is neither a branch nor a jump
 abbrev pub is_ordinary : Instr → Bool
@@ -49,6 +45,18 @@ words_of lines.Return = 2
 
 abbrev pub all_words : List Line → ℕ
 all_words code = sum_by words_of code
+
+-- the code fits the text range, each line with the words that it takes at most
+abbrev pub Fits : List Line → Type 0
+Fits code = text_base + 4 * all_words code ≤ text_end
+
+-- What is true of all code that is held as a `Code`: there is some, its lines are formed and fit the text range, and its
+-- globals fit the data range.
+pub record IsCode (code : Labelled) : Type 0 where
+  pub some : 0 < length code.lines
+  pub formed : IsFormed code
+  pub fits : Fits code.lines
+  pub few_globals : length code.globals ≤ globals_length
 
 -- Where lines lie: each at an address of its own, a multiple of 4 in the text range.
 pub record AreAddresses (code : Labelled) (addresses : ℕ → ℕ) : Type 0 where

@@ -1,6 +1,9 @@
 //! Labelled code: machine code before its addresses are known.
+ghost use Rattle.std.specs.Prelude.{◌≡◌};
+ghost use Rattle.cyc_select.specs.Labelled.{IsCode};
 
 use cyc_isa::{BranchOp, BranchZeroOp, Instr, Register};
+use std::marker::Model;
 
 /// When a branch is taken.
 #[derive(Clone, Copy, Debug, PartialEq, Eq)]
@@ -33,11 +36,45 @@ pub enum Line {
     Return,
 }
 
-/// A program as labelled code.
+/// A program as labelled code. It is formed, and has a place in the machine's memory: who makes one proves it, and who is
+/// given one knows it.
 #[derive(Drop)]
 pub struct Code {
-    /// Execution starts at the first line.
-    pub lines: Vec<Line>,
+    lines: Vec<Line>,
+    globals: Vec<u32>,
+}
+
+impl Model for Code {
+    ghost use Rattle.cyc_select.specs.Labelled.{Labelled, IsCode};
+
+    ghost Value = { Labelled };
+
+    ghost view = { λ a. record { lines = a.lines.items; globals = a.globals.items } };
+
+    ghost invariant = { λ a. IsCode (record { lines = a.lines.items; globals = a.globals.items }) };
+}
+
+impl Code {
+    pub(crate) fn new(lines: Vec<Line>, globals: Vec<u32>) -> Code
+        requires { IsCode (record { lines = lines.items; globals = globals.items }) }
+        ensures { result ≡ record { lines = lines.items; globals = globals.items } }
+    {
+        Code { lines, globals }
+    }
+
+    /// The lines. Execution starts at the first.
+    pub fn lines(&self) -> &[Line]
+        ensures value { result.now ≡ self.now.lines }
+        ensures code { IsCode self.now }
+    {
+        &self.lines
+    }
+
     /// The first words of the machine's data range.
-    pub globals: Vec<u32>,
+    pub fn globals(&self) -> &[u32]
+        ensures value { result.now ≡ self.now.globals }
+        ensures code { IsCode self.now }
+    {
+        &self.globals
+    }
 }

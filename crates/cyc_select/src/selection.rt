@@ -4,7 +4,6 @@ ghost use Rattle.cyc_plain.specs.Program.{routine_at};
 ghost use Rattle.cyc_plain.specs.WellFormed.{IsPlain};
 ghost use Rattle.cyc_frame.specs.Layout.{AreFrames};
 ghost use Rattle.cyc_words.specs.Fault.{memory_fault};
-ghost use Rattle.cyc_select.specs.Labelled.{labelled_of};
 ghost use Rattle.cyc_select.specs.Selected.{IsCodeOf};
 ghost use Rattle.cyc_select.specs.Selection.{start_code, code_lines, function_lines, function_line, select_of};
 ghost use Rattle.cyc_select.specs.Emission.{AddsLines, IsKnown, IsReady};
@@ -85,7 +84,7 @@ impl Emitter {
 
 /// The code, where memory suffices.
 fn selected(alloc: Global, framed: &Framed) -> Result<Code, AllocError>
-    ensures code { IfOk result (λ code. labelled_of code ≡ select_of framed.now.program framed.now.frames) }
+    ensures code { IfOk result (λ code. code ≡ select_of framed.now.program framed.now.frames) }
     ensures plain { IfOk result (λ _. IsPlain framed.now.program) }
     ensures fit { IfOk result (λ _. AreFrames framed.now.program framed.now.frames) }
 {
@@ -104,10 +103,7 @@ fn selected(alloc: Global, framed: &Framed) -> Result<Code, AllocError>
             starts: &starts,
         },
     )?;
-    Ok(Code {
-        lines: emitter.lines,
-        globals,
-    })
+    Ok(Code::new(emitter.lines, globals))
 }
 
 /// The labelled code of a plain program whose functions have these frames.
@@ -115,9 +111,9 @@ fn selected(alloc: Global, framed: &Framed) -> Result<Code, AllocError>
 /// Nothing is refused but for want of memory.
 pub fn select(alloc: Global, framed: &Framed) -> Result<Code, Fault>
     // Each line belongs to one instruction of the program or to the start, and the code does what the program does.
-    ensures selected { IfOk result (λ code. IsCodeOf framed.now.program (labelled_of code)) }
+    ensures selected { IfOk result (λ code. IsCodeOf framed.now.program code) }
     // The data range begins with the program's globals.
-    ensures globals { IfOk result (λ code. (labelled_of code).globals ≡ framed.now.program.globals) }
+    ensures globals { IfOk result (λ code. code.globals ≡ framed.now.program.globals) }
     ensures refused { IfErr result (λ fault. fault ≡ memory_fault) }
 {
     Ok(selected(alloc, framed)?)

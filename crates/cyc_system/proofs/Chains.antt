@@ -1,11 +1,8 @@
 -- The image that the chain makes is one of the program.
-use Rattle.std.proofs.Common.{◌≡◌, ℕ, zero, suc, ◌+◌, ◌-◌, ◌*◌, ◌≤◌, ◌<◌, List, [], ◌∷◌, ◌++◌, length, Bool, true, false, cond, nat_le, Option, None, Some, refl, sym, ap, subst, ◌∙◌, arith, length-append, inl, inr, map, Ok}
-use Rattle.std.specs.Prelude.{slice_get, slice_index_or, IsSomeAnd, All, Contains}
-use Rattle.std.specs.List.{AllByRecursion, range_with_len, flat_map}
-use Rattle.std.proofs.lemmas.Bool.{cases_lt}
+use Rattle.std.proofs.Common.{◌≡◌, ℕ, ◌-◌, ◌≤◌, ◌<◌, List, [], ◌∷◌, length, Bool, true, false, cond, nat_le, None, refl, sym, ap, subst, ◌∙◌, arith, Ok}
+use Rattle.std.specs.Prelude.{slice_get, slice_index_or, All}
+use Rattle.std.specs.List.{AllByRecursion}
 use Rattle.std.proofs.lemmas.Option.{none-some}
-use Rattle.std.proofs.lemmas.List.FromFn.{length-range_with_len}
-use Rattle.std.proofs.lemmas.List.Sums.{sum_by-cons}
 use Rattle.cyc_words.specs.Word.{IsWord}
 use Rattle.cyc_elf.specs.Layout.{layout}
 use Rattle.cyc_elf.specs.Reading.{reading}
@@ -14,19 +11,16 @@ use Rattle.cyc_isa.specs.declared.instr.Instr.{Instr}
 use Rattle.cyc_isa.specs.declared.instr.Instr.TheVariants.{Jump, JumpRegister}
 use Rattle.cyc_isa.specs.declared.instr.JumpOp.TheVariants.{Plain, AndLink}
 use Rattle.cyc_isa.specs.Encoding.{word_of}
-use Rattle.cyc_machine.specs.Bounds.{Bounds}
 use Rattle.cyc_machine.specs.State.{text_base, globals_length, text_at, word_number}
 use Rattle.cyc_machine.specs.Run.{World}
 use Rattle.cyc_machine.specs.Start.{start_world}
 use Rattle.cyc_types.specs.TypedTrees.{Program}
 use Rattle.cyc_meaning.specs.Run.{start}
 use Rattle.cyc_words.specs.Simulation.{Preserves}
-use Rattle.cyc_plain.specs.declared.instruction.Instruction.{Instruction}
-use Rattle.cyc_plain.specs.Program.{Routine, Program as PlainProgram, CodePlace, places_from, places_of}
-use Rattle.cyc_plain.specs.WellFormed.{leaves, IsRoutine, IsWellFormed}
+use Rattle.cyc_plain.specs.Program.{Program as PlainProgram}
 use Rattle.cyc_lower.specs.Lowered.{IsLowered}
 use Rattle.cyc_meaning.specs.SourceMachine.{source_machine}
-use Rattle.cyc_select.specs.Labelled.{Labelled}
+use Rattle.cyc_select.specs.Labelled.{Labelled, IsCode}
 use Rattle.cyc_select.specs.Selected.{IsCodeOf}
 use Rattle.cyc_select.specs.declared.code.Condition.{Condition}
 use Rattle.cyc_select.specs.declared.code.Line.{Line}
@@ -63,42 +57,8 @@ line_has_word code words addresses number (lines.Jump label) (stands, next) = ha
 line_has_word code words addresses number (lines.Call label) (stands, next) = has_word words (addresses number) (Jump AndLink stands.index) stands.jump
 line_has_word code words addresses number lines.Return (at, slot, next) = has_word words (addresses number) (JumpRegister return_register) at
 
--- the first instruction of the first function has a place
-first_of_range : (count : ℕ) (later : List CodePlace) → 0 < count
-    → (rest : List CodePlace) × (map (λ (i : ℕ). record { function = 0; index = i }) (range_with_len 0 count) ++ later ≡ record { function = 0; index = 0 } ∷ rest)
-first_of_range zero later some = absurd (omega arith)
-first_of_range (suc count) later some = (map (λ (i : ℕ). record { function = 0; index = i }) (range_with_len 1 count) ++ later, refl)
-
-has_code : (code : List Instruction) → IsSomeAnd (slice_get code (length code - 1)) (λ i. leaves i ≡ true) → 0 < length code
-has_code [] last = absurd last
-has_code (i ∷ code) last = omega arith
-
-first_place : (program : PlainProgram) → IsWellFormed program → (rest : List CodePlace) × (places_of program ≡ record { function = 0; index = 0 } ∷ rest)
-first_place program well = with_functions program.functions refl
-  where
-    with_functions : (functions : List Routine) → functions ≡ program.functions → (rest : List CodePlace) × (places_from 0 functions ≡ record { function = 0; index = 0 } ∷ rest)
-    with_functions [] none = absurd (omega (arith, well.main, ap length none))
-    with_functions (r ∷ routines) are =
-        let routine : IsRoutine program r = subst (All (IsRoutine program)) (sym are) well.functions 0 r (omega arith) in
-        first_of_range (length r.code) (places_from 1 routines) (has_code r.code routine.last)
-
-code_has_lines : (program : PlainProgram) (code : Labelled) → IsWellFormed program → IsCodeOf program code → 0 < length code.lines
-code_has_lines program code well is =
-    let (rest, places) = first_place program well in
-    let first : CodePlace = record { function = 0; index = 0 } in
-    let own_some : 0 < length (is.own first) = is.some first (subst (λ ps. Contains ps first) (sym places) (0, (omega arith), refl)) in
-    let all : is.before ++ (is.own first ++ flat_map is.own rest) ≡ range_with_len 0 (length code.lines) = ap (λ ps. is.before ++ flat_map is.own ps) (sym places) ∙ is.parts in
-    omega (
-      arith,
-      ap length all,
-      length-append is.before (is.own first ++ flat_map is.own rest),
-      length-append (is.own first) (flat_map is.own rest),
-      length-range_with_len 0 (length code.lines),
-      own_some,
-    )
-
-pub text_has_words : (program : PlainProgram) (code : Labelled) (addresses : ℕ → ℕ) (words : List ℕ) → IsWellFormed program → IsCodeOf program code → IsTextOf code addresses words → 0 < length words
-text_has_words program code addresses words well is text = first_line code.lines refl (code_has_lines program code well is)
+pub text_has_words : (code : Labelled) (addresses : ℕ → ℕ) (words : List ℕ) → 0 < length code.lines → IsTextOf code addresses words → 0 < length words
+text_has_words code addresses words some text = first_line code.lines refl some
   where
     first_line : (all : List Line) → all ≡ code.lines → 0 < length all → 0 < length words
     first_line [] are some = absurd (omega arith)
@@ -109,9 +69,12 @@ text_has_words program code addresses words well is text = first_line code.lines
 
 module _ (p : Program) (lowered : PlainProgram) (code : Labelled) (addresses : ℕ → ℕ) (words : List ℕ)
     (is : IsLowered p lowered) (selected : IsCodeOf lowered code) (globals : code.globals ≡ lowered.globals) (text : IsTextOf code addresses words) (runs : Runs code addresses words)
-    (few : length code.globals ≤ globals_length) (fit : AllByRecursion IsWord words) (fit_globals : AllByRecursion IsWord code.globals) where
+    (is_code : IsCode code) (fit : AllByRecursion IsWord words) (fit_globals : AllByRecursion IsWord code.globals) where
+  few : length code.globals ≤ globals_length
+  few = is_code.few_globals
+
   some : 0 < length words
-  some = text_has_words lowered code addresses words is.well_formed selected text
+  some = text_has_words code addresses words is_code.some text
 
   does : DoesTheSame p (program_image words code.globals)
   does limits input allowed bytes never =
@@ -137,9 +100,9 @@ module _ (p : Program) (lowered : PlainProgram) (code : Labelled) (addresses : �
 -- the same, for words and globals that the image was made of
 pub image_made : (p : Program) (lowered : PlainProgram) (code : Labelled) (addresses : ℕ → ℕ) (words there globals : List ℕ) (file : List ℕ)
     → there ≡ words → globals ≡ code.globals → IsLowered p lowered → IsCodeOf lowered code → code.globals ≡ lowered.globals → IsTextOf code addresses words → Runs code addresses words
-    → length code.globals ≤ globals_length → AllByRecursion IsWord there → AllByRecursion IsWord globals → reading file ≡ Ok (program_image there globals)
+    → IsCode code → AllByRecursion IsWord there → AllByRecursion IsWord globals → reading file ≡ Ok (program_image there globals)
     → file ≡ layout (program_image there globals) → IsImageOf p file
-image_made p lowered code addresses words there globals file same same_globals is selected are text runs few fit fit_globals read written =
-    image_of_chain p lowered code addresses words is selected are text runs few (subst (AllByRecursion IsWord) same fit) (subst (AllByRecursion IsWord) same_globals fit_globals) file
+image_made p lowered code addresses words there globals file same same_globals is selected are text runs is_code fit fit_globals read written =
+    image_of_chain p lowered code addresses words is selected are text runs is_code (subst (AllByRecursion IsWord) same fit) (subst (AllByRecursion IsWord) same_globals fit_globals) file
     (subst (λ (ws : List ℕ). reading file ≡ Ok (program_image ws code.globals)) same (subst (λ (gs : List ℕ). reading file ≡ Ok (program_image there gs)) same_globals read))
     (subst (λ (ws : List ℕ). file ≡ layout (program_image ws code.globals)) same (subst (λ (gs : List ℕ). file ≡ layout (program_image there gs)) same_globals written))

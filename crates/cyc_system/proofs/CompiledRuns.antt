@@ -1,9 +1,8 @@
 -- A run of a file that does what a program means, between a reader and a writer, against the program's limited run.
-use Rattle.std.proofs.Common.{◌≡◌, ℕ, suc, ◌+◌, ◌-◌, ◌*◌, ◌≤◌, ◌<◌, List, [], Bool, true, false, Option, Some, None, Result, Ok, Err, refl, sym, ap, subst, ◌∙◌, arith, inl, inr}
+use Rattle.std.proofs.Common.{◌≡◌, ℕ, ◌+◌, ◌-◌, ◌*◌, ◌≤◌, ◌<◌, List, [], Bool, false, Option, Some, None, Result, Ok, Err, sym, ap, subst, ◌∙◌, arith, inl, inr}
 use Rattle.std.specs.Prelude.{MatchBool}
 use Rattle.std.specs.List.{AllByRecursion}
 use Rattle.std.specs.Io.KnownBytes.{Appends}
-use Rattle.cyc_words.specs.Ending.{Ending}
 use Rattle.cyc_words.specs.Prefix.{IsPrefix}
 use Rattle.cyc_words.proofs.DeviceLemmas.{Appends-nil}
 use Rattle.cyc_words.proofs.PrefixLemmas.{IsPrefix-nil, IsPrefix-trans}
@@ -13,11 +12,11 @@ use Rattle.cyc_elf.specs.Reading.{reading}
 use Rattle.cyc_machine.specs.declared.event.End.{End}
 use Rattle.cyc_machine.specs.declared.fault.LoadFault.TheVariants as load
 use Rattle.cyc_machine.specs.Bounds.{Bounds, AreAllowed}
-use Rattle.cyc_machine.specs.Run.{World, Run, end_of, ending_of}
+use Rattle.cyc_machine.specs.Run.{World, Run, end_of}
 use Rattle.cyc_machine.specs.Start.{has_outside, start_world}
 use Rattle.cyc_machine.proofs.RunLaws.{world_after, Run-world_after, Run-over, Run-output, Run-append, Run-split, over-end_of}
 use Rattle.cyc_types.specs.TypedTrees.{Program}
-use Rattle.cyc_meaning.specs.State.{HasEnded, status_of, output_of}
+use Rattle.cyc_meaning.specs.State.{output_of}
 use Rattle.cyc_system.specs.declared.report.Report.{Report}
 use Rattle.cyc_system.specs.declared.report.RunFault.{RunFault}
 use Rattle.cyc_system.specs.declared.report.RunFault.TheVariants.{Elf, Load, Read, Write, Memory}

@@ -1,7 +1,7 @@
 -- The passes in a row: a source program, its plain program, that program's labelled code, and the words of that code.
-use Rattle.std.proofs.Common.{◌≡◌, ◌≢◌, ℕ, zero, suc, ◌+◌, ◌*◌, ◌≤◌, ◌<◌, List, [], ◌∷◌, ◌++◌, length, refl, sym, ap, subst, ◌∙◌, arith, length-append}
+use Rattle.std.proofs.Common.{◌≡◌, ◌≢◌, ℕ, ◌+◌, ◌≤◌, ◌<◌, List, [], ◌++◌, length, sym, ap, subst, ◌∙◌, arith, length-append}
 use Rattle.std.specs.Prelude.{flat_map}
-use Rattle.std.specs.List.{AllByRecursion, range_with_len}
+use Rattle.std.specs.List.{AllByRecursion}
 use Rattle.std.proofs.lemmas.Grind.{flat_map-append}
 use Rattle.cyc_words.specs.Ending.{Ending}
 use Rattle.cyc_words.specs.Prefix.{IsPrefix}
@@ -15,7 +15,7 @@ use Rattle.cyc_words.specs.Simulation.{Machine, IsLawful, NeverFails, Follows, P
 use Rattle.cyc_words.specs.Simulation as simulation
 use Rattle.cyc_words.proofs.Simulation.{in_a_row, follows-never_fails, follows-preserves}
 use Rattle.cyc_plain.proofs.RunLaws.{lawful}
-use Rattle.cyc_plain.specs.Program.{Program as PlainProgram, CodePlace, places_of}
+use Rattle.cyc_plain.specs.Program.{Program as PlainProgram, places_of}
 use Rattle.cyc_plain.specs.Step as plain
 use Rattle.cyc_lower.specs.Lowered.{FollowsSource}
 use Rattle.cyc_meaning.specs.SourceMachine.{source_machine, status_in}

@@ -49,17 +49,6 @@ pub record Progress (start : List ℕ → World) (old now : Devices) (count : �
   pub running : machine.phase ≡ Running
   pub runs : (rest : List ℕ) → (seen ≡ true → rest ≡ []) → Counted count (start (read ++ rest)) (record { machine = machine; output = output; input = rest })
 
-pub Progress-start : (machine : State) (old : Devices) → machine.phase ≡ Running → Progress (λ input. record { machine = machine; output = []; input = input }) old old 0 false machine
-Progress-start machine old running = record {
-  read = [];
-  output = [];
-  consumed = Consumes-nil old.remaining old.remaining (Keeps-refl old.remaining);
-  printed = Appends-nil old.written old.written (Keeps-refl old.written);
-  at_end = λ seen. cc;
-  running = running;
-  runs = λ rest ended. refl;
-}
-
 -- Devices that were not used.
 
 appends_kept : (a b c : Option (List ℕ)) (xs : List ℕ) → Appends a b xs → Keeps b c → Appends a c xs

@@ -1,10 +1,10 @@
 -- The image of a compiled program, loaded: its words stand in the text and in the data range, as for the labelled machine.
-use Rattle.std.proofs.Common.{◌≡◌, ℕ, zero, suc, ◌+◌, ◌-◌, ◌*◌, ◌/◌, ◌%◌, ◌^◌, ◌≤◌, ◌<◌, List, [], ◌∷◌, ◌++◌, length, Bool, true, false, cond, ◌&&◌, ◌||◌, not, nat_le, nat_lt, max, Option, None, Some, refl, sym, ap, subst, ◌∙◌, arith, inl, inr, length-append, get_or, map}
+use Rattle.std.proofs.Common.{◌≡◌, ℕ, zero, suc, ◌+◌, ◌-◌, ◌*◌, ◌/◌, ◌^◌, ◌≤◌, ◌<◌, List, [], ◌∷◌, ◌++◌, length, true, false, cond, ◌&&◌, ◌||◌, not, nat_le, nat_lt, max, Option, None, Some, refl, sym, ap, ◌∙◌, arith, inl, inr, length-append, get_or, map}
 use Rattle.std.specs.Prelude.{slice_index, replicate, unwrap_or, All, AllPairs, sum_by}
-use Rattle.std.specs.List.{flat_map, range_with_len, AllByRecursion, list_any}
+use Rattle.std.specs.List.{range_with_len, AllByRecursion, list_any}
 use Rattle.std.specs.Option.{option_or}
 use Rattle.std.proofs.lemmas.Bool.{le-leb, lt-ltb, lt-leb, le-ltb, cases_lt}
-use Rattle.std.proofs.lemmas.List.{get_or-append_right, get_or_append_left, get_or_past, get_or-map, length-map, length-replicate, get_or-replicate}
+use Rattle.std.proofs.lemmas.List.{get_or-append_right, get_or_append_left, get_or_past, length-map, length-replicate, get_or-replicate}
 use Rattle.std.proofs.lemmas.List.FromFn.{fill_by_all}
 use Rattle.std.proofs.lemmas.List.Elements.{All-cons, All-nil}
 use Rattle.std.proofs.lemmas.List.Kept.{AllPairs-cons}
@@ -13,13 +13,12 @@ use Rattle.std.proofs.lemmas.Simd.{map-map}
 use Rattle.cyc_words.specs.Word.{IsWord}
 use Rattle.cyc_words.specs.Bytes.{bytes_of_word, word_of_bytes}
 use Rattle.cyc_words.proofs.BytesLemmas.{word_of_bytes-bytes_of_word}
-use Rattle.cyc_elf.specs.Image.{SegmentContents, ImageContents, padded, Holds, AreApart, IsSegment, IsWellFormed}
-use Rattle.cyc_elf.specs.Header.{ProgramHeader}
+use Rattle.cyc_elf.specs.Image.{SegmentContents, padded, AreApart, IsSegment, IsWellFormed}
 use Rattle.cyc_elf.specs.Layout.{header_of, headers_of, bytes_start, FitsFields}
 use Rattle.cyc_machine.specs.Bounds.{Bounds}
 use Rattle.cyc_machine.specs.State.{text_base, text_end, data_base, data_end, globals_length, word_number, words_per_call}
 use Rattle.cyc_machine.specs.Run.{World}
-use Rattle.cyc_machine.specs.Start.{lies_in, lies_in_text, lies_in_data, is_outside, has_outside, segment_end, segment_word, word_in, image_word, image_words, text_length, start_core, start_world}
+use Rattle.cyc_machine.specs.Start.{lies_in, lies_in_text, lies_in_data, is_outside, segment_end, segment_word, word_in, image_word, image_words, text_length, start_core, start_world}
 use Rattle.cyc_machine.specs.declared.phase.Phase.TheVariants.{Running}
 use Rattle.cyc_select.specs.Labelled.{Labelled}
 use Rattle.cyc_select.specs.Machine.{globals_of}

@@ -1,10 +1,9 @@
 -- A program is too large exactly where its plain program has a frame that is, function by function.
-use Rattle.std.proofs.Common.{◌≡◌, ◌⊎◌, inl, inr, ℕ, zero, suc, ◌+◌, ◌*◌, ◌≤◌, ◌<◌, List, [], ◌∷◌, length, None, Some, refl, sym, ap, subst, ◌∙◌, arith, slice_get}
+use Rattle.std.proofs.Common.{◌≡◌, ℕ, zero, suc, ◌≤◌, ◌<◌, List, [], ◌∷◌, length, None, Some, refl, sym, ap, subst, ◌∙◌, arith, slice_get}
 use Rattle.std.specs.Prelude.{slice_index_or}
 use Rattle.cyc_words.specs.declared.fault.Fault.{Fault}
-use Rattle.cyc_words.specs.declared.fault.Code.TheVariants.{FrameTooLarge}
 use Rattle.cyc_types.specs.TypedTrees.{Function, Program}
-use Rattle.cyc_plain.specs.Program.{Routine, Program as PlainProgram, no_routine, routine_at}
+use Rattle.cyc_plain.specs.Program.{Routine, Program as PlainProgram, no_routine}
 use Rattle.cyc_meaning.specs.FrameCount.{frame_count}
 use Rattle.cyc_lower.specs.Lowered.{IsLoweredFunction, AreLoweredFunctions, IsLowered}
 use Rattle.cyc_frame.specs.declared.frame.TheConstants.{MOST_FRAME_WORDS}

@@ -3,7 +3,7 @@
 -- The program has one limited run for each input. The machine has many runs from an image, since its services may
 -- choose; each of them does what the program does. This project's own choice: the form of the promise, and its bound of
 -- so many instructions for each step of the program.
-use Rattle.std.specs.Prelude.{◌≡◌, ◌≢◌, ℕ, ◌+◌, ◌*◌, ◌/◌, ◌<◌, Bool, false, List, length, Option, None, Some, Result, Ok, sum_by, if◌then◌else◌}
+use Rattle.std.specs.Prelude.{◌≡◌, ◌≢◌, ℕ, ◌+◌, ◌*◌, ◌/◌, ◌<◌, false, List, length, Some, Ok, sum_by, if◌then◌else◌}
 use Rattle.std.specs.List.{AllByRecursion}
 use Rattle.cyc_words.specs.Ending.{Ending}
 use Rattle.cyc_words.specs.Prefix.{IsPrefix}
@@ -18,7 +18,7 @@ use Rattle.cyc_machine.specs.declared.event.End.{End}
 use Rattle.cyc_machine.specs.declared.event.End.TheVariants.{Trap}
 use Rattle.cyc_types.specs.TypedTrees.{Program}
 use Rattle.cyc_meaning.specs.State as meaning
-use Rattle.cyc_meaning.specs.State.{State, Status, HasEnded, IsDead, IsWrong}
+use Rattle.cyc_meaning.specs.State.{State, HasEnded, IsDead, IsWrong}
 use Rattle.cyc_meaning.specs.Run.{start, limited_run}
 use Rattle.cyc_words.specs.Simulation.{Preserves}
 use Rattle.cyc_meaning.specs.SourceMachine.{source_machine}

@@ -1,14 +1,11 @@
 //! Compiles a text to an image.
 
-ghost use Rattle.std.specs.Prelude.{◌≡◌, ℕ, ◌≤◌, IfOk, IfErr, sum_by};
+ghost use Rattle.std.specs.Prelude.{◌≡◌, ◌≤◌, IfOk, IfErr};
 ghost use Rattle.cyc_words.specs.Decision.{Decides};
 ghost use Rattle.cyc_words.specs.Fault.{memory_fault};
 ghost use Rattle.cyc_types.specs.TypedTrees.{Program};
 ghost use Rattle.cyc_types.specs.TypedTreeView.{view_program};
 ghost use Rattle.cyc_types.specs.Weight.{program_weight};
-ghost use Rattle.cyc_plain.specs.declared.limits.TheConstants.{MOST_SIZE};
-ghost use Rattle.cyc_plain.specs.Program.{size};
-ghost use Rattle.cyc_plain.specs.WellFormed.{IsWellFormed};
 ghost use Rattle.cyc_lower.specs.Emission.{IsTyped, most_weight};
 ghost use Rattle.cyc_lower.specs.Lowered.{CanBeLowered, IsLowered};
 ghost use Rattle.cyc_system.specs.FullPreservation.{IsImageOf};
@@ -26,14 +23,12 @@ use std::alloc::Global;
 
 /// Compiles a plain program whose functions have frames. The bytes are an image of each program that was lowered to the plain one.
 fn compile_plain(alloc: Global, framed: &Framed) -> Result<Vec<u8>, Fault>
-    requires well_formed { IsWellFormed framed.now.program }
-    requires few { sum_by size framed.now.program.functions ≤ MOST_SIZE }
     ensures image { IfOk result (λ file. (p : Program) → IsLowered p framed.now.program → IsImageOf p file.items) }
     ensures refused { IfErr result (λ f. f ≡ memory_fault) }
 {
     let code = select(alloc, framed)?;
     let words = assemble(alloc, &code)?;
-    let file = write_program(alloc, &words, &code.globals)?;
+    let file = write_program(alloc, &words, code.globals())?;
     Ok(file)
 }
 

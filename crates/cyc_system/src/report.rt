@@ -22,7 +22,8 @@ pub struct Report {
     pub count: u64,
 }
 
-/// Why an image was not run to a stop, or not listed.
+/// Why an image was not run to a stop, or not listed. Want of memory is `Memory`, wherever it comes from, and a listing
+/// gives neither `Load` nor `Read`.
 #[derive(Clone, Copy, Debug, PartialEq, Eq, Error)]
 pub enum RunFault {
     /// The bytes are no image.

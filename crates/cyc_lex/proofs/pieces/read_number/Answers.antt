@@ -8,7 +8,7 @@ use Rattle.cyc_syntax.specs.Spelling.{is_hexadecimal, is_hex_digit, number_in}
 use Rattle.cyc_lex.specs.Refusals.{FailsHere}
 use Rattle.cyc_lex.proofs.NumberReading.{found_number, large_number, hexadecimal_digits, hexadecimal_inside, hexadecimal_read, decimal_all_digits, decimal_inside, decimal_read}
 use Rattle.cyc_lex.proofs.pieces.read_number.Goals as goal
-use Rattle.cyc_lex.proofs.pieces.read_number.Goals.{After-hex_digits_len-len, After-digits_len-len}
+use Rattle.cyc_lex.proofs.pieces.read_number.Goals.{After-hex_digits_len-len}
 
 -- the text begins with a hexadecimal number, with these digits
 hexadecimal : (c : After-hex_digits_len-len) → is_hexadecimal (take 3 c.args.text.now) ≡ true

@@ -1,15 +1,13 @@
-use Rattle.std.proofs.Common.{◌≡◌, ◌≤◌, length, sym, subst, ◌∙◌, arith}
+use Rattle.std.proofs.Common.{◌≤◌, length, sym, subst, ◌∙◌}
 use Rattle.std.proofs.lemmas.Result.{err_from_is_err_and}
 use Rattle.cyc_types.specs.TypedTrees.{Program}
 use Rattle.cyc_types.specs.TypedTreeView.{view_program}
 use Rattle.cyc_plain.specs.Program.{Program as PlainProgram}
-use Rattle.cyc_plain.specs.WellFormed.{IsWellFormed}
 use Rattle.cyc_lower.specs.declared.limits.TheConstants.{MOST_FUNCTIONS}
 use Rattle.cyc_lower.specs.Lowered.{IsLowered}
 use Rattle.cyc_frame.specs.Layout as frames
 use Rattle.cyc_frame.specs.Layout.{HasSmallFrames}
 use Rattle.cyc_system.specs.FullPreservation.{IsImageOf}
-use Rattle.cyc_system.proofs.Amounts.{lowered_small}
 use Rattle.cyc_system.proofs.Refusals.{lowering_refuses, layout_refuses, image_answers}
 use Rattle.cyc_system.proofs.compiler.build.Goals as goal
 
@@ -26,20 +24,6 @@ returns-in_err-framed c =
     rw (e.1, e.2) (layout_refuses (λ q file. IsImageOf q file.items) p c.in_ok-plain.plain
     (subst (λ (q : Program). IsLowered q c.in_ok-plain.plain) same is) (subst (λ (q : Program). length q.functions ≤ MOST_FUNCTIONS) same few)
     c.in_ok-plain.ensures.refuses _ c.in_err-framed.field-0.0 c.in_err-framed.ensures)
-
-pub compile_plain-requires-clause-well_formed : goal.compile_plain-requires-clause-well_formed
-compile_plain-requires-clause-well_formed c =
-    let (a, counted, is) = c.in_ok-plain.ensures.accepted in
-    let (l, (same, small), (of, are)) = c.in_ok-framed.ensures.accepted in
-    subst IsWellFormed (sym (of ∙ same)) is.well_formed
-
-pub compile_plain-requires-clause-few : goal.compile_plain-requires-clause-few
-compile_plain-requires-clause-few c =
-    let p = view_program c.args.program.now.tree in
-    let (a, (one, few), is) = c.in_ok-plain.ensures.accepted in
-    let (l, (same, small), (of, are)) = c.in_ok-framed.ensures.accepted in
-    let there = sym (of ∙ same) in
-    omega (arith, lowered_small p c.in_ok-framed.framed.program (subst (IsLowered p) there (subst (λ (q : Program). IsLowered q c.in_ok-plain.plain) one is)) c.requires.small)
 
 pub returns : goal.returns
 returns c =

@@ -1,20 +1,20 @@
-use Rattle.std.proofs.Common.{◌≡◌, ℕ, ◌<◌, ◌≤◌, List, length, sym, ap, subst, arith}
-use Rattle.cyc_machine.specs.State.{globals_length}
-use Rattle.cyc_select.specs.Labelled.{labelled_of}
+use Rattle.std.proofs.Common.{ℕ, ◌<◌, List, length, sym, ap, subst, arith}
 use Rattle.cyc_asm.specs.Layout.{addresses_of}
 use Rattle.cyc_system.proofs.Chains.{text_has_words, image_made}
 use Rattle.cyc_system.proofs.compiler.compile_plain.Goals as goal
 
 pub returns-clause-image : goal.returns-clause-image
 returns-clause-image c = λ p is.
-    let code = labelled_of c.in_ok-code.code in
-    let few : length code.globals ≤ globals_length = omega (arith, ap length c.in_ok-code.ensures.globals, c.requires.well_formed.globals) in
-    image_made p c.args.framed.now.program code (addresses_of code) c.in_ok-words.words.items c.deref.result.now c.deref-2.result.now c.in_ok-file.file.items
-    c.deref.ensures.value c.deref-2.ensures.value is c.in_ok-code.ensures.selected c.in_ok-code.ensures.globals c.in_ok-words.ensures.means c.in_ok-words.ensures.runs
-    few c.in_ok-file.ensures.words c.in_ok-file.ensures.globals c.in_ok-file.ensures.read c.in_ok-file.ensures.exact
+    let code = c.in_ok-code.code in
+    image_made p c.args.framed.now.program code (addresses_of code) c.in_ok-words.words.items c.deref.result.now c.globals.result.now c.in_ok-file.file.items
+    c.deref.ensures.value c.globals.ensures.value is c.in_ok-code.ensures.selected c.in_ok-code.ensures.globals c.in_ok-words.ensures.means c.in_ok-words.ensures.runs
+    c.globals.ensures.code c.in_ok-file.ensures.words c.in_ok-file.ensures.globals c.in_ok-file.ensures.read c.in_ok-file.ensures.exact
 
 pub write_program-requires-clause-some : goal.write_program-requires-clause-some
 write_program-requires-clause-some c =
-    let code = labelled_of c.in_ok-code.code in
+    let code = c.in_ok-code.code in
     subst (λ (words : List ℕ). 0 < length words) (sym c.deref.ensures.value)
-    (text_has_words c.args.framed.now.program code (addresses_of code) c.in_ok-words.words.items c.requires.well_formed c.in_ok-code.ensures.selected c.in_ok-words.ensures.means)
+    (text_has_words code (addresses_of code) c.in_ok-words.words.items c.globals.ensures.code.some c.in_ok-words.ensures.means)
+
+pub write_program-requires-clause-few : goal.write_program-requires-clause-few
+write_program-requires-clause-few c = omega (arith, ap length c.globals.ensures.value, c.globals.ensures.code.few_globals)

@@ -15,6 +15,6 @@ returns-clause-gives c =
     ∙ sym (ap Ok (function_by (option_map view_type c.args.returned.now) (view_name c.args.name) c.args.members.now (items_of c.args.written.now) (place_of_span c.args.end)
     (body_scope (map view_entry c.args.self.now.declared.now) (option_map view_type c.args.returned.now) (map view_member c.args.members.now)) (typed_view.items_of c.in_ok-body.body.items) c.new.result.items c.new-2.result.items
     (map view_ty c.in_ok-parameters.parameters.items) (map view_ty c.in_ok-locals.locals.items) (option_map view_ty c.result_type.result) c.check_function_items.new.self.next_local c.check_function_items.new.self.next_region
-    c.in_ok-body.ensures.gives c.new.ensures c.new-2.ensures (same_ok (ints (length c.args.members.now)) (map view_ty c.in_ok-parameters.parameters.items) c.in_ok-parameters.ensures)
+    c.in_ok-body.ensures.gives c.new.ensures.items c.new-2.ensures.items (same_ok (ints (length c.args.members.now)) (map view_ty c.in_ok-parameters.parameters.items) c.in_ok-parameters.ensures)
     (same_ok (ints (c.check_function_items.new.self.next_local - length c.args.members.now)) (map view_ty c.in_ok-locals.locals.items) c.in_ok-locals.ensures)
     c.result_type.ensures c.in_ok-body.ensures.locals c.in_ok-body.ensures.regions))

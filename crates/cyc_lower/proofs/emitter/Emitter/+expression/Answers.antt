@@ -2,14 +2,14 @@ use Rattle.std.proofs.Common.{◌≡◌, ℕ, suc, ◌+◌, ◌-◌, ◌++◌, L
 use Rattle.std.proofs.lemmas.Result.{on_ok_weaker}
 use borrow.Author.Rules.{rules, get_or_read}
 use Rattle.cyc_types.specs.declared.ty.Ty.TheFolds as types
-use Rattle.cyc_types.specs.declared.typed.Expr.TheFolds as expressions
+use Rattle.cyc_types.specs.declared.typed.Dereference.TheFolds as expressions
 use Rattle.cyc_types.specs.declared.typed.Operation.{Operation}
 use Rattle.cyc_types.specs.TypedTreeView.{view_expression, operations_of}
 use Rattle.cyc_plain.specs.declared.instruction.Operand.TheVariants as operands
 use Rattle.cyc_plain.specs.declared.instruction.Instruction.{Instruction}
 use Rattle.cyc_lower.specs.Lowering.{expression_code, conversion_code, test_jump, next_slot}
 use Rattle.cyc_lower.specs.Emission.{HasRoom, operation_code}
-use Rattle.cyc_lower.proofs.Emitting.{Remains, all_arguments, one_argument, next_argument, arguments_lower, all_operations, one_operation, next_operation, operations_lower, goes_on, joined, converted_longer, made_putchar, made_call, made_called, made_binary, room_behind, made_left_alone, made_left_first, made_compute, made_test, room_after, slot_by_count, made_print}
+use Rattle.cyc_lower.proofs.Emitting.{Remains, all_arguments, one_argument, next_argument, arguments_lower, all_operations, one_operation, next_operation, operations_lower, goes_on, joined, converted_longer, made_putchar, made_call, made_called, made_binary, room_behind, made_left_alone, made_left_first, made_compute, made_test, room_after, slot_by_count, made_print, made_assigned}
 use Rattle.cyc_lower.proofs.emitter.Emitter.+expression.Goals.{left-then-is_empty, left-else-is_empty, operations-then-behind-eq0, operations-else-behind-eq0}
 use Rattle.cyc_lower.proofs.emitter.Emitter.+expression.Goals as goal
 
@@ -123,3 +123,9 @@ pub print-returns : goal.print-returns
 print-returns t c =
     made_print c.args.arguments.now c.args.self.now.code.items c.loop-argument.self.code.items c.emit.new.self.code.items c.loop-argument.argument-index c.loop-argument.byte c.args.free c.loop-argument-test.false
     c.loop-argument.invariant.0 c.loop-argument.invariant.1 c.in_ok-emit.ensures
+
+pub expression-returns-in_ok-assigned-in-Assign : goal.expression-returns-in_ok-assigned-in-Assign
+expression-returns-in_ok-assigned-in-Assign t c =
+    on_ok_weaker c.copy.result
+    (made_assigned c.args.value.now c.in-Assign.target c.in-Assign.value c.in-Assign.result c.in-Assign.is c.deref-in-Assign.result.now c.deref-in-Assign.ensures c.args.self.now.code.items c.assignment.new.self.code.items c.copy.new.self.code.items c.in_ok-assigned-in-Assign.assigned c.args.slot c.args.free c.in_ok-assigned-in-Assign.ensures.0 c.in_ok-assigned-in-Assign.ensures.1)
+    c.copy.ensures
