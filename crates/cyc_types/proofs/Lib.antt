@@ -12,3 +12,6 @@ pub mod RegionLemmas
 pub mod ClosureLemmas
 pub mod TableLemmas
 pub mod SearchLemmas
+pub mod NameLemmas
+pub mod StructLemmas
+pub mod FormationLemmas

@@ -19,6 +19,10 @@ pub mod Outlives
 -- what the functions inside these crates promise each other: the rules as functions, and the table of constraints
 pub mod FlowChecking
 pub mod Closure
+pub mod Names
+pub mod StructTables
+pub mod WrittenMarks
+pub mod SignatureView
 -- examples
 pub mod RuleReadings
 pub mod RuleExamples

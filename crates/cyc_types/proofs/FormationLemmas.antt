@@ -1,0 +1,33 @@
+-- The loops that go over what is written of a type.
+use Rattle.std.proofs.Common.{◌≡◌, ℕ, ◌+◌, ◌-◌, ◌<◌, ◌≤◌, List, [], ◌∷◌, length, map, drop, refl, sym, ap, ◌∙◌, arith}
+use Rattle.std.proofs.lemmas.List.{drop_all, length-drop}
+use Rattle.cyc_syntax.specs.declared.tree.Pointer.{Pointer as PointerCode}
+use Rattle.cyc_syntax.specs.TreeView.{view_pointer}
+use Rattle.cyc_types.specs.declared.region.Region.{Region}
+use Rattle.cyc_types.specs.Types.{Ty}
+use Rattle.cyc_types.specs.Types as types
+use Rattle.cyc_types.specs.typing.Scopes.{RegionName}
+use Rattle.cyc_types.specs.typing.Formation.{region_or, left_out_at, pointers_written}
+use Rattle.cyc_types.specs.WrittenMarks.{left_out_by}
+
+-- the marks from this one on make this type of what the marks before have made
+abbrev pub MarksLeft : List RegionName → Region → List PointerCode → (i : ℕ) → Ty → Ty → Type 0
+MarksLeft names outermost ms i t whole = pointers_written names outermost t (map view_pointer (drop i ms)) ≡ whole
+
+-- what is left out, by how many marks stand behind
+left_out : (outermost : Region) (ms : List PointerCode) → left_out_at outermost (map view_pointer ms) ≡ left_out_by outermost (length ms)
+left_out outermost [] = refl
+left_out outermost (m ∷ ms) = refl
+
+pub marked : (names : List RegionName) (outermost : Region) (ms : List PointerCode) (i before behind : ℕ) (m : PointerCode) (t u whole : Ty) → i < length ms → drop i ms ≡ m ∷ drop (i + 1) ms → before + i ≡ length ms → behind ≡ before - 1
+    → u ≡ types.Pointer m.kind t (region_or names (left_out_by outermost behind) (view_pointer m).region) → MarksLeft names outermost ms i t whole → MarksLeft names outermost ms (i + 1) u whole
+marked names outermost ms i before behind m t u whole inside here counted next made left =
+    let rest : length (drop (i + 1) ms) ≡ behind = omega (arith, length-drop (i + 1) ms, counted, next, inside) in
+    let same : left_out_at outermost (map view_pointer (drop (i + 1) ms)) ≡ left_out_by outermost behind = left_out outermost (drop (i + 1) ms) ∙ ap (left_out_by outermost) rest in
+    ap (λ (v : Ty). pointers_written names outermost v (map view_pointer (drop (i + 1) ms))) made
+    ∙ sym (ap (λ (s : Region). pointers_written names outermost (types.Pointer m.kind t (region_or names s (view_pointer m).region)) (map view_pointer (drop (i + 1) ms))) same)
+    ∙ sym (ap (λ (ns : List PointerCode). pointers_written names outermost t (map view_pointer ns)) here)
+    ∙ left
+
+pub marks_done : (names : List RegionName) (outermost : Region) (ms : List PointerCode) (i : ℕ) (t whole : Ty) → length ms ≤ i → MarksLeft names outermost ms i t whole → t ≡ whole
+marks_done names outermost ms i t whole done left = sym (ap (λ (ns : List PointerCode). pointers_written names outermost t (map view_pointer ns)) (drop_all i ms done)) ∙ left

@@ -1,0 +1,18 @@
+-- How the code finds what a region name stands for: in a table of what each name stands for now. A binding keeps what it hides.
+use Rattle.std.specs.Prelude.{◌≡◌, ℕ, List, [], ◌∷◌, map, reverse, get_or, Option, None}
+use Rattle.cyc_types.specs.declared.region.Region.{Region}
+use Rattle.cyc_types.specs.declared.names.Binding.{Binding}
+use Rattle.cyc_types.specs.typing.Scopes.{RegionName, region_among}
+
+-- the names of bindings that stand from the oldest on, the newest first
+abbrev pub names_of : List Binding → List RegionName
+names_of bs = map (λ (b : Binding). record { name = b.name; region = b.region }) (reverse bs)
+
+-- what each name hides
+abbrev pub hidden_by : List RegionName → List (Option Region)
+hidden_by [] = []
+hidden_by (n ∷ ns) = region_among ns n.name ∷ hidden_by ns
+
+-- the table finds what each name stands for, and each binding knows what it hides
+abbrev pub Finds : List (Option Region) → List Binding → Type 0
+Finds table bs = ((x : ℕ) → get_or table x None ≡ region_among (names_of bs) x) × (map (λ (b : Binding). b.hidden) (reverse bs) ≡ hidden_by (names_of bs))

@@ -1,0 +1,116 @@
+//! The region names in scope, found in constant time.
+
+use crate::Region;
+use std::alloc::{AllocError, Global};
+use std::marker::Model;
+
+/// A region name in scope, what it stands for, and what it stood for before.
+#[derive(Clone, Copy)]
+struct Binding {
+    name: usize,
+    region: Region,
+    hidden: Option<Region>,
+}
+
+/// The region names in scope. A clause sees them with the newest first.
+#[derive(Drop)]
+pub struct RegionNames {
+    /// The oldest first.
+    bindings: Vec<Binding>,
+    /// For each name what it stands for.
+    newest: Vec<Option<Region>>,
+}
+
+impl Model for RegionNames {
+    ghost use Rattle.std.specs.Prelude.{List};
+    ghost use Rattle.cyc_types.specs.typing.Scopes.{RegionName};
+    ghost use Rattle.cyc_types.specs.Names.{names_of, Finds};
+
+    ghost Value = { List RegionName };
+
+    ghost view = { λ n. names_of n.bindings.items };
+
+    ghost invariant = { λ n. Finds n.newest.items n.bindings.items };
+}
+
+impl RegionNames {
+    ghost use Rattle.std.specs.Prelude.{◌≡◌, ℕ, ◌-◌, ◌<◌, [], ◌∷◌, length, drop, get_or, None, OnOk};
+    ghost use Rattle.cyc_types.specs.typing.Scopes.{region_among};
+
+    pub fn new(alloc: Global) -> RegionNames
+        ensures { result ≡ [] }
+    {
+        RegionNames {
+            bindings: Vec::new(alloc),
+            newest: Vec::new(alloc),
+        }
+    }
+
+    pub fn len(&self) -> usize
+        ensures { result ≡ length self.now }
+    {
+        self.bindings.len()
+    }
+
+    /// What the name stands for, if it is known.
+    pub fn find(&self, name: usize) -> Option<Region>
+        ensures { result ≡ region_among self.now name }
+    {
+        match self.newest.get(name) {
+            Some(region) => *region,
+            None => None,
+        }
+    }
+
+    pub fn declare(&mut self, name: usize, region: Region) -> Result<(), AllocError>
+        ensures { OnOk result (self.new ≡ record { name = name; region = region } ∷ self.old) }
+    {
+        grow(&mut self.newest, name)?;
+        let hidden = self.newest[name];
+        self.bindings.push(Binding {
+            name,
+            region,
+            hidden,
+        })?;
+        self.newest[name] = Some(region);
+        Ok(())
+    }
+
+    /// Forgets the newest name.
+    #[tactic(auto, using(crate::proofs::NameLemmas::in_range))]
+    fn undo(&mut self)
+        ensures { self.new ≡ drop 1 self.old }
+    {
+        let Some(binding) = self.bindings.pop() else {
+            return;
+        };
+        self.newest[binding.name] = binding.hidden;
+    }
+
+    /// Forgets all names but this number of the oldest.
+    #[tactic(auto, using(crate::proofs::NameLemmas::drop_one_more))]
+    pub fn close(&mut self, count: usize)
+        ensures { self.new ≡ drop (length self.old - count) self.old }
+    {
+        for _ in count..self.len() {
+            self.undo();
+        }
+    }
+}
+
+ghost use Rattle.std.specs.Prelude.{◌≡◌, ℕ, ◌<◌, length, get_or, None, OnOk};
+
+/// Makes the table so long that it has a place for this name.
+fn grow(table: &mut Vec<Option<Region>>, name: usize) -> Result<(), AllocError>
+    ensures same { (x : ℕ) → get_or table.new.items x None ≡ get_or table.old.items x None }
+    ensures long { OnOk result (name < length table.new.items) }
+{
+    if name < table.len() {
+        return Ok(());
+    }
+    let Some(length) = name.checked_add(1) else {
+        return Err(AllocError);
+    };
+    table.resize(length, None)?;
+    Ok(())
+}

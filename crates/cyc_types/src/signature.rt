@@ -1,0 +1,97 @@
+//! What a caller knows of a function.
+ghost use Rattle.std.specs.Prelude.{◌≡◌, List, map, option_map, IfOk};
+ghost use Rattle.cyc_types.specs.Regions.{substituted_region};
+ghost use Rattle.cyc_types.specs.Types.{substituted_ty};
+ghost use Rattle.cyc_types.specs.TypeView.{view_ty};
+ghost use Rattle.cyc_types.specs.SignatureView.{substituted_pair};
+
+use crate::{Region, Ty};
+use std::alloc::{AllocError, Global};
+
+/// The type of a function with what it asks of its callers. Its region variables have the numbers from 1 on.
+#[derive(Drop)]
+pub struct Signature {
+    /// How many regions its parameters name or leave out.
+    pub variables: usize,
+    pub parameters: Vec<Ty>,
+    /// A `void` function has none.
+    pub result: Option<Ty>,
+    /// The regions that must be live where it is called.
+    pub effect: Vec<Region>,
+    /// Pairs of regions of which the first outlives the second.
+    pub constraints: Vec<(Region, Region)>,
+}
+
+impl Signature {
+    ghost use Rattle.std.specs.Prelude.{◌≡◌, IfOk};
+    ghost use Rattle.cyc_types.specs.typing.Expressions.{instantiated};
+    ghost use Rattle.cyc_types.specs.SignatureView.{view_signature};
+
+    /// The signature at a call, where each region variable is the region at its number in `instance`.
+    pub fn instantiated(&self, alloc: Global, instance: &[Region]) -> Result<Signature, AllocError>
+        ensures { IfOk result (λ s. view_signature s ≡ instantiated instance.now (view_signature self.now)) }
+    {
+        Ok(Signature {
+            variables: 0,
+            parameters: types_substituted(alloc, &self.parameters, instance)?,
+            result: result_substituted(alloc, &self.result, instance)?,
+            effect: regions_substituted(alloc, &self.effect, instance)?,
+            constraints: pairs_substituted(alloc, &self.constraints, instance)?,
+        })
+    }
+}
+
+fn types_substituted(
+    alloc: Global,
+    types: &[Ty],
+    instance: &[Region],
+) -> Result<Vec<Ty>, AllocError>
+    ensures { IfOk result (λ all. map view_ty all.items ≡ map (substituted_ty instance.now) (map view_ty types.now)) }
+{
+    let mut all = Vec::with_capacity(alloc, types.len())?;
+    for of_type in types {
+        all.push(of_type.substituted(alloc, instance)?)?;
+    }
+    Ok(all)
+}
+
+fn result_substituted(
+    alloc: Global,
+    written: &Option<Ty>,
+    instance: &[Region],
+) -> Result<Option<Ty>, AllocError>
+    ensures { IfOk result (λ t. option_map view_ty t ≡ option_map (substituted_ty instance.now) (option_map view_ty written.now)) }
+{
+    match written {
+        Some(of_type) => Ok(Some(of_type.substituted(alloc, instance)?)),
+        None => Ok(None),
+    }
+}
+
+fn regions_substituted(
+    alloc: Global,
+    regions: &[Region],
+    instance: &[Region],
+) -> Result<Vec<Region>, AllocError>
+    ensures { IfOk result (λ all. all.items ≡ map (substituted_region instance.now) regions.now) }
+{
+    let mut all = Vec::with_capacity(alloc, regions.len())?;
+    for region in regions {
+        all.push(region.substituted(instance))?;
+    }
+    Ok(all)
+}
+
+fn pairs_substituted(
+    alloc: Global,
+    pairs: &[(Region, Region)],
+    instance: &[Region],
+) -> Result<Vec<(Region, Region)>, AllocError>
+    ensures { IfOk result (λ all. all.items ≡ map (substituted_pair instance.now) pairs.now) }
+{
+    let mut all = Vec::with_capacity(alloc, pairs.len())?;
+    for pair in pairs {
+        all.push((pair.0.substituted(instance), pair.1.substituted(instance)))?;
+    }
+    Ok(all)
+}

@@ -1,0 +1,122 @@
+//! The structs of a program, found by their names in constant time.
+
+use std::alloc::{AllocError, Global};
+use std::marker::Model;
+
+/// A struct: its name, its number, and how many region parameters it has.
+#[derive(Clone, Copy)]
+pub struct Known {
+    pub number: usize,
+    pub parameters: usize,
+}
+
+/// A struct by its name.
+#[derive(Clone, Copy)]
+struct Entry {
+    name: usize,
+    parameters: usize,
+}
+
+/// The structs in order, each with the number of its place. Where a name is declared twice, the first counts.
+#[derive(Drop)]
+pub struct StructNames {
+    entries: Vec<Entry>,
+    /// For each name its first struct.
+    by_name: Vec<Option<Known>>,
+}
+
+impl Model for StructNames {
+    ghost use Rattle.std.specs.Prelude.{◌≡◌, ℕ, List, map, get_or, None};
+    ghost use Rattle.cyc_types.specs.typing.Scopes.{StructName};
+    ghost use Rattle.cyc_types.specs.StructTables.{view_entry, known_from};
+
+    ghost Value = { List StructName };
+
+    ghost view = { λ s. map view_entry s.entries.items };
+
+    ghost invariant = { λ s. (x : ℕ) → get_or s.by_name.items x None ≡ known_from 0 (map view_entry s.entries.items) x };
+}
+
+impl StructNames {
+    ghost use Rattle.std.specs.Prelude.{◌≡◌, ℕ, [], ◌∷◌, ◌++◌, length, OnOk};
+    ghost use Rattle.cyc_types.specs.typing.Formation.{struct_number, parameters_among};
+    ghost use Rattle.cyc_types.specs.StructTables.{known_from};
+
+    pub fn new(alloc: Global) -> StructNames
+        ensures { result ≡ [] }
+    {
+        StructNames {
+            entries: Vec::new(alloc),
+            by_name: Vec::new(alloc),
+        }
+    }
+
+    fn len(&self) -> usize
+        ensures { result ≡ length self.now }
+    {
+        self.entries.len()
+    }
+
+    /// The struct of this name.
+    fn find(&self, name: usize) -> Option<Known>
+        ensures { result ≡ known_from 0 self.now name }
+    {
+        match self.by_name.get(name) {
+            Some(known) => *known,
+            None => None,
+        }
+    }
+
+    /// The number of the struct of this name, or the one behind all.
+    #[tactic(auto, using(crate::proofs::StructLemmas::number_found, crate::proofs::StructLemmas::number_lost))]
+    pub fn number(&self, name: usize) -> usize
+        ensures { result ≡ struct_number self.now name }
+    {
+        match self.find(name) {
+            Some(known) => known.number,
+            None => self.len(),
+        }
+    }
+
+    /// How many region parameters the struct of this name has.
+    #[tactic(auto, using(crate::proofs::StructLemmas::parameters_found, crate::proofs::StructLemmas::parameters_lost))]
+    pub fn parameters(&self, name: usize) -> Option<usize>
+        ensures { result ≡ parameters_among self.now name }
+    {
+        match self.find(name) {
+            Some(known) => Some(known.parameters),
+            None => None,
+        }
+    }
+
+    pub fn declare(&mut self, name: usize, parameters: usize) -> Result<(), AllocError>
+        ensures { OnOk result (self.new ≡ self.old ++ record { name = name; parameters = parameters } ∷ []) }
+    {
+        grow(&mut self.by_name, name)?;
+        let known = self.find(name);
+        let number = self.len();
+        self.entries.push(Entry { name, parameters })?;
+        match known {
+            Some(_) => {}
+            None => self.by_name[name] = Some(Known { number, parameters }),
+        }
+        Ok(())
+    }
+}
+
+ghost use Rattle.std.specs.Prelude.{◌≡◌, ℕ, ◌<◌, length, get_or, None, OnOk};
+
+/// Makes the table so long that it has a place for this name.
+fn grow(table: &mut Vec<Option<Known>>, name: usize) -> Result<(), AllocError>
+    ensures same { (x : ℕ) → get_or table.new.items x None ≡ get_or table.old.items x None }
+    ensures long { OnOk result (name < length table.new.items) }
+{
+    if name < table.len() {
+        return Ok(());
+    }
+    let Some(length) = name.checked_add(1) else {
+        return Err(AllocError);
+    };
+    table.resize(length, None)?;
+    Ok(())
+}
