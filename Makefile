@@ -35,6 +35,7 @@ cases: build
 
 bench: build
 	@python3 bench/machine.py
+	@python3 bench/store.py
 	@python3 bench/checker.py
 	@python3 bench/compiler.py
 	@python3 bench/stack.py
