@@ -15,6 +15,7 @@ use Rattle.cyc_elf.specs.declared.fault.ElfFault.{ElfFault}
 use Rattle.cyc_elf.specs.Image.{ImageContents}
 use Rattle.cyc_machine.specs.declared.fault.LoadFault.TheVariants as load
 use Rattle.cyc_store.specs.State.{StoreState}
+use Rattle.cyc_store.specs.State as stores
 use Rattle.cyc_machine.specs.Bounds.{Bounds}
 use Rattle.cyc_machine.specs.Shape.{phase_after}
 use Rattle.cyc_machine.specs.Start.{has_outside, start_state, start_world}
@@ -23,7 +24,7 @@ use Rattle.cyc_system.specs.declared.report.Report.{Report}
 use Rattle.cyc_system.specs.declared.report.Stop.TheVariants as stops
 use Rattle.cyc_system.specs.declared.report.RunFault.{RunFault}
 use Rattle.cyc_system.specs.declared.report.RunFault.TheVariants.{Elf, Load, Read, Write, Memory}
-use Rattle.cyc_system.specs.Engine.{Devices, Rests, Tells, Leaves, Counted, Executes, Runs, Refuses, Starts, Answers}
+use Rattle.cyc_system.specs.Engine.{Devices, Rests, Tells, Leaves, Counted, Executes, Runs, Refuses, Starts, Answers, AnswersAnew}
 use Rattle.cyc_system.specs.Turn.{Asked, Turned}
 
 -- one more instruction at the end of a run
@@ -317,10 +318,19 @@ answers_inside : (outside : Bool) (grows : Bool) (start : List ℕ → World) (b
 answers_inside true grows start budget old new rests = refuses_memory (Load load.Outside) old new rests
 answers_inside false grows start budget old new rests = inl (refl, rests)
 
-pub answers_memory : (grows : Bool) (store : StoreState) (read : Result ImageContents ElfFault) (limits : Bounds) (budget : ℕ) (old new : Devices) → Rests old new
+answers_memory : (grows : Bool) (store : StoreState) (read : Result ImageContents ElfFault) (limits : Bounds) (budget : ℕ) (old new : Devices) → Rests old new
     → Answers grows store read limits budget old new (Err Memory)
 answers_memory grows store (Err f) limits budget old new rests = refuses_memory (Elf f) old new rests
 answers_memory grows store (Ok image) limits budget old new rests = answers_inside (has_outside image) grows (start_world image limits store) budget old new rests
+
+-- and before there is a store
+pub anew_memory : (grows : Bool) (read : Result ImageContents ElfFault) (limits : Bounds) (budget : ℕ) (devices : Devices) → AnswersAnew grows read limits budget devices devices (Err Memory)
+anew_memory grows read limits budget devices =
+    let store : StoreState = stores.start limits.pages (λ (address : ℕ). 0) in (
+      store,
+      ((λ (address : ℕ). 0), (λ address. omega arith), refl),
+      answers_memory grows store read limits budget devices devices (Keeps-refl devices.remaining, Keeps-refl devices.written),
+    )
 
 -- A stretch that ends with something else than that it ran: what was told is answered.
 

@@ -34,4 +34,4 @@ loop-count-preserved g c = record {
 }
 
 pub returns-clause-runs : goal.returns-clause-runs
-returns-clause-runs g c = spends _ _ _ _ _ _ _ _ c.loop-count.invariant.progress (omega arith)
+returns-clause-runs g c = spends g.S.Store.GROWS _ _ _ _ _ _ _ c.loop-count.invariant.progress (omega arith)
