@@ -162,7 +162,14 @@ fn outcome(alloc: Global, file: &[u8]) -> Option<&'static str> {
     let mut output = Vec::new(alloc);
     let mut writer = Writer::new(&mut output);
     let limits = Limits::new(1024, 4096)?;
-    match run(alloc, file, limits, 1000, &mut Reader::new(&b""[..]), &mut writer) {
+    match run(
+        alloc,
+        file,
+        limits,
+        1000,
+        &mut Reader::new(&b""[..]),
+        &mut writer,
+    ) {
         Ok(report) if report.count <= 1000 => Some("report"),
         Err(RunFault::Elf(_) | RunFault::Load(_)) => Some("fault"),
         _ => None,
