@@ -127,8 +127,8 @@ type Machine = cyc_machine::Machine<PlainStore>;
 
 /// What loading the image of a file comes to, if it is one.
 fn load(alloc: Global, file: &[u8], limits: Limits) -> Option<Result<Machine, LoadFault>> {
-    let image = read_image(alloc, file).ok()?;
     let store = PlainStore::new(alloc, limits.pages()).ok()?;
+    let image = read_image(alloc, file).ok()?;
     Some(Machine::load(alloc, &image, limits, store))
 }
 
