@@ -7,7 +7,8 @@ pub mod RegisterLaws
 pub mod MemoryLaws
 -- the fast loop
 pub mod Operations
--- loading
+-- loading, and what is kept of the ranges
+pub mod Spreads
 pub mod Segments
 -- runs by computation
 pub mod Choosing

@@ -11,6 +11,7 @@ mod machine;
 mod memory;
 mod operation;
 mod phase;
+mod ranges;
 mod registers;
 mod results;
 mod start;
