@@ -1,7 +1,8 @@
 # make build    proves and builds the program, crates/cyclone/out/cyclone
 # make demo     builds it, and shows it at work on the texts in examples/
 # make try      compiles and runs the program in SOURCE with no proof: make try SOURCE=hello.cyc
-# make cases    builds it, and runs the command-line suite, the table of codes, the examples and random programs
+# make cases    builds it, and runs the command-line suite, the table of codes, the examples, and random programs, and refuses
+#               its allocations in turn
 # make bench    builds it, and prints figures of its speed, its stack, and its code beside qemu-mips, tcc and gcc (Debian's
 #               qemu-user, tcc, gcc and gcc-mips-linux-gnu)
 # make test     the gate: every proof, must-fail edit and test from nothing, and what `make cases` runs; the last line
@@ -31,6 +32,7 @@ cases: build
 	@python3 tests/codes.py
 	@python3 tests/documents.py
 	@python3 tests/examples.py
+	@python3 tests/refused.py
 	@python3 tests/differential.py
 
 bench: build

@@ -60,7 +60,7 @@ class Code:
 def words_of(piece, times):
     """A piece of a text that is repeated, for people."""
     if times == 1:
-        return f"`{piece}`"
+        return f"`` {piece} ``" if "`" in piece else f"`{piece}`"
     if "#" in piece:
         return f"`{piece.replace('#', '1')}` to `{piece.replace('#', str(times))}`"
     return f"{times:,} " + ("spaces" if piece == " " else f"times `{piece}`")

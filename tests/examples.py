@@ -1,18 +1,23 @@
 #!/usr/bin/env python3
-"""Compiles and runs the programs in examples/ that have an output beside them, and says which of them it fails.
+"""Compiles and runs the programs in examples/ that have an output beside them, checks those in docs/LANGUAGE.md, and says which it fails.
 
     python3 tests/examples.py [--program PATH]
 
 `NAME.cyc` is compiled, and run on `NAME.in`, or on no input where there is none. `NAME.out` is what a terminal then
 shows: the standard output, and behind it the last line on standard error, which also tells the exit status. `check` has
-to take the program too. The last line is `N passed, M failed`.
+to take the program too. A program in docs/LANGUAGE.md whose first line is `// done` or `// fault C at L:K` has this verdict. The
+last line is `N passed, M failed`.
 """
 import os
+import re
 import tempfile
 
 import suite
 
 FOLDER = os.path.join(suite.ROOT, "examples")
+LANGUAGE = os.path.join(suite.ROOT, "docs", "LANGUAGE.md")
+# A program in a document: lines that are indented, with empty lines between, and its verdict in the first.
+SHOWN = re.compile(r"^    // (done|fault \d+ at \d+:\d+)\n(?:    .*\n|\n(?=    ))*", re.M)
 PARTS = ("standard output", "last line on standard error", "exit status")
 
 
@@ -51,12 +56,32 @@ def faults_of(program, name, folder):
     return []
 
 
+def shown_programs():
+    """The programs in the document that begin with their verdict: the line of the document, the text, and the verdict."""
+    with open(LANGUAGE, encoding="utf-8") as file:
+        document = file.read()
+    return [(document[: found.start()].count("\n") + 1, re.sub("^    ", "", found[0], flags=re.M), found[1]) for found in SHOWN.finditer(document)]
+
+
+def faults_of_shown(program, text, verdict, folder):
+    """What the program says of a text otherwise than its first line."""
+    path = os.path.join(folder, "text.cyc")
+    with open(path, "w", encoding="ascii") as file:
+        file.write(text)
+    wanted, got = (b"", verdict, 0 if verdict == "done" else 2), suite.answer([program, "check", path])
+    return [] if got == wanted else [suite.difference("check", wanted, got)]
+
+
 def main():
     options = suite.command_line(__doc__).parse_args()
     names = sorted(name[: -len(".out")] for name in os.listdir(FOLDER) if name.endswith(".out"))
-    program = suite.program_of(options, len(names))
+    shown = shown_programs()
+    program = suite.program_of(options, len(names) + len(shown))
     with tempfile.TemporaryDirectory(prefix="cyclone-example-") as folder:
-        suite.try_each(names, lambda name: f"examples/{name}.cyc", lambda name: faults_of(program, name, folder))
+        things = [(f"examples/{name}.cyc", lambda name=name: faults_of(program, name, folder)) for name in names]
+        for line, text, verdict in shown:
+            things.append((f"docs/LANGUAGE.md:{line}", lambda one=(text, verdict): faults_of_shown(program, *one, folder)))
+        suite.try_each(things, lambda thing: thing[0], lambda thing: thing[1]())
 
 
 if __name__ == "__main__":

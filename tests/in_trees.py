@@ -144,10 +144,10 @@ class Writer:
 
     def statement_if(self, item):
         other = self.statement(item.other) if item.other else "t.Empty"
-        return f"(t.If {self.expression(item.condition)} {self.statement(item.body)} {other})"
+        return f"(t.If {self.looked(item.condition)} {self.statement(item.body)} {other})"
 
     def statement_while(self, item):
-        return f"(t.While here {self.expression(item.condition)} {self.statement(item.body)})"
+        return f"(t.While here {self.looked(item.condition)} {self.statement(item.body)})"
 
     def statement_break(self, item):
         return "t.Break"
@@ -312,7 +312,7 @@ class Writer:
         self.level += 1
         element = self.expression(initial.element)
         self.level -= 1
-        return f"(t.Array {level} {length} {kind(initial.element.type)} {element})"
+        return f"(t.Array here {level} {length} {kind(initial.element.type)} {element})"
 
 
 def integer(value):

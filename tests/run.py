@@ -4,7 +4,7 @@
     python3 tests/run.py [--program PATH] [--whole] [FILE.cases ..]
 
 The last line is `N passed, M failed`. A case is a few lines; tests/README.md has the format. With --whole the cases are those of
-the whole language, in tests/whole: a case passes too where the program says that something it needs is not built yet, and how
+the whole language, in tests/whole: a case passes too where `compile` says that something it needs is not built yet, and how
 many do is said.
 """
 import os
@@ -293,7 +293,7 @@ def run_step(step, folder, program):
 
 
 class NotBuilt(Exception):
-    """The program says that something a case needs is not built yet."""
+    """The compiler says that something a case needs is not built yet."""
 
 
 def faults_of_step(step, folder, program, act):
@@ -308,7 +308,8 @@ def faults_of_step(step, folder, program, act):
         if wanted != got:
             faults.append(suite.difference(what, wanted, got))
 
-    if step.is_program and step.last != suite.NOT_BUILT and suite.last_line(done.stderr or b"") == suite.NOT_BUILT:
+    compiles = step.is_program and step.words[:1] == ["compile"]
+    if compiles and step.last != suite.NOT_BUILT and suite.last_line(done.stderr or b"") == suite.NOT_BUILT:
         raise NotBuilt
     if step.status is not None:
         wanted = f"{step.status} {step.last}".strip()

@@ -11,7 +11,7 @@ PROGRAM = os.path.join(ROOT, "crates", "cyclone", "out", "cyclone")
 SECONDS = 60
 # The stack of each program that is run, in bytes: half of what a shell gives.
 STACK = 4 * 1024 * 1024
-# What the program says of a text that needs what is not built yet.
+# What `compile` says of a program that needs what is not built yet.
 NOT_BUILT = "fault 60 at 1:1"
 # A long value is shown by its two ends.
 SHOWN = 400

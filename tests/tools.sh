@@ -1,9 +1,11 @@
 #!/bin/sh
-# Installs the tools of the suite that are missing: readelf and man, which are in Debian's packages binutils and man-db.
+# Installs the tools of the suite that are missing: readelf, man and a C compiler, which are in Debian's packages binutils, man-db and
+# gcc.
 set -eu
 missing=""
 command -v readelf >/dev/null || missing="$missing binutils"
 command -v man >/dev/null || missing="$missing man-db"
+command -v cc >/dev/null || missing="$missing gcc libc6-dev"
 [ -n "$missing" ] || exit 0
 as_root=""
 [ "$(id -u)" -eq 0 ] || as_root="sudo"

@@ -237,12 +237,22 @@ class Flow(Expressions):
     def item_swap(self, item):
         left, right = item.left, item.right
         variable = self.place(left)
-        if variable and right.kind == "variable" and right.variable is variable:
-            self.while_pending(variable, lambda: self.hold_pending(right))
         self.while_pending(variable, lambda: self.place(right))
-        for side in (left, right):
-            if side.kind == "variable" and side.variable.sort != "global":
-                self.look(side)
+        faults = [self.fault_of_side(left, None), self.fault_of_side(right, variable)]
+        faults = [fault for fault in faults if fault]
+        if faults:
+            raise min(faults, key=lambda fault: fault.code)
+
+    def fault_of_side(self, side, peeked):
+        """What is wrong with the use of a side, while a peek of a variable waits. A swap uses both at once."""
+        if side.kind != "variable" or side.variable.sort == "global":
+            return None
+        try:
+            self.look(side)
+            self.while_pending(peeked, lambda: self.hold_pending(side))
+        except Refused as refused:
+            return refused
+        return None
 
     def item_if(self, item):
         self.peeked(item.condition)

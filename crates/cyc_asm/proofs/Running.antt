@@ -1,5 +1,5 @@
 -- The machine that runs the words follows the labelled machine.
-use Rattle.std.proofs.Common.{◌≡◌, ℕ, ◌*◌, List, [], replicate, refl, sym, ap, subst, arith, false}
+use Rattle.std.proofs.Common.{◌≡◌, ℕ, ◌*◌, List, [], replicate, refl, sym, ap, arith, false}
 use Rattle.std.specs.Prelude.{slice_set}
 use Rattle.std.proofs.lemmas.List.{length-replicate}
 use Rattle.cyc_store.specs.State.{StoreState}
@@ -7,13 +7,10 @@ use Rattle.cyc_machine.specs.declared.constants.TheConstants.{ARGUMENT, STACK_PO
 use Rattle.cyc_words.specs.Ending.{Ending}
 use Rattle.cyc_words.specs.Word.{add_of}
 use Rattle.cyc_machine.specs.declared.event.End.{End}
-use Rattle.cyc_machine.specs.declared.event.Event.TheVariants as events
 use Rattle.cyc_machine.specs.declared.phase.Phase.{Phase}
 use Rattle.cyc_machine.specs.declared.phase.Phase.TheVariants as phases
 use Rattle.cyc_machine.specs.State.{words_per_call, stack_end}
-use Rattle.cyc_machine.specs.Step.{StepIn}
-use Rattle.cyc_machine.specs.Run.{World, Goes}
-use Rattle.cyc_machine.proofs.RunLaws.{Goes-over, Goes-output}
+use Rattle.cyc_machine.proofs.RunLaws.{Goes-over, Goes-rests, Goes-output}
 use Rattle.cyc_words.specs.Simulation.{Ended, IsLawful}
 use Rattle.cyc_words.proofs.Simulation.{simulates, running_ended}
 use Rattle.cyc_select.specs.Labelled.{Labelled}
@@ -30,15 +27,12 @@ over_of phases.Running ending ended = absurd (running_ended ending ended)
 over_of phases.Waiting ending ended = absurd (running_ended ending ended)
 over_of (phases.Over end) ending ended = (end, refl)
 
-rests : (w : World) (end : End) → w.machine.phase ≡ phases.Over end → Goes w w
-rests w end over = (events.Ended end, w.machine, subst (λ (p : Phase). StepIn p w.machine (events.Ended end) w.machine) (sym over) (refl, refl), refl)
-
 -- what was printed stays printed, and a run that is over stays as it is
 pub lawful : IsLawful world_machine
 lawful = record {
   grows = Goes-output;
   stays = λ old new ending ended goes. let (end, over) = over_of old.machine.phase ending ended in Goes-over old new end over goes;
-  rests = λ w ending ended. let (end, over) = over_of w.machine.phase ending ended in rests w end over;
+  rests = λ w ending ended. let (end, over) = over_of w.machine.phase ending ended in Goes-rests w end over;
 }
 
 -- the configuration in which the labelled machine starts

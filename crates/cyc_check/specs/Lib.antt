@@ -1,7 +1,6 @@
--- The contract of `check` rests on the definitions of `cyc_types` alone. These are what the functions inside the crate promise each
+-- The contract of `check` rests on the definitions of `cyc_types` alone. This is what the functions inside the crate promise each
 -- other.
-pub mod Code
-pub mod Entries
-pub mod Bindings
-pub mod Heads
-pub mod Checkers
+pub mod Inside
+pub mod Walks
+pub mod Aliases
+pub mod FunctionParts

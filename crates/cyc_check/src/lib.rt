@@ -3,17 +3,10 @@
 
 pub use tree::check;
 
-mod checker;
-mod declared;
-mod expressions;
-mod forms;
+mod declared_types;
 mod functions;
-mod given;
-mod heads;
-mod int_part;
-mod locals;
-mod program;
-mod settled;
+mod items;
+mod statement_forms;
+mod statement_nodes;
 mod statements;
-mod stop;
 mod tree;

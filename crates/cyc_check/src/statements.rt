@@ -1,339 +1,249 @@
-//! The typed trees of statements and of the items of blocks.
-ghost use Rattle.std.specs.Prelude.{◌≡◌, Ok, option_map, OnOk};
-ghost use Rattle.cyc_syntax.specs.TreeView.{place_of_span, view_name, view_expression, view_statement, view_item, items_of};
-ghost use Rattle.cyc_syntax.specs.Trees.{place_of};
-ghost use Rattle.cyc_types.specs.Types as types;
+//! The walk over statements, the items of blocks and the clauses of catches.
+ghost use Rattle.std.specs.Prelude.{◌≡◌, [], ◌∷◌, Ok, OnOk, IfOk};
+ghost use Rattle.cyc_syntax.specs.TreeView.{view_name, view_statement, view_item, items_of, clauses_of};
+ghost use Rattle.cyc_syntax.specs.Trees.{NoClauses};
 ghost use Rattle.cyc_types.specs.TypedTrees as nodes;
 ghost use Rattle.cyc_types.specs.TypedTreeView as typed_view;
-ghost use Rattle.cyc_types.specs.Scopes.{is_declared};
-ghost use Rattle.cyc_types.specs.Rules.{and_then, run};
-ghost use Rattle.cyc_types.specs.TypingRules.{rule_condition, returned, rule_returned, rule_initial, in_loop_alone, rule_statement, rule_items, rule_item};
-ghost use Rattle.cyc_check.specs.Code.{Gives, view_boxed, view_boxed_statement};
-ghost use Rattle.cyc_check.specs.Checkers.{scope_of, IsInOrder, behind_statement, behind_block, behind_items, behind_item, looping, in_block, with_local};
+ghost use Rattle.cyc_types.specs.Rules.{and_then, demands, run};
+ghost use Rattle.cyc_types.specs.typing.Scopes.{in_block, in_labelled, in_body, behind};
+ghost use Rattle.cyc_types.specs.typing.Statements.{new_name_demanded, behind_item, rule_statement, rule_items, rule_item, rule_clauses};
+ghost use Rattle.cyc_scope.specs.Code.{Gives};
+ghost use Rattle.cyc_check.specs.Walks.{IsBehindItems, behind_block, behind_labelled, behind_clauses, view_boxed_statement, view_clause};
 
-use crate::checker::Checker;
-use crate::forms::{as_int, span_of};
-use crate::given::Given;
-use crate::locals::Local;
-use crate::settled::{Settled, wanted};
-use crate::stop::{Stop, not_built, refused};
-use cyc_syntax::{Expr, Ident, Item, Stmt};
-use cyc_types::typed::Converted;
-use cyc_types::{Ty, typed};
-use cyc_words::{Code, Span};
-use std::alloc::Global;
+use crate::items::{declare_alias, declare_caught, declare_dynamic, declare_local, is_region_new, open_dynamic, open_lexical};
+use crate::statement_forms::{
+    caught, check_condition, check_evaluation, check_return, check_swap, check_throw, leaves_loop,
+};
+use crate::statement_nodes::{block_of, choice, empty, execution, repetition, try_of};
+use cyc_scope::{Scope, Stop};
+use cyc_syntax::{Clause, Ident, Item, Stmt};
+use cyc_types::{NameSet, typed};
 
-/// The node in a box.
-#[inline(never)]
-fn boxed(alloc: Global, statement: typed::Stmt) -> Result<Box<typed::Stmt>, Stop>
-    ensures { Gives view_boxed_statement result (Ok (typed_view.view_statement statement)) }
-{
-    Ok(Box::new(alloc, statement)?)
-}
-
-#[inline(never)]
-fn empty(alloc: Global) -> Result<Box<typed::Stmt>, Stop>
-    ensures { Gives view_boxed_statement result (Ok nodes.Empty) }
-{
-    boxed(alloc, typed::Stmt::Empty)
-}
-
-#[inline(never)]
-fn evaluation(alloc: Global, value: Box<typed::Expr>) -> Result<Box<typed::Stmt>, Stop>
-    ensures { Gives view_boxed_statement result (Ok (nodes.Evaluate (view_boxed value))) }
-{
-    let value = Box::into_inner(value);
-    boxed(alloc, typed::Stmt::Evaluate { value })
-}
-
-#[inline(never)]
-fn block_of(alloc: Global, region: usize, items: Vec<typed::Item>) -> Result<Box<typed::Stmt>, Stop>
-    ensures { Gives view_boxed_statement result (Ok (nodes.Block region (typed_view.items_of items.items))) }
-{
-    boxed(alloc, typed::Stmt::Block { region, items })
-}
-
-#[inline(never)]
-fn choice(
-    alloc: Global,
-    condition: Box<typed::Expr>,
-    then: Box<typed::Stmt>,
-    otherwise: Box<typed::Stmt>,
+#[cycle(statement)]
+pub(crate) fn check_statement(
+    scope: &mut Scope<'_>,
+    statement: &Stmt,
 ) -> Result<Box<typed::Stmt>, Stop>
-    ensures { Gives view_boxed_statement result (Ok (nodes.If (view_boxed condition) (view_boxed_statement then) (view_boxed_statement otherwise))) }
+    ensures gives { Gives view_boxed_statement result (run (rule_statement scope.old (view_statement statement.now))) }
+    ensures behind { OnOk result (scope.new ≡ behind scope.old (view_statement statement.now)) }
 {
-    let condition = Box::into_inner(condition);
-    boxed(
-        alloc,
-        typed::Stmt::If {
+    match statement {
+        Stmt::Block { block } => check_block(scope, &block.items),
+        Stmt::Labelled { label, block } => check_labelled(scope, &block.items, *label),
+        Stmt::Empty { .. } => empty(scope.alloc()),
+        Stmt::Expression { value } => check_evaluation(scope, value),
+        Stmt::Swap { left, right } => check_swap(scope, left, right),
+        Stmt::If {
             condition,
             then,
-            otherwise,
-        },
-    )
-}
-
-#[inline(never)]
-fn repetition(
-    alloc: Global,
-    span: Span,
-    condition: Box<typed::Expr>,
-    body: Box<typed::Stmt>,
-) -> Result<Box<typed::Stmt>, Stop>
-    ensures { Gives view_boxed_statement result (Ok (nodes.While (place_of_span span) (view_boxed condition) (view_boxed_statement body))) }
-{
-    let condition = Box::into_inner(condition);
-    boxed(
-        alloc,
-        typed::Stmt::While {
+            otherwise: None,
+            ..
+        } => {
+            let condition = check_condition(scope, condition)?;
+            let then = check_statement(scope, then)?;
+            let otherwise = empty(scope.alloc())?;
+            choice(scope.alloc(), condition, then, otherwise)
+        }
+        Stmt::If {
+            condition,
+            then,
+            otherwise: Some(otherwise),
+            ..
+        } => {
+            let condition = check_condition(scope, condition)?;
+            let then = check_statement(scope, then)?;
+            let otherwise = check_statement(scope, otherwise)?;
+            choice(scope.alloc(), condition, then, otherwise)
+        }
+        Stmt::While {
             span,
             condition,
             body,
-        },
-    )
-}
-
-#[inline(never)]
-fn return_of(alloc: Global, value: Option<Converted>) -> Result<Box<typed::Stmt>, Stop>
-    ensures { Gives view_boxed_statement result (Ok (nodes.Return (option_map typed_view.view_converted value))) }
-{
-    boxed(alloc, typed::Stmt::Return { value })
-}
-
-fn execution(statement: Box<typed::Stmt>) -> typed::Item
-    ensures { typed_view.view_item result ≡ nodes.Execute (view_boxed_statement statement) }
-{
-    let statement = Box::into_inner(statement);
-    typed::Item::Execute { statement }
-}
-
-impl<'a> Checker<'a> {
-    fn is_declared(&self, name: Ident) -> bool
-        requires { IsInOrder self.now }
-        ensures { result ≡ is_declared (scope_of self.now) (view_name name) }
-    {
-        self.locals.is_declared_in(self.region, name.name.number)
-    }
-
-    fn check_condition(&self, condition: &Expr) -> Result<Box<typed::Expr>, Stop>
-        ensures { Gives view_boxed result (run (rule_condition (scope_of self.now) (view_expression condition.now))) }
-    {
-        let value = self.check_expression(condition)?;
-        wanted(Given::by(&value), span_of(condition))?;
-        Ok(value)
-    }
-
-    /// The value of a `return` at this place.
-    fn returned(
-        &self,
-        span: Span,
-        written: &Expr,
-        value: Box<typed::Expr>,
-    ) -> Result<Option<Converted>, Stop>
-        ensures { Gives (option_map typed_view.view_converted) result (run (returned (scope_of self.now).result (place_of_span span) (place_of (view_expression written.now)) (view_boxed value))) }
-    {
-        if !self.has_result {
-            return Err(refused(Code::TypeMismatch, span));
+        } => {
+            let condition = check_condition(scope, condition)?;
+            let body = check_body(scope, body)?;
+            repetition(scope.alloc(), *span, condition, body)
         }
-        let mut settled = Settled::new();
-        settled.convert(Given::by(&value), span_of(written));
-        settled.end()?;
-        Ok(Some(as_int(value)))
-    }
-
-    fn check_returned(&self, span: Span, value: &Option<Expr>) -> Result<Option<Converted>, Stop>
-        ensures { Gives (option_map typed_view.view_converted) result (run (rule_returned (scope_of self.now) (place_of_span span) (option_map view_expression value.now))) }
-    {
-        match value {
-            None => {
-                let mut settled = Settled::new();
-                settled.demand(Code::TypeMismatch, span, !self.has_result);
-                settled.end()?;
-                Ok(None)
-            }
-            Some(written) => {
-                let value = self.check_expression(written)?;
-                self.returned(span, written, value)
-            }
-        }
-    }
-
-    /// The initial value of a local.
-    fn check_initial(&self, name: Ident, value: &Option<Expr>) -> Result<Option<Converted>, Stop>
-        requires { IsInOrder self.now }
-        ensures { Gives (option_map typed_view.view_converted) result (run (rule_initial (scope_of self.now) (view_name name) types.Int (option_map view_expression value.now))) }
-    {
-        let mut settled = Settled::new();
-        match value {
-            None => {
-                settled.demand(Code::DeclaredTwice, name.span, !self.is_declared(name));
-                settled.end()?;
-                Ok(None)
-            }
-            Some(written) => {
-                let value = self.check_expression(written)?;
-                settled.demand(Code::DeclaredTwice, name.span, !self.is_declared(name));
-                settled.convert(Given::by(&value), span_of(written));
-                settled.end()?;
-                Ok(Some(as_int(value)))
-            }
-        }
-    }
-
-    /// Whether `break` or `continue` at this place stands in a loop.
-    fn leaves_loop(&self, span: Span, statement: typed::Stmt) -> Result<Box<typed::Stmt>, Stop>
-        ensures { Gives view_boxed_statement result (run (in_loop_alone (scope_of self.now) (place_of_span span) (typed_view.view_statement statement))) }
-    {
-        let statement = boxed(self.alloc, statement)?;
-        let mut settled = Settled::new();
-        settled.demand(Code::OutsideLoop, span, self.in_loop);
-        settled.end()?;
-        Ok(statement)
-    }
-
-    fn declare_local(&mut self, name: Ident, value: &Option<Expr>) -> Result<typed::Item, Stop>
-        requires { IsInOrder self.old }
-        ensures gives { Gives typed_view.view_item result (and_then (run (rule_initial (scope_of self.old) (view_name name) types.Int (option_map view_expression value.now))) (λ c. Ok (nodes.Declare self.old.next_local types.Int c))) }
-        ensures behind { OnOk result (self.new ≡ with_local self.old (view_name name)) }
-    {
-        let value = self.check_initial(name, value)?;
-        let number = self.next_local;
-        let Some(next) = number.checked_add(1) else {
-            return Err(Stop::Memory);
-        };
-        self.locals.declare(Local {
-            name: name.name.number,
-            number,
-            region: self.region,
-        })?;
-        self.next_local = next;
-        Ok(typed::Item::Local {
-            number,
-            of_type: Ty::Int,
+        Stmt::Return { span, value } => check_return(scope, *span, value),
+        Stmt::Break { span } => leaves_loop(scope, *span, typed::Stmt::Break),
+        Stmt::Continue { span } => leaves_loop(scope, *span, typed::Stmt::Continue),
+        Stmt::Throw {
+            span,
+            exception,
             value,
-        })
-    }
-
-    #[cycle(statement)]
-    #[tactic(auto, using(crate::proofs::Orders::order_in_loop, crate::proofs::Orders::order_behind))]
-    pub(crate) fn check_statement(&mut self, statement: &Stmt) -> Result<Box<typed::Stmt>, Stop>
-        requires { IsInOrder self.old }
-        ensures gives { Gives view_boxed_statement result (run (rule_statement (scope_of self.old) (view_statement statement.now))) }
-        ensures behind { OnOk result (self.new ≡ behind_statement self.old (view_statement statement.now)) }
-    {
-        match statement {
-            Stmt::Block { block } => self.check_block(&block.items),
-            Stmt::Empty { .. } => empty(self.alloc),
-            Stmt::Expression { value } => {
-                let value = self.check_expression(value)?;
-                evaluation(self.alloc, value)
+        } => check_throw(scope, *span, *exception, value),
+        Stmt::Try {
+            body,
+            clauses,
+            default,
+            ..
+        } => {
+            let body = check_statement(scope, body)?;
+            let clauses = check_clauses(scope, clauses)?;
+            match default {
+                None => try_of(scope.alloc(), body, clauses, None),
+                Some(items) => {
+                    let default = check_default(scope, items)?;
+                    try_of(scope.alloc(), body, clauses, Some(default))
+                }
             }
-            Stmt::If {
-                condition,
-                then,
-                otherwise: None,
-                ..
-            } => {
-                let condition = self.check_condition(condition)?;
-                let then = self.check_statement(then)?;
-                let otherwise = empty(self.alloc)?;
-                choice(self.alloc, condition, then, otherwise)
-            }
-            Stmt::If {
-                condition,
-                then,
-                otherwise: Some(otherwise),
-                ..
-            } => {
-                let condition = self.check_condition(condition)?;
-                let then = self.check_statement(then)?;
-                let otherwise = self.check_statement(otherwise)?;
-                choice(self.alloc, condition, then, otherwise)
-            }
-            Stmt::While {
-                span,
-                condition,
-                body,
-            } => {
-                let condition = self.check_condition(condition)?;
-                let body = self.check_body(body)?;
-                repetition(self.alloc, *span, condition, body)
-            }
-            Stmt::Return { span, value } => {
-                let value = self.check_returned(*span, value)?;
-                return_of(self.alloc, value)
-            }
-            Stmt::Break { span } => self.leaves_loop(*span, typed::Stmt::Break),
-            Stmt::Continue { span } => self.leaves_loop(*span, typed::Stmt::Continue),
-            _ => Err(not_built()),
         }
     }
+}
 
-    /// The body of a loop.
-    #[cycle(statement)]
-    #[tactic(auto, using(crate::proofs::Orders::order_in_loop))]
-    fn check_body(&mut self, statement: &Stmt) -> Result<Box<typed::Stmt>, Stop>
-        requires { IsInOrder self.old }
-        ensures gives { Gives view_boxed_statement result (run (rule_statement (scope_of (looping self.old)) (view_statement statement.now))) }
-        ensures behind { OnOk result (self.new ≡ behind_statement self.old (view_statement statement.now)) }
-    {
-        let outer = self.in_loop;
-        self.in_loop = true;
-        let body = self.check_statement(statement)?;
-        self.in_loop = outer;
-        Ok(body)
+/// The body of a loop.
+#[cycle(statement)]
+fn check_body(scope: &mut Scope<'_>, statement: &Stmt) -> Result<Box<typed::Stmt>, Stop>
+    ensures gives { Gives view_boxed_statement result (run (rule_statement (in_body scope.old) (view_statement statement.now))) }
+    ensures behind { OnOk result (scope.new ≡ behind scope.old (view_statement statement.now)) }
+{
+    let mark = scope.mark();
+    scope.enter_loop();
+    let body = check_statement(scope, statement)?;
+    scope.leave(mark);
+    Ok(body)
+}
+
+/// The block of these items.
+#[cycle(statement)]
+fn check_block(scope: &mut Scope<'_>, items: &[Item]) -> Result<Box<typed::Stmt>, Stop>
+    ensures gives { Gives view_boxed_statement result (and_then (run (rule_items (in_block scope.old) (items_of items.now))) (λ js. Ok (nodes.Block scope.old.next_region js))) }
+    ensures behind { OnOk result (scope.new ≡ behind_block scope.old (items_of items.now)) }
+{
+    let mark = scope.mark();
+    let region = scope.next_region();
+    scope.enter_block()?;
+    let items = check_items(scope, items)?;
+    scope.leave(mark);
+    block_of(scope.alloc(), region, items)
+}
+
+/// The block of these items with a label.
+#[cycle(statement)]
+fn check_labelled(
+    scope: &mut Scope<'_>,
+    items: &[Item],
+    label: Ident,
+) -> Result<Box<typed::Stmt>, Stop>
+    ensures gives { Gives view_boxed_statement result (and_then (run (demands (new_name_demanded scope.old (view_name label) ∷ []))) (λ u. and_then (run (rule_items (in_labelled (view_name label) scope.old) (items_of items.now))) (λ js. Ok (nodes.Block scope.old.next_region js)))) }
+    ensures behind { OnOk result (scope.new ≡ behind_labelled scope.old (view_name label) (items_of items.now)) }
+{
+    is_region_new(scope, label)?;
+    let mark = scope.mark();
+    let region = scope.next_region();
+    scope.enter_labelled(label)?;
+    let items = check_items(scope, items)?;
+    scope.leave(mark);
+    block_of(scope.alloc(), region, items)
+}
+
+/// The items of a block, which stays open.
+#[cycle(statement)]
+pub(crate) fn check_items(
+    scope: &mut Scope<'_>,
+    items: &[Item],
+) -> Result<Vec<typed::Item>, Stop>
+    ensures gives { Gives (λ v. typed_view.items_of v.items) result (run (rule_items scope.old (items_of items.now))) }
+    ensures inside { OnOk result (IsBehindItems scope.old (items_of items.now) scope.new) }
+{
+    let mut all = Vec::new(scope.alloc());
+    for item in items {
+        let item = check_item(scope, item)?;
+        all.push(item)?;
     }
+    Ok(all)
+}
 
-    /// The block of these items.
-    #[cycle(statement)]
-    #[tactic(auto, using(crate::proofs::Orders::order_in_block))]
-    fn check_block(&mut self, items: &[Item]) -> Result<Box<typed::Stmt>, Stop>
-        requires { IsInOrder self.old }
-        ensures gives { Gives view_boxed_statement result (and_then (run (rule_items (scope_of (in_block self.old)) (items_of items.now))) (λ js. Ok (nodes.Block self.old.next_region js))) }
-        ensures behind { OnOk result (self.new ≡ behind_block self.old (items_of items.now)) }
-    {
-        let outer = self.region;
-        let region = self.next_region;
-        let Some(next) = region.checked_add(1) else {
-            return Err(Stop::Memory);
-        };
-        self.region = region;
-        self.next_region = next;
-        let items = self.check_items(items)?;
-        self.region = outer;
-        block_of(self.alloc, region, items)
-    }
-
-    /// The items of a block. What they declare is forgotten behind them.
-    #[cycle(statement)]
-    pub(crate) fn check_items(&mut self, items: &[Item]) -> Result<Vec<typed::Item>, Stop>
-        requires { IsInOrder self.old }
-        ensures gives { Gives (λ v. typed_view.items_of v.items) result (run (rule_items (scope_of self.old) (items_of items.now))) }
-        ensures behind { OnOk result (self.new ≡ behind_items self.old (items_of items.now)) }
-    {
-        let count = self.locals.len();
-        let mut all = Vec::new(self.alloc);
-        for item in items {
-            let item = self.check_item(item)?;
-            all.push(item)?;
+#[cycle(statement)]
+fn check_item(scope: &mut Scope<'_>, item: &Item) -> Result<typed::Item, Stop>
+    ensures gives { Gives typed_view.view_item result (run (rule_item scope.old (view_item item.now))) }
+    ensures behind { IfOk result (λ j. scope.new ≡ behind_item scope.old (view_item item.now) (typed_view.view_item j)) }
+{
+    match item {
+        Item::Statement { statement } => {
+            let statement = check_statement(scope, statement)?;
+            Ok(execution(statement))
         }
-        self.locals.close(count);
-        Ok(all)
+        Item::Local {
+            of_type,
+            name,
+            value,
+        } => declare_local(scope, of_type, *name, value),
+        Item::Region {
+            region,
+            handle,
+            key: None,
+        } => open_lexical(scope, *region, *handle),
+        Item::Region {
+            region,
+            handle,
+            key: Some(key),
+        } => open_dynamic(scope, *region, *handle, *key),
+        Item::Alias {
+            region,
+            of_type,
+            name,
+            source,
+        } => declare_alias(scope, *region, of_type, *name, *source),
+        Item::DynamicRegion { region, key } => declare_dynamic(scope, *region, *key),
     }
+}
 
-    #[cycle(statement)]
-    fn check_item(&mut self, item: &Item) -> Result<typed::Item, Stop>
-        requires { IsInOrder self.old }
-        ensures gives { Gives typed_view.view_item result (run (rule_item (scope_of self.old) (view_item item.now))) }
-        ensures behind { OnOk result (self.new ≡ behind_item (view_item item.now) self.old) }
-    {
-        match item {
-            Item::Statement { statement } => {
-                let statement = self.check_statement(statement)?;
-                Ok(execution(statement))
-            }
-            Item::Local { name, value, .. } => self.declare_local(*name, value),
-            _ => Err(not_built()),
-        }
+/// The clauses of a catch but for a default one.
+#[cycle(statement)]
+fn check_clauses(
+    scope: &mut Scope<'_>,
+    clauses: &[Clause],
+) -> Result<Vec<typed::Clause>, Stop>
+    ensures gives { Gives (λ v. typed_view.clauses_of v.items nodes.NoClauses) result (run (rule_clauses scope.old [] (clauses_of clauses.now NoClauses))) }
+    ensures behind { OnOk result (scope.new ≡ behind_clauses scope.old (clauses_of clauses.now NoClauses)) }
+{
+    let mut before = NameSet::new(scope.alloc());
+    let mut all = Vec::new(scope.alloc());
+    for clause in clauses {
+        let clause = check_clause(scope, clause, &mut before)?;
+        all.push(clause)?;
     }
+    Ok(all)
+}
+
+/// A clause behind those for exceptions of these names, which gets one more.
+#[cycle(statement)]
+fn check_clause(
+    scope: &mut Scope<'_>,
+    clause: &Clause,
+    before: &mut NameSet,
+) -> Result<typed::Clause, Stop>
+    ensures gives { Gives view_clause result (run (rule_clauses scope.old before.old (clauses_of (clause.now ∷ []) NoClauses))) }
+    ensures behind { OnOk result (scope.new ≡ behind_clauses scope.old (clauses_of (clause.now ∷ []) NoClauses)) }
+    ensures before { OnOk result (before.new ≡ clause.now.exception.name.number ∷ before.old) }
+{
+    let tag = caught(scope, before, clause.exception, clause.variable)?;
+    before.add(clause.exception.name.number)?;
+    let mark = scope.mark();
+    let region = scope.next_region();
+    scope.enter_block()?;
+    let number = declare_caught(scope, clause.variable)?;
+    let items = check_items(scope, &clause.items)?;
+    scope.leave(mark);
+    Ok(typed::Clause {
+        tag,
+        number,
+        region,
+        items,
+    })
+}
+
+/// The items of a default clause.
+#[cycle(statement)]
+fn check_default(scope: &mut Scope<'_>, items: &[Item]) -> Result<typed::Body, Stop>
+    ensures gives { Gives (λ b. nodes.Default b.region (typed_view.items_of b.items.items)) result (and_then (run (rule_items (in_block scope.old) (items_of items.now))) (λ js. Ok (nodes.Default scope.old.next_region js))) }
+    ensures behind { OnOk result (scope.new ≡ behind_block scope.old (items_of items.now)) }
+{
+    let mark = scope.mark();
+    let region = scope.next_region();
+    scope.enter_block()?;
+    let items = check_items(scope, items)?;
+    scope.leave(mark);
+    Ok(typed::Body { region, items })
 }

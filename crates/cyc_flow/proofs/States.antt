@@ -1,9 +1,10 @@
 -- The loops over two lists of what is known, and the meeting of states.
-use Rattle.std.proofs.Common.{◌≡◌, ℕ, ◌+◌, ◌<◌, ◌≤◌, min, Bool, true, List, [], ◌∷◌, ◌++◌, length, get_or, take, drop, map, replicate, refl, sym, ap, subst, ◌∙◌, arith}
+use Rattle.std.proofs.Common.{◌≡◌, ℕ, ◌+◌, ◌<◌, ◌≤◌, min, Bool, true, false, ◌&&◌, List, [], ◌∷◌, ◌++◌, length, get_or, take, drop, map, replicate, refl, sym, ap, subst, ◌∙◌, arith}
 use Rattle.std.proofs.lemmas.List.{drop_more, length-drop}
 use Rattle.cyc_flow.specs.declared.state.Fullness.{Fullness as FullnessCode}
 use Rattle.cyc_types.specs.Types.{Ty}
-use Rattle.cyc_types.specs.FlowRules.{Fullness, Vacant, Locked, Full, State, Unreached, Reached, lower, lower_each, meet, are_as_full, each_is}
+use Rattle.cyc_types.specs.flow.States.{Fullness, lower_each, is_as_full, are_as_full}
+use Rattle.cyc_types.specs.flow.Programs.{each_is}
 use Rattle.cyc_flow.specs.Code.{view_fullness}
 
 abbrev views : List FullnessCode → List Fullness
@@ -40,15 +41,27 @@ lowered_all xs ys whole i n d e k =
 abbrev pub Compared : List FullnessCode → List FullnessCode → ℕ → Bool → Type 0
 Compared xs ys i whole = are_as_full (map view_fullness (drop i xs)) (map view_fullness (drop i ys)) ≡ whole
 
-none_to_compare : (xs ys : List FullnessCode) → min (length xs) (length ys) ≡ 0 → are_as_full (views xs) (views ys) ≡ true
-none_to_compare [] ys h = refl
-none_to_compare (x ∷ xs) [] h = refl
-none_to_compare (x ∷ xs) (y ∷ ys) h = absurd (omega arith)
+none_to_compare : (xs ys : List FullnessCode) → length xs ≡ 0 → length ys ≡ 0 → are_as_full (views xs) (views ys) ≡ true
+none_to_compare [] [] h k = refl
+none_to_compare [] (y ∷ ys) h k = absurd (omega arith)
+none_to_compare (x ∷ xs) ys h k = absurd (omega arith)
 
-pub compared_all : (xs ys : List FullnessCode) (whole : Bool) (n : ℕ) → min (length xs) (length ys) ≤ n → Compared xs ys n whole → true ≡ whole
-compared_all xs ys whole n e h =
-    let none : min (length (drop n xs)) (length (drop n ys)) ≡ 0 = omega (arith, length-drop n xs, length-drop n ys) in
-    sym (none_to_compare (drop n xs) (drop n ys) none) ∙ h
+pub compared_all : (xs ys : List FullnessCode) (whole : Bool) (n : ℕ) → length xs ≡ length ys → length xs ≤ n → Compared xs ys n whole → true ≡ whole
+compared_all xs ys whole n same e h =
+    let one : length (drop n xs) ≡ 0 = omega (arith, length-drop n xs) in
+    let other : length (drop n ys) ≡ 0 = omega (arith, length-drop n ys) in
+    sym (none_to_compare (drop n xs) (drop n ys) one other) ∙ h
+
+-- lists of different lengths are not compared
+pub unequal : (xs ys : List FullnessCode) → (length xs ≡ length ys → ⊥) → are_as_full (views xs) (views ys) ≡ false
+unequal [] [] n = absurd (n refl)
+unequal [] (y ∷ ys) n = refl
+unequal (x ∷ xs) [] n = refl
+unequal (x ∷ xs) (y ∷ ys) n = and_false (is_as_full (view_fullness x) (view_fullness y)) (unequal xs ys (λ e. n (omega arith)))
+  where
+    and_false : (a : Bool) {b : Bool} → b ≡ false → (a && b) ≡ false
+    and_false true e = e
+    and_false false e = refl
 
 -- ---- the state at the start of a function
 
@@ -65,30 +78,3 @@ pub all_known : {X : Type 0} (view : X → Ty) (a b : FullnessCode) (n m : ℕ) 
     → map view_fullness (replicate n a ++ replicate m b) ≡ each_is (view_fullness a) (map view ts) ++ each_is (view_fullness b) (map view us)
 all_known view a b n m ts us d e =
     ap (λ (k : ℕ). map view_fullness (replicate k a ++ replicate m b)) d ∙ ap (λ (k : ℕ). map view_fullness (replicate (length ts) a ++ replicate k b)) e ∙ both_known view a b ts us
-
--- ---- where states meet
-
-lower-assoc : (a b c : Fullness) → lower (lower a b) c ≡ lower a (lower b c)
-lower-assoc Vacant b c = refl
-lower-assoc Locked Vacant c = refl
-lower-assoc Locked Locked Vacant = refl
-lower-assoc Locked Locked Locked = refl
-lower-assoc Locked Locked Full = refl
-lower-assoc Locked Full c = refl
-lower-assoc Full b c = refl
-
-lower_each-assoc : (as' bs cs : List Fullness) → lower_each (lower_each as' bs) cs ≡ lower_each as' (lower_each bs cs)
-lower_each-assoc [] bs cs = refl
-lower_each-assoc (a ∷ as') [] cs = refl
-lower_each-assoc (a ∷ as') (b ∷ bs) [] = refl
-lower_each-assoc (a ∷ as') (b ∷ bs) (c ∷ cs) = ap (λ d. d ∷ lower_each (lower_each as' bs) cs) (lower-assoc a b c) ∙ ap (λ ds. lower a (lower b c) ∷ ds) (lower_each-assoc as' bs cs)
-
-pub meet_assoc : (f g h : State) → meet (meet f g) h ≡ meet f (meet g h)
-meet_assoc Unreached g h = refl
-meet_assoc (Reached as') Unreached h = refl
-meet_assoc (Reached as') (Reached bs) Unreached = refl
-meet_assoc (Reached as') (Reached bs) (Reached cs) = ap Reached (lower_each-assoc as' bs cs)
-
-pub meet_unreached : (f : State) → meet f Unreached ≡ f
-meet_unreached Unreached = refl
-meet_unreached (Reached as') = refl

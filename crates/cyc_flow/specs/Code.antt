@@ -1,5 +1,5 @@
 -- What the code has to do with the flow rules: the states that it holds, and what its functions answer.
-use Rattle.std.specs.Prelude.{◌≡◌, map, Result, Ok, Err}
+use Rattle.std.specs.Prelude.{◌≡◌, ℕ, List, map, Option, Some, None, Result, Ok, Err}
 use Rattle.cyc_words.specs.declared.fault.Fault.{Fault}
 use Rattle.cyc_words.specs.Fault.{memory_fault}
 use Rattle.cyc_flow.specs.declared.state.Fullness.{Fullness as FullnessCode}
@@ -8,8 +8,12 @@ use Rattle.cyc_flow.specs.declared.state.State.{State as StateCode}
 use Rattle.cyc_flow.specs.declared.state.State.TheVariants as states
 use Rattle.cyc_flow.specs.declared.stop.Stop.{Stop}
 use Rattle.cyc_flow.specs.declared.stop.Stop.TheVariants as stops
-use Rattle.cyc_types.specs.FlowRules.{Fullness, Vacant, Locked, Full, State, Unreached, Reached}
-use Rattle.cyc_types.specs.FlowChecking.{Kept}
+use Rattle.cyc_flow.specs.declared.expressions.Tracked.{Tracked}
+use Rattle.cyc_types.specs.Rules.{Checked, run}
+use Rattle.cyc_types.specs.flow.States.{Fullness, Vacant, Locked, Full, State, Unreached, Reached}
+use Rattle.cyc_types.specs.TypedTrees.{Clauses}
+use Rattle.cyc_types.specs.flow.Touched.{touched_clauses}
+use Rattle.cyc_types.specs.flow.Statements.{Around, Known, rule_clauses}
 
 abbrev pub view_fullness : FullnessCode → Fullness
 view_fullness code.Vacant = Vacant
@@ -25,22 +29,37 @@ abbrev pub fault_of : Stop → Fault
 fault_of stops.Memory = memory_fault
 fault_of (stops.Refused x) = x
 
--- What stopped the code is what is wrong. When memory runs out, nothing is said.
-abbrev pub Stops : Stop → Kept → Type 0
-Stops stops.Memory verdict = Unit {0}
-Stops (stops.Refused x) verdict = verdict ≡ Err x
+-- A refusal of the code is the rule's. When memory runs out, nothing is said.
+abbrev pub Stops : {Y : Type 0} → Stop → Checked Y → Type 0
+Stops stops.Memory checked = Unit {0}
+Stops (stops.Refused x) checked = checked ≡ Err x
 
--- The code goes on where nothing is wrong, and stops at what is.
-abbrev pub Allows : {X : Type 0} → Result X Stop → Kept → Type 0
-Allows (Ok x) verdict = verdict ≡ Ok tt
-Allows (Err e) verdict = Stops e verdict
+-- The code goes on where no fault is known, and else stops with it: never for want of memory.
+abbrev pub Ends : Result (Unit {0}) Stop → Option Fault → Type 0
+Ends (Ok u) fault = fault ≡ None
+Ends (Err stops.Memory) fault = ⊥
+Ends (Err (stops.Refused x)) fault = fault ≡ Some x
 
--- The same, and what it then knows is this.
-abbrev pub Gives : Result StateCode Stop → Kept → State → Type 0
-Gives (Ok s) verdict behind = (verdict ≡ Ok tt) × (view_state s ≡ behind)
-Gives (Err e) verdict behind = Stops e verdict
+-- The code goes on where the rule is kept.
+abbrev pub Allows : Result (Unit {0}) Stop → Checked (Unit {0}) → Type 0
+Allows (Ok u) checked = checked ≡ Ok tt
+Allows (Err e) checked = Stops e checked
 
--- The same in a loop that may be left: its breaks met so far are then these.
-abbrev pub GivesInLoop : Result StateCode Stop → Kept → State → State → State → Type 0
-GivesInLoop (Ok s) verdict behind breaks met = (verdict ≡ Ok tt) × (view_state s ≡ behind) × (met ≡ breaks)
-GivesInLoop (Err e) verdict behind breaks met = Stops e verdict
+-- What the code knows behind an expression is what the rule says is known there, and these locals are touched.
+abbrev pub Gives : Result Tracked Stop → Checked State → List ℕ → Type 0
+Gives (Ok t) checked ns = (checked ≡ Ok (view_state t.state)) × (t.touched.items ≡ ns)
+Gives (Err e) checked ns = Stops e checked
+
+abbrev pub known : State → State → Known
+known f breaks = record { now = f; breaks = breaks }
+
+-- The same behind a statement, where what is known at the breaks so far is then this.
+abbrev pub GivesKnown : Result Tracked Stop → Checked Known → List ℕ → State → Type 0
+GivesKnown (Ok t) checked ns breaks = (checked ≡ Ok (known (view_state t.state) breaks)) × (t.touched.items ≡ ns)
+GivesKnown (Err e) checked ns breaks = Stops e checked
+
+-- The same behind clauses, whatever clauses stand behind them.
+abbrev pub GivesClauses : Around → State → Result Tracked Stop → (clauses : Clauses → Clauses) → Known → List ℕ → State → Type 0
+GivesClauses c start (Ok t) clauses k ns breaks =
+    (rest : Clauses) → (run (rule_clauses c start (clauses rest) k) ≡ run (rule_clauses c start rest (known (view_state t.state) breaks))) × (touched_clauses (clauses rest) ns ≡ touched_clauses rest t.touched.items)
+GivesClauses c start (Err e) clauses k ns breaks = (rest : Clauses) → Stops e (run (rule_clauses c start (clauses rest) k))

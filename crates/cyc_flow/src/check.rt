@@ -1,13 +1,13 @@
 //! The flow check of a program.
-ghost use Rattle.std.specs.Prelude.{◌≡◌, map, IfOk};
+ghost use Rattle.std.specs.Prelude.{◌≡◌, map, None, IfOk};
 ghost use Rattle.cyc_words.specs.Decision.{Decides};
 ghost use Rattle.cyc_types.specs.TypedTreeView.{view_function, view_program};
-ghost use Rattle.cyc_types.specs.FlowRules.{start_of, IsAllowedProgram};
-ghost use Rattle.cyc_types.specs.FlowRefusals.{IsStoppedProgram};
-ghost use Rattle.cyc_types.specs.FlowChecking.{keep_end, keep_function, keep_functions};
-ghost use Rattle.cyc_flow.specs.Code.{view_state, Allows};
+ghost use Rattle.cyc_types.specs.Rules.{settled, run};
+ghost use Rattle.cyc_types.specs.flow.Programs.{start_of, end_demanded, rule_function, rule_functions, IsAllowedProgram, IsStoppedProgram};
+ghost use Rattle.cyc_flow.specs.Code.{view_state, Ends, Allows};
 
-use crate::expressions::refusal;
+use crate::expressions::Tracked;
+use crate::settled::Settled;
 use crate::state::{Fullness, State, add};
 use crate::statements::Walk;
 use crate::stop::Stop;
@@ -23,8 +23,9 @@ pub struct Flowed {
     pub ghost allowed: { ∥ IsAllowedProgram (view_program tree) ∥₁ },
 }
 
-/// Whether a typed tree keeps the flow rules: each variable holds a value where it is used, a loop leaves none emptier than it was
-/// at its head, and no path through a function with a result reaches its end.
+/// Whether a typed tree keeps the flow rules: each variable holds a value where it is used, and none is used or assigned while its value
+/// is lent out or looked at; a loop leaves none emptier than it was at its head; a clause of a catch rests on none that the body of its
+/// `try` may have emptied; and no path through a function with a result reaches its end.
 ///
 /// The first fault is the answer, by the order in which a program is run. Any copy of what is known may be refused for want of
 /// memory.
@@ -36,8 +37,9 @@ pub fn flow(alloc: Global, tree: TypedTree) -> Result<Flowed, Fault>
     Ok(Flowed { tree })
 }
 
+#[tactic(auto, using(std::proofs::lemmas::List::drop_more))]
 fn check_functions(alloc: Global, functions: &[Function]) -> Result<(), Stop>
-    ensures { Allows result (keep_functions (map view_function functions.now)) }
+    ensures { Allows result (run (rule_functions (map view_function functions.now))) }
 {
     for function in functions {
         check_function(alloc, function)?;
@@ -46,12 +48,15 @@ fn check_functions(alloc: Global, functions: &[Function]) -> Result<(), Stop>
 }
 
 fn check_function(alloc: Global, function: &Function) -> Result<(), Stop>
-    ensures { Allows result (keep_function (view_function function.now)) }
+    ensures { Allows result (run (rule_function (view_function function.now))) }
 {
-    let start = start_of(alloc, function)?;
+    let start = Tracked {
+        state: start_of(alloc, function)?,
+        touched: Vec::new(alloc),
+    };
     let mut walk = Walk::new(alloc);
     let end = walk.check_items(None, &function.body, start)?;
-    check_end(function, &end)
+    check_end(function, &end.state)
 }
 
 /// At the start of a function its parameters are full.
@@ -66,10 +71,12 @@ fn start_of(alloc: Global, function: &Function) -> Result<State, AllocError>
 
 /// The end of a function with a result is never reached.
 fn check_end(function: &Function, state: &State) -> Result<(), Stop>
-    ensures { Allows result (keep_end (view_function function.now).result (view_state state.now) (view_function function.now).end) }
+    ensures { Ends result (settled None (end_demanded (view_function function.now).result (view_function function.now).end (view_state state.now))) }
 {
-    match (&function.result, state) {
-        (Some(_), State::Reached(_)) => Err(refusal(Code::MissingReturn, function.end)),
-        _ => Ok(()),
+    if function.result.is_none() {
+        return Ok(());
     }
+    let mut settled = Settled::new();
+    settled.demand(Code::MissingReturn, function.end, !state.is_reached());
+    settled.end()
 }

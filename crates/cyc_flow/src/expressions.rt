@@ -1,155 +1,355 @@
-//! What is known behind an expression, where it keeps the flow rules. Each method takes what is known before.
-ghost use Rattle.std.specs.Prelude.{◌≡◌, option_map};
+//! What is known behind an expression, where it keeps the flow rules. Each method takes what is known before, and the locals of which a
+//! peek waits.
+ghost use Rattle.std.specs.Prelude.{◌≡◌, ◌++◌, IfOk, Some, Ok, option_map};
 ghost use Rattle.cyc_syntax.specs.TreeView.{place_of_span};
-ghost use Rattle.cyc_types.specs.Rules.{fault_at};
-ghost use Rattle.cyc_types.specs.TypedTreeView.{view_lvalue, view_expression, view_converted, arguments_of, operations_of};
-ghost use Rattle.cyc_types.specs.FlowRules.{Unreached, after_store, after, after_converted, after_arguments, after_operations, after_declaration, meet};
-ghost use Rattle.cyc_types.specs.FlowChecking.{use_place, store_place, keep, keep_converted, keep_arguments, keep_operations, keep_value};
+ghost use Rattle.cyc_types.specs.Rules.{run, fault_at};
+ghost use Rattle.cyc_types.specs.TypeView.{view_value_type};
+ghost use Rattle.cyc_types.specs.TypedTreeView.{view_lvalue, view_expression, view_dereference, view_placement, view_initial, view_converted, arguments_of, operations_of};
+ghost use Rattle.cyc_types.specs.flow.States.{Vacant, Full, with_fullness};
+ghost use Rattle.cyc_types.specs.flow.Touched.{and_local, and_assigned, touched, touched_place, touched_placement, touched_initial, touched_converted, touched_arguments, touched_operations};
+ghost use Rattle.cyc_types.specs.flow.Expressions.{and_peeked, peek_of, peek_behind, looked, moved, used, stored, rule, rule_place, rule_placement, rule_initial, rule_converted, rule_arguments, rule_operations};
 ghost use Rattle.cyc_flow.specs.declared.stop.Stop.TheVariants.{Refused};
-ghost use Rattle.cyc_flow.specs.Code.{view_state, Allows, Gives};
-ghost use Rattle.cyc_flow.specs.Steps.{keep_operation, after_operation};
+ghost use Rattle.cyc_flow.specs.Code.{view_fullness, view_state, Gives};
+ghost use Rattle.cyc_flow.specs.Steps.{rule_operation, touched_operation};
 
+use crate::settled::{Settled, check_head};
 use crate::state::{Fullness, State, meet};
-use crate::stop::{Stop, not_built};
-use cyc_types::typed::{Converted, Expr, Lvalue, Operation};
+use crate::stop::Stop;
+use cyc_types::typed::{
+    Converted, Dereference, Expr, Initial, Lvalue, Operation, Placement, ValueType,
+};
 use cyc_words::{Code, Fault, Span};
-use std::alloc::Global;
+use std::alloc::{AllocError, Global};
 
-/// The refusal with this code at this place.
-pub(crate) fn refusal(code: Code, span: Span) -> Stop
-    ensures { result ≡ Refused (fault_at code (place_of_span span)) }
-{
-    Stop::Refused(Fault::new(code, span.line, span.column))
+/// What is known at a place, and which locals were consumed, assigned or locked before it: unique pointers and keys.
+#[derive(Drop)]
+pub(crate) struct Tracked {
+    pub(crate) state: State,
+    pub(crate) touched: Vec<usize>,
 }
 
-impl State {
-    /// Whether a place may be read: a local has to be full.
-    fn read(&self, place: Lvalue) -> Result<(), Stop>
-        ensures { Allows result (use_place (view_lvalue place) (view_state self.now)) }
+/// The local that an operand is a peek of.
+fn peek_of(operand: &Expr) -> Option<usize>
+    ensures { result ≡ peek_of (view_expression operand.now) }
+{
+    match operand {
+        Expr::Peek { number, .. } => Some(*number),
+        _ => None,
+    }
+}
+
+/// The local that a place is reached through by a peek.
+pub(crate) fn peek_behind(place: &Dereference) -> Option<usize>
+    ensures { result ≡ peek_behind (view_dereference place.now) }
+{
+    match place {
+        Dereference::Target { pointer, .. } => peek_of(pointer),
+        Dereference::Member { pointer, .. } => peek_of(pointer),
+        Dereference::Element { pointer, .. } => peek_of(pointer),
+    }
+}
+
+/// The locals of which a peek waits, and this one, if it is one.
+pub(crate) fn and_peeked(
+    alloc: Global,
+    waiting: &[usize],
+    peeked: Option<usize>,
+) -> Result<Vec<usize>, AllocError>
+    ensures { IfOk result (λ v. v.items ≡ and_peeked peeked waiting.now) }
+{
+    let mut all = waiting.to_vec(alloc)?;
+    if let Some(number) = peeked {
+        all.push(number)?;
+    }
+    Ok(all)
+}
+
+impl Tracked {
+    /// The same but for one local, of which this is known.
+    pub(crate) fn with_fullness(self, number: usize, fullness: Fullness) -> Tracked
+        ensures state { view_state result.state ≡ with_fullness (view_fullness fullness) (view_state self.state) number }
+        ensures touched { result.touched.items ≡ self.touched.items }
     {
-        let Lvalue::Local { span, number } = place else {
-            return Ok(());
-        };
-        match self.fullness(number) {
-            Fullness::Vacant => Err(refusal(Code::EmptyVariable, span)),
-            Fullness::Locked => Err(refusal(Code::LockedVariable, span)),
-            Fullness::Full => Ok(()),
+        Tracked {
+            state: self.state.with_fullness(number, fullness),
+            touched: self.touched,
         }
     }
 
-    /// Behind an assignment to a place: a local must not be locked, and is then full.
-    fn write(self, place: Lvalue) -> Result<State, Stop>
-        ensures { Gives result (store_place (view_lvalue place) (view_state self)) (after_store (view_lvalue place) (view_state self)) }
+    /// A local is consumed, assigned or locked.
+    pub(crate) fn touch(&mut self, number: usize) -> Result<(), AllocError>
+        ensures state { IfOk result (λ _. view_state self.new.state ≡ view_state self.old.state) }
+        ensures touched { IfOk result (λ _. self.new.touched.items ≡ and_local number self.old.touched.items) }
     {
-        let Lvalue::Local { span, number } = place else {
+        self.touched.push(number)?;
+        Ok(())
+    }
+
+    /// Behind the body of a `try`, before which these were touched.
+    pub(crate) fn behind_body(self, touched: Vec<usize>) -> Result<Tracked, AllocError>
+        ensures { IfOk result (λ t. (view_state t.state ≡ view_state self.state) × (t.touched.items ≡ touched.items ++ self.touched.items)) }
+    {
+        let mut all = touched;
+        all.extend_from_slice(&self.touched)?;
+        Ok(Tracked {
+            state: self.state,
+            touched: all,
+        })
+    }
+
+    /// Behind a peek of a local.
+    fn look(self, span: Span, number: usize) -> Result<Tracked, Stop>
+        ensures { Gives result (run (looked (place_of_span span) number (view_state self.state))) self.touched.items }
+    {
+        let mut settled = Settled::new();
+        settled.look(&self.state, span, number);
+        settled.end()?;
+        Ok(self)
+    }
+
+    /// Behind a use of a variable that leaves its value there.
+    fn use_variable(self, waiting: &[usize], variable: Lvalue) -> Result<Tracked, Stop>
+        ensures { Gives result (run (used waiting.now (view_lvalue variable) (view_state self.state))) self.touched.items }
+    {
+        let Lvalue::Local { span, number } = variable else {
             return Ok(self);
         };
-        if self.fullness(number) == Fullness::Locked {
-            return Err(refusal(Code::LockedVariable, span));
+        let mut settled = Settled::new();
+        settled.use_local(waiting, &self.state, span, number);
+        settled.end()?;
+        Ok(self)
+    }
+
+    /// Behind a use of a local's value that leaves it empty.
+    fn consume(self, waiting: &[usize], span: Span, number: usize) -> Result<Tracked, Stop>
+        ensures { Gives result (run (moved waiting.now (place_of_span span) number (view_state self.state))) (and_local number self.touched.items) }
+    {
+        let mut settled = Settled::new();
+        settled.use_local(waiting, &self.state, span, number);
+        settled.end()?;
+        let mut tracked = self.with_fullness(number, Fullness::Vacant);
+        tracked.touch(number)?;
+        Ok(tracked)
+    }
+
+    /// Behind an assignment to a variable, whose value has this type.
+    fn assign(
+        self,
+        waiting: &[usize],
+        variable: Lvalue,
+        result_type: &ValueType,
+    ) -> Result<Tracked, Stop>
+        ensures { Gives result (run (stored waiting.now (view_lvalue variable) (view_state self.state))) (and_assigned (view_lvalue variable) (view_value_type result_type.now) self.touched.items) }
+    {
+        let Lvalue::Local { span, number } = variable else {
+            return Ok(self);
+        };
+        let mut settled = Settled::new();
+        settled.store_local(waiting, &self.state, span, number);
+        settled.end()?;
+        let mut tracked = self.with_fullness(number, Fullness::Full);
+        if let ValueType::Void = result_type {
+            tracked.touch(number)?;
         }
-        Ok(self.with_fullness(number, Fullness::Full))
+        Ok(tracked)
     }
 
     /// Behind an expression.
     #[cycle(expression)]
-    pub(crate) fn evaluate(self, alloc: Global, value: &Expr) -> Result<State, Stop>
-        ensures { Gives result (keep (view_expression value.now) (view_state self)) (after (view_expression value.now) (view_state self)) }
+    pub(crate) fn evaluate(
+        self,
+        alloc: Global,
+        waiting: &[usize],
+        value: &Expr,
+    ) -> Result<Tracked, Stop>
+        ensures { Gives result (run (rule waiting.now (view_expression value.now) (view_state self.state))) (touched (view_expression value.now) self.touched.items) }
     {
         match value {
             Expr::Number { .. } => Ok(self),
-            Expr::Copy { source, .. } => {
-                self.read(*source)?;
-                Ok(self)
-            }
-            Expr::Call { arguments, .. } => self.pass(alloc, arguments),
-            Expr::Unary { operand, .. } => self.evaluate(alloc, operand),
+            Expr::NullPointer => Ok(self),
+            Expr::HeapRegion => Ok(self),
+            Expr::Counter { .. } => Ok(self),
+            Expr::Copy { source, .. } => self.use_variable(waiting, *source),
+            Expr::Move { span, number, .. } => self.consume(waiting, *span, *number),
+            Expr::Peek { span, number, .. } => self.look(*span, *number),
+            Expr::Load { source } => self.find(alloc, waiting, source),
+            Expr::AddressOf { place, .. } => self.use_variable(waiting, *place),
+            Expr::AddressOfCell { place, .. } => self.find(alloc, waiting, place),
+            Expr::NumberOfElements { pointer } => self.evaluate(alloc, waiting, pointer),
+            Expr::FreeUnique { pointer } => self.evaluate(alloc, waiting, pointer),
+            Expr::FreeKey { key } => self.evaluate(alloc, waiting, key),
+            Expr::Call { arguments, .. } => self.pass(alloc, waiting, arguments),
+            Expr::Unary { operand, .. } => self.evaluate(alloc, waiting, operand),
             Expr::Binary { first, rest, .. } => {
-                let state = self.evaluate(alloc, first)?;
-                state.apply_operations(alloc, rest)
+                let tracked = self.evaluate(alloc, waiting, first)?;
+                tracked.apply_operations(alloc, waiting, rest)
             }
-            Expr::Assign { target, value, .. } => {
-                let state = self.convert(alloc, value)?;
-                state.write(*target)
+            Expr::Assign {
+                target,
+                value,
+                result: result_type,
+            } => {
+                let tracked = self.convert(alloc, waiting, value)?;
+                tracked.assign(waiting, *target, result_type)
             }
-            _ => Err(not_built()),
+            Expr::Store { target, value, .. } => {
+                let tracked = self.find(alloc, waiting, target)?;
+                let waiting = and_peeked(alloc, waiting, peek_behind(target))?;
+                tracked.convert(alloc, &waiting, value)
+            }
+            Expr::New {
+                placement,
+                initial,
+                ..
+            } => {
+                let tracked = self.place(alloc, waiting, placement)?;
+                tracked.initialise(alloc, waiting, initial)
+            }
+        }
+    }
+
+    /// Behind a place that a pointer leads to.
+    #[cycle(expression)]
+    pub(crate) fn find(
+        self,
+        alloc: Global,
+        waiting: &[usize],
+        place: &Dereference,
+    ) -> Result<Tracked, Stop>
+        ensures { Gives result (run (rule_place waiting.now (view_dereference place.now) (view_state self.state))) (touched_place (view_dereference place.now) self.touched.items) }
+    {
+        match place {
+            Dereference::Target { pointer, .. } => self.evaluate(alloc, waiting, pointer),
+            Dereference::Member { pointer, .. } => self.evaluate(alloc, waiting, pointer),
+            Dereference::Element { pointer, index, .. } => {
+                let tracked = self.evaluate(alloc, waiting, pointer)?;
+                let waiting = and_peeked(alloc, waiting, peek_of(pointer))?;
+                tracked.evaluate(alloc, &waiting, index)
+            }
+        }
+    }
+
+    /// Behind the handle of the region that an object is made in, if it has one.
+    #[cycle(expression)]
+    fn place(self, alloc: Global, waiting: &[usize], placement: &Placement) -> Result<Tracked, Stop>
+        ensures { Gives result (run (rule_placement waiting.now (view_placement placement.now) (view_state self.state))) (touched_placement (view_placement placement.now) self.touched.items) }
+    {
+        match placement {
+            Placement::OnHeap => Ok(self),
+            Placement::AsUnique => Ok(self),
+            Placement::ByHandle { handle } => self.evaluate(alloc, waiting, handle),
+        }
+    }
+
+    /// Behind what a new object holds. An array may have no elements, and its last one leaves what is known at the first.
+    #[cycle(expression)]
+    fn initialise(
+        self,
+        alloc: Global,
+        waiting: &[usize],
+        initial: &Initial,
+    ) -> Result<Tracked, Stop>
+        ensures { Gives result (run (rule_initial waiting.now (view_initial initial.now) (view_state self.state))) (touched_initial (view_initial initial.now) self.touched.items) }
+    {
+        match initial {
+            Initial::Plain { value, .. } => self.evaluate(alloc, waiting, value),
+            Initial::Fields { values } => self.pass(alloc, waiting, values),
+            Initial::Array {
+                span,
+                length,
+                element,
+                ..
+            } => {
+                let tracked = self.evaluate(alloc, waiting, length)?;
+                let head = tracked.state.copy(alloc)?;
+                let end = tracked.evaluate(alloc, waiting, element)?;
+                check_head(&end.state, &head, *span)?;
+                Ok(Tracked {
+                    state: head,
+                    touched: end.touched,
+                })
+            }
         }
     }
 
     /// Behind an expression whose value is converted.
     #[cycle(expression)]
-    pub(crate) fn convert(self, alloc: Global, converted: &Converted) -> Result<State, Stop>
-        ensures { Gives result (keep_converted (view_converted converted.now) (view_state self)) (after_converted (view_converted converted.now) (view_state self)) }
+    pub(crate) fn convert(
+        self,
+        alloc: Global,
+        waiting: &[usize],
+        converted: &Converted,
+    ) -> Result<Tracked, Stop>
+        ensures { Gives result (run (rule_converted waiting.now (view_converted converted.now) (view_state self.state))) (touched_converted (view_converted converted.now) self.touched.items) }
     {
-        self.evaluate(alloc, &converted.value)
+        self.evaluate(alloc, waiting, &converted.value)
     }
 
-    /// Behind the arguments of a call.
+    /// Behind the arguments of a call, or the fields of a struct.
     #[cycle(expression)]
-    fn pass(self, alloc: Global, arguments: &[Converted]) -> Result<State, Stop>
-        ensures { Gives result (keep_arguments (arguments_of arguments.now) (view_state self)) (after_arguments (arguments_of arguments.now) (view_state self)) }
+    #[tactic(auto, using(std::proofs::lemmas::List::drop_more))]
+    fn pass(
+        self,
+        alloc: Global,
+        waiting: &[usize],
+        arguments: &[Converted],
+    ) -> Result<Tracked, Stop>
+        ensures { Gives result (run (rule_arguments waiting.now (arguments_of arguments.now) (view_state self.state))) (touched_arguments (arguments_of arguments.now) self.touched.items) }
     {
-        let mut state = self;
+        let mut tracked = self;
         for argument in arguments {
-            state = state.convert(alloc, argument)?;
+            tracked = tracked.convert(alloc, waiting, argument)?;
         }
-        Ok(state)
+        Ok(tracked)
     }
 
     /// Behind one operator of a chain and its operand, which `&&` and `||` may leave out.
     #[cycle(expression)]
-    fn apply_operation(self, alloc: Global, operation: &Operation) -> Result<State, Stop>
-        ensures { Gives result (keep_operation operation.now (view_state self)) (after_operation operation.now (view_state self)) }
+    fn apply_operation(
+        self,
+        alloc: Global,
+        waiting: &[usize],
+        operation: &Operation,
+    ) -> Result<Tracked, Stop>
+        ensures { Gives result (run (rule_operation waiting.now operation.now (view_state self.state))) (touched_operation operation.now self.touched.items) }
     {
         match operation {
-            Operation::Compute { operand, .. } => self.evaluate(alloc, operand),
+            Operation::Compute { operand, .. } => self.evaluate(alloc, waiting, operand),
             Operation::Test { operand, .. } => {
-                let before = self.copy(alloc)?;
-                let behind = self.evaluate(alloc, operand)?;
-                Ok(meet(before, behind))
+                let before = self.state.copy(alloc)?;
+                let behind = self.evaluate(alloc, waiting, operand)?;
+                Ok(Tracked {
+                    state: meet(before, behind.state),
+                    touched: behind.touched,
+                })
             }
-            _ => Err(not_built()),
+            Operation::Pointer { operand, .. } => self.evaluate(alloc, waiting, operand),
+            Operation::PointerPeek {
+                number,
+                operand,
+                ..
+            } => {
+                let waiting = and_peeked(alloc, waiting, Some(*number))?;
+                self.evaluate(alloc, &waiting, operand)
+            }
         }
     }
 
     /// Behind the rest of a chain.
     #[cycle(expression)]
-    fn apply_operations(self, alloc: Global, operations: &[Operation]) -> Result<State, Stop>
-        ensures { Gives result (keep_operations (operations_of operations.now) (view_state self)) (after_operations (operations_of operations.now) (view_state self)) }
+    #[tactic(auto, using(std::proofs::lemmas::List::drop_more, crate::proofs::Walks::operation_run, crate::proofs::Walks::operation_touched))]
+    fn apply_operations(
+        self,
+        alloc: Global,
+        waiting: &[usize],
+        operations: &[Operation],
+    ) -> Result<Tracked, Stop>
+        ensures { Gives result (run (rule_operations waiting.now (operations_of operations.now) (view_state self.state))) (touched_operations (operations_of operations.now) self.touched.items) }
     {
-        let mut state = self;
+        let mut tracked = self;
         for operation in operations {
-            state = state.apply_operation(alloc, operation)?;
+            tracked = tracked.apply_operation(alloc, waiting, operation)?;
         }
-        Ok(state)
-    }
-
-    /// Behind the declaration of a local: it holds its initial value, or nothing.
-    pub(crate) fn declare(
-        self,
-        alloc: Global,
-        number: usize,
-        value: &Option<Converted>,
-    ) -> Result<State, Stop>
-        ensures { Gives result (keep_value (option_map view_converted value.now) (view_state self)) (after_declaration number (option_map view_converted value.now) (view_state self)) }
-    {
-        let Some(converted) = value else {
-            return Ok(self.with_fullness(number, Fullness::Vacant));
-        };
-        let state = self.convert(alloc, converted)?;
-        Ok(state.with_fullness(number, Fullness::Full))
-    }
-
-    /// Behind a `return` no code is run.
-    pub(crate) fn return_value(
-        self,
-        alloc: Global,
-        value: &Option<Converted>,
-    ) -> Result<State, Stop>
-        ensures { Gives result (keep_value (option_map view_converted value.now) (view_state self)) Unreached }
-    {
-        if let Some(converted) = value {
-            self.convert(alloc, converted)?;
-        }
-        Ok(State::Unreached)
+        Ok(tracked)
     }
 }

@@ -5,6 +5,7 @@ pub use check::{Flowed, flow};
 
 mod check;
 mod expressions;
+mod settled;
 mod state;
 mod statements;
 mod stop;

@@ -1,6 +1,7 @@
 //! What is known of each local at a place of a function.
 ghost use Rattle.std.specs.Prelude.{◌≡◌, ◌++◌, IfOk, List, ℕ, map, replicate};
-ghost use Rattle.cyc_types.specs.FlowRules.{Full, meet, is_at_least, fullness, with_fullness, lower, lower_each, is_as_full, are_as_full};
+ghost use Rattle.cyc_types.specs.flow.States.{Full, Vacant, meet, is_at_least, fullness, with_fullness, with_each, emptied, lower, lower_each, is_as_full, are_as_full, is_vacant, is_locked, is_reached};
+ghost use Rattle.cyc_types.specs.flow.Expressions.{is_free};
 ghost use Rattle.cyc_flow.specs.Code.{view_fullness, view_state};
 
 use std::alloc::{AllocError, Global};
@@ -17,6 +18,18 @@ pub(crate) enum Fullness {
 }
 
 impl Fullness {
+    pub(crate) fn is_vacant(self) -> bool
+        ensures { result ≡ is_vacant (view_fullness self) }
+    {
+        matches!(self, Fullness::Vacant)
+    }
+
+    pub(crate) fn is_locked(self) -> bool
+        ensures { result ≡ is_locked (view_fullness self) }
+    {
+        matches!(self, Fullness::Locked)
+    }
+
     fn lower(self, other: Fullness) -> Fullness
         ensures { view_fullness result ≡ lower (view_fullness self) (view_fullness other) }
     {
@@ -75,6 +88,48 @@ impl State {
         self
     }
 
+    /// The same of each of these locals.
+    #[tactic(auto, using(std::proofs::lemmas::List::drop_more))]
+    pub(crate) fn with_each(self, numbers: &[usize], fullness: Fullness) -> State
+        ensures { view_state result ≡ with_each (view_fullness fullness) numbers.now (view_state self) }
+    {
+        let mut state = self;
+        for number in numbers {
+            state = state.with_fullness(*number, fullness);
+        }
+        state
+    }
+
+    /// Each of these locals may hold nothing, unless it is lent out.
+    #[tactic(auto, using(std::proofs::lemmas::List::drop_more))]
+    pub(crate) fn emptied(self, numbers: &[usize]) -> State
+        ensures { view_state result ≡ emptied numbers.now (view_state self) }
+    {
+        let mut state = self;
+        for number in numbers {
+            if !state.fullness(*number).is_locked() {
+                state = state.with_fullness(*number, Fullness::Vacant);
+            }
+        }
+        state
+    }
+
+    pub(crate) fn is_reached(&self) -> bool
+        ensures { result ≡ is_reached (view_state self.now) }
+    {
+        matches!(self, State::Reached(_))
+    }
+
+    /// Whether no peek of a local waits. In code that is never run it does not matter.
+    pub(crate) fn is_free(&self, waiting: &[usize], number: usize) -> bool
+        ensures { result ≡ is_free waiting.now number (view_state self.now) }
+    {
+        match self {
+            State::Unreached => true,
+            State::Reached(_) => !waiting.contains(&number),
+        }
+    }
+
     /// Whether nothing is emptier here than there.
     pub(crate) fn is_at_least(&self, other: &State) -> bool
         ensures { result ≡ is_at_least (view_state self.now) (view_state other.now) }
@@ -119,11 +174,14 @@ fn lower_each(mut one: Vec<Fullness>, other: &[Fullness]) -> Vec<Fullness>
     one
 }
 
+#[tactic(auto, using(crate::proofs::States::unequal))]
 fn are_as_full(one: &[Fullness], other: &[Fullness]) -> bool
     ensures { result ≡ are_as_full (map view_fullness one.now) (map view_fullness other.now) }
 {
-    let count = one.len().min(other.len());
-    for i in 0..count {
+    if one.len() != other.len() {
+        return false;
+    }
+    for i in 0..one.len() {
         if !one[i].is_as_full(other[i]) {
             return false;
         }

@@ -1,12 +1,142 @@
 //! What is known behind a statement, where it keeps the flow rules. Each method takes what is known before.
+ghost use Rattle.std.specs.Prelude.{◌≡◌, ◌++◌, [], IfOk, None, Ok, option_map};
+ghost use Rattle.cyc_syntax.specs.TreeView.{place_of_span};
+ghost use Rattle.cyc_types.specs.Rules.{and_then, settled, run};
+ghost use Rattle.cyc_types.specs.TypedTreeView.{view_expression, view_converted, view_side, view_statement, view_item, items_of, default_of, clauses_of};
+ghost use Rattle.cyc_types.specs.TypedTrees.{While, Try};
+ghost use Rattle.cyc_types.specs.flow.States.{Unreached, Full, meet, with_each};
+ghost use Rattle.cyc_types.specs.flow.Touched.{and_local, touched, touched_value, touched_thrown, touched_declaration, touched_side, touched_statement, touched_item, touched_items, touched_clauses};
+ghost use Rattle.cyc_types.specs.flow.Expressions.{rule};
+ghost use Rattle.cyc_types.specs.flow.Statements.{rule_value, rule_thrown, rule_side, peeked_side, side_demanded, rule_swapped, continue_demanded, locked_by, locks_of, rule_declared, rule_locked, caught, with_caught, or_clause, at_end, rule_statement, rule_item, rule_items, rule_clauses};
+ghost use Rattle.cyc_flow.specs.Code.{view_state, Ends, Gives, GivesKnown, GivesClauses, known};
+ghost use Rattle.cyc_types.specs.flow.Programs.{in_function};
+ghost use Rattle.cyc_flow.specs.Steps.{stands, view_loop};
 
-use crate::expressions::refusal;
-use crate::state::{State, meet};
-use crate::stop::{Stop, not_built};
-use cyc_types::typed::{Item, Stmt};
-use cyc_words::{Code, Span};
+use crate::expressions::{Tracked, and_peeked, peek_behind};
+use crate::settled::{Settled, check_head};
+use crate::state::{Fullness, State, meet};
+use crate::stop::Stop;
+use cyc_types::typed::{Body, Clause, Converted, Expr, Item, Lvalue, Side, Stmt};
+use cyc_words::Span;
 use std::alloc::Global;
 use std::mem;
+
+// ---- what stands in a statement
+
+/// Behind an expression that stands in no other.
+fn evaluate(alloc: Global, value: &Expr, tracked: Tracked) -> Result<Tracked, Stop>
+    ensures { Gives result (run (rule [] (view_expression value.now) (view_state tracked.state))) (touched (view_expression value.now) tracked.touched.items) }
+{
+    tracked.evaluate(alloc, &[], value)
+}
+
+/// Behind the value that is returned, if one is.
+fn return_value(alloc: Global, value: &Option<Converted>, tracked: Tracked) -> Result<Tracked, Stop>
+    ensures { Gives result (run (rule_value (option_map view_converted value.now) (view_state tracked.state))) (touched_value (option_map view_converted value.now) tracked.touched.items) }
+{
+    match value {
+        None => Ok(tracked),
+        Some(converted) => tracked.convert(alloc, &[], converted),
+    }
+}
+
+/// Behind the int that is thrown, if one is.
+fn throw_value(alloc: Global, value: &Option<Expr>, tracked: Tracked) -> Result<Tracked, Stop>
+    ensures { Gives result (run (rule_thrown (option_map view_expression value.now) (view_state tracked.state))) (touched_thrown (option_map view_expression value.now) tracked.touched.items) }
+{
+    match value {
+        None => Ok(tracked),
+        Some(value) => evaluate(alloc, value, tracked),
+    }
+}
+
+/// Behind the declaration of a local: it holds its initial value, or nothing.
+fn declare(
+    alloc: Global,
+    number: usize,
+    value: &Option<Converted>,
+    tracked: Tracked,
+) -> Result<Tracked, Stop>
+    ensures { Gives result (run (rule_declared number (option_map view_converted value.now) (view_state tracked.state))) (touched_declaration number (option_map view_converted value.now) tracked.touched.items) }
+{
+    match value {
+        None => {
+            let mut behind = tracked.with_fullness(number, Fullness::Vacant);
+            behind.touch(number)?;
+            Ok(behind)
+        }
+        Some(converted) => {
+            let behind = tracked.convert(alloc, &[], converted)?;
+            Ok(behind.with_fullness(number, Fullness::Full))
+        }
+    }
+}
+
+/// Behind a statement that is left for good.
+fn left(tracked: Tracked) -> Tracked
+    ensures state { view_state result.state ≡ Unreached }
+    ensures touched { result.touched.items ≡ tracked.touched.items }
+{
+    Tracked {
+        state: State::Unreached,
+        touched: tracked.touched,
+    }
+}
+
+// ---- swaps
+
+/// The local that the left side of a swap is reached through by a peek.
+fn peeked_side(side: &Side) -> Option<usize>
+    ensures { result ≡ peeked_side (view_side side.now) }
+{
+    match side {
+        Side::Variable { .. } => None,
+        Side::Cell { place } => peek_behind(place),
+    }
+}
+
+/// Behind a side of a swap, as a place.
+fn find_side(
+    alloc: Global,
+    waiting: &[usize],
+    side: &Side,
+    tracked: Tracked,
+) -> Result<Tracked, Stop>
+    ensures { Gives result (run (rule_side waiting.now (view_side side.now) (view_state tracked.state))) (touched_side (view_side side.now) tracked.touched.items) }
+{
+    match side {
+        Side::Variable { .. } => Ok(tracked),
+        Side::Cell { place } => tracked.find(alloc, waiting, place),
+    }
+}
+
+/// A side that is a variable is used once both places are found.
+fn use_side(asked: &mut Settled, waiting: &[usize], side: &Side, state: &State)
+    ensures { asked.new.known ≡ settled asked.old.known (side_demanded waiting.now (view_side side.now) (view_state state.now)) }
+{
+    if let Side::Variable { place, .. } = side {
+        if let Lvalue::Local { span, number } = place {
+            asked.use_local(waiting, state, *span, *number);
+        }
+    }
+}
+
+/// Behind a swap.
+#[tactic(auto, using(cyc_types::proofs::RuleLaws::settled_append))]
+fn swap(alloc: Global, left: &Side, right: &Side, tracked: Tracked) -> Result<Tracked, Stop>
+    ensures { Gives result (run (rule_swapped (view_side left.now) (view_side right.now) (view_state tracked.state))) (touched_side (view_side right.now) (touched_side (view_side left.now) tracked.touched.items)) }
+{
+    let tracked = find_side(alloc, &[], left, tracked)?;
+    let waiting = and_peeked(alloc, &[], peeked_side(left))?;
+    let tracked = find_side(alloc, &waiting, right, tracked)?;
+    let mut settled = Settled::new();
+    use_side(&mut settled, &[], left, &tracked.state);
+    use_side(&mut settled, &waiting, right, &tracked.state);
+    settled.end()?;
+    Ok(tracked)
+}
+
+// ---- statements
 
 /// A loop that is gone through: the place of its `while`, and what is known at its head.
 #[derive(Drop)]
@@ -15,147 +145,296 @@ pub(crate) struct Loop {
     head: State,
 }
 
-impl Loop {
-    ghost use Rattle.cyc_types.specs.FlowChecking.{keep_head};
-    ghost use Rattle.cyc_flow.specs.Code.{view_state, Allows};
-    ghost use Rattle.cyc_flow.specs.Steps.{view_loop};
-
-    /// Back at the head nothing may be emptier than it was.
-    fn check_head(&self, state: &State) -> Result<(), Stop>
-        ensures { Allows result (keep_head (view_loop self.now).place (view_state state.now) (view_loop self.now).head) }
-    {
-        if !state.is_at_least(&self.head) {
-            return Err(refusal(Code::LoopEmptiesVariable, self.span));
-        }
-        Ok(())
-    }
-}
-
 /// Goes through the statements of a function.
 #[derive(Drop)]
 pub(crate) struct Walk {
     alloc: Global,
+    /// The locals that items have locked since the body of the loop around began, in order.
+    locks: Vec<usize>,
     /// What is known at the breaks so far that leave the loop around, met.
     breaks: State,
 }
 
 impl Walk {
-    ghost use Rattle.std.specs.Prelude.{◌≡◌, option_map};
-    ghost use Rattle.cyc_types.specs.TypedTreeView.{view_statement, view_item, items_of};
-    ghost use Rattle.cyc_types.specs.FlowRules.{Unreached, meet, after_statement, after_items, breaks_of, item_breaks};
-    ghost use Rattle.cyc_types.specs.FlowChecking.{keep_continue, keep_statement, keep_items};
-    ghost use Rattle.cyc_flow.specs.Code.{view_state, Gives, GivesInLoop};
-    ghost use Rattle.cyc_flow.specs.Steps.{view_loop, keep_item, after_item, breaks_of_item};
-
     pub(crate) fn new(alloc: Global) -> Walk
-        ensures { view_state result.breaks ≡ Unreached }
+        ensures locks { result.locks.items ≡ [] }
+        ensures breaks { view_state result.breaks ≡ Unreached }
     {
         Walk {
             alloc,
+            locks: Vec::new(alloc),
             breaks: State::Unreached,
         }
     }
 
-    /// Behind a `continue`, which goes back to the head of the loop around.
-    fn continue_loop(around: Option<&Loop>, state: State) -> Result<State, Stop>
-        ensures { Gives result (keep_continue (option_map (λ l. view_loop l.now) around.entry) (view_state state)) Unreached }
-    {
-        if let Some(around) = around {
-            around.check_head(&state)?;
-        }
-        Ok(State::Unreached)
-    }
-
-    /// Behind a `break`.
-    fn break_loop(&mut self, state: State) -> State
-        ensures behind { view_state result ≡ Unreached }
-        ensures breaks { view_state self.new.breaks ≡ meet (view_state self.old.breaks) (view_state state) }
+    /// Behind a `break`, where the loop around is left.
+    fn break_loop(&mut self, tracked: Tracked) -> Tracked
+        ensures state { view_state result.state ≡ Unreached }
+        ensures touched { result.touched.items ≡ tracked.touched.items }
+        ensures breaks { view_state self.new.breaks ≡ meet (view_state self.old.breaks) (with_each Full self.old.locks.items (view_state tracked.state)) }
+        ensures locks { self.new.locks.items ≡ self.old.locks.items }
     {
         let before = mem::replace(&mut self.breaks, State::Unreached);
-        self.breaks = meet(before, state);
-        State::Unreached
+        let at_exit = tracked.state.with_each(&self.locks, Fullness::Full);
+        self.breaks = meet(before, at_exit);
+        Tracked {
+            state: State::Unreached,
+            touched: tracked.touched,
+        }
+    }
+
+    /// Whether a `continue` may go back to the head of the loop around.
+    fn check_continue(&self, around: Option<&Loop>, state: State) -> Result<(), Stop>
+        ensures { Ends result (settled None (continue_demanded (option_map (λ l. view_loop l.now) around.entry) (with_each Full self.now.locks.items (view_state state)))) }
+    {
+        let Some(around) = around else {
+            return Ok(());
+        };
+        let at_exit = state.with_each(&self.locks, Fullness::Full);
+        check_head(&at_exit, &around.head, around.span)
+    }
+
+    /// Behind an item that declares one local, and locks the one which is named here to the end of the block.
+    fn lock(
+        &mut self,
+        number: usize,
+        span: Span,
+        locked: usize,
+        tracked: Tracked,
+    ) -> Result<Tracked, Stop>
+        ensures gives { Gives result (run (rule_locked number (place_of_span span) locked (view_state tracked.state))) (and_local locked tracked.touched.items) }
+        ensures breaks { IfOk result (λ _. view_state self.new.breaks ≡ view_state self.old.breaks) }
+        ensures locks { IfOk result (λ _. self.new.locks.items ≡ and_local locked self.old.locks.items) }
+    {
+        let mut settled = Settled::new();
+        settled.look(&tracked.state, span, locked);
+        settled.end()?;
+        let lent = tracked.with_fullness(locked, Fullness::Locked);
+        let mut behind = lent.with_fullness(number, Fullness::Full);
+        behind.touch(locked)?;
+        self.locks.push(locked)?;
+        Ok(behind)
     }
 
     /// Behind a statement in this loop, if one is around it.
     #[cycle(statement)]
-    #[tactic(auto, using(crate::proofs::States::meet_unreached, crate::proofs::States::meet_assoc))]
     fn check_statement(
         &mut self,
         around: Option<&Loop>,
         statement: &Stmt,
-        state: State,
-    ) -> Result<State, Stop>
-        ensures { GivesInLoop result (keep_statement (option_map (λ l. view_loop l.now) around.entry) (view_statement statement.now) (view_state state)) (after_statement (view_statement statement.now) (view_state state)) (meet (view_state self.old.breaks) (breaks_of (view_statement statement.now) (view_state state))) (view_state self.new.breaks) }
+        tracked: Tracked,
+    ) -> Result<Tracked, Stop>
+        ensures known { GivesKnown result (run (rule_statement (stands (option_map (λ l. view_loop l.now) around.entry) self.old.locks.items) (view_statement statement.now) (known (view_state tracked.state) (view_state self.old.breaks)))) (touched_statement (view_statement statement.now) tracked.touched.items) (view_state self.new.breaks) }
+        ensures locks { IfOk result (λ _. self.new.locks.items ≡ self.old.locks.items) }
     {
         match statement {
-            Stmt::Block { items, .. } => self.check_items(around, items, state),
-            Stmt::Empty => Ok(state),
-            Stmt::Evaluate { value } => Ok(state.evaluate(self.alloc, value)?),
+            Stmt::Block { items, .. } => self.check_block(around, items, tracked),
+            Stmt::Empty => Ok(tracked),
+            Stmt::Evaluate { value } => evaluate(self.alloc, value, tracked),
+            Stmt::Swap { left, right } => swap(self.alloc, left, right, tracked),
             Stmt::If {
                 condition,
                 then,
                 otherwise,
             } => {
-                let state = state.evaluate(self.alloc, condition)?;
-                let other = state.copy(self.alloc)?;
-                let behind_then = self.check_statement(around, then, state)?;
-                let behind_otherwise = self.check_statement(around, otherwise, other)?;
-                Ok(meet(behind_then, behind_otherwise))
+                let inside = evaluate(self.alloc, condition, tracked)?;
+                let other = inside.state.copy(self.alloc)?;
+                let behind = self.check_statement(around, then, inside)?;
+                let inside_other = Tracked {
+                    state: other,
+                    touched: behind.touched,
+                };
+                let behind_other = self.check_statement(around, otherwise, inside_other)?;
+                Ok(Tracked {
+                    state: meet(behind.state, behind_other.state),
+                    touched: behind_other.touched,
+                })
             }
             Stmt::While {
                 span,
                 condition,
                 body,
-            } => {
-                let head = state.copy(self.alloc)?;
-                let inside = state.evaluate(self.alloc, condition)?;
-                let exit = inside.copy(self.alloc)?;
-                let around = Loop { span: *span, head };
-                let outer = mem::replace(&mut self.breaks, State::Unreached);
-                let end = self.check_statement(Some(&around), body, inside)?;
-                let breaks = mem::replace(&mut self.breaks, outer);
-                around.check_head(&end)?;
-                // The condition has just been evaluated, or a break has left the loop.
-                Ok(meet(exit, breaks))
+            } => self.check_loop(body, condition, *span, tracked),
+            Stmt::Return { value } => Ok(left(return_value(self.alloc, value, tracked)?)),
+            Stmt::Break => Ok(self.break_loop(tracked)),
+            Stmt::Continue => {
+                self.check_continue(around, tracked.state)?;
+                Ok(Tracked {
+                    state: State::Unreached,
+                    touched: tracked.touched,
+                })
             }
-            Stmt::Return { value } => Ok(state.return_value(self.alloc, value)?),
-            Stmt::Break => Ok(self.break_loop(state)),
-            Stmt::Continue => Ok(Walk::continue_loop(around, state)?),
-            _ => Err(not_built()),
+            Stmt::Throw { value, .. } => Ok(left(throw_value(self.alloc, value, tracked)?)),
+            Stmt::Try {
+                body,
+                clauses,
+                default,
+            } => {
+                let before = tracked.state.copy(self.alloc)?;
+                let inside = Tracked {
+                    state: tracked.state,
+                    touched: Vec::new(self.alloc),
+                };
+                let end = self.check_statement(around, body, inside)?;
+                let start = before.emptied(&end.touched);
+                let behind = end.behind_body(tracked.touched)?;
+                let behind = self.check_clauses(around, &start, clauses, behind)?;
+                match default {
+                    None => Ok(behind),
+                    Some(body) => self.check_clause(around, &start, None, &body.items, behind),
+                }
+            }
         }
     }
 
+    /// Behind a loop, whose `while` stands here.
     #[cycle(statement)]
-    #[tactic(auto, using(crate::proofs::States::meet_unreached))]
-    fn check_item(
+    fn check_loop(
+        &mut self,
+        body: &Stmt,
+        condition: &Expr,
+        span: Span,
+        tracked: Tracked,
+    ) -> Result<Tracked, Stop>
+        ensures known { GivesKnown result (run (rule_statement in_function (While (place_of_span span) (view_expression condition.now) (view_statement body.now)) (known (view_state tracked.state) (view_state self.old.breaks)))) (touched_statement (view_statement body.now) (touched (view_expression condition.now) tracked.touched.items)) (view_state self.new.breaks) }
+        ensures locks { IfOk result (λ _. self.new.locks.items ≡ self.old.locks.items) }
+    {
+        let head = tracked.state.copy(self.alloc)?;
+        let inside = evaluate(self.alloc, condition, tracked)?;
+        let exit = inside.state.copy(self.alloc)?;
+        let around = Loop { span, head };
+        let locks = mem::replace(&mut self.locks, Vec::new(self.alloc));
+        let outer = mem::replace(&mut self.breaks, State::Unreached);
+        let end = self.check_statement(Some(&around), body, inside)?;
+        let breaks = mem::replace(&mut self.breaks, outer);
+        self.locks = locks;
+        check_head(&end.state, &around.head, span)?;
+        // The condition has just been evaluated, or a break has left the loop.
+        Ok(Tracked {
+            state: meet(exit, breaks),
+            touched: end.touched,
+        })
+    }
+
+    /// Behind the clauses of a catch, of which each begins with this known, and in front of those that follow.
+    #[cycle(statement)]
+    fn check_clauses(
         &mut self,
         around: Option<&Loop>,
-        item: &Item,
-        state: State,
-    ) -> Result<State, Stop>
-        ensures { GivesInLoop result (keep_item (option_map (λ l. view_loop l.now) around.entry) (view_item item.now) (view_state state)) (after_item (view_item item.now) (view_state state)) (meet (view_state self.old.breaks) (breaks_of_item (view_item item.now) (view_state state))) (view_state self.new.breaks) }
+        start: &State,
+        clauses: &[Clause],
+        tracked: Tracked,
+    ) -> Result<Tracked, Stop>
+        ensures known { GivesClauses (stands (option_map (λ l. view_loop l.now) around.entry) self.old.locks.items) (view_state start.now) result (clauses_of clauses.now) (known (view_state tracked.state) (view_state self.old.breaks)) tracked.touched.items (view_state self.new.breaks) }
+        ensures locks { IfOk result (λ _. self.new.locks.items ≡ self.old.locks.items) }
     {
-        match item {
-            Item::Execute { statement } => self.check_statement(around, statement, state),
-            Item::Local { number, value, .. } => Ok(state.declare(self.alloc, *number, value)?),
-            _ => Err(not_built()),
+        let mut behind = tracked;
+        for clause in clauses {
+            behind = self.check_clause(around, start, clause.number, &clause.items, behind)?;
         }
+        Ok(behind)
     }
 
-    /// Behind the items of a block.
+    /// Behind a clause that begins with this known, and that puts the int into a local, if it has one.
     #[cycle(statement)]
+    fn check_clause(
+        &mut self,
+        around: Option<&Loop>,
+        start: &State,
+        number: Option<usize>,
+        items: &[Item],
+        before: Tracked,
+    ) -> Result<Tracked, Stop>
+        ensures known { GivesKnown result (and_then (run (rule_items (stands (option_map (λ l. view_loop l.now) around.entry) self.old.locks.items) (items_of items.now) (known (with_caught number (view_state start.now)) (view_state self.old.breaks)))) (λ k. Ok (or_clause (view_state before.state) (items_of items.now) k))) (touched_items (items_of items.now) before.touched.items) (view_state self.new.breaks) }
+        ensures locks { IfOk result (λ _. self.new.locks.items ≡ self.old.locks.items) }
+    {
+        let caught = match number {
+            None => start.copy(self.alloc)?,
+            Some(number) => start
+                .copy(self.alloc)?
+                .with_fullness(number, Fullness::Full),
+        };
+        let inside = Tracked {
+            state: caught,
+            touched: before.touched,
+        };
+        let end = self.check_block(around, items, inside)?;
+        Ok(Tracked {
+            state: meet(before.state, end.state),
+            touched: end.touched,
+        })
+    }
+
+    /// Behind a block, at whose end what its items have locked is full again.
+    #[cycle(statement)]
+    fn check_block(
+        &mut self,
+        around: Option<&Loop>,
+        items: &[Item],
+        tracked: Tracked,
+    ) -> Result<Tracked, Stop>
+        ensures known { GivesKnown result (and_then (run (rule_items (stands (option_map (λ l. view_loop l.now) around.entry) self.old.locks.items) (items_of items.now) (known (view_state tracked.state) (view_state self.old.breaks)))) (λ k. Ok (at_end (items_of items.now) k))) (touched_items (items_of items.now) tracked.touched.items) (view_state self.new.breaks) }
+        ensures locks { IfOk result (λ _. self.new.locks.items ≡ self.old.locks.items) }
+    {
+        let mark = self.locks.len();
+        let end = self.check_items(around, items, tracked)?;
+        let state = end.state.with_each(&self.locks[mark..], Fullness::Full);
+        self.locks.truncate(mark);
+        Ok(Tracked {
+            state,
+            touched: end.touched,
+        })
+    }
+
+    /// Behind the items of a block, which stay locked what they lock.
+    #[cycle(statement)]
+    #[tactic(auto, using(std::proofs::lemmas::List::drop_more, std::proofs::lemmas::List::append_assoc))]
     pub(crate) fn check_items(
         &mut self,
         around: Option<&Loop>,
         items: &[Item],
-        state: State,
-    ) -> Result<State, Stop>
-        ensures { GivesInLoop result (keep_items (option_map (λ l. view_loop l.now) around.entry) (items_of items.now) (view_state state)) (after_items (items_of items.now) (view_state state)) (meet (view_state self.old.breaks) (item_breaks (items_of items.now) (view_state state))) (view_state self.new.breaks) }
+        tracked: Tracked,
+    ) -> Result<Tracked, Stop>
+        ensures known { GivesKnown result (run (rule_items (stands (option_map (λ l. view_loop l.now) around.entry) self.old.locks.items) (items_of items.now) (known (view_state tracked.state) (view_state self.old.breaks)))) (touched_items (items_of items.now) tracked.touched.items) (view_state self.new.breaks) }
+        ensures locks { IfOk result (λ _. self.new.locks.items ≡ self.old.locks.items ++ locks_of (items_of items.now)) }
     {
-        let mut state = state;
+        let mut behind = tracked;
         for item in items {
-            state = self.check_item(around, item, state)?;
+            behind = self.check_item(around, item, behind)?;
         }
-        Ok(state)
+        Ok(behind)
+    }
+
+    /// Behind an item of a block.
+    #[cycle(statement)]
+    fn check_item(
+        &mut self,
+        around: Option<&Loop>,
+        item: &Item,
+        tracked: Tracked,
+    ) -> Result<Tracked, Stop>
+        ensures known { GivesKnown result (run (rule_item (stands (option_map (λ l. view_loop l.now) around.entry) self.old.locks.items) (view_item item.now) (known (view_state tracked.state) (view_state self.old.breaks)))) (touched_item (view_item item.now) tracked.touched.items) (view_state self.new.breaks) }
+        ensures locks { IfOk result (λ _. self.new.locks.items ≡ self.old.locks.items ++ locked_by (view_item item.now)) }
+    {
+        match item {
+            Item::Execute { statement } => self.check_statement(around, statement, tracked),
+            Item::Local { number, value, .. } => declare(self.alloc, *number, value, tracked),
+            Item::Region { number, .. } => Ok(tracked.with_fullness(*number, Fullness::Full)),
+            Item::Open {
+                number,
+                span,
+                key,
+                ..
+            } => self.lock(*number, *span, *key, tracked),
+            Item::Alias {
+                number,
+                span,
+                source,
+                ..
+            } => self.lock(*number, *span, *source, tracked),
+            Item::DynamicRegion { number, .. } => {
+                Ok(tracked.with_fullness(*number, Fullness::Full))
+            }
+        }
     }
 }

@@ -1,11 +1,10 @@
 //! Why a check stops.
 ghost use Rattle.std.specs.Prelude.{◌≡◌};
-ghost use Rattle.cyc_types.specs.Rules.{not_built};
 ghost use Rattle.cyc_flow.specs.declared.stop.Stop.TheVariants.{Memory, Refused};
 ghost use Rattle.cyc_flow.specs.Code.{fault_of};
 
-use cyc_words::{Code, Fault};
-use std::alloc::AllocError;
+use cyc_words::Fault;
+use std::alloc::{AllocError, AllocFailed};
 
 #[derive(Clone, Copy, Debug, PartialEq, Eq)]
 pub(crate) enum Stop {
@@ -22,6 +21,14 @@ impl From<AllocError> for Stop {
     }
 }
 
+impl<T: Drop> From<AllocFailed<T>> for Stop {
+    ghost from_gives = { λ _ e. e ≡ Memory };
+
+    fn from(_e: AllocFailed<T>) -> Stop {
+        Stop::Memory
+    }
+}
+
 impl From<Stop> for Fault {
     ghost from_gives = { λ e f. f ≡ fault_of e };
 
@@ -31,11 +38,4 @@ impl From<Stop> for Fault {
             Stop::Refused(fault) => fault,
         }
     }
-}
-
-/// The refusal of a form that has no flow rule yet.
-pub(crate) fn not_built() -> Stop
-    ensures { result ≡ Refused not_built }
-{
-    Stop::Refused(Fault::new(Code::NotBuiltYet, 1, 1))
 }

@@ -3,6 +3,7 @@ ghost use Rattle.std.specs.Prelude.{◌≡◌, ◌≢◌, ◌<◌, ◌≤◌, Li
 ghost use Rattle.cyc_syntax.specs.declared.tokens.Keyword.{Keyword};
 ghost use Rattle.cyc_syntax.specs.declared.tokens.Sign.{Sign};
 ghost use Rattle.cyc_syntax.specs.Spelling as spec;
+ghost use Rattle.cyc_lex.specs.Beginnings as beginnings;
 
 use cyc_syntax::{Keyword, Sign};
 
@@ -161,11 +162,62 @@ fn sign_text(sign: Sign) -> &'static [u8]
     }
 }
 
+/// Whether a keyword may begin with this byte and have this length: most names are told from keywords by that.
+fn is_likely_keyword(first: u8, len: usize) -> bool
+    ensures { result ≡ beginnings.is_likely_keyword first len }
+{
+    match first {
+        b'a' | b'b' | b'w' => len == 5,
+        b'c' => matches!(len, 4 | 5 | 8),
+        b'd' => matches!(len, 7 | 8),
+        b'e' => matches!(len, 3 | 4),
+        b'f' => matches!(len, 3 | 9),
+        b'h' => len == 11,
+        b'i' => matches!(len, 2 | 3),
+        b'l' => len == 3,
+        b'n' => matches!(len, 3 | 7 | 8),
+        b'o' | b'v' => len == 4,
+        b'r' => matches!(len, 4 | 6 | 8),
+        b's' => len == 6,
+        b't' => matches!(len, 3 | 5),
+        b'u' => matches!(len, 5 | 13),
+        b'N' => matches!(len, 4 | 16),
+        _ => false,
+    }
+}
+
+/// The sign that is this byte alone, where no longer one begins with it.
+fn lone_sign(first: u8) -> Option<Sign>
+    ensures { result ≡ beginnings.lone_sign first }
+{
+    match first {
+        b'(' => Some(Sign::LeftParen),
+        b')' => Some(Sign::RightParen),
+        b';' => Some(Sign::Semicolon),
+        b',' => Some(Sign::Comma),
+        b'{' => Some(Sign::LeftBrace),
+        b'}' => Some(Sign::RightBrace),
+        b'[' => Some(Sign::LeftBracket),
+        b']' => Some(Sign::RightBracket),
+        b'+' => Some(Sign::Plus),
+        b'*' => Some(Sign::Star),
+        b'%' => Some(Sign::Percent),
+        b'^' => Some(Sign::Xor),
+        b'~' => Some(Sign::Tilde),
+        b'@' => Some(Sign::At),
+        b'?' => Some(Sign::Question),
+        _ => None,
+    }
+}
+
 /// The keyword that the bytes spell, if they spell one.
 pub fn keyword(bytes: &[u8]) -> Option<Keyword>
     ensures none { IfNone result ((k : Keyword) → bytes.now ≢ spec.keyword_text k) }
     ensures spelled { IfSome result (λ k. bytes.now ≡ spec.keyword_text k) }
 {
+    if bytes.is_empty() || !is_likely_keyword(bytes[0], bytes.len()) {
+        return None;
+    }
     for keyword in KEYWORDS {
         if keyword_text(keyword) == bytes {
             return Some(keyword);
@@ -174,8 +226,8 @@ pub fn keyword(bytes: &[u8]) -> Option<Keyword>
     None
 }
 
-/// The longest sign that the text begins with, and its length.
-pub fn sign(text: &[u8]) -> Option<(Sign, usize)>
+/// The longest sign of the table that the text begins with, and its length.
+fn listed_sign(text: &[u8]) -> Option<(Sign, usize)>
     ensures none { IfNone result ((s : Sign) (rest : List ℕ) → text.now ≢ spec.sign_text s ++ rest) }
     ensures len { IfSome result (λ found. found.1 ≡ length (spec.sign_text found.0)) }
     ensures begins { IfSome result (λ found. text.now ≡ spec.sign_text found.0 ++ drop found.1 text.now) }
@@ -189,4 +241,21 @@ pub fn sign(text: &[u8]) -> Option<(Sign, usize)>
         }
     }
     None
+}
+
+/// The longest sign that the text begins with, and its length. Most signs are told by their first byte.
+pub fn sign(text: &[u8]) -> Option<(Sign, usize)>
+    ensures none { IfNone result ((s : Sign) (rest : List ℕ) → text.now ≢ spec.sign_text s ++ rest) }
+    ensures len { IfSome result (λ found. found.1 ≡ length (spec.sign_text found.0)) }
+    ensures begins { IfSome result (λ found. text.now ≡ spec.sign_text found.0 ++ drop found.1 text.now) }
+    ensures longest { IfSome result (λ found. (other : Sign) (rest : List ℕ) → text.now ≡ spec.sign_text other ++ rest
+        → length (spec.sign_text other) ≤ found.1) }
+{
+    if text.is_empty() {
+        return None;
+    }
+    match lone_sign(text[0]) {
+        Some(sign) => Some((sign, 1)),
+        None => listed_sign(text),
+    }
 }

@@ -1,5 +1,5 @@
--- What is accepted can be lowered: the typed tree of a text within the limits is numbered, its constants are words, and it has
--- fewer globals than the text has tokens.
+-- What is accepted and built can be lowered: the typed tree of a text within the limits is numbered, its constants are words, and it
+-- has fewer globals than the text has tokens.
 use Rattle.std.proofs.Common.{◌≡◌, ℕ, ◌+◌, ◌*◌, ◌≤◌, ◌<◌, Bool, true, false, ◌&&◌, List, [], ◌∷◌, ◌++◌, length, map, Option, Some, None, inl, inr, subst, arith}
 use Rattle.std.specs.Prelude.{if◌then◌else◌, ◌==◌, nat_le, IsTrue}
 use Rattle.std.specs.List.{AllByRecursion}
@@ -17,22 +17,25 @@ use Rattle.cyc_syntax.specs.Grammar.{HasTree}
 use Rattle.cyc_syntax.specs.Weight.{tree_weight}
 use Rattle.cyc_syntax.proofs.WeightLemmas.{tree_weight-length}
 use Rattle.cyc_types.specs.TypedTrees.{Program}
-use Rattle.cyc_types.specs.TypingRules.{IsTypedProgram}
+use Rattle.cyc_types.specs.typing.Programs.{IsTypedProgram}
+use Rattle.cyc_types.specs.Built.{is_built}
 use Rattle.cyc_types.specs.Weight.{program_weight}
-use Rattle.cyc_types.proofs.NumberedLemmas.{program_numbered}
-use Rattle.cyc_types.proofs.WeightLemmas.{program_lighter, declarations_counted}
+use Rattle.cyc_types.proofs.WeightLemmas.{declarations_counted}
+use Rattle.cyc_types.proofs.BuiltLemmas.{built_numbered}
+use Rattle.cyc_types.proofs.typing.ProgramLemmas.{program_well}
+use Rattle.cyc_types.proofs.typing.WeightLemmas.{program_lighter}
 use Rattle.cyc_lower.specs.Lowered.{CanBeLowered}
 use Rattle.cyc_lower.proofs.TreeConstants.{IsOfWordsTerminal, AreOfWordsSymbols, tree_constants}
 use Rattle.cyc_lower.proofs.TypedConstants.{typed_constants}
 
 pub can_be_lowered : (texts : List (List ℕ)) (symbols : List Symbol) (tree : List Declaration) (p : Program)
-    → HasTree symbols tree → AreOfWordsSymbols symbols → tree_weight tree ≤ max_tokens → IsTypedProgram texts tree p → CanBeLowered p
-can_be_lowered texts symbols tree p has words light typed =
+    → HasTree symbols tree → AreOfWordsSymbols symbols → tree_weight tree ≤ max_tokens → IsTypedProgram texts tree p → is_built p ≡ true → CanBeLowered p
+can_be_lowered texts symbols tree p has words light typed built =
     let fewer : program_weight p ≤ tree_weight tree = program_lighter texts tree p typed in
     let counted : 3 * length p.globals + 6 * length p.functions ≤ program_weight p = declarations_counted p in
     record {
-      is_numbered = program_numbered texts tree p typed;
-      of_words = typed_constants texts tree p typed (tree_constants symbols tree has words);
+      is_numbered = built_numbered p (program_well texts tree p typed) built;
+      of_words = typed_constants texts tree p typed built (tree_constants symbols tree has words);
       few_globals = omega arith;
     }
 
@@ -110,8 +113,8 @@ text_constants text tokens (parts, cut, e) within =
     symbol_constants (distinct_texts (texts_in tokens)) tokens (recursion_from_All (λ t. IsSmall t.kind) tokens within.numbers) (subst AreByteTokens e (cut_bytes [] parts text [] cut))
 
 pub accepted_can_be_lowered : (texts : List (List ℕ)) (text : List ℕ) (tokens : List Token) (tree : List Declaration) (p : Program)
-    → HasTokens text tokens → IsWithinLimits tokens → HasTree (symbols_of tokens) tree → IsTypedProgram texts tree p → CanBeLowered p
-accepted_can_be_lowered texts text tokens tree p rule within has typed =
+    → HasTokens text tokens → IsWithinLimits tokens → HasTree (symbols_of tokens) tree → IsTypedProgram texts tree p → is_built p ≡ true → CanBeLowered p
+accepted_can_be_lowered texts text tokens tree p rule within has typed built =
     let weight : tree_weight tree ≡ length (symbols_of tokens) = tree_weight-length (symbols_of tokens) tree has in
     let same : length (symbols_of tokens) ≡ length tokens = length-map tokens (symbol_of (distinct_texts (texts_in tokens))) in
-    can_be_lowered texts (symbols_of tokens) tree p has (text_constants text tokens rule within) (omega (arith, within.count)) typed
+    can_be_lowered texts (symbols_of tokens) tree p has (text_constants text tokens rule within) (omega (arith, within.count)) typed built

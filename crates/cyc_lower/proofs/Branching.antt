@@ -1,5 +1,5 @@
 -- Code of statements that is made piece by piece: blocks, and branches and loops whose jumps are written back.
-use Rattle.std.proofs.Common.{◌≡◌, ℕ, ◌+◌, ◌≤◌, List, [], ◌∷◌, ◌++◌, length, set, refl, sym, ap, ◌∙◌, arith, append_assoc}
+use Rattle.std.proofs.Common.{◌≡◌, ℕ, ◌+◌, List, [], ◌∷◌, ◌++◌, length, set, refl, sym, ap, ◌∙◌, arith, append_assoc}
 use Rattle.std.proofs.lemmas.List.{length-append}
 use Rattle.std.specs.declared.vec.Vec.{Vec}
 use Rattle.std.specs.declared.boxed.Box.{Box}
@@ -8,7 +8,6 @@ use Rattle.cyc_types.specs.declared.typed.Expr.{Expr}
 use Rattle.cyc_types.specs.declared.typed.Stmt.{Stmt}
 use Rattle.cyc_types.specs.declared.typed.Stmt.TheVariants as stmt
 use Rattle.cyc_types.specs.declared.typed.Item.{Item as ItemCode}
-use Rattle.cyc_types.specs.declared.typed.Item.TheVariants as item
 use Rattle.cyc_types.specs.TypedTrees.{Expression, Statement, Block, If}
 use Rattle.cyc_types.specs.TypedTreeView.{view_expression, view_statement, items_of}
 use Rattle.cyc_types.proofs.TypedTreeViewLemmas.{view_block}
@@ -16,37 +15,13 @@ use Rattle.cyc_plain.specs.declared.instruction.Instruction.{Instruction}
 use Rattle.cyc_plain.specs.declared.instruction.Instruction.TheVariants as instructions
 use Rattle.cyc_lower.specs.declared.operands.Condition.{Condition}
 use Rattle.cyc_lower.specs.Lowering.{condition_code, condition_of, failing_jump, statement_code, items_code, break_target, continue_target}
-use Rattle.cyc_lower.specs.Emission.{item_code, loop_code}
-use Rattle.cyc_lower.proofs.Emitting.{Lowers, written_back}
+use Rattle.cyc_lower.specs.Emission.{loop_code}
+use Rattle.cyc_lower.proofs.Emitting.{written_back}
 
 -- ---- blocks
 
--- what was added makes the code no shorter
-pub no_shorter : (old more new : List Instruction) → new ≡ old ++ more → length old ≤ length new
-no_shorter old more new is = let e : length new ≡ length (old ++ more) = ap length is in omega (arith, e, length-append old more)
-
 abbrev pub all_items : ℕ → List ItemCode → (p t : ℕ) → List Instruction
 all_items head js p t = items_code (items_of js) p head t
-
-abbrev pub one_item : ℕ → ItemCode → List ItemCode → (p t : ℕ) → List Instruction
-one_item head j js p t = item_code j p head t
-
-abbrev pub next_item : ItemCode → List ItemCode → ℕ → ℕ
-next_item j js t = t
-
-nothing_more : (head : ℕ) (js : List ItemCode) (p t : ℕ) → all_items head js p t ≡ all_items head js (p + 0) t
-nothing_more head js p t = ap (λ (q : ℕ). all_items head js q t) (omega arith)
-
-one_item_more : (head : ℕ) (j : ItemCode) (js : List ItemCode) (p t : ℕ) → all_items head (j ∷ js) p t ≡ one_item head j js p t ++ all_items head js (p + length (one_item head j js p t)) t
-one_item_more head (item.Execute s) js p t = refl
-one_item_more head (item.Local n ty v) js p t = refl
-one_item_more head (item.Region r n) js p t = nothing_more head js p t
-one_item_more head (item.Open r n s k) js p t = nothing_more head js p t
-one_item_more head (item.Alias r n ty s m) js p t = nothing_more head js p t
-one_item_more head (item.DynamicRegion r n) js p t = nothing_more head js p t
-
-pub items_lower : (head : ℕ) → Lowers (all_items head) (one_item head) next_item
-items_lower head = record { none = λ p t. refl; more = one_item_more head }
 
 module _ (value : Stmt) (region : ℕ) (v : Vec ItemCode Heap) (is : value ≡ stmt.Block region v) (items : List ItemCode) (same : items ≡ v.items) (old new : List Instruction) (head d : ℕ) where
   pub made_block : new ≡ old ++ items_code (items_of items) (length old) head d → new ≡ old ++ statement_code (view_statement value) (length old) head d

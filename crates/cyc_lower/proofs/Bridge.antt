@@ -1,5 +1,5 @@
 -- The code of a construct stands where its list of instructions does.
-use Rattle.std.proofs.Common.{◌≡◌, ℕ, zero, suc, ◌+◌, ◌≤◌, ◌<◌, Bool, true, false, List, [], ◌∷◌, ◌++◌, length, map, Option, None, Some, slice_get, refl, sym, ap, subst, ◌∙◌, arith, length-append, append-nil}
+use Rattle.std.proofs.Common.{◌≡◌, ℕ, zero, suc, ◌+◌, ◌<◌, Bool, true, false, List, [], ◌∷◌, ◌++◌, length, map, Option, None, Some, slice_get, refl, sym, ap, subst, ◌∙◌, arith, length-append}
 use Rattle.std.proofs.lemmas.Option.{same_Some, none-some, get_or_from_slice_get, slice_get-map}
 use Rattle.std.specs.Prelude.{option_map, if◌then◌else◌}
 use Rattle.cyc_meaning.specs.Operators.{null_exception, division_by_zero}
@@ -10,8 +10,7 @@ use Rattle.cyc_types.specs.declared.typed.UnaryOperator.TheVariants as unary
 use Rattle.cyc_types.specs.declared.typed.Operator.{Operator}
 use Rattle.cyc_types.specs.declared.typed.Operator.TheVariants as operators
 use Rattle.cyc_types.specs.Types.{Ty}
-use Rattle.cyc_types.specs.TypedTrees.{Lvalue, Local, Global, Expression, Number, Copy, Call, Unary, Binary, Assign, Converted, Convert, Arguments, NoArguments, MoreArguments, Operations, NoOperations, ThenCompute, ThenTest, Statement, Block, Empty, Evaluate, If, While, Return, Break, Continue, Items, NoItems, MoreItems, Execute, Declare, Function, Program}
-use Rattle.cyc_types.specs.Scopes.{Signature}
+use Rattle.cyc_types.specs.TypedTrees.{Lvalue, Local, Global, Expression, Number, Copy, Call, Unary, Binary, Assign, Converted, Convert, Arguments, NoArguments, MoreArguments, Operations, NoOperations, ThenCompute, ThenTest, Statement, Block, Empty, Evaluate, If, While, Return, Break, Continue, Items, NoItems, MoreItems, Execute, Declare, Signature, Function, Program}
 use Rattle.cyc_types.specs.Numbered.{Numbering, argument_count, IsWithin, IsNumbered, IsNumberedConverted, AreNumberedArguments, AreNumberedOperations, IsNumberedReturn, IsNumberedInitial, IsNumberedStatement, AreNumberedItems, numbering_of, signatures_of, AreNumberedFunctions, IsNumberedProgram}
 use Rattle.cyc_plain.specs.declared.instruction.Comparison.{Comparison}
 use Rattle.cyc_plain.specs.declared.instruction.Operand.{Operand}
@@ -19,8 +18,10 @@ use Rattle.cyc_plain.specs.declared.instruction.Operand.TheVariants as operands
 use Rattle.cyc_plain.specs.declared.instruction.Instruction.{Instruction}
 use Rattle.cyc_plain.specs.declared.instruction.Instruction.TheVariants as instructions
 use Rattle.cyc_plain.specs.Program.{Routine, no_routine, routine_at}
+use Rattle.cyc_plain.specs.Straight.{At, HasAt}
+use Rattle.cyc_plain.proofs.Straight.{has_front, has_back, has_whole}
 use Rattle.cyc_lower.specs.Lowering.{slot_of, operand_of, operand_or, code_unless, slot_or, code_unless_slot, left_with, left_of, value_slot, next_slot, slot_with, left_slot, value_operand, converted_operand, printed_operand, jump_if_nonzero, check_code, conversion_code, divisor_code, checked_code, operator_code, truth_code, load_code, low_byte, test_code, is_in, copy_code, expression_code, arguments_code, converted_code, converted_operand_code, printed_code, initial_code, assignment_code, assigned_operand, operations_code, discarded_code, failing_comparison, compared_or, compared_of, first_operand, first_code, second_code, pair_code, condition_code, condition_of, failing_jump, break_target, continue_target, return_code, declaration_code, statement_code, items_code, function_code, first_temporary, results_of, lower_function, lower_program}
-use Rattle.cyc_lower.proofs.Stands.{At, HasAt, has_front, has_back, has_all, OperandBy, CheckAt, ConversionAt, DivisorAt, CheckedAt, OperatorAt, LoadAt, CopyBy, ExpressionAt, InitialAt, ConvertedAt, ConvertedOperandAt, PrintedAt, ArgumentsAt, OperationsAt, PairAt, ConditionAt, AssignmentAt, DiscardedAt, ReturnedAt, ReturnAt, DeclarationAt, StatementAt, ItemsAt}
+use Rattle.cyc_lower.proofs.Stands.{OperandBy, CheckAt, ConversionAt, DivisorAt, CheckedAt, OperatorAt, LoadAt, CopyBy, ExpressionAt, InitialAt, ConvertedAt, ConvertedOperandAt, PrintedAt, ArgumentsAt, OperationsAt, PairAt, ConditionAt, AssignmentAt, DiscardedAt, ReturnedAt, ReturnAt, DeclarationAt, StatementAt, ItemsAt}
 use Rattle.cyc_lower.proofs.Relation.{bounds_in, bounds_at}
 use Rattle.cyc_lower.proofs.Calls.{FunctionsStand}
 
@@ -412,12 +413,12 @@ module _ (source : Program) where
       let d = first_temporary h in
       let body = items_code h.body 0 0 d in
       let end = instructions.Return d ∷ [] in
-      let has : HasAt (body ++ end) 0 (body ++ end) = subst (λ code. HasAt code 0 (body ++ end)) (append-nil (body ++ end)) (has_all (body ++ end) []) in
+      let has = has_whole (body ++ end) in
       let (here, none) = has_back (body ++ end) 0 body end has in
       (0 + length body, items_stand (body ++ end) (bounds_in source (Some h)) h.body false 0 d 0 (0 + length body) numbered refl (has_front (body ++ end) 0 body end has), here)
 
-  pub functions_stand : (pages calls : ℕ) (some_page : 1 ≤ pages) → IsNumberedProgram source → FunctionsStand source pages calls some_page
-  functions_stand pages calls some_page numbered n h there =
+  pub functions_stand : (pages calls : ℕ) → IsNumberedProgram source → FunctionsStand source pages calls
+  functions_stand pages calls numbered n h there =
       subst (λ (code : List Instruction). BodyStands h code (bounds_at source n)) (sym (ap (λ (r : Routine). r.code) (routine_there n h there)))
       (subst (λ (o : Option Function). BodyStands h (function_code h) (bounds_in source o)) (sym there)
       (body_stands h (numbered_function (length source.globals) (signatures_of source.functions) source.functions n h numbered.functions there)))

@@ -14,13 +14,13 @@ use Rattle.cyc_types.specs.Types.{Ty}
 use Rattle.cyc_types.specs.TypedTrees.{Items, Function, Program}
 use Rattle.cyc_plain.specs.declared.instruction.Operand.{Operand}
 use Rattle.cyc_plain.specs.declared.instruction.Instruction.TheVariants as instructions
-use Rattle.cyc_words.specs.Simulation.{IsOnTheWay}
+use Rattle.cyc_store.specs.State.{StoreState}
 use Rattle.cyc_plain.specs.State as plain
-use Rattle.cyc_plain.specs.State.{Words, put, copied, Frame, Store, Configuration}
+use Rattle.cyc_plain.specs.State.{Words, put, copied, Frame, Configuration}
 use Rattle.cyc_plain.specs.Step.{Choice, operand_word, with_slots, at, advanced, performed, executed}
 use Rattle.cyc_plain.specs.Step as plain_step
 use Rattle.cyc_plain.proofs.RunLaws.{limited-full}
-use Rattle.cyc_plain.proofs.SlotLaws.{put-same, put-other}
+use Rattle.cyc_plain.specs.Straight.{At}
 use Rattle.cyc_words.proofs.Matching.{way_after}
 use Rattle.cyc_meaning.specs.Values.{Value, Int, Operand as Kinded, kind_of, is_kind}
 use Rattle.cyc_meaning.specs.State.{World, Environment, no_locals, with_local, variable, made, opened, region_at, Entry, Rest, Caller, calls_in, demand, status_of, Focus, Given, Proceeding, Calling, Entering, Binding, State, Running, Ended}
@@ -28,58 +28,58 @@ use Rattle.cyc_meaning.specs.Step.{wrong, declared, inside, region_end, called, 
 use Rattle.cyc_meaning.specs.SourceMachine.{status_in}
 use Rattle.cyc_meaning.specs.Run.{is_within, limited_step}
 use Rattle.cyc_lower.specs.Lowering.{lower_program}
-use Rattle.cyc_lower.proofs.Stands.{At, ItemsAt}
-use Rattle.cyc_lower.proofs.Relation.{Is, Holds, HoldsFrom, held, callers, Shared, DataAt, DataIn, SharedAt, Prints, prints_only, gives_byte, StatementStack, LandsStack, PrintsStack, nowhere, behind_statement, Related, Matches, code_of, bounds_in, bounds_at, base_of, top}
+use Rattle.cyc_lower.proofs.Stands.{ItemsAt}
+use Rattle.cyc_lower.proofs.Relation.{Is, Holds, HoldsFrom, held, callers, Shared, DataAt, DataIn, SharedAt, prints_only, gives_byte, StatementStack, PrintsStack, nowhere, behind_statement, Related, Matches, code_of, bounds_in, bounds_at, base_of, top}
 use Rattle.cyc_lower.proofs.Data.{Holds-rest, in_order, arguments_copied, data_declared, data_called}
 use Rattle.cyc_lower.proofs.Accesses.{IsWell, is_fitting, is_declared}
 use Rattle.cyc_lower.proofs.Matched.{IsMatched, above, below, matching, silently, one, two_known, shared_within, shared_way, steps_to, place_in, known, lands_depth}
 use Rattle.cyc_lower.proofs.Evaluations.{IsStep, landed, lands_at}
 use Rattle.cyc_lower.proofs.StatementSteps.{shared_opened}
 
-module _ (source : Program) (pages calls : ℕ) (some_page : 1 ≤ pages) where
+module _ (source : Program) (pages calls : ℕ) where
   -- ---- services
 
   -- what is read is the same byte
-  reads : (k : List Entry) (e : Environment) (w : World) (c : Configuration) → IsStep source pages calls some_page (Calling callees.Getchar []) k e w c
+  reads : (k : List Entry) (e : Environment) (w : World) (c : Configuration) → IsStep source pages calls (Calling callees.Getchar []) k e w c
   reads k e w c well (shared, facts, (d, q, (here, end), holds, lands)) =
       let next : World = record w { input = drop 1 w.input } in
       let read : Configuration = record c { input = drop 1 c.input } in
       let word = unwrap_or (slice_get c.input 0) (2 ^ 32 - 1) in
       let byte = unwrap_or (slice_get w.input 0) (2 ^ 32 - 1) in
-      let shared_read : SharedAt source calls next read = record {
+      let shared_read : SharedAt source pages calls next read = record {
         same_output = shared.same_output;
         same_input = ap (drop 1) shared.same_input;
-        one_page = shared.one_page;
+        few_pages = shared.few_pages;
         quiet = shared.quiet;
-        heap_alone = shared.heap_alone;
-        no_class = shared.no_class;
+        same_sizes = shared.same_sizes;
+        same_classes = shared.same_classes;
         fits = shared.fits;
       } in
-      one source pages calls some_page refl shared here
-      (λ choice. landed source pages calls some_page (record { kind = kinds.Int; value = Int byte }) word d k e next read q (ap (λ (l : List ℕ). unwrap_or (slice_get l 0) (2 ^ 32 - 1)) shared.same_input) shared_read facts holds end lands)
+      one source pages calls refl shared here
+      (λ choice. landed source pages calls (record { kind = kinds.Int; value = Int byte }) word d k e next read q (ap (λ (l : List ℕ). unwrap_or (slice_get l 0) (2 ^ 32 - 1)) shared.same_input) shared_read facts holds end lands)
 
   low_byte_of : (a : ℕ) → bit_and a 255 ≡ a % 256
   low_byte_of a = and_numeral a 254 refl
 
-  shared_printed : (a x : ℕ) (w : World) (c : Configuration) → SharedAt source calls w c → x ≡ a
-      → SharedAt source calls (record w { output = w.output ++ a % 256 ∷ [] }) (advanced (record c { output = c.output ++ x % 256 ∷ [] }))
+  shared_printed : (a x : ℕ) (w : World) (c : Configuration) → SharedAt source pages calls w c → x ≡ a
+      → SharedAt source pages calls (record w { output = w.output ++ a % 256 ∷ [] }) (advanced (record c { output = c.output ++ x % 256 ∷ [] }))
   shared_printed a x w c shared is = record {
     same_output = ap (λ (l : List ℕ). l ++ x % 256 ∷ []) shared.same_output ∙ ap (λ y. w.output ++ y % 256 ∷ []) is;
     same_input = shared.same_input;
-    one_page = shared.one_page;
+    few_pages = shared.few_pages;
     quiet = shared.quiet;
-    heap_alone = shared.heap_alone;
-    no_class = shared.no_class;
+    same_sizes = shared.same_sizes;
+    same_classes = shared.same_classes;
     fits = shared.fits;
   }
 
   -- the byte is printed, and then its value is dropped, or comes to a slot
   prints : (i : Kind) (a : ℕ) (o : Operand) (k : List Entry) (e : Environment) (w : World) (c : Configuration)
-      → SharedAt source calls w c → DataIn source c.active.slots k e w c → operand_word c.active.slots o ≡ a → Holds c.active.slots (base_of source c.active.function) (held k)
+      → SharedAt source pages calls w c → DataIn source c.active.slots k e w c → operand_word c.active.slots o ≡ a → Holds c.active.slots (base_of source c.active.function) (held k)
       → PrintsStack source c.active.function e.locals o c.active.next c.frames k
-      → IsMatched source pages calls some_page (Running (Calling callees.Putchar (record { kind = i; value = Int a } ∷ [])) k e w) (plain.Running c)
+      → IsMatched source pages calls (Running (Calling callees.Putchar (record { kind = i; value = Int a } ∷ [])) k e w) (plain.Running c)
   prints i a o k e w c shared facts is holds (write, prints_only stack) =
-      one source pages calls some_page refl shared write
+      one source pages calls refl shared write
       (λ choice. (shared_printed a (operand_word c.active.slots o) w c shared is, nowhere facts stack))
   prints i a o k e w c shared facts is holds (write, gives_byte d low lands) =
       let x = operand_word c.active.slots o in
@@ -88,15 +88,15 @@ module _ (source : Program) (pages calls : ℕ) (some_page : 1 ≤ pages) where
       let after = Running (Given (record { kind = kinds.Int; value = Int (a % 256) })) k e next in
       let first : Configuration = advanced (record c { output = c.output ++ x % 256 ∷ [] }) in
       let last : Configuration = advanced (with_slots first (put c.active.slots d (bit_and x 255))) in
-      let shared_next : SharedAt source calls next first = shared_printed a x w c shared is in
-      let done : Related source calls (Given (record { kind = kinds.Int; value = Int (a % 256) })) k e next last =
-      landed source pages calls some_page (record { kind = kinds.Int; value = Int (a % 256) }) (bit_and x 255) d k e next first (c.active.next + 1 + 1) (low_byte_of x ∙ ap (λ y. y % 256) is) shared_next facts holds refl lands in
-      two_known source pages calls some_page first refl shared (shared_within source pages calls some_page next first shared_next)
-      (way_after (above source pages calls some_page) (below source pages calls some_page) (matching source pages calls some_page) s after (plain.Running first)
-      (steps_to source pages calls some_page s after (plain.Running last) refl done) (IsPrefix-append w.output (a % 256 ∷ [])) refl shared_next.same_output)
+      let shared_next : SharedAt source pages calls next first = shared_printed a x w c shared is in
+      let done : Related source pages calls (Given (record { kind = kinds.Int; value = Int (a % 256) })) k e next last =
+      landed source pages calls (record { kind = kinds.Int; value = Int (a % 256) }) (bit_and x 255) d k e next first (c.active.next + 1 + 1) (low_byte_of x ∙ ap (λ y. y % 256) is) shared_next facts holds refl lands in
+      two_known source pages calls first refl shared (shared_within source pages calls next first shared_next)
+      (way_after (above source pages calls) (below source pages calls) (matching source pages calls) s after (plain.Running first)
+      (steps_to source pages calls s after (plain.Running last) refl done) (IsPrefix-append w.output (a % 256 ∷ [])) refl shared_next.same_output)
       write (λ choice. refl) low (λ same. omega (arith, same)) (λ choice. done)
 
-  prints_value : (i : Kind) (v : Value) (k : List Entry) (e : Environment) (w : World) (c : Configuration) → IsStep source pages calls some_page (Calling callees.Putchar (record { kind = i; value = v } ∷ [])) k e w c
+  prints_value : (i : Kind) (v : Value) (k : List Entry) (e : Environment) (w : World) (c : Configuration) → IsStep source pages calls (Calling callees.Putchar (record { kind = i; value = v } ∷ [])) k e w c
   prints_value i (Int a) k e w c well (shared, facts, (u, o, single, is, holds, stack)) =
       let v : Kinded = record { kind = i; value = Int a } in
       let same : v ≡ u = let f : v ∷ [] ≡ u ∷ [] = single in cc in
@@ -105,15 +105,15 @@ module _ (source : Program) (pages calls : ℕ) (some_page : 1 ≤ pages) where
 
   -- ---- the parameters of a call
 
-  pub entering : (h : Function) (arguments : List Kinded) (k : List Entry) (e : Environment) (w : World) (c : Configuration) → IsStep source pages calls some_page (Entering h arguments) k e w c
+  pub entering : (h : Function) (arguments : List Kinded) (k : List Entry) (e : Environment) (w : World) (c : Configuration) → IsStep source pages calls (Entering h arguments) k e w c
   entering h arguments k e w c well (shared, facts, (m, items, stack, holds, few)) =
-      silently source pages calls some_page (Running (Entering h arguments) k e w) (Running (Binding 0 h.parameters arguments h.body) (region_end e w ∷ k) (inside e w) (opened w)) (plain.Running c) refl
-      (shared_opened source pages calls some_page w c shared, facts, (m, items, stack, holds, omega (arith, few)))
+      silently source pages calls (Running (Entering h arguments) k e w) (Running (Binding 0 h.parameters arguments h.body) (region_end e w ∷ k) (inside e w) (opened w)) (plain.Running c) refl
+      (shared_opened source pages calls w c shared, facts, (m, items, stack, holds, omega (arith, few)))
       (omega arith)
 
-  pub binding : (n : ℕ) (types : List Ty) (arguments : List Kinded) (body : Items) (k : List Entry) (e : Environment) (w : World) (c : Configuration) → IsStep source pages calls some_page (Binding n types arguments body) k e w c
+  pub binding : (n : ℕ) (types : List Ty) (arguments : List Kinded) (body : Items) (k : List Entry) (e : Environment) (w : World) (c : Configuration) → IsStep source pages calls (Binding n types arguments body) k e w c
   binding n [] [] body k e w c well (shared, facts, (m, items, stack, holds, few)) =
-      silently source pages calls some_page (Running (Binding n [] [] body) k e w) (Running Proceeding (Rest body ∷ k) e w) (plain.Running c) refl
+      silently source pages calls (Running (Binding n [] [] body) k e w) (Running Proceeding (Rest body ∷ k) e w) (plain.Running c) refl
       (shared, behind_statement 0 facts (m, items, stack))
       (omega arith)
   binding n [] (v ∷ arguments) body k e w c well related = absurd (well refl)
@@ -124,7 +124,7 @@ module _ (source : Program) (pages calls : ℕ) (some_page : 1 ≤ pages) where
       let made_it = declared (region_at w e.home) (Binding (suc n) types arguments body) n (kind_of t) (Some v.value) k e w in
       let does : step source (Running (Binding n (t ∷ types) (v ∷ arguments) body) k e w) ≡ made_it =
       ap (λ (b : Bool). if b then made_it else wrong w) (is_fitting (is_kind v.kind (kind_of t)) made_it w well) in
-      silently source pages calls some_page (Running (Binding n (t ∷ types) (v ∷ arguments) body) k e w)
+      silently source pages calls (Running (Binding n (t ∷ types) (v ∷ arguments) body) k e w)
       (Running (Binding (suc n) types arguments body) k (with_local e n (length w.objects)) (made w x)) (plain.Running c)
       (does ∙ is_declared (region_at w e.home) (Binding (suc n) types arguments body) n (kind_of t) (Some v.value) k e w (subst IsWell does well)) (
         shared,
@@ -148,12 +148,12 @@ module _ (source : Program) (pages calls : ℕ) (some_page : 1 ≤ pages) where
       omega (arith, locals)
 
   -- a function has been called, with its arguments in the first slots
-  pub entered : FunctionsStand → (n : ℕ) (h : Function) (arguments : List Kinded) (k : List Entry) (w : World) (slots globals : Words) (handlers : List ℕ) (frames : List Frame) (store : Store) (output input : List ℕ)
+  pub entered : FunctionsStand → (n : ℕ) (h : Function) (arguments : List Kinded) (k : List Entry) (w : World) (slots globals : Words) (handlers : List ℕ) (frames : List Frame) (store : StoreState) (output input : List ℕ)
       → slice_get source.functions n ≡ Some h
-      → Shared calls w.regions w.classes w.output w.input output input store.pages (length frames)
+      → Shared pages calls w.regions w.classes w.output w.input output input store (length frames)
       → DataAt source n w.objects (λ (number : ℕ). None) (callers k) slots globals frames
       → HoldsFrom slots 0 arguments → ((m : ℕ) → At (code_of source n) m (instructions.Return (base_of source n)) → StatementStack source n 0 m frames k)
-      → Related source calls (Entering h arguments) k no_locals w
+      → Related source pages calls (Entering h arguments) k no_locals w
       (record { active = record { function = n; next = 0; slots = slots; handlers = handlers }; frames = frames; globals = globals; store = store; output = output; input = input })
   entered stand n h arguments k w slots globals handlers frames store output input there shared facts holds stack =
       let (m, items, end) = stand n h there in
@@ -162,23 +162,23 @@ module _ (source : Program) (pages calls : ℕ) (some_page : 1 ≤ pages) where
   -- no more calls fit: both runs are full
   full : (k : List Entry) (e : Environment) (w : World) (c : Configuration) (focus : Focus) (next : State) (n first many into : ℕ)
       → step source (Running focus k e w) ≡ next → is_within pages calls next ≡ false
-      → SharedAt source calls w c → At (code_of source c.active.function) c.active.next (instructions.Call n first many into)
+      → SharedAt source pages calls w c → At (code_of source c.active.function) c.active.next (instructions.Call n first many into)
       → calls < suc (suc (length c.frames))
-      → IsMatched source pages calls some_page (Running focus k e w) (plain.Running c)
+      → IsMatched source pages calls (Running focus k e w) (plain.Running c)
   full k e w c focus next n first many into does over shared here past =
       let i = instructions.Call n first many into in
       let lowered = lower_program source in
       let over_below : (choice : Choice) → plain_step.is_within pages calls (performed lowered choice c i) ≡ false = λ choice.
-      and_right (nat_le c.store.pages pages) _ (false_from_ne_true (nat_le (suc (suc (length c.frames))) calls) (λ h. absurd (omega (arith, leb-true (suc (suc (length c.frames))) calls h, past)))) in
+      and_right (nat_le (plain.demand (plain.Running c)) pages) _ (false_from_ne_true (nat_le (suc (suc (length c.frames))) calls) (λ h. absurd (omega (arith, leb-true (suc (suc (length c.frames))) calls h, past)))) in
       let source_full : limited_step source pages calls (Running focus k e w) ≡ Ended Full w.output w.input =
       ap (λ (b : Bool). if b then step source (Running focus k e w) else Ended Full w.output w.input) (ap (is_within pages calls) does ∙ over) in
       record {
-        places = place_in source pages calls some_page c ∷ [];
+        places = place_in source pages calls c ∷ [];
         distinct = (tt, tt);
-        inside = (known source pages calls some_page c i here, tt);
+        inside = (known source pages calls c i here, tt);
         comes = (
           refl,
-          shared_way source pages calls some_page focus k e w c shared,
+          shared_way source pages calls focus k e w c shared,
           λ u stepped.
               let (choice, allowed, is) = stepped in
               let performs : plain_step.step lowered choice (plain.Running c) ≡ performed lowered choice c i = ap (executed lowered choice c) here in
@@ -187,7 +187,7 @@ module _ (source : Program) (pages calls : ℕ) (some_page : 1 ≤ pages) where
               record {
                 next = Ended Full w.output w.input;
                 step = sym source_full;
-                matches = subst (Matches source calls (Ended Full w.output w.input)) (sym u_is) (refl, shared.same_output);
+                matches = subst (Matches source pages calls (Ended Full w.output w.input)) (sym u_is) (refl, shared.same_output);
                 lighter = λ none. absurd (omega (arith, none));
               },
         );
@@ -195,12 +195,12 @@ module _ (source : Program) (pages calls : ℕ) (some_page : 1 ≤ pages) where
 
   calls_function : FunctionsStand → (n : ℕ) (before : List Kinded) (found : Option Function) (k : List Entry) (e : Environment) (w : World) (c : Configuration)
       → slice_get source.functions n ≡ found → IsWell (called found (reverse before) (Caller e ∷ k) w)
-      → Related source calls (Calling (callees.Function n) before) k e w c
-      → IsMatched source pages calls some_page (Running (Calling (callees.Function n) before) k e w) (plain.Running c)
+      → Related source pages calls (Calling (callees.Function n) before) k e w c
+      → IsMatched source pages calls (Running (Calling (callees.Function n) before) k e w) (plain.Running c)
   calls_function stand n before None k e w c there well related = absurd (well refl)
   calls_function stand n before (Some h) k e w c there well related = taken (length (reverse before) == length h.parameters) refl
     where
-      taken : (b : Bool) → (length (reverse before) == length h.parameters) ≡ b → IsMatched source pages calls some_page (Running (Calling (callees.Function n) before) k e w) (plain.Running c)
+      taken : (b : Bool) → (length (reverse before) == length h.parameters) ≡ b → IsMatched source pages calls (Running (Calling (callees.Function n) before) k e w) (plain.Running c)
       taken false fits = absurd (well (ap (λ (b : Bool). status_in (status_of (if b then Running (Entering h (reverse before)) (Caller e ∷ k) no_locals w else wrong w))) fits))
       taken true fits =
           let (shared, facts, (into, q, (here, end), holds, lands)) = related in
@@ -219,31 +219,31 @@ module _ (source : Program) (pages calls : ℕ) (some_page : 1 ≤ pages) where
                 shared here past
             | inr fine ↦
                 let frame : Frame = record { caller = (advanced c).active; result = into } in
-                one source pages calls some_page does shared here
+                one source pages calls does shared here
                 (λ choice.
                 let slots = copied c.active.slots d (length before) choice.contents 0 in
                 entered stand n h (reverse before) (Caller e ∷ k) w slots c.globals [] (frame ∷ c.frames) c.store c.output c.input there
                 (record {
                   same_output = shared.same_output;
                   same_input = shared.same_input;
-                  one_page = shared.one_page;
+                  few_pages = shared.few_pages;
                   quiet = shared.quiet;
-                  heap_alone = shared.heap_alone;
-                  no_class = shared.no_class;
+                  same_sizes = shared.same_sizes;
+                  same_classes = shared.same_classes;
                   fits = fine;
                 })
                 (data_called source g n w.objects e (callers k) c.active.slots slots c.globals frame c.frames refl refl facts)
                 (arguments_copied c.active.slots choice.contents d 0 (length before) (reverse before) (omega (arith, length-reverse before))
                 (subst (λ (i : ℕ). HoldsFrom c.active.slots i (reverse before)) (let z : d ≡ d + 0 = omega arith in z) (in_order c.active.slots base before (held k) holds)))
-                (λ m at_end. (base_of source n, at_end, (Holds-rest c.active.slots base before (held k) holds, lands_at source pages calls some_page g e.locals into (c.active.next + 1) q c.frames k end lands))))
+                (λ m at_end. (base_of source n, at_end, (Holds-rest c.active.slots base before (held k) holds, lands_at source pages calls g e.locals into (c.active.next + 1) q c.frames k end lands))))
           ]
 
   -- one argument too many
-  prints_more : (i : Kind) (v : Value) (u : Kinded) (before : List Kinded) (k : List Entry) (e : Environment) (w : World) (c : Configuration) → IsStep source pages calls some_page (Calling callees.Putchar (record { kind = i; value = v } ∷ u ∷ before)) k e w c
+  prints_more : (i : Kind) (v : Value) (u : Kinded) (before : List Kinded) (k : List Entry) (e : Environment) (w : World) (c : Configuration) → IsStep source pages calls (Calling callees.Putchar (record { kind = i; value = v } ∷ u ∷ before)) k e w c
   prints_more i (Int a) u before k e w c well related = absurd (well refl)
   prints_more i v u before k e w c well related = absurd (well refl)
 
-  pub calling : FunctionsStand → (f : Callee) (before : List Kinded) (k : List Entry) (e : Environment) (w : World) (c : Configuration) → IsStep source pages calls some_page (Calling f before) k e w c
+  pub calling : FunctionsStand → (f : Callee) (before : List Kinded) (k : List Entry) (e : Environment) (w : World) (c : Configuration) → IsStep source pages calls (Calling f before) k e w c
   calling stand callees.Putchar [] k e w c well related = absurd (well refl)
   calling stand callees.Putchar (v ∷ []) k e w c well related = prints_value v.kind v.value k e w c well related
   calling stand callees.Putchar (v ∷ u ∷ before) k e w c well related = prints_more v.kind v.value u before k e w c well related

@@ -1,5 +1,5 @@
 -- Code that is made piece by piece: lists of nodes, nodes with lists, and jumps whose targets are written back.
-use Rattle.std.proofs.Common.{◌≡◌, ℕ, zero, suc, ◌+◌, ◌<◌, ◌≤◌, true, false, List, [], ◌∷◌, ◌++◌, length, get_or, drop, set, Option, Some, None, refl, sym, ap, subst, ◌∙◌, arith, append_assoc, append-nil}
+use Rattle.std.proofs.Common.{◌≡◌, ℕ, zero, suc, ◌+◌, ◌<◌, ◌≤◌, true, false, List, [], ◌∷◌, ◌++◌, length, get_or, drop, set, Option, Some, None, refl, sym, ap, ◌∙◌, arith, append_assoc, append-nil}
 use Rattle.std.specs.Prelude.{◌==◌, is_some}
 use Rattle.std.proofs.lemmas.Bool.{eqb-true, eq-eqb}
 use Rattle.std.proofs.lemmas.List.{drop_all, drop_more, length-append, length-drop}
@@ -31,8 +31,8 @@ use Rattle.cyc_plain.specs.declared.instruction.Operand.{Operand}
 use Rattle.cyc_plain.specs.declared.instruction.Operand.TheVariants as operands
 use Rattle.cyc_plain.specs.declared.instruction.Instruction.{Instruction}
 use Rattle.cyc_plain.specs.declared.instruction.Instruction.TheVariants as instructions
-use Rattle.cyc_lower.specs.Lowering.{slot_of, operand_of, operand_or, code_unless, left_with, left_of, slot_with, left_slot, low_byte, value_operand, next_slot, converted_operand, printed_operand, divisor_code, operator_code, load_code, compute_code, test_jump, truth_code, test_code, copy_code, expression_code, arguments_code, converted_code, converted_operand_code, printed_code, initial_code, assignment_code, assigned_operand, operations_code, discarded_code, binary_operator}
-use Rattle.cyc_lower.specs.Emission.{most_locals, value_code, print_code, left_code, takes_operand, HasRoom, HasRoomFor, operation_code}
+use Rattle.cyc_lower.specs.Lowering.{slot_of, operand_of, operand_or, code_unless, left_with, left_of, slot_with, left_slot, low_byte, value_operand, next_slot, converted_operand, printed_operand, operator_code, load_code, compute_code, test_jump, truth_code, test_code, copy_code, expression_code, arguments_code, converted_code, converted_operand_code, printed_code, initial_code, assignment_code, assigned_operand, operations_code, discarded_code, binary_operator}
+use Rattle.cyc_lower.specs.Emission.{most_locals, value_code, print_code, left_code, takes_operand, HasRoom, operation_code}
 
 -- ---- no expression is without code
 
@@ -152,12 +152,6 @@ printed_lower t = record { none = λ p o. refl; more = λ x xs p o. refl }
 -- where the value stands in the end
 abbrev pub PrintedLeft : List ConvertedCode → (i : ℕ) → Operand → ℕ → Type 0
 PrintedLeft cs i o t = printed_operand (arguments_of (drop i cs)) o t ≡ printed_operand (arguments_of cs) (operands.Slot t) t
-
-pub printed_left : (cs : List ConvertedCode) (i : ℕ) (c : ConvertedCode) (o : Operand) (t : ℕ) → i < length cs → c ≡ get_or cs i c → PrintedLeft cs i o t
-    → PrintedLeft cs (i + 1) (converted_operand (view_converted c) t) t
-printed_left cs i c o t inside at left =
-    let here : drop i cs ≡ c ∷ drop (i + 1) cs = drop_more cs i c inside ∙ ap (λ (y : ConvertedCode). y ∷ drop (i + 1) cs) (sym at) in
-    sym (ap (λ (ys : List ConvertedCode). printed_operand (arguments_of ys) o t) here) ∙ left
 
 pub printed_done : (cs : List ConvertedCode) (i : ℕ) (o : Operand) (t : ℕ) → length cs ≤ i → PrintedLeft cs i o t → o ≡ printed_operand (arguments_of cs) (operands.Slot t) t
 printed_done cs i o t done left = sym (ap (λ (ys : List ConvertedCode). printed_operand (arguments_of ys) o t) (drop_all i cs done)) ∙ left
@@ -389,17 +383,6 @@ pub room_after : (x : Operation) (os : Operations) (old new : List Instruction) 
 room_after x os old new l d t low is =
     let longer = grown old (operation_code x (length old) l d t) new is (operates_longer x (length old) l d t) in
     (omega (arith, low, longer), room_everywhere os t (length new) (omega (arith, low, longer)))
-
-room_first : (x : Operation) (os : List Operation) (t many : ℕ) → HasRoom (operations_of (x ∷ os)) t many → HasRoomFor x t many
-room_first (operation.Compute o e) os t many room = room
-room_first (operation.Test o e) os t many room = room
-room_first (operation.Pointer o e) os t many room = room
-room_first (operation.PointerPeek n o e) os t many room = room
-
-pub room_here : (xs : List Operation) (i : ℕ) (x : Operation) (t many : ℕ) → i < length xs → x ≡ get_or xs i x → HasRoom (operations_of (drop i xs)) t many → HasRoomFor x t many
-room_here xs i x t many inside at room =
-    let here : drop i xs ≡ x ∷ drop (i + 1) xs = drop_more xs i x inside ∙ ap (λ (y : Operation). y ∷ drop (i + 1) xs) (sym at) in
-    room_first x (drop (i + 1) xs) t many (subst (λ (ys : List Operation). HasRoom (operations_of ys) t many) here room)
 
 -- the slot for what an operator gives, by how many follow
 pub slot_by_count : (xs : List Operation) (i many to d t : ℕ) → many + (i + 1) ≡ length xs → (many ≡ 0 → to ≡ d) → (0 < many → to ≡ t) → to ≡ next_slot (operations_of (drop (i + 1) xs)) d t

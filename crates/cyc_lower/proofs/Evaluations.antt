@@ -1,6 +1,5 @@
 -- The steps that begin an expression.
-use Rattle.std.proofs.Common.{◌≡◌, ℕ, suc, ◌+◌, ◌≤◌, ◌<◌, Bool, true, List, [], ◌∷◌, ◌++◌, length, Option, None, Some, slice_get, refl, sym, ap, subst, ◌∙◌, arith}
-use Rattle.std.specs.Prelude.{◌==◌}
+use Rattle.std.proofs.Common.{◌≡◌, ℕ, ◌+◌, ◌≤◌, ◌<◌, Bool, List, [], ◌∷◌, ◌++◌, length, Option, None, Some, slice_get, refl, sym, ap, subst, ◌∙◌, arith}
 use Rattle.std.proofs.lemmas.Bool.{eq-eqb}
 use Rattle.std.proofs.lemmas.Option.{same_Some, none-some}
 use Rattle.cyc_types.specs.declared.typed.Callee.{Callee}
@@ -22,14 +21,14 @@ use Rattle.cyc_plain.specs.State as plain
 use Rattle.cyc_plain.specs.State.{put, Frame, Configuration}
 use Rattle.cyc_plain.specs.Step.{operand_word, with_slots, advanced}
 use Rattle.cyc_plain.proofs.SlotLaws.{put-same}
-use Rattle.cyc_meaning.specs.Values.{Value, Int, Thin, Operand as Kinded, kind_of}
+use Rattle.cyc_meaning.specs.Values.{Int, Thin, Operand as Kinded, kind_of}
 use Rattle.cyc_meaning.specs.SourceMachine.{status_in}
 use Rattle.cyc_meaning.specs.State.{status_of, World, Environment, ConvertTo, Operate, Chain, Apply, Store, Pass, Choose, Test, Entry, Needs, Discard, Focus, Evaluating, Given, Running}
 use Rattle.cyc_meaning.specs.Step.{object_of, assigned, passes, step}
-use Rattle.cyc_lower.specs.Lowering.{slot_of, failing_comparison, operand_of, value_slot, left_with, slot_with, compared_or, compared_of}
+use Rattle.cyc_lower.specs.Lowering.{slot_of, failing_comparison, operand_of, left_with, slot_with, compared_or, compared_of}
 use Rattle.cyc_lower.proofs.Weights.{weight, stack_weight, expression_weight, arguments_weight}
-use Rattle.cyc_lower.proofs.Stands.{At, CopyBy, CopyAt, OperandBy, ConversionAt, ExpressionAt, ArgumentsAt, OperationsAt, ValueAt, PairAt, ConditionAt, AssignmentAt, PrintedAt, DiscardedAt}
-use Rattle.cyc_lower.proofs.Relation.{Is, height, Holds, held, contents, callers, Lands, in_temporary, in_local, drops, leaves, copies, Prints, prints_only, gives_byte, DataIn, SharedAt, CallAt, to_slot, to_jump, ValueStack, ConditionStack, DroppedStack, AheadStack, LandsStack, HandsOnStack, PrintsStack, RightAt, EvaluatingAt, as_operand, into_slot, for_effect, as_right, as_condition, in_operand, ahead, with_left, Related, Matches, code_of, bounds_in, bounds_at, base_of, top}
+use Rattle.cyc_lower.proofs.Stands.{CopyBy, CopyAt, OperandBy, ExpressionAt, ArgumentsAt, ValueAt, PairAt, ConditionAt, AssignmentAt, PrintedAt, DiscardedAt}
+use Rattle.cyc_lower.proofs.Relation.{Is, height, Holds, held, contents, callers, in_temporary, in_local, drops, leaves, copies, prints_only, gives_byte, DataIn, SharedAt, CallAt, to_slot, to_jump, ValueStack, ConditionStack, DroppedStack, AheadStack, LandsStack, HandsOnStack, PrintsStack, RightAt, as_operand, into_slot, for_effect, as_right, as_condition, in_operand, ahead, with_left, Related, Matches, code_of, bounds_in, bounds_at, base_of, top}
 use Rattle.cyc_lower.proofs.Data.{height-least, Holds-put, Holds-local, data_put, data_put_back}
 use Rattle.cyc_lower.proofs.Accesses.{IsWell, is_loaded}
 use Rattle.cyc_lower.proofs.Matched.{IsMatched, silently, one}
@@ -39,16 +38,16 @@ pub object_of_same : (l : Lvalue) (e : Environment) → object_of (record { loca
 object_of_same (Local p n) e = refl
 object_of_same (Global n) e = refl
 
-module _ (source : Program) (pages calls : ℕ) (some_page : 1 ≤ pages) where
+module _ (source : Program) (pages calls : ℕ) where
   -- the step from this focus is matched
   abbrev pub IsStep : Focus → List Entry → Environment → World → Configuration → Type 0
-  IsStep focus k e w c = IsWell (step source (Running focus k e w)) → Related source calls focus k e w c → IsMatched source pages calls some_page (Running focus k e w) (plain.Running c)
+  IsStep focus k e w c = IsWell (step source (Running focus k e w)) → Related source pages calls focus k e w c → IsMatched source pages calls (Running focus k e w) (plain.Running c)
 
   -- a value comes to a slot, and the next instruction is the one behind
   pub landed : (v : Kinded) (word d : ℕ) (k : List Entry) (e : Environment) (w : World) (c : Configuration) (q : ℕ) → Is v.value word
-      → SharedAt source calls w c → DataIn source c.active.slots k e w c → Holds c.active.slots (base_of source c.active.function) (held k)
+      → SharedAt source pages calls w c → DataIn source c.active.slots k e w c → Holds c.active.slots (base_of source c.active.function) (held k)
       → c.active.next + 1 ≡ q → LandsStack source c.active.function e.locals d q c.frames k
-      → Related source calls (Given v) k e w (advanced (with_slots c (put c.active.slots d word)))
+      → Related source pages calls (Given v) k e w (advanced (with_slots c (put c.active.slots d word)))
   landed v word d k e w c q is shared facts holds end (in_temporary least stack) =
       let base = base_of source c.active.function in (
         shared,
@@ -103,12 +102,12 @@ module _ (source : Program) (pages calls : ℕ) (some_page : 1 ≤ pages) where
 
   -- the next argument is evaluated, or the call is made
   pub passes_related : (f : Callee) (before : List Kinded) (cs : Arguments) (k : List Entry) (e : Environment) (w : World) (c : Configuration) (d m q all : ℕ)
-      → SharedAt source calls w c → DataIn source c.active.slots k e w c
+      → SharedAt source pages calls w c → DataIn source c.active.slots k e w c
       → ArgumentsAt (code_of source c.active.function) (bounds_at source c.active.function) cs (height (base_of source c.active.function) (before ++ held k)) c.active.next m
       → CallAt source c.active.function f all (top source c.active.function k) d m q
       → length before + argument_count cs ≡ all
       → Holds c.active.slots (base_of source c.active.function) (before ++ held k) → LandsStack source c.active.function e.locals d q c.frames k
-      → Matches source calls (passes f before cs k e w) (plain.Running c)
+      → Matches source pages calls (passes f before cs k e w) (plain.Running c)
   passes_related callees.Putchar before cs k e w c d m q all shared facts at call long holds lands = absurd call
   passes_related callees.Getchar before NoArguments k e w c d m q all shared facts at (here, end) long holds lands =
       (shared, facts, (d, q, subst (λ p. CallAt source c.active.function callees.Getchar (length before) (top source c.active.function k) d p q) (sym at) (here, end), holds, lands))
@@ -148,17 +147,17 @@ module _ (source : Program) (pages calls : ℕ) (some_page : 1 ≤ pages) where
 
   -- what is known at each such step
   abbrev At_step : Expression → List Entry → Environment → World → Configuration → Type 0
-  At_step a k e w c = IsWell (step source (Running (Evaluating a) k e w)) × SharedAt source calls w c × DataIn source c.active.slots k e w c
+  At_step a k e w c = IsWell (step source (Running (Evaluating a) k e w)) × SharedAt source pages calls w c × DataIn source c.active.slots k e w c
       × Holds c.active.slots (base_of source c.active.function) (held k)
 
   abbrev IsBegun : Expression → List Entry → Environment → World → Configuration → Type 0
-  IsBegun a k e w c = IsMatched source pages calls some_page (Running (Evaluating a) k e w) (plain.Running c)
+  IsBegun a k e w c = IsMatched source pages calls (Running (Evaluating a) k e w) (plain.Running c)
 
   known_operand : (a : Expression) (o : Operand) (k : List Entry) (e : Environment) (w : World) (c : Configuration) (q : ℕ) → operand_of a ≡ Some o → c.active.next ≡ q → At_step a k e w c
       → ValueStack source c.active.function e.locals o q c.frames k → IsBegun a k e w c
   known_operand a o k e w c q known end (well, shared, facts, holds) stack =
       let found = reads a o k e w c known well facts in
-      silently source pages calls some_page (Running (Evaluating a) k e w) (Running (Given found.value) k e w) (plain.Running c) found.gives
+      silently source pages calls (Running (Evaluating a) k e w) (Running (Given found.value) k e w) (plain.Running c) found.gives
       (shared, in_operand o facts found.is holds (subst (λ r. ValueStack source c.active.function e.locals o r c.frames k) (sym end) stack))
       (omega (arith, found.some))
 
@@ -171,7 +170,7 @@ module _ (source : Program) (pages calls : ℕ) (some_page : 1 ≤ pages) where
       absurd (well (ap (λ x. status_in (status_of (assigned x (Convert from to a) k e w))) found))
   assigns (Local p n) from kinds.NonNull a t k e w c (Some object) o m found (well, shared, facts, holds) (there, (r, s, u, at_a, check, move, end)) hands =
       let g = c.active.function in
-      silently source pages calls some_page (Running (Evaluating (Assign (Local p n) (Convert from kinds.NonNull a) t)) k e w)
+      silently source pages calls (Running (Evaluating (Assign (Local p n) (Convert from kinds.NonNull a) t)) k e w)
       (Running (Evaluating a) (Needs (ConvertTo from kinds.NonNull) ∷ Needs (Store (Thin object 0)) ∷ k) e w) (plain.Running c)
       (ap (λ x. assigned x (Convert from kinds.NonNull a) k e w) found)
       (shared, facts, as_operand r s at_a holds (u, check, (Local p n, o, m, (move, end, there), (object, refl, found), hands)))
@@ -179,13 +178,13 @@ module _ (source : Program) (pages calls : ℕ) (some_page : 1 ≤ pages) where
   assigns (Local p n) from to a t k e w c (Some object) o m found (well, shared, facts, holds) (there, at_a) hands =
       let g = c.active.function in
       let below : n < base_of source g = (facts.2.within n object found).0 in
-      silently source pages calls some_page (Running (Evaluating (Assign (Local p n) (Convert from to a) t)) k e w)
+      silently source pages calls (Running (Evaluating (Assign (Local p n) (Convert from to a) t)) k e w)
       (Running (Evaluating a) (Needs (ConvertTo from to) ∷ Needs (Store (Thin object 0)) ∷ k) e w) (plain.Running c)
       (ap (λ x. assigned x (Convert from to a) k e w) found)
       (shared, facts, into_slot n m at_a holds (in_local below (tt, (object, refl, found, subst (λ x. HandsOnStack source g e.locals x m c.frames k) there hands))))
       (omega arith)
   assigns (Global n) from to a t k e w c (Some object) o m found (well, shared, facts, holds) (s, (r, at_a, at_to), few, store, end) hands =
-      silently source pages calls some_page (Running (Evaluating (Assign (Global n) (Convert from to a) t)) k e w)
+      silently source pages calls (Running (Evaluating (Assign (Global n) (Convert from to a) t)) k e w)
       (Running (Evaluating a) (Needs (ConvertTo from to) ∷ Needs (Store (Thin object 0)) ∷ k) e w) (plain.Running c)
       (ap (λ x. assigned x (Convert from to a) k e w) found)
       (shared, facts, as_operand o r at_a holds (s, at_to, (Global n, o, m, (store, end, refl, few), (object, refl, found), hands)))
@@ -197,7 +196,7 @@ module _ (source : Program) (pages calls : ℕ) (some_page : 1 ≤ pages) where
       → PrintsStack source c.active.function e.locals o m c.frames k → IsBegun (Call callees.Putchar cs t) k e w c
   prints NoArguments t k e w c o m known at stack = absurd at
   prints (MoreArguments (Convert from to a) NoArguments) t k e w c o m (well, shared, facts, holds) (s, at_a, at_to) (write, stack) =
-      silently source pages calls some_page (Running (Evaluating (Call callees.Putchar (MoreArguments (Convert from to a) NoArguments) t)) k e w)
+      silently source pages calls (Running (Evaluating (Call callees.Putchar (MoreArguments (Convert from to a) NoArguments) t)) k e w)
       (Running (Evaluating a) (Needs (ConvertTo from to) ∷ Needs (Pass callees.Putchar [] NoArguments) ∷ k) e w) (plain.Running c) refl
       (shared, facts, as_operand o s at_a holds (m, at_to, (refl, refl, write, stack)))
       (omega arith)
@@ -208,7 +207,7 @@ module _ (source : Program) (pages calls : ℕ) (some_page : 1 ≤ pages) where
       → CallAt source c.active.function f (argument_count cs) (top source c.active.function k) d m q
       → LandsStack source c.active.function e.locals d q c.frames k → IsBegun (Call f cs t) k e w c
   calls_out f cs t k e w c d m q (well, shared, facts, holds) at call lands =
-      silently source pages calls some_page (Running (Evaluating (Call f cs t)) k e w) (passes f [] cs k e w) (plain.Running c) refl
+      silently source pages calls (Running (Evaluating (Call f cs t)) k e w) (passes f [] cs k e w) (plain.Running c) refl
       (passes_related f [] cs k e w c d m q (argument_count cs) shared facts at call (omega arith) holds lands)
       (omega (arith, passes_weight f [] cs k e w))
 
@@ -219,12 +218,12 @@ module _ (source : Program) (pages calls : ℕ) (some_page : 1 ≤ pages) where
       (slot_with right a (top source c.active.function k)) l c.active.next m
       → ValueStack source c.active.function e.locals l m c.frames (Needs (Chain os) ∷ k) → IsBegun (Binary a os t) k e w c
   chain_begins (Some r) a os t k e w c l m (well, shared, facts, holds) at stack =
-      silently source pages calls some_page (Running (Evaluating (Binary a os t)) k e w) (Running (Evaluating a) (Needs (Chain os) ∷ k) e w) (plain.Running c) refl
+      silently source pages calls (Running (Evaluating (Binary a os t)) k e w) (Running (Evaluating a) (Needs (Chain os) ∷ k) e w) (plain.Running c) refl
       (shared, facts, as_operand l m at holds stack)
       (omega arith)
   chain_begins None a os t k e w c l m (well, shared, facts, holds) (is, at) stack =
       let g = c.active.function in
-      silently source pages calls some_page (Running (Evaluating (Binary a os t)) k e w) (Running (Evaluating a) (Needs (Chain os) ∷ k) e w) (plain.Running c) refl
+      silently source pages calls (Running (Evaluating (Binary a os t)) k e w) (Running (Evaluating a) (Needs (Chain os) ∷ k) e w) (plain.Running c) refl
       (shared, facts, into_slot (top source g k) m at holds (in_temporary (omega arith) (subst (λ x. ValueStack source g e.locals x m c.frames (Needs (Chain os) ∷ k)) is stack)))
       (omega arith)
 
@@ -232,26 +231,26 @@ module _ (source : Program) (pages calls : ℕ) (some_page : 1 ≤ pages) where
       → ExpressionAt (code_of source c.active.function) (bounds_at source c.active.function) a d (top source c.active.function k) c.active.next q
       → LandsStack source c.active.function e.locals d q c.frames k → IsBegun a k e w c
   comes (Number n) k e w c d q (well, shared, facts, holds) (at, end) lands =
-      one source pages calls some_page refl shared at (λ choice. landed (record { kind = kinds.Int; value = Int n }) n d k e w c q refl shared facts holds end lands)
+      one source pages calls refl shared at (λ choice. landed (record { kind = kinds.Int; value = Int n }) n d k e w c q refl shared facts holds end lands)
   comes (Copy (Local p n) t) k e w c d q (well, shared, facts, holds) (at, end) lands =
       let found = is_loaded (kind_of t) (e.locals n) k e w well in
-      one source pages calls some_page found.gives shared at
+      one source pages calls found.gives shared at
       (λ choice. landed (record { kind = kind_of t; value = found.value }) (c.active.slots (slot_of n)) d k e w c q (facts.2.holds n found.number found.value found.there found.has) shared facts holds end lands)
   comes (Copy (Global n) t) k e w c d q (well, shared, facts, holds) (few, at, end) lands =
       let found = is_loaded (kind_of t) (Some n) k e w well in
       let same : n ≡ found.number = same_Some n found.number found.there in
-      one source pages calls some_page found.gives shared at
+      one source pages calls found.gives shared at
       (λ choice. landed (record { kind = kind_of t; value = found.value }) (c.globals n) d k e w c q (facts.4 n found.value (global_there c.active.function n few) (ap (contents w.objects) same ∙ found.has)) shared facts holds end lands)
   comes (Call callees.Putchar cs t) k e w c d q known (o, m, at, write, low, end) lands =
       prints cs t k e w c o m known at (write, gives_byte d low (lands_at c.active.function e.locals d (m + 1 + 1) q c.frames k end lands))
   comes (Call callees.Getchar cs t) k e w c d q known (m, at, here, end) lands = calls_out callees.Getchar cs t k e w c d m q known at (here, end) lands
   comes (Call (callees.Function n) cs t) k e w c d q known (m, at, here, end) lands = calls_out (callees.Function n) cs t k e w c d m q known at (here, end) lands
   comes (Unary o a) k e w c d q (well, shared, facts, holds) (r, m, at_a, at, end) lands =
-      silently source pages calls some_page (Running (Evaluating (Unary o a)) k e w) (Running (Evaluating a) (Needs (Operate o) ∷ k) e w) (plain.Running c) refl
+      silently source pages calls (Running (Evaluating (Unary o a)) k e w) (Running (Evaluating a) (Needs (Operate o) ∷ k) e w) (plain.Running c) refl
       (shared, facts, as_operand r m at_a holds (to_slot (d, at, lands_at c.active.function e.locals d (m + 1) q c.frames k end lands)))
       (omega arith)
   comes (Binary a NoOperations t) k e w c d q (well, shared, facts, holds) (l, m, (is, at_a), (is_there, end)) lands =
-      silently source pages calls some_page (Running (Evaluating (Binary a NoOperations t)) k e w) (Running (Evaluating a) (Needs (Chain NoOperations) ∷ k) e w) (plain.Running c) refl
+      silently source pages calls (Running (Evaluating (Binary a NoOperations t)) k e w) (Running (Evaluating a) (Needs (Chain NoOperations) ∷ k) e w) (plain.Running c) refl
       (shared, facts, into_slot d m at_a holds (lands_at c.active.function e.locals d m q c.frames k end lands))
       (omega arith)
   comes (Binary a (ThenCompute o b os) t) k e w c d q known (l, m, at_a, at) lands =
@@ -319,11 +318,11 @@ module _ (source : Program) (pages calls : ℕ) (some_page : 1 ≤ pages) where
   for_its_effect (typed.New x v t) k e w c q known (o, (is, at)) stack = absurd at
 
   -- a right operand without code, with the left one beside it
-  beside_left : (a : Expression) (k : List Entry) (e : Environment) (w : World) (c : Configuration) → IsWell (step source (Running (Evaluating a) k e w)) → SharedAt source calls w c → DataIn source c.active.slots k e w c
+  beside_left : (a : Expression) (k : List Entry) (e : Environment) (w : World) (c : Configuration) → IsWell (step source (Running (Evaluating a) k e w)) → SharedAt source pages calls w c → DataIn source c.active.slots k e w c
       → RightAt source a e.locals c.active.function c.active.next c.active.slots c.frames k → IsBegun a k e w c
   beside_left a (Needs (Apply u left) ∷ k) e w c well shared facts (l, r, known, is_left, holds, applied) =
       let found = reads a r (Needs (Apply u left) ∷ k) e w c known well facts in
-      silently source pages calls some_page (Running (Evaluating a) (Needs (Apply u left) ∷ k) e w) (Running (Given found.value) (Needs (Apply u left) ∷ k) e w) (plain.Running c) found.gives
+      silently source pages calls (Running (Evaluating a) (Needs (Apply u left) ∷ k) e w) (Running (Given found.value) (Needs (Apply u left) ∷ k) e w) (plain.Running c) found.gives
       (shared, with_left facts (l, r, is_left, found.is, holds, applied))
       (omega (arith, found.some))
   beside_left a k e w c well shared facts right = absurd right
@@ -360,7 +359,7 @@ module _ (source : Program) (pages calls : ℕ) (some_page : 1 ≤ pages) where
       → ConditionAt (code_of source c.active.function) (bounds_at source c.active.function) a l r (top source c.active.function k) c.active.next q
       → ConditionStack source c.active.function (compared_of a).failing l r q c.frames k → IsBegun a k e w c
   condition (Unary unary.Not a) k e w c l r q (well, shared, facts, holds) (m, at_a, (is, end)) stack =
-      silently source pages calls some_page (Running (Evaluating (Unary unary.Not a)) k e w) (Running (Evaluating a) (Needs (Operate unary.Not) ∷ k) e w) (plain.Running c) refl
+      silently source pages calls (Running (Evaluating (Unary unary.Not a)) k e w) (Running (Evaluating a) (Needs (Operate unary.Not) ∷ k) e w) (plain.Running c) refl
       (shared, facts, as_operand l m at_a holds (to_jump (refl, alone c.active.function comparisons.NotEqual l r m q c.frames k is end stack)))
       (omega arith)
   condition (Binary a (ThenCompute o b NoOperations) t) k e w c l r q known at stack = compares (failing_comparison o) o a b t k e w c l r q refl known at stack

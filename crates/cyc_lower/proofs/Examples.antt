@@ -21,6 +21,7 @@ use Rattle.cyc_plain.specs.declared.instruction.BinaryOperator.TheVariants as pl
 use Rattle.cyc_plain.specs.declared.instruction.Comparison.TheVariants as comparisons
 use Rattle.cyc_words.specs.Simulation.{Status, Ended}
 use Rattle.cyc_words.specs.Simulation as simulation
+use Rattle.cyc_store.specs.State as stores
 use Rattle.cyc_plain.specs.State.{State, output_of, status_of}
 use Rattle.cyc_plain.specs.Step.{run, start}
 use Rattle.cyc_plain.proofs.RunLaws.{zeros}
@@ -96,7 +97,7 @@ program body others = record {
 }
 
 abbrev after : ℕ → Program → List ℕ → State
-after steps p input = run (lower_program p) 3 9 zeros steps (start (lower_program p) input)
+after steps p input = run (lower_program p) 3 9 zeros steps (start (lower_program p) (stores.start 3 (λ (address : ℕ). 0)) input)
 
 abbrev ends : ℕ → Program → List ℕ → Status
 ends steps p input = status_of (after steps p input)

@@ -1,5 +1,5 @@
 -- How a step of the source is matched: what is the same in all cases.
-use Rattle.std.proofs.Common.{◌≡◌, ◌≢◌, ℕ, suc, ◌+◌, ◌≤◌, ◌<◌, Bool, true, false, List, [], ◌∷◌, length, Option, None, Some, refl, sym, ap, subst, ◌∙◌, arith, inl, inr}
+use Rattle.std.proofs.Common.{◌≡◌, ◌≢◌, ℕ, suc, ◌+◌, ◌≤◌, ◌<◌, Bool, true, false, List, [], ◌∷◌, length, Option, None, Some, refl, sym, ap, subst, ◌∙◌, arith}
 use Rattle.std.specs.Prelude.{Contains, if◌then◌else◌}
 use Rattle.std.specs.List.{AllByRecursion}
 use Rattle.std.proofs.lemmas.Bool.{le-leb, and_from}
@@ -16,12 +16,14 @@ use Rattle.cyc_plain.specs.declared.instruction.Instruction.{Instruction}
 use Rattle.cyc_words.specs.Simulation as simulation
 use Rattle.cyc_words.specs.Simulation.{Status, Failed, Machine, Matching, Comes, IsOnTheWay, IsMatchedStep, IsStepped, IsDistinct}
 use Rattle.cyc_plain.specs.Program.{CodePlace, places_of}
+use Rattle.cyc_store.specs.State.{demand}
 use Rattle.cyc_plain.specs.State as plain
 use Rattle.cyc_plain.specs.State.{Frame, Configuration}
 use Rattle.cyc_plain.specs.Step.{Choice, performed, machine}
 use Rattle.cyc_plain.specs.Step as plain_step
 use Rattle.cyc_words.proofs.Matching.{by_none, way_before}
 use Rattle.cyc_plain.proofs.Steps.{step_performs, place_known}
+use Rattle.cyc_plain.specs.Straight.{At}
 use Rattle.cyc_words.specs.Demand.{demand_of}
 use Rattle.cyc_meaning.specs.State.{World, Environment, ConvertTo, Operate, Chain, Apply, Decide, Store, Pass, Initialise, Choose, Test, Return, Entry, Needs, Discard, Rest, Join, Loop, CloseRegion, Caller, Main, counted, calls_in, Focus, Evaluating, Given, Executing, Proceeding, Calling, Entering, Binding, Breaking, Continuing, Returning, Throwing, State, Running, Ended, Dead, Wrong, output_of, input_of, status_of}
 use Rattle.cyc_meaning.specs.Step.{step}
@@ -29,7 +31,6 @@ use Rattle.cyc_meaning.specs.Run.{is_within, limited_step}
 use Rattle.cyc_lower.specs.Lowering.{compared_of, lower_program}
 use Rattle.cyc_meaning.specs.SourceMachine.{status_in, source_machine}
 use Rattle.cyc_lower.proofs.Weights.{weight}
-use Rattle.cyc_lower.proofs.Stands.{At}
 use Rattle.cyc_lower.proofs.Relation.{IsPlainStack, Lands, in_temporary, in_local, HandsOn, drops, leaves, copies, Prints, prints_only, gives_byte, SharedAt, to_slot, to_jump, ValueStack, ConditionStack, DroppedStack, AheadStack, StatementStack, LandsStack, PrintsStack, AppliedStack, RightAt, ReadyAt, EvaluatingAt, as_operand, into_slot, for_effect, as_right, as_condition, FocusAt, GivenAt, in_operand, nowhere, ahead, compared, with_left, ProceedingAt, behind_statement, behind_call, behind_wrong, Related, Matches, code_of, top}
 
 module _ (source : Program) where
@@ -216,11 +217,11 @@ module _ (source : Program) where
   evaluating_depth a locals g p slots frames k (as_condition l r q at holds stack) = condition_depth g (compared_of a).failing l r q frames k stack
 
   -- what a related state shares
-  pub shared_of : (calls : ℕ) (focus : Focus) (k : List Entry) (e : Environment) (w : World) (c : Configuration) → Related source calls focus k e w c → SharedAt source calls w c
-  shared_of calls (Throwing tag value) k e w c r = r.0
-  shared_of calls (Given v) k e w c r = r.0
-  shared_of calls Proceeding k e w c r = r.0
-  shared_of calls focus k e w c r = r.0
+  pub shared_of : (pages calls : ℕ) (focus : Focus) (k : List Entry) (e : Environment) (w : World) (c : Configuration) → Related source pages calls focus k e w c → SharedAt source pages calls w c
+  shared_of pages calls (Throwing tag value) k e w c r = r.0
+  shared_of pages calls (Given v) k e w c r = r.0
+  shared_of pages calls Proceeding k e w c r = r.0
+  shared_of pages calls focus k e w c r = r.0
 
   depth_going : (focus : Focus) (k : List Entry) (locals : ℕ → Option ℕ) (g p : ℕ) (slots : ℕ → ℕ) (frames : List Frame) → FocusAt source focus k locals g p slots frames → HasDepth frames k
   depth_going (Evaluating a) k locals g p slots frames at = evaluating_depth a locals g p slots frames k at
@@ -248,13 +249,13 @@ module _ (source : Program) where
   depth_proceeding k e w c (behind_call o facts stack) = value_depth c.active.function e.locals o c.active.next c.frames k stack
   depth_proceeding k e w c (behind_wrong n stack) = ahead_depth c.active.function e.locals n c.active.next c.frames k stack
 
-  depth_fits : (calls : ℕ) (focus : Focus) (k : List Entry) (e : Environment) (w : World) (c : Configuration) → Related source calls focus k e w c → calls_in k ≤ calls
-  depth_fits calls (Throwing tag value) k e w c r = r.1
-  depth_fits calls (Given v) k e w c (shared, at) = omega (arith, depth_given v k e w c at, shared.fits)
-  depth_fits calls Proceeding k e w c (shared, at) = omega (arith, depth_proceeding k e w c at, shared.fits)
-  depth_fits calls focus k e w c r = omega (arith, depth_going focus k e.locals c.active.function c.active.next c.active.slots c.frames r.2, r.0.fits)
+  depth_fits : (pages calls : ℕ) (focus : Focus) (k : List Entry) (e : Environment) (w : World) (c : Configuration) → Related source pages calls focus k e w c → calls_in k ≤ calls
+  depth_fits pages calls (Throwing tag value) k e w c r = r.1
+  depth_fits pages calls (Given v) k e w c (shared, at) = omega (arith, depth_given v k e w c at, shared.fits)
+  depth_fits pages calls Proceeding k e w c (shared, at) = omega (arith, depth_proceeding k e w c at, shared.fits)
+  depth_fits pages calls focus k e w c r = omega (arith, depth_going focus k e.locals c.active.function c.active.next c.active.slots c.frames r.2, r.0.fits)
 
-module _ (source : Program) (pages calls : ℕ) (some_page : 1 ≤ pages) where
+module _ (source : Program) (pages calls : ℕ) where
   abbrev pub above : Machine
   above = source_machine source pages calls
 
@@ -263,16 +264,16 @@ module _ (source : Program) (pages calls : ℕ) (some_page : 1 ≤ pages) where
 
   -- ---- within the limits
 
-  pub related_within : (focus : Focus) (k : List Entry) (e : Environment) (w : World) (c : Configuration) → Related source calls focus k e w c → is_within pages calls (Running focus k e w) ≡ true
+  pub related_within : (focus : Focus) (k : List Entry) (e : Environment) (w : World) (c : Configuration) → Related source pages calls focus k e w c → is_within pages calls (Running focus k e w) ≡ true
   related_within focus k e w c r =
-      let s = shared_of source calls focus k e w c r in
-      let demands : demand_of (counted w.regions) w.classes ≡ 1 = ap (λ l. demand_of l w.classes) s.heap_alone ∙ ap (demand_of ([] ∷ [])) s.no_class in
-      and_from _ _ (le-leb _ pages (omega (arith, demands, some_page))) (le-leb _ calls (depth_fits source calls focus k e w c r))
+      let s = shared_of source pages calls focus k e w c r in
+      let demands : demand c.store ≡ demand_of (counted w.regions) w.classes = ap (λ l. demand_of l c.store.classes) s.same_sizes ∙ ap (demand_of (counted w.regions)) s.same_classes in
+      and_from _ _ (le-leb _ pages (omega (arith, demands, s.few_pages))) (le-leb _ calls (depth_fits source pages calls focus k e w c r))
 
-  pub shared_within : (w : World) (c : Configuration) → SharedAt source calls w c → plain_step.is_within pages calls (plain.Running c) ≡ true
-  shared_within w c s = and_from _ _ (le-leb _ pages (omega (arith, s.one_page, some_page))) (le-leb _ calls s.fits)
+  pub shared_within : (w : World) (c : Configuration) → SharedAt source pages calls w c → plain_step.is_within pages calls (plain.Running c) ≡ true
+  shared_within w c s = and_from _ _ (le-leb _ pages s.few_pages) (le-leb _ calls s.fits)
 
-  pub matches_within : (s : State) (t : plain.State) → Matches source calls s t → is_within pages calls s ≡ true
+  pub matches_within : (s : State) (t : plain.State) → Matches source pages calls s t → is_within pages calls s ≡ true
   matches_within (Running focus k e w) (plain.Running c) m = related_within focus k e w c m
   matches_within (Running focus k e w) (plain.Ended ending output input) m = absurd m
   matches_within (Running focus k e w) (plain.Stuck output input) m = absurd m
@@ -280,8 +281,8 @@ module _ (source : Program) (pages calls : ℕ) (some_page : 1 ≤ pages) where
   matches_within (Dead output input) t m = absurd m
   matches_within (Wrong output input) t m = absurd m
 
-  pub matches_within_below : (s : State) (t : plain.State) → Matches source calls s t → plain_step.is_within pages calls t ≡ true
-  matches_within_below (Running focus k e w) (plain.Running c) m = shared_within w c (shared_of source calls focus k e w c m)
+  pub matches_within_below : (s : State) (t : plain.State) → Matches source pages calls s t → plain_step.is_within pages calls t ≡ true
+  matches_within_below (Running focus k e w) (plain.Running c) m = shared_within w c (shared_of source pages calls focus k e w c m)
   matches_within_below (Running focus k e w) (plain.Ended ending output input) m = absurd m
   matches_within_below (Running focus k e w) (plain.Stuck output input) m = absurd m
   matches_within_below (Ended ending output input) (plain.Running c) m = absurd m
@@ -295,14 +296,14 @@ module _ (source : Program) (pages calls : ℕ) (some_page : 1 ≤ pages) where
   limited_by false x y e = absurd (let f : false ≡ true = e in cc)
 
   -- a step to a state that is matched is within the limits
-  pub steps_to : (s next : State) (t : plain.State) → step source s ≡ next → Matches source calls next t → next ≡ limited_step source pages calls s
+  pub steps_to : (s next : State) (t : plain.State) → step source s ≡ next → Matches source pages calls next t → next ≡ limited_step source pages calls s
   steps_to s next t does m =
       sym (limited_by (is_within pages calls (step source s)) (step source s) (Ended Full (output_of s) (input_of s)) (ap (is_within pages calls) does ∙ matches_within next t m) ∙ does)
 
   -- ---- the matching
 
-  pub outputs : (s : State) (t : plain.State) → Matches source calls s t → plain.output_of t ≡ output_of s
-  outputs (Running focus k e w) (plain.Running c) m = (shared_of source calls focus k e w c m).same_output
+  pub outputs : (s : State) (t : plain.State) → Matches source pages calls s t → plain.output_of t ≡ output_of s
+  outputs (Running focus k e w) (plain.Running c) m = (shared_of source pages calls focus k e w c m).same_output
   outputs (Running focus k e w) (plain.Ended ending output input) m = absurd m
   outputs (Running focus k e w) (plain.Stuck output input) m = absurd m
   outputs (Ended ending output input) (plain.Running c) m = absurd m
@@ -311,7 +312,7 @@ module _ (source : Program) (pages calls : ℕ) (some_page : 1 ≤ pages) where
   outputs (Dead output input) t m = absurd m
   outputs (Wrong output input) t m = absurd m
 
-  pub endings : (s : State) (t : plain.State) (ending : Ending) → Matches source calls s t → status_in (status_of s) ≡ simulation.Ended ending → plain.status_of t ≡ simulation.Ended ending
+  pub endings : (s : State) (t : plain.State) (ending : Ending) → Matches source pages calls s t → status_in (status_of s) ≡ simulation.Ended ending → plain.status_of t ≡ simulation.Ended ending
   endings (Running focus k e w) t ending m ended = absurd (let f : simulation.Running ≡ simulation.Ended ending = ended in cc)
   endings (Ended x output input) (plain.Running c) ending m ended = absurd m
   endings (Ended x output input) (plain.Ended y same_output same_input) ending m ended = ap simulation.Ended m.0 ∙ ended
@@ -321,7 +322,7 @@ module _ (source : Program) (pages calls : ℕ) (some_page : 1 ≤ pages) where
 
   abbrev pub matching : Matching above below
   matching = record {
-    Matches = Matches source calls;
+    Matches = Matches source pages calls;
     weight = weight;
     own = λ p. places_of (lower_program source);
     outputs = outputs;
@@ -332,20 +333,16 @@ module _ (source : Program) (pages calls : ℕ) (some_page : 1 ≤ pages) where
   abbrev pub IsMatched : State → plain.State → Type 0
   IsMatched s t = IsStepped above below matching s t
 
-  -- it goes on
-  abbrev pub GoesWell : State → Type 0
-  GoesWell s = status_in (status_of s) ≡ Failed → ⊥
-
   -- ---- by no instruction
 
-  pub silently : (s next : State) (t : plain.State) → step source s ≡ next → Matches source calls next t → weight next < weight s → IsMatched s t
+  pub silently : (s next : State) (t : plain.State) → step source s ≡ next → Matches source pages calls next t → weight next < weight s → IsMatched s t
   silently s next t does m lighter = by_none above below matching s next t (steps_to s next t does m) m lighter
 
   -- ---- by instructions
 
   -- From here some instructions are executed, and then the source's step is matched.
   abbrev pub Executes : State → State → List CodePlace → plain.State → Type 0
-  Executes s next places t = Comes below (IsOnTheWay above below s) (λ u. Matches source calls next u) places t
+  Executes s next places t = Comes below (IsOnTheWay above below s) (λ u. Matches source pages calls next u) places t
 
   -- an instruction stands here, and whatever is chosen it leads on
   pub executes : (s next : State) (c : Configuration) (i : Instruction) (places : List CodePlace)
@@ -384,7 +381,7 @@ module _ (source : Program) (pages calls : ℕ) (some_page : 1 ≤ pages) where
   }
 
   -- on the way, as long as what is shared is as before
-  pub shared_way : (focus : Focus) (k : List Entry) (e : Environment) (w : World) (c : Configuration) → SharedAt source calls w c → IsOnTheWay above below (Running focus k e w) (plain.Running c)
+  pub shared_way : (focus : Focus) (k : List Entry) (e : Environment) (w : World) (c : Configuration) → SharedAt source pages calls w c → IsOnTheWay above below (Running focus k e w) (plain.Running c)
   shared_way focus k e w c shared = way_before above below matching (Running focus k e w) (plain.Running c) refl shared.same_output
 
   abbrev pub place_in : Configuration → CodePlace
@@ -398,9 +395,9 @@ module _ (source : Program) (pages calls : ℕ) (some_page : 1 ≤ pages) where
 
   -- one instruction
   pub one : {focus : Focus} {k : List Entry} {e : Environment} {w : World} {c : Configuration} {next : State} {i : Instruction}
-      → step source (Running focus k e w) ≡ next → SharedAt source calls w c
+      → step source (Running focus k e w) ≡ next → SharedAt source pages calls w c
       → At (code_of source c.active.function) c.active.next i
-      → ((choice : Choice) → Matches source calls next (performed (lower_program source) choice c i))
+      → ((choice : Choice) → Matches source pages calls next (performed (lower_program source) choice c i))
       → IsMatched (Running focus k e w) (plain.Running c)
   one {focus} {k} {e} {w} {c} {next} {i} does shared at goes =
       by_places (Running focus k e w) next (place_in c) [] (plain.Running c) does (tt, tt) (known c i at, tt)
@@ -408,11 +405,11 @@ module _ (source : Program) (pages calls : ℕ) (some_page : 1 ≤ pages) where
 
   -- two, of which the first is known
   pub two_known : {focus : Focus} {k : List Entry} {e : Environment} {w : World} {c : Configuration} {next : State} {i j : Instruction} (d : Configuration)
-      → step source (Running focus k e w) ≡ next → SharedAt source calls w c
+      → step source (Running focus k e w) ≡ next → SharedAt source pages calls w c
       → plain_step.is_within pages calls (plain.Running d) ≡ true → IsOnTheWay above below (Running focus k e w) (plain.Running d)
       → At (code_of source c.active.function) c.active.next i → ((choice : Choice) → performed (lower_program source) choice c i ≡ plain.Running d)
       → At (code_of source d.active.function) d.active.next j → c.active.next ≢ d.active.next
-      → ((choice : Choice) → Matches source calls next (performed (lower_program source) choice d j))
+      → ((choice : Choice) → Matches source pages calls next (performed (lower_program source) choice d j))
       → IsMatched (Running focus k e w) (plain.Running c)
   two_known {focus} {k} {e} {w} {c} {next} {i} {j} d does shared within_d way_d at first at_d other goes =
       by_places (Running focus k e w) next (place_in c) (place_in d ∷ []) (plain.Running c) does ((apart c d other, tt), (tt, tt)) (known c i at, (known d j at_d, tt))
@@ -423,24 +420,24 @@ module _ (source : Program) (pages calls : ℕ) (some_page : 1 ≤ pages) where
 
   -- two, of which the first shows nothing
   pub two : {focus : Focus} {k : List Entry} {e : Environment} {w : World} {c : Configuration} {next : State} {i j : Instruction} (d : Configuration)
-      → step source (Running focus k e w) ≡ next → SharedAt source calls w c → SharedAt source calls w d
+      → step source (Running focus k e w) ≡ next → SharedAt source pages calls w c → SharedAt source pages calls w d
       → At (code_of source c.active.function) c.active.next i → ((choice : Choice) → performed (lower_program source) choice c i ≡ plain.Running d)
       → At (code_of source d.active.function) d.active.next j → c.active.next ≢ d.active.next
-      → ((choice : Choice) → Matches source calls next (performed (lower_program source) choice d j))
+      → ((choice : Choice) → Matches source pages calls next (performed (lower_program source) choice d j))
       → IsMatched (Running focus k e w) (plain.Running c)
   two {focus} {k} {e} {w} {c} {next} {i} {j} d does shared shared_d at first at_d other goes =
       two_known d does shared (shared_within w d shared_d) (shared_way focus k e w d shared_d) at first at_d other goes
 
   -- three, of which the first two are known
   pub three : {focus : Focus} {k : List Entry} {e : Environment} {w : World} {c : Configuration} {next : State} {i j l : Instruction} (d f : Configuration)
-      → step source (Running focus k e w) ≡ next → SharedAt source calls w c
+      → step source (Running focus k e w) ≡ next → SharedAt source pages calls w c
       → plain_step.is_within pages calls (plain.Running d) ≡ true → IsOnTheWay above below (Running focus k e w) (plain.Running d)
       → plain_step.is_within pages calls (plain.Running f) ≡ true → IsOnTheWay above below (Running focus k e w) (plain.Running f)
       → At (code_of source c.active.function) c.active.next i → ((choice : Choice) → performed (lower_program source) choice c i ≡ plain.Running d)
       → At (code_of source d.active.function) d.active.next j → ((choice : Choice) → performed (lower_program source) choice d j ≡ plain.Running f)
       → At (code_of source f.active.function) f.active.next l
       → c.active.next ≢ d.active.next → c.active.next ≢ f.active.next → d.active.next ≢ f.active.next
-      → ((choice : Choice) → Matches source calls next (performed (lower_program source) choice f l))
+      → ((choice : Choice) → Matches source pages calls next (performed (lower_program source) choice f l))
       → IsMatched (Running focus k e w) (plain.Running c)
   three {focus} {k} {e} {w} {c} {next} {i} {j} {l} d f does shared within_d way_d within_f way_f at first at_d second at_f cd cf df goes =
       by_places (Running focus k e w) next (place_in c) (place_in d ∷ place_in f ∷ []) (plain.Running c) does

@@ -7,10 +7,12 @@ use Rattle.cyc_types.specs.declared.typed.Kind.TheVariants as kinds
 use Rattle.cyc_types.specs.Types.{Ty, Int, Pointer, Handle, Key, Struct, words_of, ValueType, Void, Null, Value}
 use Rattle.cyc_types.specs.TypedTrees.{Expression, Number, NullPointer, HeapRegion, Counter, Copy, Move, Peek, Load, AddressOf, AddressOfCell, NumberOfElements, FreeUnique, FreeKey, Call, Unary, Binary, Assign, Store, New, Dereference, Target, Member, Element, Placement, OnHeap, AsUnique, ByHandle, Initial, Plain, Fields, Array, Converted, Convert, Arguments, NoArguments, MoreArguments, Operations, NoOperations, ThenCompute, ThenTest, ThenPointer, ThenPointerPeek, type_of, type_of_place, Side, VariableSide, CellSide, Statement, Block, Empty, Evaluate, Swap, If, While, Return, Break, Continue, Throw, Try, Items, NoItems, MoreItems, Execute, Declare, DeclareRegion, Clauses, NoClauses, Default, Case, Program}
 use Rattle.cyc_types.specs.Weight.{expression_weight, dereference_weight, placement_weight, initial_weight, converted_weight, arguments_weight, more_arguments_weight, operations_weight, side_weight, statement_weight, items_weight, clauses_weight, function_weight, program_weight}
-use Rattle.cyc_types.proofs.WeightLemmas.{some_token, else_written, function_outweighs, function_of_program}
+use Rattle.cyc_types.specs.typing.WellTyped.{IsWellTypedProgram}
+use Rattle.cyc_types.proofs.WeightLemmas.{some_token, else_written, function_of_program}
+use Rattle.cyc_types.proofs.typing.WeightLemmas.{function_outweighs}
 use Rattle.cyc_meaning.specs.Values.{words_of_kind}
 use Rattle.cyc_meaning.specs.FrameCount.{result_words, operand_words, converted_words, argument_words, handle_words, expression_need, dereference_need, handle_need, initial_value_need, converted_need, arguments_need, operations_need, side_need, statement_need, items_need, clauses_need, kept_by, kept_by_items, kept_by_clauses, words_of_all}
-use Rattle.cyc_lower.specs.Emission.{IsElaborated, HaveFewWords}
+use Rattle.cyc_lower.specs.Emission.{HaveFewWords}
 
 -- ---- values
 
@@ -107,7 +109,7 @@ mutual
   initial_light : (i : Initial) (handle own : ℕ) → handle ≤ 3 → own ≤ 3 → initial_value_need i handle own ≤ 6 + 6 * initial_weight i
   initial_light (Plain k a) handle own small few = omega (arith, small, few, kind_few k, some_token a, expression_light a)
   initial_light (Fields cs) handle own small few = omega (arith, small, few, arguments_words cs, one_more cs, more_light cs handle)
-  initial_light (Array l n k a) handle own small few = omega (arith, small, few, kind_few k, expression_light n, expression_light a)
+  initial_light (Array p l n k a) handle own small few = omega (arith, small, few, kind_few k, expression_light n, expression_light a)
 
   converted_light : (c : Converted) → converted_need c ≤ 6 * converted_weight c
   converted_light (Convert from to a) = expression_light a
@@ -186,8 +188,8 @@ pub words_of_types : (ts : List Ty) → (length ts ≤ words_of_all ts) × (word
 words_of_types [] = (omega arith, omega arith)
 words_of_types (t ∷ ts) = let w = words_few t in let r = words_of_types ts in (omega (arith, w.0, r.0), omega (arith, w.1, r.1))
 
-pub small_frames : (p : Program) → IsElaborated p → program_weight p ≤ max_tokens → HaveFewWords p.functions
-small_frames p (texts, tree, typed) light n h at =
+pub small_frames : (p : Program) → IsWellTypedProgram p → program_weight p ≤ max_tokens → HaveFewWords p.functions
+small_frames p well light n h at =
     let part : function_weight h ≤ program_weight p = function_of_program p n h at in
-    let locals : 2 * length h.parameters + 3 * length h.locals + 2 * h.regions + 4 ≤ function_weight h = function_outweighs texts tree p n h typed at in
-    omega (arith, part, locals, light, (words_of_types h.parameters).1, (words_of_types h.locals).1, items_light h.body, items_keep_few h.body)
+    let (own, locals) = function_outweighs p n h well at in
+    omega (arith, part, own, locals, light, (words_of_types h.parameters).1, (words_of_types h.locals).1, items_light h.body, items_keep_few h.body)

@@ -1,14 +1,14 @@
 -- What a state of the source and one of the plain program have in common while the one is matched by the other.
 use Rattle.std.proofs.Common.{◌≡◌, ℕ, suc, ◌+◌, ◌≤◌, ◌<◌, List, [], ◌∷◌, ◌++◌, length, Option, None, Some, slice_get}
-use Rattle.std.specs.Prelude.{◌⊎◌}
 use Rattle.cyc_types.specs.declared.typed.Kind.{Kind}
 use Rattle.cyc_types.specs.declared.typed.Kind.TheVariants as kinds
 use Rattle.cyc_types.specs.declared.typed.Callee.{Callee}
 use Rattle.cyc_types.specs.declared.typed.UnaryOperator.TheVariants as unary
 use Rattle.cyc_types.specs.declared.typed.Operator.{Operator}
 use Rattle.cyc_types.specs.declared.typed.Callee.TheVariants as callees
-use Rattle.cyc_types.specs.TypedTrees.{Lvalue, Local, Global, Expression, Call, Assign, Arguments, NoArguments, Converted, NoOperations, ThenCompute, ThenTest, Statement, Function, Program}
+use Rattle.cyc_types.specs.TypedTrees.{Lvalue, Local, Global, Expression, NoArguments, NoOperations, Statement, Function, Program}
 use Rattle.cyc_types.specs.Numbered.{Numbering, numbering_of, signatures_of, argument_count}
+use Rattle.cyc_store.specs.State.{StoreState, sizes_in, demand}
 use Rattle.cyc_plain.specs.declared.instruction.Comparison.{Comparison}
 use Rattle.cyc_plain.specs.declared.instruction.Comparison.TheVariants as comparisons
 use Rattle.cyc_plain.specs.Operators.{compares}
@@ -20,12 +20,13 @@ use Rattle.cyc_plain.specs.Program.{routine_at}
 use Rattle.cyc_plain.specs.State.{Words, put, Frame, Configuration}
 use Rattle.cyc_plain.specs.Step.{operand_word}
 use Rattle.cyc_plain.specs.State as plain
+use Rattle.cyc_plain.specs.Straight.{At}
 use Rattle.cyc_meaning.specs.Values.{Value, Int, Null, Thin, Fat, Handle, Key, Operand as Kinded, Cell}
-use Rattle.cyc_meaning.specs.State.{Sort, Heap, Globals, Stack, Lexical, Dynamic, Region, Object, World, counted, first_classes, Environment, ConvertTo, Operate, Chain, Apply, Decide, Store, Pass, Initialise, Choose, Test, Return, Entry, Needs, NeedsPlace, Discard, Rest, Join, Loop, CloseRegion, CloseLexical, EndLoan, Handler, Caller, Main, calls_in, Focus, Evaluating, Given, Executing, Proceeding, Calling, Entering, Binding, Breaking, Continuing, Returning, Throwing, State, Running, Ended}
+use Rattle.cyc_meaning.specs.State.{Sort, Heap, Globals, Stack, Lexical, Dynamic, Region, Object, World, counted, Environment, ConvertTo, Operate, Chain, Apply, Decide, Store, Pass, Initialise, Choose, Test, Return, Entry, Needs, NeedsPlace, Discard, Rest, Join, Loop, CloseRegion, CloseLexical, EndLoan, Handler, Caller, Main, calls_in, Focus, Evaluating, Given, Executing, Proceeding, Calling, Entering, Binding, Breaking, Continuing, Returning, Throwing, State, Running, Ended}
 use Rattle.cyc_meaning.specs.Step.{object_of}
 use Rattle.cyc_meaning.specs.Operators.{is_zero}
-use Rattle.cyc_lower.specs.Lowering.{slot_of, unary_operator, failing_comparison, operand_of, is_in, low_byte, compared_of, break_target, continue_target, results_of, lower_program}
-use Rattle.cyc_lower.proofs.Stands.{At, ConversionAt, OperatorAt, TruthAt, CopyAt, ExpressionAt, ArgumentsAt, OperationsAt, ValueAt, ConditionAt, FailingAt, ComparesAt, DiscardedAt, StatementAt, ItemsAt}
+use Rattle.cyc_lower.specs.Lowering.{slot_of, unary_operator, failing_comparison, operand_of, low_byte, compared_of, break_target, continue_target, results_of, lower_program}
+use Rattle.cyc_lower.proofs.Stands.{ConversionAt, OperatorAt, TruthAt, CopyAt, ExpressionAt, ArgumentsAt, OperationsAt, ValueAt, ConditionAt, FailingAt, ComparesAt, DiscardedAt, StatementAt, ItemsAt}
 
 -- ---- values in slots
 
@@ -120,15 +121,15 @@ abbrev pub AreQuiet : List Region → Type 0
 AreQuiet [] = Unit {0}
 AreQuiet (r ∷ regions) = IsQuietSort r.sort × AreQuiet regions
 
--- What all calls share, but for the globals: what is printed and read, the pages in use, and the calls that wait, which are
--- within a limit.
-pub record Shared (calls : ℕ) (regions : List Region) (classes output input : List ℕ) (plain_output plain_input : List ℕ) (pages waiting : ℕ) : Type 0 where
+-- What all calls share, but for the globals: what is printed and read, the sizes of the blocks, and with them the demand, and the
+-- calls that wait. Demand and calls are within limits.
+pub record Shared (pages calls : ℕ) (regions : List Region) (classes output input : List ℕ) (plain_output plain_input : List ℕ) (store : StoreState) (waiting : ℕ) : Type 0 where
   pub same_output : plain_output ≡ output
   pub same_input : plain_input ≡ input
-  pub one_page : pages ≡ 1
   pub quiet : AreQuiet regions
-  pub heap_alone : counted regions ≡ [] ∷ []
-  pub no_class : classes ≡ first_classes
+  pub same_sizes : sizes_in store.regions ≡ counted regions
+  pub same_classes : store.classes ≡ classes
+  pub few_pages : demand store ≤ pages
   pub fits : suc waiting ≤ calls
 
 module _ (source : Program) where
@@ -413,8 +414,8 @@ module _ (source : Program) where
 
   -- ---- states
 
-  abbrev pub SharedAt : (calls : ℕ) → World → Configuration → Type 0
-  SharedAt calls w c = Shared calls w.regions w.classes w.output w.input c.output c.input c.store.pages (length c.frames)
+  abbrev pub SharedAt : (pages calls : ℕ) → World → Configuration → Type 0
+  SharedAt pages calls w c = Shared pages calls w.regions w.classes w.output w.input c.output c.input c.store (length c.frames)
 
   -- the data of the running call and of those that wait, where the running one has these slots
   abbrev pub DataIn : (slots : Words) → List Entry → Environment → World → Configuration → Type 0
@@ -424,9 +425,9 @@ module _ (source : Program) where
   abbrev pub DataBut : (n : ℕ) → List Entry → Environment → World → Configuration → Type 0
   DataBut n k e w c = (word : ℕ) × DataIn (put c.active.slots n word) k e w c
 
-  abbrev pub GoesOn : (calls : ℕ) → Focus → List Entry → Environment → World → Configuration → Type 0
-  GoesOn calls focus k e w c =
-      SharedAt calls w c × DataIn c.active.slots k e w c
+  abbrev pub GoesOn : (pages calls : ℕ) → Focus → List Entry → Environment → World → Configuration → Type 0
+  GoesOn pages calls focus k e w c =
+      SharedAt pages calls w c × DataIn c.active.slots k e w c
       × FocusAt focus k e.locals c.active.function c.active.next c.active.slots c.frames
 
   -- where a value stands that is handed on; one that is only tested is the comparison of two operands
@@ -448,18 +449,18 @@ module _ (source : Program) where
     behind_wrong : (n : ℕ) → AheadStack c.active.function e.locals n c.active.next c.frames k → ProceedingAt k e w c
 
   -- An exception that nothing catches ends the plain program at once, while the source leaves one entry after the other.
-  abbrev pub Throws : (calls : ℕ) → (tag value : ℕ) → List Entry → World → Configuration → Type 0
-  Throws calls tag value k w c =
-      SharedAt calls w c × (calls_in k ≤ calls) × IsPlainStack k
+  abbrev pub Throws : (pages calls : ℕ) → (tag value : ℕ) → List Entry → World → Configuration → Type 0
+  Throws pages calls tag value k w c =
+      SharedAt pages calls w c × (calls_in k ≤ calls) × IsPlainStack k
       × (o : Operand) × At (code_of c.active.function) c.active.next (instructions.Uncaught tag o) × (operand_word c.active.slots o ≡ value)
 
-  abbrev pub Related : (calls : ℕ) → Focus → List Entry → Environment → World → Configuration → Type 0
-  Related calls (Throwing tag value) k e w c = Throws calls tag value k w c
-  Related calls (Given v) k e w c = SharedAt calls w c × GivenAt v k e w c
-  Related calls Proceeding k e w c = SharedAt calls w c × ProceedingAt k e w c
-  Related calls focus k e w c = GoesOn calls focus k e w c
+  abbrev pub Related : (pages calls : ℕ) → Focus → List Entry → Environment → World → Configuration → Type 0
+  Related pages calls (Throwing tag value) k e w c = Throws pages calls tag value k w c
+  Related pages calls (Given v) k e w c = SharedAt pages calls w c × GivenAt v k e w c
+  Related pages calls Proceeding k e w c = SharedAt pages calls w c × ProceedingAt k e w c
+  Related pages calls focus k e w c = GoesOn pages calls focus k e w c
 
-  abbrev pub Matches : (calls : ℕ) → State → plain.State → Type 0
-  Matches calls (Running focus k e w) (plain.Running c) = Related calls focus k e w c
-  Matches calls (Ended ending output input) (plain.Ended same same_output same_input) = (same ≡ ending) × (same_output ≡ output)
-  Matches calls s t = ⊥
+  abbrev pub Matches : (pages calls : ℕ) → State → plain.State → Type 0
+  Matches pages calls (Running focus k e w) (plain.Running c) = Related pages calls focus k e w c
+  Matches pages calls (Ended ending output input) (plain.Ended same same_output same_input) = (same ≡ ending) × (same_output ≡ output)
+  Matches pages calls s t = ⊥

@@ -1,5 +1,5 @@
 -- Functions and globals that are lowered one after the other.
-use Rattle.std.proofs.Common.{◌≡◌, ℕ, zero, suc, ◌+◌, ◌<◌, ◌≤◌, List, [], ◌∷◌, ◌++◌, length, get_or, map, Some, option_map, refl, sym, ap, ◌∙◌, arith, slice_get}
+use Rattle.std.proofs.Common.{◌≡◌, ℕ, zero, suc, ◌+◌, ◌<◌, ◌≤◌, List, [], ◌∷◌, length, get_or, map, Some, refl, sym, ap, ◌∙◌, arith, slice_get}
 use Rattle.cyc_words.specs.declared.fault.Code.{Code}
 use Rattle.cyc_words.specs.declared.fault.Code.TheVariants.{TooManyFunctions}
 use Rattle.cyc_words.specs.declared.fault.Fault.{Fault}
@@ -7,12 +7,8 @@ use Rattle.cyc_types.specs.declared.typed.TypedTree.{TypedTree}
 use Rattle.cyc_types.specs.declared.typed.Function.{Function as FunctionCode}
 use Rattle.cyc_types.specs.TypeView.{view_ty}
 use Rattle.cyc_types.specs.TypedTrees.{Function, Program}
-use Rattle.cyc_types.specs.TypedTreeView.{view_function, view_program, items_of}
-use Rattle.cyc_plain.specs.declared.instruction.Instruction.{Instruction}
-use Rattle.cyc_plain.specs.declared.instruction.Instruction.TheVariants as instructions
-use Rattle.cyc_plain.specs.Program.{Routine}
-use Rattle.cyc_meaning.specs.FrameCount.{items_need, frame_count}
-use Rattle.cyc_lower.specs.Lowering.{results_of, items_code, lower_function}
+use Rattle.cyc_types.specs.TypedTreeView.{view_function, view_program}
+use Rattle.cyc_meaning.specs.FrameCount.{frame_count}
 use Rattle.cyc_lower.specs.declared.limits.TheConstants.{MOST_FUNCTIONS}
 use Rattle.cyc_lower.specs.Lowered.{HasTooMany}
 use Rattle.cyc_lower.specs.Emission.{most_frame_count, most_locals}
@@ -32,35 +28,6 @@ numbered_at f (y ∷ ys) (suc n) x inside at = numbered_at f ys n x (omega arith
 pub few_locals : (f : FunctionCode) → frame_count (view_function f) ≤ most_frame_count → length f.parameters.items + length f.locals.items ≤ most_locals
 few_locals f small =
     omega (arith, small, counted view_ty f.parameters.items, counted view_ty f.locals.items, (words_of_types (map view_ty f.parameters.items)).0, (words_of_types (map view_ty f.locals.items)).0)
-
--- the code of a function with so many locals
-abbrev Returning : FunctionCode → ℕ → List Instruction
-Returning f d = items_code (items_of f.body.items) 0 0 d ++ instructions.Return d ∷ []
-
-abbrev WithLocals : FunctionCode → (p d need : ℕ) → Routine
-WithLocals f p d need = record {
-  name = f.span;
-  parameters = p;
-  results = results_of (option_map view_ty f.result);
-  slots = d + need + 1;
-  frame_count = frame_count (view_function f);
-  code = Returning f d;
-}
-
-module _ (f : FunctionCode) (p l d results need slots frame : ℕ) (code : List Instruction) where
-  pub made_function : p ≡ length f.parameters.items → l ≡ length f.locals.items → d ≡ p + l → results ≡ results_of (option_map view_ty f.result) → need ≡ items_need (items_of f.body.items) → slots ≡ d + need + 1
-      → frame ≡ frame_count (view_function f) → code ≡ items_code (items_of f.body.items) 0 0 d ++ instructions.Return d ∷ []
-      → record { name = f.span; parameters = p; results = results; slots = slots; frame_count = frame; code = code } ≡ lower_function (view_function f)
-  made_function ps ls ds rs ns ss fs cs =
-      let pc : p ≡ length (map view_ty f.parameters.items) = ps ∙ sym (counted view_ty f.parameters.items) in
-      let dc : d ≡ length (map view_ty f.parameters.items) + length (map view_ty f.locals.items) = omega (arith, ds, pc, ls, counted view_ty f.locals.items) in
-      ap (λ (x : List Instruction). record { name = f.span; parameters = p; results = results; slots = slots; frame_count = frame; code = x }) cs
-      ∙ ap (λ (x : ℕ). record { name = f.span; parameters = p; results = x; slots = slots; frame_count = frame; code = Returning f d }) rs
-      ∙ ap (λ (x : ℕ). record { name = f.span; parameters = p; results = results_of (option_map view_ty f.result); slots = slots; frame_count = x; code = Returning f d }) fs
-      ∙ ap (λ (x : ℕ). record { name = f.span; parameters = p; results = results_of (option_map view_ty f.result); slots = x; frame_count = frame_count (view_function f); code = Returning f d }) ss
-      ∙ ap (λ (x : ℕ). WithLocals f x d need) pc
-      ∙ ap (λ (x : ℕ). WithLocals f (length (map view_ty f.parameters.items)) x need) dc
-      ∙ ap (λ (x : ℕ). WithLocals f (length (map view_ty f.parameters.items)) (length (map view_ty f.parameters.items) + length (map view_ty f.locals.items)) x) ns
 
 -- ---- more functions than there may be
 

@@ -1,5 +1,5 @@
 -- Where in a function's code the code of a construct stands, with all places between its parts left open.
-use Rattle.std.proofs.Common.{◌≡◌, ℕ, suc, ◌+◌, ◌<◌, Bool, true, false, List, [], ◌∷◌, ◌++◌, length, Option, None, Some, slice_get, refl, ap, subst, arith, length-append}
+use Rattle.std.proofs.Common.{◌≡◌, ℕ, suc, ◌+◌, ◌<◌, Bool, true, false, List, Option, None, Some}
 use Rattle.cyc_types.specs.declared.typed.Kind.{Kind}
 use Rattle.cyc_types.specs.declared.typed.Kind.TheVariants as kinds
 use Rattle.cyc_types.specs.declared.typed.Callee.TheVariants as callees
@@ -13,47 +13,9 @@ use Rattle.cyc_plain.specs.declared.instruction.Operand.{Operand}
 use Rattle.cyc_plain.specs.declared.instruction.Operand.TheVariants as operands
 use Rattle.cyc_plain.specs.declared.instruction.Instruction.{Instruction}
 use Rattle.cyc_plain.specs.declared.instruction.Instruction.TheVariants as instructions
+use Rattle.cyc_plain.specs.Straight.{At}
 use Rattle.cyc_meaning.specs.Operators.{null_exception, division_by_zero}
 use Rattle.cyc_lower.specs.Lowering.{slot_of, unary_operator, binary_operator, operand_of, failing_comparison, left_with, left_of, value_slot, next_slot, slot_with, left_slot, is_in, jump_if_nonzero, test_jump, compared_of, low_byte, break_target, continue_target, results_of}
-
--- ---- lists of instructions in a code
-
-abbrev pub At : List Instruction → ℕ → Instruction → Type 0
-At code p i = slice_get code p ≡ Some i
-
-abbrev pub HasAt : List Instruction → ℕ → List Instruction → Type 0
-HasAt code p [] = Unit {0}
-HasAt code p (i ∷ is) = At code p i × HasAt code (p + 1) is
-
-pub has_front : (code : List Instruction) (p : ℕ) (a b : List Instruction) → HasAt code p (a ++ b) → HasAt code p a
-has_front code p [] b has = tt
-has_front code p (i ∷ a) b (at, rest) = (at, has_front code (p + 1) a b rest)
-
-pub has_back : (code : List Instruction) (p : ℕ) (a b : List Instruction) → HasAt code p (a ++ b) → HasAt code (p + length a) b
-has_back code p [] b has = subst (λ q. HasAt code q b) (let e : p ≡ p + 0 = omega arith in e) has
-has_back code p (i ∷ a) b (at, rest) =
-    subst (λ q. HasAt code q b) (let e : p + 1 + length a ≡ p + suc (length a) = omega arith in e) (has_back code (p + 1) a b rest)
-
-get_here : (front : List Instruction) (i : Instruction) (back : List Instruction) → slice_get (front ++ i ∷ back) (length front) ≡ Some i
-get_here [] i back = refl
-get_here (j ∷ front) i back = get_here front i back
-
-associates : (a : List Instruction) (x : Instruction) (b : List Instruction) → (a ++ x ∷ []) ++ b ≡ a ++ (x ∷ b)
-associates [] x b = refl
-associates (y ∷ a) x b = ap (λ l. y ∷ l) (associates a x b)
-
-has_from : (front code back : List Instruction) → HasAt (front ++ (code ++ back)) (length front) code
-has_from front [] back = tt
-has_from front (i ∷ code) back =
-    let longer : length (front ++ i ∷ []) ≡ length front + 1 = length-append front (i ∷ []) in (
-      get_here front i (code ++ back),
-      subst (λ q. HasAt (front ++ (i ∷ (code ++ back))) q code) longer
-          (subst (λ l. HasAt l (length (front ++ i ∷ [])) code) (associates front i (code ++ back)) (has_from (front ++ i ∷ []) code back)),
-    )
-
--- a code has itself, with anything behind
-pub has_all : (code back : List Instruction) → HasAt (code ++ back) 0 code
-has_all code back = has_from [] code back
 
 -- ---- expressions
 

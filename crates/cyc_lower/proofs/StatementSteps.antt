@@ -14,55 +14,57 @@ use Rattle.cyc_plain.specs.declared.instruction.Operand.TheVariants as operands
 use Rattle.cyc_plain.specs.declared.instruction.Instruction.{Instruction}
 use Rattle.cyc_plain.specs.declared.instruction.Instruction.TheVariants as instructions
 use Rattle.cyc_plain.specs.Program.{no_routine, routine_at}
+use Rattle.cyc_store.specs.State.{StoreState}
 use Rattle.cyc_plain.specs.State as plain
-use Rattle.cyc_plain.specs.State.{Words, put, copied, Activation, Frame, Store, Configuration}
+use Rattle.cyc_plain.specs.State.{Words, put, copied, Activation, Frame, Configuration}
 use Rattle.cyc_plain.specs.Step.{at}
 use Rattle.cyc_plain.proofs.SlotLaws.{put-same, put-other, copied-inside, copied-below, copied-above}
+use Rattle.cyc_plain.specs.Straight.{At}
 use Rattle.cyc_meaning.specs.Values.{Value, Int, kind_of, Operand as Kinded}
 use Rattle.cyc_meaning.specs.State.{Region, World, Environment, variable, made, opened, closed, with_local, region_at, ConvertTo, Initialise, Choose, Return, Entry, Needs, NeedsPlace, Discard, Rest, Join, Loop, CloseRegion, CloseLexical, EndLoan, Handler, Caller, Main, Focus, Evaluating, Executing, Proceeding, Breaking, Continuing, Returning, Throwing, Running}
 use Rattle.cyc_meaning.specs.Step.{inside, region_end, step}
 use Rattle.cyc_lower.specs.Lowering.{operand_of, break_target, results_of, lower_function, lower_program}
-use Rattle.cyc_lower.proofs.Stands.{At, ExpressionAt, InitialAt, ReturnedAt, ItemsAt}
-use Rattle.cyc_lower.proofs.Relation.{Is, Holds, held, callers, Shared, DataAt, SharedAt, Lands, in_temporary, in_local, ValueStack, AheadStack, StatementStack, LandsStack, EvaluatingAt, as_operand, into_slot, for_effect, as_condition, in_operand, ahead, behind_statement, behind_call, behind_wrong, Below, IsLast, Arrives, in_place, by_jump, code_of, bounds_in, bounds_at, base_of, top}
+use Rattle.cyc_lower.proofs.Stands.{ExpressionAt, InitialAt, ReturnedAt, ItemsAt}
+use Rattle.cyc_lower.proofs.Relation.{Is, Holds, held, callers, Shared, DataAt, SharedAt, in_temporary, in_local, ValueStack, AheadStack, StatementStack, LandsStack, EvaluatingAt, as_operand, into_slot, for_effect, as_condition, in_operand, ahead, behind_statement, behind_call, behind_wrong, Below, IsLast, Arrives, in_place, by_jump, code_of, bounds_in, bounds_at, base_of, top}
 use Rattle.cyc_lower.proofs.Data.{height-least, Holds-same, Holds-above, data_declared, data_returned}
 use Rattle.cyc_lower.proofs.Accesses.{IsWell, is_declared, is_closed, quiet_opened, quiet_closed, counted_opened, counted_closed}
 use Rattle.cyc_lower.proofs.Matched.{IsMatched, silently, one, two}
 use Rattle.cyc_lower.proofs.Evaluations.{IsStep}
 
-module _ (source : Program) (pages calls : ℕ) (some_page : 1 ≤ pages) where
+module _ (source : Program) (pages calls : ℕ) where
   -- ---- regions
 
-  pub shared_opened : (w : World) (c : Configuration) → SharedAt source calls w c → SharedAt source calls (opened w) c
+  pub shared_opened : (w : World) (c : Configuration) → SharedAt source pages calls w c → SharedAt source pages calls (opened w) c
   shared_opened w c s = record {
     same_output = s.same_output;
     same_input = s.same_input;
-    one_page = s.one_page;
+    few_pages = s.few_pages;
     quiet = quiet_opened w.regions s.quiet;
-    heap_alone = counted_opened w.regions ∙ s.heap_alone;
-    no_class = s.no_class;
+    same_sizes = s.same_sizes ∙ sym (counted_opened w.regions);
+    same_classes = s.same_classes;
     fits = s.fits;
   }
 
-  pub shared_closed : (w : World) (c : Configuration) (number : ℕ) (r : Region) → slice_get w.regions number ≡ Some r → SharedAt source calls w c → SharedAt source calls (closed w number r) c
+  pub shared_closed : (w : World) (c : Configuration) (number : ℕ) (r : Region) → slice_get w.regions number ≡ Some r → SharedAt source pages calls w c → SharedAt source pages calls (closed w number r) c
   shared_closed w c number r there s = record {
     same_output = s.same_output;
     same_input = s.same_input;
-    one_page = s.one_page;
+    few_pages = s.few_pages;
     quiet = quiet_closed w.regions number r s.quiet there;
-    heap_alone = counted_closed w.regions number r s.quiet there ∙ s.heap_alone;
-    no_class = s.no_class;
+    same_sizes = s.same_sizes ∙ sym (counted_closed w.regions number r s.quiet there);
+    same_classes = s.same_classes;
     fits = s.fits;
   }
 
   -- one call less waits
-  pub shared_returned : (w : World) (output input : List ℕ) (many waiting : ℕ) → Shared calls w.regions w.classes w.output w.input output input many (suc waiting) → Shared calls w.regions w.classes w.output w.input output input many waiting
-  shared_returned w output input many waiting s = record {
+  pub shared_returned : (w : World) (output input : List ℕ) (store : StoreState) (waiting : ℕ) → Shared pages calls w.regions w.classes w.output w.input output input store (suc waiting) → Shared pages calls w.regions w.classes w.output w.input output input store waiting
+  shared_returned w output input store waiting s = record {
     same_output = s.same_output;
     same_input = s.same_input;
-    one_page = s.one_page;
+    few_pages = s.few_pages;
     quiet = s.quiet;
-    heap_alone = s.heap_alone;
-    no_class = s.no_class;
+    same_sizes = s.same_sizes;
+    same_classes = s.same_classes;
     fits = omega (arith, s.fits);
   }
 
@@ -76,40 +78,40 @@ module _ (source : Program) (pages calls : ℕ) (some_page : 1 ≤ pages) where
   returned a locals g p slots frames k s m (is, at) holds stack =
       into_slot (top source g k) m at holds (in_temporary (omega arith) (subst (λ x. ValueStack source g locals (operands.Slot x) m frames k) is stack))
 
-  pub executing : (s : Statement) (k : List Entry) (e : Environment) (w : World) (c : Configuration) → IsStep source pages calls some_page (Executing s) k e w c
+  pub executing : (s : Statement) (k : List Entry) (e : Environment) (w : World) (c : Configuration) → IsStep source pages calls (Executing s) k e w c
   executing (Block r js) k e w c well (shared, facts, (loop, q, items, stack)) =
-      silently source pages calls some_page (Running (Executing (Block r js)) k e w) (Running Proceeding (Rest js ∷ region_end e w ∷ k) (inside e w) (opened w)) (plain.Running c) refl
+      silently source pages calls (Running (Executing (Block r js)) k e w) (Running Proceeding (Rest js ∷ region_end e w ∷ k) (inside e w) (opened w)) (plain.Running c) refl
       (shared_opened w c shared, behind_statement loop facts (q, items, stack))
       (omega arith)
   executing Empty k e w c well (shared, facts, (loop, q, end, stack)) =
-      silently source pages calls some_page (Running (Executing Empty) k e w) (Running Proceeding k e w) (plain.Running c) refl
+      silently source pages calls (Running (Executing Empty) k e w) (Running Proceeding k e w) (plain.Running c) refl
       (shared, behind_statement loop facts (subst (λ r. StatementStack source c.active.function loop r c.frames k) (sym end) stack))
       (omega arith)
   executing (Evaluate a) k e w c well (shared, facts, (loop, q, here, stack)) =
-      silently source pages calls some_page (Running (Executing (Evaluate a)) k e w) (Running (Evaluating a) (Discard ∷ k) e w) (plain.Running c) refl
+      silently source pages calls (Running (Executing (Evaluate a)) k e w) (Running (Evaluating a) (Discard ∷ k) e w) (plain.Running c) refl
       (shared, facts, for_effect q here tt (loop, stack))
       (omega arith)
   executing (If a s t) k e w c well (shared, facts, (loop, q, (x, y, m, r, at_a, jump, at_s, over, at_t), stack)) =
-      silently source pages calls some_page (Running (Executing (If a s t)) k e w) (Running (Evaluating a) (Needs (Choose s t) ∷ k) e w) (plain.Running c) refl
+      silently source pages calls (Running (Executing (If a s t)) k e w) (Running (Evaluating a) (Needs (Choose s t) ∷ k) e w) (plain.Running c) refl
       (shared, facts, as_condition x y m at_a tt (loop, r, q, jump, at_s, over, at_t, stack))
       (omega arith)
   executing (While p a s) k e w c well (shared, facts, (loop, q, (x, y, m, r, enter, leave, at_a, jump, at_s, back, end, after), stack)) =
-      one source pages calls some_page refl shared enter
+      one source pages calls refl shared enter
       (λ choice. (shared, facts, as_condition x y m at_a tt (c.active.next, loop, q, (x, y, m, r, leave, at_a, jump, at_s, back, after), r, jump, at_s, back, stack)))
   executing (typed.Return None) k e w c well (shared, facts, (loop, q, (s, here), stack)) =
-      silently source pages calls some_page (Running (Executing (typed.Return None)) k e w) (Running (Returning None) k e w) (plain.Running c) refl
+      silently source pages calls (Running (Executing (typed.Return None)) k e w) (Running (Returning None) k e w) (plain.Running c) refl
       (shared, facts, (loop, q, s, here, stack))
       (omega arith)
   executing (typed.Return (Some (Convert from to a))) k e w c well (shared, facts, (loop, q, (s, m, r, at_a, at_to, here, single), stack)) =
-      silently source pages calls some_page (Running (Executing (typed.Return (Some (Convert from to a)))) k e w) (Running (Evaluating a) (Needs (ConvertTo from to) ∷ Needs Return ∷ k) e w) (plain.Running c) refl
+      silently source pages calls (Running (Executing (typed.Return (Some (Convert from to a)))) k e w) (Running (Evaluating a) (Needs (ConvertTo from to) ∷ Needs Return ∷ k) e w) (plain.Running c) refl
       (shared, facts, returned a e.locals c.active.function c.active.next c.active.slots c.frames (Needs (ConvertTo from to) ∷ Needs Return ∷ k) s m at_a tt (r, at_to, (loop, q, s, refl, here, single, stack)))
       (omega arith)
   executing Break k e w c well (shared, facts, (loop, q, here, stack)) =
-      silently source pages calls some_page (Running (Executing Break) k e w) (Running Breaking k e w) (plain.Running c) refl
+      silently source pages calls (Running (Executing Break) k e w) (Running Breaking k e w) (plain.Running c) refl
       (shared, facts, (loop, q, here, stack))
       (omega arith)
   executing Continue k e w c well (shared, facts, (loop, q, here, stack)) =
-      silently source pages calls some_page (Running (Executing Continue) k e w) (Running Continuing k e w) (plain.Running c) refl
+      silently source pages calls (Running (Executing Continue) k e w) (Running Continuing k e w) (plain.Running c) refl
       (shared, facts, (loop, q, here, stack))
       (omega arith)
   executing s k e w c well (shared, facts, (loop, q, at, stack)) = absurd at
@@ -161,35 +163,35 @@ module _ (source : Program) (pages calls : ℕ) (some_page : 1 ≤ pages) where
       ]
 
   -- without a value
-  leaves_call : (focus : Focus) (active : Activation) (frames : List Frame) (globals : Words) (store : Store) (output input : List ℕ) (k : List Entry) (e outer : Environment) (w : World) (s : ℕ)
+  leaves_call : (focus : Focus) (active : Activation) (frames : List Frame) (globals : Words) (store : StoreState) (output input : List ℕ) (k : List Entry) (e outer : Environment) (w : World) (s : ℕ)
       → step source (Running focus (Caller outer ∷ k) e w) ≡ Running Proceeding k outer w
-      → SharedAt source calls w (record { active = active; frames = frames; globals = globals; store = store; output = output; input = input })
+      → SharedAt source pages calls w (record { active = active; frames = frames; globals = globals; store = store; output = output; input = input })
       → DataAt source active.function w.objects e.locals (outer ∷ callers k) active.slots globals frames
       → At (code_of source active.function) active.next (instructions.Return s)
       → Below source frames (Waits outer k)
-      → IsMatched source pages calls some_page (Running focus (Caller outer ∷ k) e w) (plain.Running (record { active = active; frames = frames; globals = globals; store = store; output = output; input = input }))
+      → IsMatched source pages calls (Running focus (Caller outer ∷ k) e w) (plain.Running (record { active = active; frames = frames; globals = globals; store = store; output = output; input = input }))
   leaves_call focus active [] globals store output input k e outer w s does shared facts here below = absurd below
   leaves_call focus active (f ∷ frames) globals store output input k e outer w s does shared facts here (holds, in_temporary least stack) =
       let results = (routine_at (lower_program source) active.function).results in
       let back = comes_back active.function s results active.slots globals f frames k e.locals outer w facts least holds in
-      one source pages calls some_page does shared here (λ choice. (shared_returned w output input store.pages (length frames) shared, behind_call (operands.Slot f.result) back.0 stack))
+      one source pages calls does shared here (λ choice. (shared_returned w output input store (length frames) shared, behind_call (operands.Slot f.result) back.0 stack))
   leaves_call focus active (f ∷ frames) globals store output input k e outer w s does shared facts here (holds, in_local below stack) =
-      one source pages calls some_page does shared here (λ choice. (shared_returned w output input store.pages (length frames) shared, behind_wrong f.result stack))
+      one source pages calls does shared here (λ choice. (shared_returned w output input store (length frames) shared, behind_wrong f.result stack))
 
   -- with a value
-  hands_back : (v : Kinded) (active : Activation) (frames : List Frame) (globals : Words) (store : Store) (output input : List ℕ) (k : List Entry) (e outer : Environment) (w : World) (s : ℕ)
-      → SharedAt source calls w (record { active = active; frames = frames; globals = globals; store = store; output = output; input = input })
+  hands_back : (v : Kinded) (active : Activation) (frames : List Frame) (globals : Words) (store : StoreState) (output input : List ℕ) (k : List Entry) (e outer : Environment) (w : World) (s : ℕ)
+      → SharedAt source pages calls w (record { active = active; frames = frames; globals = globals; store = store; output = output; input = input })
       → DataAt source active.function w.objects e.locals (outer ∷ callers k) active.slots globals frames
       → At (code_of source active.function) active.next (instructions.Return s) → Is v.value (active.slots s) → (routine_at (lower_program source) active.function).results ≡ 1
       → Below source frames (Waits outer k)
-      → IsMatched source pages calls some_page (Running (Returning (Some v)) (Caller outer ∷ k) e w) (plain.Running (record { active = active; frames = frames; globals = globals; store = store; output = output; input = input }))
+      → IsMatched source pages calls (Running (Returning (Some v)) (Caller outer ∷ k) e w) (plain.Running (record { active = active; frames = frames; globals = globals; store = store; output = output; input = input }))
   hands_back v active [] globals store output input k e outer w s shared facts here is single below = absurd below
   hands_back v active (f ∷ frames) globals store output input k e outer w s shared facts here is single (holds, in_temporary least stack) =
       let results = (routine_at (lower_program source) active.function).results in
       let back = comes_back active.function s results active.slots globals f frames k e.locals outer w facts least holds in
-      one source pages calls some_page refl shared here
+      one source pages calls refl shared here
       (λ choice. (
-        shared_returned w output input store.pages (length frames) shared,
+        shared_returned w output input store (length frames) shared,
         in_operand (operands.Slot f.result) back.0 (subst (Is v.value) (sym (value_copied active.slots f.caller.slots s results f.result single)) is) back.1 stack,
       ))
   hands_back v active (f ∷ frames) globals store output input k e outer w s shared facts here is single (holds, in_local below stack) =
@@ -199,9 +201,9 @@ module _ (source : Program) (pages calls : ℕ) (some_page : 1 ≤ pages) where
       let now = copied active.slots s results f.caller.slots d in
       let elsewhere : (n : ℕ) → n ≢ d → now n ≡ f.caller.slots n =
       λ n other. ap (λ many. copied active.slots s many f.caller.slots d n) single ∙ one_copied active.slots f.caller.slots s d n other in
-      one source pages calls some_page refl shared here
+      one source pages calls refl shared here
       (λ choice. (
-        shared_returned w output input store.pages (length frames) shared,
+        shared_returned w output input store (length frames) shared,
         ahead d
             (f.caller.slots d, data_returned source active.function w.objects e.locals outer (callers k) active.slots (put now d (f.caller.slots d)) globals f frames (λ n less. as_before f.caller.slots now d n elsewhere) facts)
             below (subst (Is v.value) (sym (value_copied active.slots f.caller.slots s results d single)) is)
@@ -222,15 +224,15 @@ module _ (source : Program) (pages calls : ℕ) (some_page : 1 ≤ pages) where
 
   declares : (n : ℕ) (t : Ty) (js : Items) (k : List Entry) (e : Environment) (w : World) (c : Configuration) (loop m q : ℕ)
       → IsWell (step source (Running Proceeding (Rest (MoreItems (Declare n t None) js) ∷ k) e w))
-      → SharedAt source calls w c → DataAt source c.active.function w.objects e.locals (callers k) c.active.slots c.globals c.frames
+      → SharedAt source pages calls w c → DataAt source c.active.function w.objects e.locals (callers k) c.active.slots c.globals c.frames
       → n < base_of source c.active.function → c.active.next ≡ m
       → ItemsAt (code_of source c.active.function) (bounds_at source c.active.function) js loop (base_of source c.active.function) m q
       → StatementStack source c.active.function loop q c.frames k
-      → IsMatched source pages calls some_page (Running Proceeding (Rest (MoreItems (Declare n t None) js) ∷ k) e w) (plain.Running c)
+      → IsMatched source pages calls (Running Proceeding (Rest (MoreItems (Declare n t None) js) ∷ k) e w) (plain.Running c)
   declares n t js k e w c loop m q well shared facts few end items stack =
       let g = c.active.function in
       let x = variable e.home (kind_of t) None in
-      silently source pages calls some_page (Running Proceeding (Rest (MoreItems (Declare n t None) js) ∷ k) e w)
+      silently source pages calls (Running Proceeding (Rest (MoreItems (Declare n t None) js) ∷ k) e w)
       (Running Proceeding (Rest js ∷ k) (with_local e n (length w.objects)) (made w x)) (plain.Running c)
       (is_declared (region_at w e.home) Proceeding n (kind_of t) None (Rest js ∷ k) e w well) (
         shared,
@@ -240,45 +242,45 @@ module _ (source : Program) (pages calls : ℕ) (some_page : 1 ≤ pages) where
       (omega arith)
 
   joins : (k : List Entry) (e : Environment) (w : World) (c : Configuration) (loop q : ℕ)
-      → SharedAt source calls w c → DataAt source c.active.function w.objects e.locals (callers k) c.active.slots c.globals c.frames
+      → SharedAt source pages calls w c → DataAt source c.active.function w.objects e.locals (callers k) c.active.slots c.globals c.frames
       → Arrives source (code_of source c.active.function) c.active.next q → StatementStack source c.active.function loop q c.frames k
-      → IsMatched source pages calls some_page (Running Proceeding (Join ∷ k) e w) (plain.Running c)
+      → IsMatched source pages calls (Running Proceeding (Join ∷ k) e w) (plain.Running c)
   joins k e w c loop q shared facts (in_place end) stack =
-      silently source pages calls some_page (Running Proceeding (Join ∷ k) e w) (Running Proceeding k e w) (plain.Running c) refl
+      silently source pages calls (Running Proceeding (Join ∷ k) e w) (Running Proceeding k e w) (plain.Running c) refl
       (shared, behind_statement loop facts (subst (λ r. StatementStack source c.active.function loop r c.frames k) (sym end) stack))
       (omega arith)
   joins k e w c loop q shared facts (by_jump jump) stack =
-      one source pages calls some_page refl shared jump (λ choice. (shared, behind_statement loop facts stack))
+      one source pages calls refl shared jump (λ choice. (shared, behind_statement loop facts stack))
 
   -- a local gets its initial value
   initial : (n : ℕ) (ty : Ty) (from to : Kind) (a : Expression) (js : Items) (k : List Entry) (e : Environment) (w : World) (c : Configuration) (loop m q : ℕ)
-      → SharedAt source calls w c → DataAt source c.active.function w.objects e.locals (callers k) c.active.slots c.globals c.frames
+      → SharedAt source pages calls w c → DataAt source c.active.function w.objects e.locals (callers k) c.active.slots c.globals c.frames
       → n < base_of source c.active.function
       → InitialAt (code_of source c.active.function) (bounds_at source c.active.function) (Convert from to a) n (base_of source c.active.function) c.active.next m
       → ItemsAt (code_of source c.active.function) (bounds_at source c.active.function) js loop (base_of source c.active.function) m q
       → StatementStack source c.active.function loop q c.frames k
-      → IsMatched source pages calls some_page (Running Proceeding (Rest (MoreItems (Declare n ty (Some (Convert from to a))) js) ∷ k) e w) (plain.Running c)
+      → IsMatched source pages calls (Running Proceeding (Rest (MoreItems (Declare n ty (Some (Convert from to a))) js) ∷ k) e w) (plain.Running c)
   initial n ty from kinds.NonNull a js k e w c loop m q shared facts few (o, s, r, at_a, check, move, end) items stack =
       let g = c.active.function in
-      silently source pages calls some_page (Running Proceeding (Rest (MoreItems (Declare n ty (Some (Convert from kinds.NonNull a))) js) ∷ k) e w)
+      silently source pages calls (Running Proceeding (Rest (MoreItems (Declare n ty (Some (Convert from kinds.NonNull a))) js) ∷ k) e w)
       (Running (Evaluating a) (Needs (ConvertTo from kinds.NonNull) ∷ Needs (Initialise n (kind_of ty) js) ∷ k) e w) (plain.Running c) refl
       (shared, facts, as_operand o s at_a tt (r, check, (loop, q, move, few, subst (λ p. ItemsAt (code_of source g) (bounds_at source g) js loop (base_of source g) p q) (sym end) items, stack)))
       (omega arith)
   initial n ty from to a js k e w c loop m q shared facts few at_a items stack =
-      silently source pages calls some_page (Running Proceeding (Rest (MoreItems (Declare n ty (Some (Convert from to a))) js) ∷ k) e w)
+      silently source pages calls (Running Proceeding (Rest (MoreItems (Declare n ty (Some (Convert from to a))) js) ∷ k) e w)
       (Running (Evaluating a) (Needs (ConvertTo from to) ∷ Needs (Initialise n (kind_of ty) js) ∷ k) e w) (plain.Running c) refl
       (shared, facts, into_slot n m at_a tt (in_local few (tt, (loop, q, refl, items, stack))))
       (omega arith)
 
   after_statement : (k : List Entry) (e : Environment) (w : World) (c : Configuration) (loop : ℕ) → IsWell (step source (Running Proceeding k e w))
-      → SharedAt source calls w c → DataAt source c.active.function w.objects e.locals (callers k) c.active.slots c.globals c.frames
-      → StatementStack source c.active.function loop c.active.next c.frames k → IsMatched source pages calls some_page (Running Proceeding k e w) (plain.Running c)
+      → SharedAt source pages calls w c → DataAt source c.active.function w.objects e.locals (callers k) c.active.slots c.globals c.frames
+      → StatementStack source c.active.function loop c.active.next c.frames k → IsMatched source pages calls (Running Proceeding k e w) (plain.Running c)
   after_statement (Rest NoItems ∷ k) e w c loop well shared facts (q, end, stack) =
-      silently source pages calls some_page (Running Proceeding (Rest NoItems ∷ k) e w) (Running Proceeding k e w) (plain.Running c) refl
+      silently source pages calls (Running Proceeding (Rest NoItems ∷ k) e w) (Running Proceeding k e w) (plain.Running c) refl
       (shared, behind_statement loop facts (subst (λ r. StatementStack source c.active.function loop r c.frames k) (sym end) stack))
       (omega arith)
   after_statement (Rest (MoreItems (Execute s) js) ∷ k) e w c loop well shared facts (q, (m, at_s, items), stack) =
-      silently source pages calls some_page (Running Proceeding (Rest (MoreItems (Execute s) js) ∷ k) e w) (Running (Executing s) (Rest js ∷ k) e w) (plain.Running c) refl
+      silently source pages calls (Running Proceeding (Rest (MoreItems (Execute s) js) ∷ k) e w) (Running (Executing s) (Rest js ∷ k) e w) (plain.Running c) refl
       (shared, facts, (loop, m, at_s, (q, items, stack)))
       (omega arith)
   after_statement (Rest (MoreItems (Declare n t None) js) ∷ k) e w c loop well shared facts (q, (m, (few, end), items), stack) =
@@ -288,11 +290,11 @@ module _ (source : Program) (pages calls : ℕ) (some_page : 1 ≤ pages) where
   after_statement (Rest js ∷ k) e w c loop well shared facts (q, at, stack) = absurd at
   after_statement (Join ∷ k) e w c loop well shared facts (q, arrives, stack) = joins k e w c loop q shared facts arrives stack
   after_statement (Loop a s ∷ k) e w c loop well shared facts (outer, q, (x, y, m, r, leave, at_a, jump, at_s, back, after), here, stack) =
-      one source pages calls some_page refl shared here
+      one source pages calls refl shared here
       (λ choice. (shared, facts, as_condition x y m at_a tt (loop, outer, q, (x, y, m, r, leave, at_a, jump, at_s, back, after), r, jump, at_s, back, stack)))
   after_statement (CloseRegion region home ∷ k) e w c loop well shared facts stack =
       let found = is_closed Proceeding region home k e w well in
-      silently source pages calls some_page (Running Proceeding (CloseRegion region home ∷ k) e w) (Running Proceeding k (record e { home = home }) (closed w region found.region)) (plain.Running c) found.gives
+      silently source pages calls (Running Proceeding (CloseRegion region home ∷ k) e w) (Running Proceeding k (record e { home = home }) (closed w region found.region)) (plain.Running c) found.gives
       (shared_closed w c region found.region found.there shared, behind_statement loop facts stack)
       (omega arith)
   after_statement (Caller outer ∷ k) e w c loop well shared facts (s, here, below) =
@@ -301,37 +303,37 @@ module _ (source : Program) (pages calls : ℕ) (some_page : 1 ≤ pages) where
   after_statement k e w c loop well shared facts stack = absurd stack
 
   after_call : (k : List Entry) (e : Environment) (w : World) (c : Configuration) (o : Operand) → IsWell (step source (Running Proceeding k e w))
-      → SharedAt source calls w c → DataAt source c.active.function w.objects e.locals (callers k) c.active.slots c.globals c.frames
-      → ValueStack source c.active.function e.locals o c.active.next c.frames k → IsMatched source pages calls some_page (Running Proceeding k e w) (plain.Running c)
+      → SharedAt source pages calls w c → DataAt source c.active.function w.objects e.locals (callers k) c.active.slots c.globals c.frames
+      → ValueStack source c.active.function e.locals o c.active.next c.frames k → IsMatched source pages calls (Running Proceeding k e w) (plain.Running c)
   after_call (Needs a ∷ k) e w c o well shared facts stack = absurd (well refl)
   after_call (Discard ∷ k) e w c o well shared facts (loop, stack) =
-      silently source pages calls some_page (Running Proceeding (Discard ∷ k) e w) (Running Proceeding k e w) (plain.Running c) refl
+      silently source pages calls (Running Proceeding (Discard ∷ k) e w) (Running Proceeding k e w) (plain.Running c) refl
       (shared, behind_statement loop facts stack)
       (omega arith)
   after_call k e w c o well shared facts stack = absurd stack
 
   after_wrong : (k : List Entry) (e : Environment) (w : World) (c : Configuration) (n : ℕ) → IsWell (step source (Running Proceeding k e w))
-      → AheadStack source c.active.function e.locals n c.active.next c.frames k → IsMatched source pages calls some_page (Running Proceeding k e w) (plain.Running c)
+      → AheadStack source c.active.function e.locals n c.active.next c.frames k → IsMatched source pages calls (Running Proceeding k e w) (plain.Running c)
   after_wrong (Needs a ∷ k) e w c n well stack = absurd (well refl)
   after_wrong k e w c n well stack = absurd stack
 
-  pub proceeding : (k : List Entry) (e : Environment) (w : World) (c : Configuration) → IsStep source pages calls some_page Proceeding k e w c
+  pub proceeding : (k : List Entry) (e : Environment) (w : World) (c : Configuration) → IsStep source pages calls Proceeding k e w c
   proceeding k e w c well (shared, behind_statement loop facts stack) = after_statement k e w c loop well shared facts stack
   proceeding k e w c well (shared, behind_call o facts stack) = after_call k e w c o well shared facts stack
   proceeding k e w c well (shared, behind_wrong n stack) = after_wrong k e w c n well stack
 
   -- ---- breaks
 
-  pub breaking : (k : List Entry) (e : Environment) (w : World) (c : Configuration) → IsStep source pages calls some_page Breaking k e w c
+  pub breaking : (k : List Entry) (e : Environment) (w : World) (c : Configuration) → IsStep source pages calls Breaking k e w c
   breaking [] e w c well related = absurd (well refl)
   breaking (Needs a ∷ k) e w c well (shared, facts, (loop, q, here, stack)) = absurd stack
   breaking (Discard ∷ k) e w c well (shared, facts, (loop, q, here, stack)) = absurd stack
   breaking (Rest js ∷ k) e w c well (shared, facts, (loop, q, here, (r, items, stack))) =
-      silently source pages calls some_page (Running Breaking (Rest js ∷ k) e w) (Running Breaking k e w) (plain.Running c) refl (shared, facts, (loop, r, here, stack)) (omega arith)
+      silently source pages calls (Running Breaking (Rest js ∷ k) e w) (Running Breaking k e w) (plain.Running c) refl (shared, facts, (loop, r, here, stack)) (omega arith)
   breaking (Join ∷ k) e w c well (shared, facts, (loop, q, here, (r, arrives, stack))) =
-      silently source pages calls some_page (Running Breaking (Join ∷ k) e w) (Running Breaking k e w) (plain.Running c) refl (shared, facts, (loop, r, here, stack)) (omega arith)
+      silently source pages calls (Running Breaking (Join ∷ k) e w) (Running Breaking k e w) (plain.Running c) refl (shared, facts, (loop, r, here, stack)) (omega arith)
   breaking (Loop a s ∷ k) e w c well (shared, facts, (loop, q, here, (outer, r, (x, y, m, n, leave, at_a, jump, at_s, back, after), again, stack))) =
-      two source pages calls some_page (at c (break_target loop)) refl shared shared here (λ choice. refl) leave
+      two source pages calls (at c (break_target loop)) refl shared shared here (λ choice. refl) leave
       (λ same.
       let jumps : r ≡ break_target loop = ap (λ (i : Instruction). target_of i) (same_Some (instructions.Jump r) (instructions.Jump (break_target loop)) (sym leave ∙ ap (slice_get (code_of source c.active.function)) (sym same) ∙ here)) in
       absurd (omega (arith, jumps, after)))
@@ -342,7 +344,7 @@ module _ (source : Program) (pages calls : ℕ) (some_page : 1 ≤ pages) where
       target_of i = 0
   breaking (CloseRegion region home ∷ k) e w c well (shared, facts, (loop, q, here, stack)) =
       let found = is_closed Breaking region home k e w well in
-      silently source pages calls some_page (Running Breaking (CloseRegion region home ∷ k) e w) (Running Breaking k (record e { home = home }) (closed w region found.region)) (plain.Running c) found.gives
+      silently source pages calls (Running Breaking (CloseRegion region home ∷ k) e w) (Running Breaking k (record e { home = home }) (closed w region found.region)) (plain.Running c) found.gives
       (shared_closed w c region found.region found.there shared, facts, (loop, q, here, stack))
       (omega arith)
   breaking (Caller outer ∷ k) e w c well related = absurd (well refl)
@@ -352,20 +354,20 @@ module _ (source : Program) (pages calls : ℕ) (some_page : 1 ≤ pages) where
   breaking (Handler handler ∷ k) e w c well (shared, facts, (loop, q, here, stack)) = absurd stack
   breaking (Main ∷ k) e w c well related = absurd (well refl)
 
-  pub continuing : (k : List Entry) (e : Environment) (w : World) (c : Configuration) → IsStep source pages calls some_page Continuing k e w c
+  pub continuing : (k : List Entry) (e : Environment) (w : World) (c : Configuration) → IsStep source pages calls Continuing k e w c
   continuing [] e w c well related = absurd (well refl)
   continuing (Needs a ∷ k) e w c well (shared, facts, (loop, q, here, stack)) = absurd stack
   continuing (Discard ∷ k) e w c well (shared, facts, (loop, q, here, stack)) = absurd stack
   continuing (Rest js ∷ k) e w c well (shared, facts, (loop, q, here, (r, items, stack))) =
-      silently source pages calls some_page (Running Continuing (Rest js ∷ k) e w) (Running Continuing k e w) (plain.Running c) refl (shared, facts, (loop, r, here, stack)) (omega arith)
+      silently source pages calls (Running Continuing (Rest js ∷ k) e w) (Running Continuing k e w) (plain.Running c) refl (shared, facts, (loop, r, here, stack)) (omega arith)
   continuing (Join ∷ k) e w c well (shared, facts, (loop, q, here, (r, arrives, stack))) =
-      silently source pages calls some_page (Running Continuing (Join ∷ k) e w) (Running Continuing k e w) (plain.Running c) refl (shared, facts, (loop, r, here, stack)) (omega arith)
+      silently source pages calls (Running Continuing (Join ∷ k) e w) (Running Continuing k e w) (plain.Running c) refl (shared, facts, (loop, r, here, stack)) (omega arith)
   continuing (Loop a s ∷ k) e w c well (shared, facts, (loop, q, here, (outer, r, (x, y, m, n, leave, at_a, jump, at_s, back, after), again, stack))) =
-      one source pages calls some_page refl shared here
+      one source pages calls refl shared here
       (λ choice. (shared, facts, as_condition x y m at_a tt (loop, outer, r, (x, y, m, n, leave, at_a, jump, at_s, back, after), n, jump, at_s, back, stack)))
   continuing (CloseRegion region home ∷ k) e w c well (shared, facts, (loop, q, here, stack)) =
       let found = is_closed Continuing region home k e w well in
-      silently source pages calls some_page (Running Continuing (CloseRegion region home ∷ k) e w) (Running Continuing k (record e { home = home }) (closed w region found.region)) (plain.Running c) found.gives
+      silently source pages calls (Running Continuing (CloseRegion region home ∷ k) e w) (Running Continuing k (record e { home = home }) (closed w region found.region)) (plain.Running c) found.gives
       (shared_closed w c region found.region found.there shared, facts, (loop, q, here, stack))
       (omega arith)
   continuing (Caller outer ∷ k) e w c well related = absurd (well refl)
@@ -378,30 +380,30 @@ module _ (source : Program) (pages calls : ℕ) (some_page : 1 ≤ pages) where
   -- ---- returns
 
   -- `main` returns, and no call waits
-  ends_main : (i : Kind) (v : Value) (active : Activation) (frames : List Frame) (globals : Words) (store : Store) (output input : List ℕ) (k : List Entry) (e : Environment) (w : World) (s : ℕ)
+  ends_main : (i : Kind) (v : Value) (active : Activation) (frames : List Frame) (globals : Words) (store : StoreState) (output input : List ℕ) (k : List Entry) (e : Environment) (w : World) (s : ℕ)
       → IsWell (step source (Running (Returning (Some (record { kind = i; value = v }))) (Main ∷ k) e w))
-      → SharedAt source calls w (record { active = active; frames = frames; globals = globals; store = store; output = output; input = input })
+      → SharedAt source pages calls w (record { active = active; frames = frames; globals = globals; store = store; output = output; input = input })
       → At (code_of source active.function) active.next (instructions.Return s) → Is v (active.slots s) → IsLast source frames k
-      → IsMatched source pages calls some_page (Running (Returning (Some (record { kind = i; value = v }))) (Main ∷ k) e w) (plain.Running (record { active = active; frames = frames; globals = globals; store = store; output = output; input = input }))
+      → IsMatched source pages calls (Running (Returning (Some (record { kind = i; value = v }))) (Main ∷ k) e w) (plain.Running (record { active = active; frames = frames; globals = globals; store = store; output = output; input = input }))
   ends_main i (Int a) active [] globals store output input [] e w s well shared here is last =
-      one source pages calls some_page refl shared here (λ choice. (ap (λ x. Returned (signed x)) is, shared.same_output))
+      one source pages calls refl shared here (λ choice. (ap (λ x. Returned (signed x)) is, shared.same_output))
   ends_main i (Int a) active [] globals store output input (entry ∷ k) e w s well shared here is last = absurd last
   ends_main i (Int a) active (f ∷ frames) globals store output input k e w s well shared here is last = absurd last
   ends_main i v active frames globals store output input k e w s well shared here is last = absurd (well refl)
 
-  returning_none : (k : List Entry) (e : Environment) (w : World) (c : Configuration) → IsStep source pages calls some_page (Returning None) k e w c
+  returning_none : (k : List Entry) (e : Environment) (w : World) (c : Configuration) → IsStep source pages calls (Returning None) k e w c
   returning_none [] e w c well related = absurd (well refl)
   returning_none (Needs a ∷ k) e w c well (shared, facts, (loop, q, s, here, stack)) = absurd stack
   returning_none (Discard ∷ k) e w c well (shared, facts, (loop, q, s, here, stack)) = absurd stack
   returning_none (Rest js ∷ k) e w c well (shared, facts, (loop, q, s, here, (r, items, stack))) =
-      silently source pages calls some_page (Running (Returning None) (Rest js ∷ k) e w) (Running (Returning None) k e w) (plain.Running c) refl (shared, facts, (loop, r, s, here, stack)) (omega arith)
+      silently source pages calls (Running (Returning None) (Rest js ∷ k) e w) (Running (Returning None) k e w) (plain.Running c) refl (shared, facts, (loop, r, s, here, stack)) (omega arith)
   returning_none (Join ∷ k) e w c well (shared, facts, (loop, q, s, here, (r, arrives, stack))) =
-      silently source pages calls some_page (Running (Returning None) (Join ∷ k) e w) (Running (Returning None) k e w) (plain.Running c) refl (shared, facts, (loop, r, s, here, stack)) (omega arith)
+      silently source pages calls (Running (Returning None) (Join ∷ k) e w) (Running (Returning None) k e w) (plain.Running c) refl (shared, facts, (loop, r, s, here, stack)) (omega arith)
   returning_none (Loop a b ∷ k) e w c well (shared, facts, (loop, q, s, here, (outer, r, around, again, stack))) =
-      silently source pages calls some_page (Running (Returning None) (Loop a b ∷ k) e w) (Running (Returning None) k e w) (plain.Running c) refl (shared, facts, (outer, r, s, here, stack)) (omega arith)
+      silently source pages calls (Running (Returning None) (Loop a b ∷ k) e w) (Running (Returning None) k e w) (plain.Running c) refl (shared, facts, (outer, r, s, here, stack)) (omega arith)
   returning_none (CloseRegion region home ∷ k) e w c well (shared, facts, (loop, q, s, here, stack)) =
       let found = is_closed (Returning None) region home k e w well in
-      silently source pages calls some_page (Running (Returning None) (CloseRegion region home ∷ k) e w) (Running (Returning None) k (record e { home = home }) (closed w region found.region)) (plain.Running c) found.gives
+      silently source pages calls (Running (Returning None) (CloseRegion region home ∷ k) e w) (Running (Returning None) k (record e { home = home }) (closed w region found.region)) (plain.Running c) found.gives
       (shared_closed w c region found.region found.there shared, facts, (loop, q, s, here, stack))
       (omega arith)
   returning_none (Caller outer ∷ k) e w c well (shared, facts, (loop, q, s, here, (u, last, below))) =
@@ -412,19 +414,19 @@ module _ (source : Program) (pages calls : ℕ) (some_page : 1 ≤ pages) where
   returning_none (Handler handler ∷ k) e w c well (shared, facts, (loop, q, s, here, stack)) = absurd stack
   returning_none (Main ∷ k) e w c well related = absurd (well refl)
 
-  returning_some : (v : Kinded) (k : List Entry) (e : Environment) (w : World) (c : Configuration) → IsStep source pages calls some_page (Returning (Some v)) k e w c
+  returning_some : (v : Kinded) (k : List Entry) (e : Environment) (w : World) (c : Configuration) → IsStep source pages calls (Returning (Some v)) k e w c
   returning_some v [] e w c well related = absurd (well refl)
   returning_some v (Needs a ∷ k) e w c well (shared, facts, (loop, q, s, here, is, single, stack)) = absurd stack
   returning_some v (Discard ∷ k) e w c well (shared, facts, (loop, q, s, here, is, single, stack)) = absurd stack
   returning_some v (Rest js ∷ k) e w c well (shared, facts, (loop, q, s, here, is, single, (r, items, stack))) =
-      silently source pages calls some_page (Running (Returning (Some v)) (Rest js ∷ k) e w) (Running (Returning (Some v)) k e w) (plain.Running c) refl (shared, facts, (loop, r, s, here, is, single, stack)) (omega arith)
+      silently source pages calls (Running (Returning (Some v)) (Rest js ∷ k) e w) (Running (Returning (Some v)) k e w) (plain.Running c) refl (shared, facts, (loop, r, s, here, is, single, stack)) (omega arith)
   returning_some v (Join ∷ k) e w c well (shared, facts, (loop, q, s, here, is, single, (r, arrives, stack))) =
-      silently source pages calls some_page (Running (Returning (Some v)) (Join ∷ k) e w) (Running (Returning (Some v)) k e w) (plain.Running c) refl (shared, facts, (loop, r, s, here, is, single, stack)) (omega arith)
+      silently source pages calls (Running (Returning (Some v)) (Join ∷ k) e w) (Running (Returning (Some v)) k e w) (plain.Running c) refl (shared, facts, (loop, r, s, here, is, single, stack)) (omega arith)
   returning_some v (Loop a b ∷ k) e w c well (shared, facts, (loop, q, s, here, is, single, (outer, r, around, again, stack))) =
-      silently source pages calls some_page (Running (Returning (Some v)) (Loop a b ∷ k) e w) (Running (Returning (Some v)) k e w) (plain.Running c) refl (shared, facts, (outer, r, s, here, is, single, stack)) (omega arith)
+      silently source pages calls (Running (Returning (Some v)) (Loop a b ∷ k) e w) (Running (Returning (Some v)) k e w) (plain.Running c) refl (shared, facts, (outer, r, s, here, is, single, stack)) (omega arith)
   returning_some v (CloseRegion region home ∷ k) e w c well (shared, facts, (loop, q, s, here, is, single, stack)) =
       let found = is_closed (Returning (Some v)) region home k e w well in
-      silently source pages calls some_page (Running (Returning (Some v)) (CloseRegion region home ∷ k) e w) (Running (Returning (Some v)) k (record e { home = home }) (closed w region found.region)) (plain.Running c) found.gives
+      silently source pages calls (Running (Returning (Some v)) (CloseRegion region home ∷ k) e w) (Running (Returning (Some v)) k (record e { home = home }) (closed w region found.region)) (plain.Running c) found.gives
       (shared_closed w c region found.region found.there shared, facts, (loop, q, s, here, is, single, stack))
       (omega arith)
   returning_some v (Caller outer ∷ k) e w c well (shared, facts, (loop, q, s, here, is, single, (u, last, below))) =
@@ -436,35 +438,35 @@ module _ (source : Program) (pages calls : ℕ) (some_page : 1 ≤ pages) where
   returning_some v (Main ∷ k) e w c well (shared, facts, (loop, q, s, here, is, single, (u, last, none))) =
       ends_main v.kind v.value c.active c.frames c.globals c.store c.output c.input k e w s well shared here is none
 
-  pub returning : (v : Option Kinded) (k : List Entry) (e : Environment) (w : World) (c : Configuration) → IsStep source pages calls some_page (Returning v) k e w c
+  pub returning : (v : Option Kinded) (k : List Entry) (e : Environment) (w : World) (c : Configuration) → IsStep source pages calls (Returning v) k e w c
   returning None k e w c well related = returning_none k e w c well related
   returning (Some v) k e w c well related = returning_some v k e w c well related
 
   -- ---- exceptions
 
-  pub throwing : (tag value : ℕ) (k : List Entry) (e : Environment) (w : World) (c : Configuration) → IsStep source pages calls some_page (Throwing tag value) k e w c
+  pub throwing : (tag value : ℕ) (k : List Entry) (e : Environment) (w : World) (c : Configuration) → IsStep source pages calls (Throwing tag value) k e w c
   throwing tag value [] e w c well (shared, fits, plain_stack, s, here, is) =
-      one source pages calls some_page refl shared here (λ choice. (ap (λ x. Uncaught tag (signed x)) is, shared.same_output))
+      one source pages calls refl shared here (λ choice. (ap (λ x. Uncaught tag (signed x)) is, shared.same_output))
   throwing tag value (Needs a ∷ k) e w c well (shared, fits, plain_stack, s, here, is) =
-      silently source pages calls some_page (Running (Throwing tag value) (Needs a ∷ k) e w) (Running (Throwing tag value) k e w) (plain.Running c) refl (shared, fits, plain_stack, s, here, is) (omega arith)
+      silently source pages calls (Running (Throwing tag value) (Needs a ∷ k) e w) (Running (Throwing tag value) k e w) (plain.Running c) refl (shared, fits, plain_stack, s, here, is) (omega arith)
   throwing tag value (Discard ∷ k) e w c well (shared, fits, plain_stack, s, here, is) =
-      silently source pages calls some_page (Running (Throwing tag value) (Discard ∷ k) e w) (Running (Throwing tag value) k e w) (plain.Running c) refl (shared, fits, plain_stack, s, here, is) (omega arith)
+      silently source pages calls (Running (Throwing tag value) (Discard ∷ k) e w) (Running (Throwing tag value) k e w) (plain.Running c) refl (shared, fits, plain_stack, s, here, is) (omega arith)
   throwing tag value (Rest js ∷ k) e w c well (shared, fits, plain_stack, s, here, is) =
-      silently source pages calls some_page (Running (Throwing tag value) (Rest js ∷ k) e w) (Running (Throwing tag value) k e w) (plain.Running c) refl (shared, fits, plain_stack, s, here, is) (omega arith)
+      silently source pages calls (Running (Throwing tag value) (Rest js ∷ k) e w) (Running (Throwing tag value) k e w) (plain.Running c) refl (shared, fits, plain_stack, s, here, is) (omega arith)
   throwing tag value (Join ∷ k) e w c well (shared, fits, plain_stack, s, here, is) =
-      silently source pages calls some_page (Running (Throwing tag value) (Join ∷ k) e w) (Running (Throwing tag value) k e w) (plain.Running c) refl (shared, fits, plain_stack, s, here, is) (omega arith)
+      silently source pages calls (Running (Throwing tag value) (Join ∷ k) e w) (Running (Throwing tag value) k e w) (plain.Running c) refl (shared, fits, plain_stack, s, here, is) (omega arith)
   throwing tag value (Loop a b ∷ k) e w c well (shared, fits, plain_stack, s, here, is) =
-      silently source pages calls some_page (Running (Throwing tag value) (Loop a b ∷ k) e w) (Running (Throwing tag value) k e w) (plain.Running c) refl (shared, fits, plain_stack, s, here, is) (omega arith)
+      silently source pages calls (Running (Throwing tag value) (Loop a b ∷ k) e w) (Running (Throwing tag value) k e w) (plain.Running c) refl (shared, fits, plain_stack, s, here, is) (omega arith)
   throwing tag value (CloseRegion region home ∷ k) e w c well (shared, fits, plain_stack, s, here, is) =
       let found = is_closed (Throwing tag value) region home k e w well in
-      silently source pages calls some_page (Running (Throwing tag value) (CloseRegion region home ∷ k) e w) (Running (Throwing tag value) k (record e { home = home }) (closed w region found.region)) (plain.Running c) found.gives
+      silently source pages calls (Running (Throwing tag value) (CloseRegion region home ∷ k) e w) (Running (Throwing tag value) k (record e { home = home }) (closed w region found.region)) (plain.Running c) found.gives
       (shared_closed w c region found.region found.there shared, fits, plain_stack, s, here, is)
       (omega arith)
   throwing tag value (Caller outer ∷ k) e w c well (shared, fits, plain_stack, s, here, is) =
-      silently source pages calls some_page (Running (Throwing tag value) (Caller outer ∷ k) e w) (Running (Throwing tag value) k outer w) (plain.Running c) refl (shared, omega (arith, fits), plain_stack, s, here, is) (omega arith)
+      silently source pages calls (Running (Throwing tag value) (Caller outer ∷ k) e w) (Running (Throwing tag value) k outer w) (plain.Running c) refl (shared, omega (arith, fits), plain_stack, s, here, is) (omega arith)
   throwing tag value (NeedsPlace a ∷ k) e w c well (shared, fits, plain_stack, s, here, is) = absurd plain_stack
   throwing tag value (CloseLexical region ∷ k) e w c well (shared, fits, plain_stack, s, here, is) = absurd plain_stack
   throwing tag value (EndLoan lent ∷ k) e w c well (shared, fits, plain_stack, s, here, is) = absurd plain_stack
   throwing tag value (Handler handler ∷ k) e w c well (shared, fits, plain_stack, s, here, is) = absurd plain_stack
   throwing tag value (Main ∷ k) e w c well (shared, fits, plain_stack, s, here, is) =
-      silently source pages calls some_page (Running (Throwing tag value) (Main ∷ k) e w) (Running (Throwing tag value) k e w) (plain.Running c) refl (shared, omega (arith, fits), plain_stack, s, here, is) (omega arith)
+      silently source pages calls (Running (Throwing tag value) (Main ∷ k) e w) (Running (Throwing tag value) k e w) (plain.Running c) refl (shared, omega (arith, fits), plain_stack, s, here, is) (omega arith)

@@ -4,12 +4,12 @@ use Rattle.cyc_words.specs.Word.{IsWord}
 use Rattle.cyc_syntax.specs.declared.tokens.Keyword.TheVariants as words
 use Rattle.cyc_syntax.specs.Symbols.{Terminal, Symbol}
 use Rattle.cyc_syntax.specs.Symbols as terminals
-use Rattle.cyc_syntax.specs.Trees.{Expression, Number, Character, Call, Bracketed, Prefixed, Binary, Assign, Expressions, NoExpressions, MoreExpressions, Operations, NoOperations, ThenOperation, Statement, Block, Evaluate, If, IfElse, While, Return, Body, Braces, Items, NoItems, MoreItems, Item, Execute, Local, Region, Alias, DynamicRegion, GlobalValue, Positive, Negative, Byte, NullPointer, Declaration, StructType, Exceptions, Global, Function}
+use Rattle.cyc_syntax.specs.Trees.{Expression, Number, Character, Call, Bracketed, Prefixed, Binary, Assign, Expressions, NoExpressions, MoreExpressions, Operations, NoOperations, ThenOperation, Statement, Block, Labelled, Evaluate, If, IfElse, While, Return, Body, Braces, Items, NoItems, MoreItems, Item, Execute, Local, Region, Alias, DynamicRegion, GlobalValue, Positive, Negative, Byte, NullPointer, Declaration, StructType, Exceptions, Global, Function}
 use Rattle.cyc_syntax.specs.Yields.{Leaf, Yield, item_number}
 use Rattle.cyc_syntax.specs.Yields as yields
 use Rattle.cyc_syntax.specs.Grammar.{IsSpelled, HasTree}
 
--- ---- the constants of a tree: only the forms of the int language have any
+-- ---- the constants of a tree, as far as the forms of typed trees that are built have any
 
 abbrev mutual
   pub IsOfWordsWritten : Expression → Type 0
@@ -37,6 +37,7 @@ IsOfWordsValue (Some e) = IsOfWordsWritten e
 abbrev mutual
   pub IsOfWordsWrittenStatement : Statement → Type 0
   IsOfWordsWrittenStatement (Block b) = IsOfWordsBody b
+  IsOfWordsWrittenStatement (Labelled l b) = IsOfWordsBody b
   IsOfWordsWrittenStatement (Evaluate e) = IsOfWordsWritten e
   IsOfWordsWrittenStatement (If p c s) = IsOfWordsWritten c × IsOfWordsWrittenStatement s
   IsOfWordsWrittenStatement (IfElse p c s t) = IsOfWordsWritten c × IsOfWordsWrittenStatement s × IsOfWordsWrittenStatement t
@@ -154,6 +155,7 @@ given_constants d (Some e) after (l, h) = expression_constants (suc d) e (front_
 mutual
   statement_constants : (d : ℕ) (s : Statement) → AreOfWordsLeaves (yields.statement d s) → IsOfWordsWrittenStatement s
   statement_constants d (Block b) h = body_constants d b h
+  statement_constants d (Labelled l b) (x, (c, h)) = body_constants d b h
   statement_constants d (Evaluate e) h = expression_constants d e (front_part (yields.expression d e) _ h)
   statement_constants d (If p c s) h =
       (expression_constants (suc d) c (front_part (yields.expression (suc d) c) _ h.1.1), statement_constants (suc d) s (rest_part (yields.expression (suc d) c) _ h.1.1).1)

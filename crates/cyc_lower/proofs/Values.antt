@@ -1,5 +1,5 @@
 -- The steps that hand a value on.
-use Rattle.std.proofs.Common.{◌≡◌, ◌≢◌, ℕ, zero, suc, ◌+◌, ◌≤◌, ◌<◌, Bool, true, false, not, List, [], ◌∷◌, ◌++◌, Option, None, Some, slice_get, refl, sym, ap, subst, ◌∙◌, arith, inl, inr, length}
+use Rattle.std.proofs.Common.{◌≡◌, ◌≢◌, ℕ, zero, suc, ◌+◌, ◌<◌, Bool, true, false, not, List, [], ◌∷◌, Option, None, Some, slice_get, refl, sym, ap, subst, ◌∙◌, arith, inl, inr, length}
 use Rattle.std.specs.Prelude.{ℤ, ◌==◌, ◌<ℤ◌, ◌≤ℤ◌, int_le, int_lt, if◌then◌else◌}
 use Rattle.std.proofs.lemmas.Int.{ints}
 use Rattle.std.proofs.lemmas.Bool.{cases_eq, eqb-true, false_from_ne_true}
@@ -31,15 +31,16 @@ use Rattle.cyc_plain.specs.State.{put, Frame, Configuration}
 use Rattle.cyc_plain.specs.Step.{Choice, operand_word, with_slots, at, advanced, gives, performed}
 use Rattle.cyc_plain.specs.Step as plain_step
 use Rattle.cyc_plain.proofs.SlotLaws.{put-same, put-other}
+use Rattle.cyc_plain.specs.Straight.{At}
 use Rattle.cyc_meaning.specs.Values.{Value, Int, Null, Thin, Fat, Handle, Key, Operand as Kinded, is_kind}
 use Rattle.cyc_meaning.specs.Operators.{Gives, Raises, has_no_result, binary_word, is_zero, unary_result, truth_result, truth_of, division_by_zero}
 use Rattle.cyc_meaning.specs.Conversion.{conversion}
 use Rattle.cyc_meaning.specs.State.{World, Environment, with_local, made, variable, written, region_at, Awaiting, ConvertTo, Operate, Chain, Apply, Decide, Store, Pass, Initialise, Choose, Test, Return, Entry, Needs, Discard, Rest, Join, Loop, Focus, Evaluating, Given, Executing, Proceeding, Calling, Returning, Throwing, State, Running}
 use Rattle.cyc_meaning.specs.Step.{wrong, object_of, computed, stored_at, declared, passes, tested, awaits_right, chosen, looped, step}
-use Rattle.cyc_lower.specs.Lowering.{slot_of, unary_operator, binary_operator, failing_comparison, operand_of, value_slot, next_slot, is_in, low_byte, jump_if_zero, jump_if_nonzero, break_target, lower_program}
-use Rattle.cyc_lower.proofs.Stands.{At, OperandBy, CopyBy, CopyAt, CheckAt, CheckedAt, OperatorAt, TruthAt, ExpressionAt, OperationsAt}
-use Rattle.cyc_lower.proofs.Relation.{Is, Holds, held, contents, callers, in_place, by_jump, IsQuiet, Lands, in_temporary, in_local, HandsOn, drops, leaves, copies, DataIn, SharedAt, StoreAt, to_slot, to_jump, ChoosesAt, RepeatsAt, ValueStack, ConditionStack, DroppedStack, AheadStack, LandsStack, HandsOnStack, AppliedStack, ReadyAt, as_operand, into_slot, as_right, as_condition, GivenAt, in_operand, nowhere, ahead, compared, with_left, behind_statement, Related, Matches, code_of, bounds_at, base_of, top}
-use Rattle.cyc_lower.proofs.Data.{height-least, Holds-put, Holds-local, put_over, data_same, data_put, data_put_back, data_assigned, data_caught_up, data_assigned_global, data_declared}
+use Rattle.cyc_lower.specs.Lowering.{unary_operator, binary_operator, failing_comparison, operand_of, value_slot, next_slot, is_in, jump_if_zero, jump_if_nonzero, break_target, lower_program}
+use Rattle.cyc_lower.proofs.Stands.{OperandBy, CopyBy, CopyAt, CheckAt, CheckedAt, OperatorAt, TruthAt, ExpressionAt, OperationsAt}
+use Rattle.cyc_lower.proofs.Relation.{Is, Holds, held, contents, callers, in_place, by_jump, IsQuiet, in_temporary, in_local, drops, leaves, copies, DataIn, SharedAt, StoreAt, to_slot, to_jump, ValueStack, ConditionStack, DroppedStack, AheadStack, LandsStack, HandsOnStack, AppliedStack, ReadyAt, as_operand, into_slot, as_right, in_operand, nowhere, ahead, compared, with_left, behind_statement, Related, Matches, code_of, bounds_at, base_of, top}
+use Rattle.cyc_lower.proofs.Data.{height-least, Holds-put, Holds-local, data_same, data_put, data_assigned, data_caught_up, data_assigned_global, data_declared}
 use Rattle.cyc_lower.proofs.Accesses.{IsWell, is_fitting, is_stored, written_here, written_elsewhere, written_length, is_declared}
 use Rattle.cyc_lower.proofs.Weights.{weight}
 use Rattle.cyc_lower.proofs.Relation.{StatementStack}
@@ -103,21 +104,21 @@ fails_by u failing a b is = absurd (none-some failing is)
 pub other_place : (code : List Instruction) (p q : ℕ) (i j : Instruction) → At code p i → At code q j → i ≢ j → p ≢ q
 other_place code p q i j at_p at_q other same = other (same_Some i j (sym at_p ∙ ap (slice_get code) same ∙ at_q))
 
-module _ (source : Program) (pages calls : ℕ) (some_page : 1 ≤ pages) where
+module _ (source : Program) (pages calls : ℕ) where
   -- a branch that is taken, and one that is not
-  pub taken : (s : State) (c : Configuration) (b : Bool) (target : ℕ) → b ≡ true → Matches source calls s (plain.Running (at c target)) → Matches source calls s (plain_step.branches c b target)
-  taken s c b target is m = subst (λ (x : Bool). Matches source calls s (plain_step.branches c x target)) (sym is) m
+  pub taken : (s : State) (c : Configuration) (b : Bool) (target : ℕ) → b ≡ true → Matches source pages calls s (plain.Running (at c target)) → Matches source pages calls s (plain_step.branches c b target)
+  taken s c b target is m = subst (λ (x : Bool). Matches source pages calls s (plain_step.branches c x target)) (sym is) m
 
-  pub not_taken : (s : State) (c : Configuration) (b : Bool) (target : ℕ) → b ≡ false → Matches source calls s (plain.Running (at c (c.active.next + 1))) → Matches source calls s (plain_step.branches c b target)
-  not_taken s c b target is m = subst (λ (x : Bool). Matches source calls s (plain_step.branches c x target)) (sym is) m
+  pub not_taken : (s : State) (c : Configuration) (b : Bool) (target : ℕ) → b ≡ false → Matches source pages calls s (plain.Running (at c (c.active.next + 1))) → Matches source pages calls s (plain_step.branches c b target)
+  not_taken s c b target is m = subst (λ (x : Bool). Matches source pages calls s (plain_step.branches c x target)) (sym is) m
 
   -- what is known of a value that stands in an operand
   abbrev pub Stands : Kinded → Operand → List Entry → Environment → World → Configuration → Type 0
-  Stands v o k e w c = SharedAt source calls w c × DataIn source c.active.slots k e w c × Is v.value (operand_word c.active.slots o)
+  Stands v o k e w c = SharedAt source pages calls w c × DataIn source c.active.slots k e w c × Is v.value (operand_word c.active.slots o)
       × Holds c.active.slots (base_of source c.active.function) (held k)
 
   abbrev pub GoesBehind : Kinded → List Entry → Environment → World → Configuration → Type 0
-  GoesBehind v k e w c = IsMatched source pages calls some_page (Running (Given v) k e w) (plain.Running c)
+  GoesBehind v k e w c = IsMatched source pages calls (Running (Given v) k e w) (plain.Running c)
 
   -- ---- conversions
 
@@ -126,7 +127,7 @@ module _ (source : Program) (pages calls : ℕ) (some_page : 1 ≤ pages) where
       → step source (Running (Given (of_kind i v)) (Needs (ConvertTo from to) ∷ k) e w) ≡ Running (Given (of_kind to v)) k e w → Stands (of_kind i v) o k e w c
       → c.active.next ≡ q → ValueStack source c.active.function e.locals o q c.frames k → GoesBehind (of_kind i v) (Needs (ConvertTo from to) ∷ k) e w c
   kept_value from to i v o k e w c q does (shared, facts, is, holds) end stack =
-      silently source pages calls some_page (Running (Given (of_kind i v)) (Needs (ConvertTo from to) ∷ k) e w) (Running (Given (of_kind to v)) k e w) (plain.Running c) does
+      silently source pages calls (Running (Given (of_kind i v)) (Needs (ConvertTo from to) ∷ k) e w) (Running (Given (of_kind to v)) k e w) (plain.Running c) does
       (shared, in_operand o facts is holds (subst (λ r. ValueStack source c.active.function e.locals o r c.frames k) (sym end) stack))
       (omega arith)
 
@@ -147,7 +148,7 @@ module _ (source : Program) (pages calls : ℕ) (some_page : 1 ≤ pages) where
   converted from kinds.Nullable i Null o k e w c well does stands (q, end, stack) = kept_value from kinds.Nullable i Null o k e w c q does stands end stack
   converted from kinds.Fat i Null o k e w c well does stands (q, end, stack) = kept_value from kinds.Fat i Null o k e w c q does stands end stack
   converted from kinds.NonNull i Null o k e w c well does (shared, facts, is, holds) (q, (jump, uncaught, end), stack) =
-      one source pages calls some_page does shared jump
+      one source pages calls does shared jump
       (λ choice. not_taken (Running (Throwing 1 0) k e w) c (not (operand_word c.active.slots o == 0)) q (ap (λ x. not (x == 0)) is) (
         shared,
         omega (arith, value_depth source c.active.function e.locals o q c.frames k stack, shared.fits),
@@ -200,8 +201,8 @@ module _ (source : Program) (pages calls : ℕ) (some_page : 1 ≤ pages) where
       → OperatesAt u o k e c → GoesBehind (of_kind i (Int a)) (Needs (Operate u) ∷ k) e w c
   operates_word u i a o k e w c result (shared, facts, is, holds) (d, here, lands) =
       let x = operand_word c.active.slots o in
-      one source pages calls some_page (ap (λ r. computed kinds.Int r k e w) result) shared here
-      (λ choice. landed source pages calls some_page (int_of (plain_operators.unary_result (unary_operator u) a)) (plain_operators.unary_result (unary_operator u) x) d k e w c (c.active.next + 1) (ap (plain_operators.unary_result (unary_operator u)) is) shared facts holds refl lands)
+      one source pages calls (ap (λ r. computed kinds.Int r k e w) result) shared here
+      (λ choice. landed source pages calls (int_of (plain_operators.unary_result (unary_operator u) a)) (plain_operators.unary_result (unary_operator u) x) d k e w c (c.active.next + 1) (ap (plain_operators.unary_result (unary_operator u)) is) shared facts holds refl lands)
 
   operates_value : (u : UnaryOperator) (i : Kind) (v : Value) (o : Operand) (k : List Entry) (e : Environment) (w : World) (c : Configuration)
       → IsWell (step source (Running (Given (of_kind i v)) (Needs (Operate u) ∷ k) e w)) → Stands (of_kind i v) o k e w c
@@ -213,8 +214,8 @@ module _ (source : Program) (pages calls : ℕ) (some_page : 1 ≤ pages) where
   operates_value unary.Negate i Null o k e w c well stands stack = absurd (well refl)
   operates_value unary.Complement i Null o k e w c well stands stack = absurd (well refl)
   operates_value unary.Not i Null o k e w c well (shared, facts, is, holds) (d, here, lands) =
-      one source pages calls some_page refl shared here
-      (λ choice. landed source pages calls some_page (int_of 1) (truth (operand_word c.active.slots o == 0)) d k e w c (c.active.next + 1) (ap (λ x. truth (x == 0)) is) shared facts holds refl lands)
+      one source pages calls refl shared here
+      (λ choice. landed source pages calls (int_of 1) (truth (operand_word c.active.slots o == 0)) d k e w c (c.active.next + 1) (ap (λ x. truth (x == 0)) is) shared facts holds refl lands)
   operates_value unary.Negate i (Int a) o k e w c well stands stack = operates_word unary.Negate i a o k e w c refl stands stack
   operates_value unary.Complement i (Int a) o k e w c well stands stack = operates_word unary.Complement i a o k e w c refl stands stack
   operates_value unary.Not i (Int a) o k e w c well stands stack = operates_word unary.Not i a o k e w c refl stands stack
@@ -224,7 +225,7 @@ module _ (source : Program) (pages calls : ℕ) (some_page : 1 ≤ pages) where
       → ConditionStack source c.active.function comparisons.NotEqual o (operands.Word 0) c.active.next c.frames k → GoesBehind v (Needs (Operate unary.Not) ∷ k) e w c
   negates v o k e w c (shared, facts, is, holds) stack =
       let x = operand_word c.active.slots o in
-      silently source pages calls some_page (Running (Given v) (Needs (Operate unary.Not) ∷ k) e w) (Running (Given (int_of (truth (x == 0)))) k e w) (plain.Running c)
+      silently source pages calls (Running (Given v) (Needs (Operate unary.Not) ∷ k) e w) (Running (Given (int_of (truth (x == 0)))) k e w) (plain.Running c)
       (ap (λ z. computed kinds.Int (truth_result z) k e w) (zero_is v.value x is))
       (shared, compared comparisons.NotEqual o (operands.Word 0) facts (ap Some (untrue (x == 0))) stack)
       (omega arith)
@@ -240,16 +241,16 @@ module _ (source : Program) (pages calls : ℕ) (some_page : 1 ≤ pages) where
   -- the division itself, of operands that are these words
   quotient : (u : Operator) (a b : ℕ) (l r : Operand) (d : ℕ) (k : List Entry) (e : Environment) (w : World) (c : Configuration) (q : ℕ)
       → ((x : ℕ) → plain_operators.has_no_result (binary_operator u) x ≡ (x == 0)) → ((x y : ℕ) → plain_operators.binary_result (binary_operator u) x y ≡ binary_word u x y)
-      → (b == 0) ≡ false → SharedAt source calls w c → DataIn source c.active.slots k e w c
+      → (b == 0) ≡ false → SharedAt source pages calls w c → DataIn source c.active.slots k e w c
       → operand_word c.active.slots l ≡ a → operand_word c.active.slots r ≡ b → Holds c.active.slots (base_of source c.active.function) (held k)
       → c.active.next + 1 ≡ q → LandsStack source c.active.function e.locals d q c.frames k
-      → (choice : Choice) → Matches source calls (Running (Given (int_of (binary_word u a b))) k e w) (performed (lower_program source) choice c (instructions.Binary (binary_operator u) d l r))
+      → (choice : Choice) → Matches source pages calls (Running (Given (int_of (binary_word u a b))) k e w) (performed (lower_program source) choice c (instructions.Binary (binary_operator u) d l r))
   quotient u a b l r d k e w c q plain_test same nonzero shared facts is_left is holds end lands choice =
       let x = operand_word c.active.slots l in
       let y = operand_word c.active.slots r in
       let result = plain_operators.binary_result (binary_operator u) x y in
-      subst (λ (z : Bool). Matches source calls (Running (Given (int_of (binary_word u a b))) k e w) (if z then plain.Stuck c.output c.input else gives c d result)) (sym (plain_test y ∙ ap (λ z. z == 0) is ∙ nonzero))
-      (landed source pages calls some_page (int_of (binary_word u a b)) result d k e w c q
+      subst (λ (z : Bool). Matches source pages calls (Running (Given (int_of (binary_word u a b))) k e w) (if z then plain.Stuck c.output c.input else gives c d result)) (sym (plain_test y ∙ ap (λ z. z == 0) is ∙ nonzero))
+      (landed source pages calls (int_of (binary_word u a b)) result d k e w c q
       (same x y ∙ ap (λ z. binary_word u z y) is_left ∙ ap (binary_word u a) is)
       shared facts holds end lands)
 
@@ -257,19 +258,19 @@ module _ (source : Program) (pages calls : ℕ) (some_page : 1 ≤ pages) where
   tested_divides : (u : Operator) (i j : Kind) (a b : ℕ) (f : Bool) (l r : Operand) (d : ℕ) (k : List Entry) (e : Environment) (w : World) (c : Configuration) (m q : ℕ)
       → ((x : ℕ) → plain_operators.has_no_result (binary_operator u) x ≡ (x == 0)) → ((x : ℕ) → has_no_result u x ≡ (x == 0))
       → ((x y : ℕ) → plain_operators.binary_result (binary_operator u) x y ≡ binary_word u x y) → (b == 0) ≡ f
-      → SharedAt source calls w c → DataIn source c.active.slots k e w c
+      → SharedAt source pages calls w c → DataIn source c.active.slots k e w c
       → operand_word c.active.slots l ≡ a → operand_word c.active.slots r ≡ b → Holds c.active.slots (base_of source c.active.function) (held k)
       → CheckAt (code_of source c.active.function) (bounds_at source c.active.function) division_by_zero r c.active.next m
       → At (code_of source c.active.function) m (instructions.Binary (binary_operator u) d l r) → m + 1 ≡ q
       → LandsStack source c.active.function e.locals d q c.frames k → GoesBehind (of_kind j (Int b)) (Needs (Apply u (of_kind i (Int a))) ∷ k) e w c
   tested_divides u i j a b true l r d k e w c m q plain_test test same zero_b shared facts is_left is holds (jump, uncaught, behind) here end lands =
       let b_is : b ≡ 0 = eqb-true b 0 zero_b in
-      one source pages calls some_page (ap (λ x. computed kinds.Int (if x then Raises 4 else Gives (Int (binary_word u a b))) k e w) (test b ∙ zero_b)) shared jump
+      one source pages calls (ap (λ x. computed kinds.Int (if x then Raises 4 else Gives (Int (binary_word u a b))) k e w) (test b ∙ zero_b)) shared jump
       (λ choice. not_taken (Running (Throwing 4 0) k e w) c (not (operand_word c.active.slots r == 0)) m (ap (λ x. not (x == 0)) (is ∙ b_is))
       (shared, omega (arith, lands_depth source c.active.function e.locals d q c.frames k lands, shared.fits), lands_plain source c.active.function e.locals d q c.frames k lands, r, uncaught, is ∙ b_is))
   tested_divides u i j a b false l r d k e w c m q plain_test test same zero_b shared facts is_left is holds (jump, uncaught, behind) here end lands =
       let nonzero : (operand_word c.active.slots r == 0) ≡ false = ap (λ x. x == 0) is ∙ zero_b in
-      two source pages calls some_page (at c m)
+      two source pages calls (at c m)
       (ap (λ x. computed kinds.Int (if x then Raises 4 else Gives (Int (binary_word u a b))) k e w) (test b ∙ zero_b)) shared shared
       jump (λ choice. ap (λ x. plain_step.branches c (not x) m) nonzero)
       here (λ equal. omega (arith, equal, behind))
@@ -279,13 +280,13 @@ module _ (source : Program) (pages calls : ℕ) (some_page : 1 ≤ pages) where
   divides : (u : Operator) (i j : Kind) (a b : ℕ) (l r : Operand) (d : ℕ) (k : List Entry) (e : Environment) (w : World) (c : Configuration) (q : ℕ)
       → ((x : ℕ) → plain_operators.has_no_result (binary_operator u) x ≡ (x == 0)) → ((x : ℕ) → has_no_result u x ≡ (x == 0))
       → ((x y : ℕ) → plain_operators.binary_result (binary_operator u) x y ≡ binary_word u x y)
-      → SharedAt source calls w c → DataIn source c.active.slots k e w c
+      → SharedAt source pages calls w c → DataIn source c.active.slots k e w c
       → operand_word c.active.slots l ≡ a → operand_word c.active.slots r ≡ b → Holds c.active.slots (base_of source c.active.function) (held k)
       → CheckedAt (code_of source c.active.function) (bounds_at source c.active.function) u d l r c.active.next q
       → LandsStack source c.active.function e.locals d q c.frames k → GoesBehind (of_kind j (Int b)) (Needs (Apply u (of_kind i (Int a))) ∷ k) e w c
   divides u i j a b l (operands.Word (suc n)) d k e w c q plain_test test same shared facts is_left is holds (m, begin, here, end) lands =
       let nonzero : (b == 0) ≡ false = ap (λ x. x == 0) (sym is) ∙ false_from_ne_true (suc n == 0) (λ h. absurd (let z : suc n ≡ 0 = eqb-true (suc n) 0 h in omega (arith, z))) in
-      one source pages calls some_page (ap (λ x. computed kinds.Int (if x then Raises 4 else Gives (Int (binary_word u a b))) k e w) (test b ∙ nonzero)) shared
+      one source pages calls (ap (λ x. computed kinds.Int (if x then Raises 4 else Gives (Int (binary_word u a b))) k e w) (test b ∙ nonzero)) shared
       (subst (λ x. At (code_of source c.active.function) x (instructions.Binary (binary_operator u) d l (operands.Word (suc n)))) (sym begin) here)
       (quotient u a b l (operands.Word (suc n)) d k e w c q plain_test same nonzero shared facts is_left is holds (ap (λ x. x + 1) begin ∙ end) lands)
   divides u i j a b l (operands.Word zero) d k e w c q plain_test test same shared facts is_left is holds (m, check, here, end) lands =
@@ -294,7 +295,7 @@ module _ (source : Program) (pages calls : ℕ) (some_page : 1 ≤ pages) where
       tested_divides u i j a b (b == 0) l (operands.Slot n) d k e w c m q plain_test test same refl shared facts is_left is holds check here end lands
 
   computes : (u : Operator) (i j : Kind) (a b : ℕ) (l r : Operand) (d : ℕ) (k : List Entry) (e : Environment) (w : World) (c : Configuration) (q : ℕ)
-      → SharedAt source calls w c → DataIn source c.active.slots k e w c
+      → SharedAt source pages calls w c → DataIn source c.active.slots k e w c
       → operand_word c.active.slots l ≡ a → operand_word c.active.slots r ≡ b → Holds c.active.slots (base_of source c.active.function) (held k)
       → OperatorAt (code_of source c.active.function) (bounds_at source c.active.function) u d l r c.active.next q
       → LandsStack source c.active.function e.locals d q c.frames k → GoesBehind (of_kind j (Int b)) (Needs (Apply u (of_kind i (Int a))) ∷ k) e w c
@@ -305,23 +306,23 @@ module _ (source : Program) (pages calls : ℕ) (some_page : 1 ≤ pages) where
   computes u i j a b l r d k e w c q shared facts is_left is holds (here, end) lands =
       let x = operand_word c.active.slots l in
       let y = operand_word c.active.slots r in
-      one source pages calls some_page refl shared here
-      (λ choice. landed source pages calls some_page (int_of (binary_word u a b)) (binary_word u x y) d k e w c q
+      one source pages calls refl shared here
+      (λ choice. landed source pages calls (int_of (binary_word u a b)) (binary_word u x y) d k e w c q
       (ap (λ z. binary_word u z y) is_left ∙ ap (binary_word u a) is) shared facts holds end lands)
 
   -- a condition that is a comparison is not computed
   compares_words : (u : Operator) (i j : Kind) (failing : Comparison) (a b : ℕ) (l r : Operand) (k : List Entry) (e : Environment) (w : World) (c : Configuration) → failing_comparison u ≡ Some failing
       → step source (Running (Given (of_kind j (Int b))) (Needs (Apply u (of_kind i (Int a))) ∷ k) e w) ≡ Running (Given (int_of (binary_word u a b))) k e w
-      → SharedAt source calls w c → DataIn source c.active.slots k e w c → operand_word c.active.slots l ≡ a → operand_word c.active.slots r ≡ b
+      → SharedAt source pages calls w c → DataIn source c.active.slots k e w c → operand_word c.active.slots l ≡ a → operand_word c.active.slots r ≡ b
       → ConditionStack source c.active.function failing l r c.active.next c.frames k → GoesBehind (of_kind j (Int b)) (Needs (Apply u (of_kind i (Int a))) ∷ k) e w c
   compares_words u i j failing a b l r k e w c is does shared facts is_left is_right stack =
       let x = operand_word c.active.slots l in
-      silently source pages calls some_page (Running (Given (of_kind j (Int b))) (Needs (Apply u (of_kind i (Int a))) ∷ k) e w) (Running (Given (int_of (binary_word u a b))) k e w) (plain.Running c) does
+      silently source pages calls (Running (Given (of_kind j (Int b))) (Needs (Apply u (of_kind i (Int a))) ∷ k) e w) (Running (Given (int_of (binary_word u a b))) k e w) (plain.Running c) does
       (shared, compared failing l r facts (ap Some (fails_by u failing a b is ∙ ap (λ y. compares failing y b) (sym is_left) ∙ ap (compares failing x) (sym is_right))) stack)
       (omega arith)
 
   compares_both : (u : Operator) (i j : Kind) (failing : Comparison) (a b : ℕ) (l r : Operand) (k : List Entry) (e : Environment) (w : World) (c : Configuration) → failing_comparison u ≡ Some failing
-      → SharedAt source calls w c → DataIn source c.active.slots k e w c → operand_word c.active.slots l ≡ a → operand_word c.active.slots r ≡ b
+      → SharedAt source pages calls w c → DataIn source c.active.slots k e w c → operand_word c.active.slots l ≡ a → operand_word c.active.slots r ≡ b
       → ConditionStack source c.active.function failing l r c.active.next c.frames k → GoesBehind (of_kind j (Int b)) (Needs (Apply u (of_kind i (Int a))) ∷ k) e w c
   compares_both operators.Divide i j failing a b l r k e w c is shared facts is_left is_right stack = absurd (none-some failing is)
   compares_both operators.Remainder i j failing a b l r k e w c is shared facts is_left is_right stack = absurd (none-some failing is)
@@ -330,7 +331,7 @@ module _ (source : Program) (pages calls : ℕ) (some_page : 1 ≤ pages) where
 
   -- both operands are there
   applies_values : (u : Operator) (i j : Kind) (left v : Value) (k : List Entry) (e : Environment) (w : World) (c : Configuration)
-      → IsWell (step source (Running (Given (of_kind j v)) (Needs (Apply u (of_kind i left)) ∷ k) e w)) → SharedAt source calls w c → DataIn source c.active.slots k e w c
+      → IsWell (step source (Running (Given (of_kind j v)) (Needs (Apply u (of_kind i left)) ∷ k) e w)) → SharedAt source pages calls w c → DataIn source c.active.slots k e w c
       → ReadyAt source (of_kind j v) e.locals c.active.function c.active.next c.active.slots c.frames (Needs (Apply u (of_kind i left)) ∷ k)
       → GoesBehind (of_kind j v) (Needs (Apply u (of_kind i left)) ∷ k) e w c
   applies_values u i j (Int a) (Int b) k e w c well shared facts (l, r, is_left, is, holds, to_slot (d, q, here, lands)) = computes u i j a b l r d k e w c q shared facts is_left is holds here lands
@@ -338,7 +339,7 @@ module _ (source : Program) (pages calls : ℕ) (some_page : 1 ≤ pages) where
   applies_values u i j left v k e w c well shared facts ready = absurd (well refl)
 
   applies : (u : Operator) (left v : Kinded) (k : List Entry) (e : Environment) (w : World) (c : Configuration)
-      → IsWell (step source (Running (Given v) (Needs (Apply u left) ∷ k) e w)) → SharedAt source calls w c → DataIn source c.active.slots k e w c
+      → IsWell (step source (Running (Given v) (Needs (Apply u left) ∷ k) e w)) → SharedAt source pages calls w c → DataIn source c.active.slots k e w c
       → ReadyAt source v e.locals c.active.function c.active.next c.active.slots c.frames (Needs (Apply u left) ∷ k) → GoesBehind v (Needs (Apply u left) ∷ k) e w c
   applies u left v k e w c well shared facts ready = applies_values u left.kind v.kind left.value v.value k e w c well shared facts ready
 
@@ -353,16 +354,16 @@ module _ (source : Program) (pages calls : ℕ) (some_page : 1 ≤ pages) where
 
   -- where a word was negated once, a second time gives 0 or 1
   negated_twice : (t d : ℕ) (k : List Entry) (e : Environment) (w : World) (c : Configuration) (q : ℕ) → t ≡ truth (not (c.active.slots (top source c.active.function k) == 0))
-      → SharedAt source calls w c → DataIn source c.active.slots k e w c
+      → SharedAt source pages calls w c → DataIn source c.active.slots k e w c
       → Holds c.active.slots (base_of source c.active.function) (held k) → c.active.next + 1 + 1 ≡ q → LandsStack source c.active.function e.locals d q c.frames k
-      → Related source calls (Given (int_of t)) k e w
+      → Related source pages calls (Given (int_of t)) k e w
       (advanced (with_slots (negated c k) (put (negated c k).active.slots d (truth ((negated c k).active.slots (top source c.active.function k) == 0)))))
   negated_twice t d k e w c q t_is shared facts holds end lands =
       let free = top source c.active.function k in
       let base = base_of source c.active.function in
       let x = truth (c.active.slots free == 0) in
       let slots = put c.active.slots free x in
-      landed source pages calls some_page (int_of t) (truth (slots free == 0)) d k e w (negated c k) q
+      landed source pages calls (int_of t) (truth (slots free == 0)) d k e w (negated c k) q
       (ap (λ y. truth (y == 0)) (put-same c.active.slots free x) ∙ truth_twice (c.active.slots free == 0) ∙ sym t_is)
       shared (data_put source c.active.function w.objects e.locals (callers k) c.active.slots c.globals c.frames free x (height-least base (held k)) facts)
       (Holds-put c.active.slots base (held k) free x (omega arith) holds) end lands
@@ -372,7 +373,7 @@ module _ (source : Program) (pages calls : ℕ) (some_page : 1 ≤ pages) where
   decides_truth v o k e w c (shared, facts, is, holds) (d, q, there, (first, second, end), lands) =
       let x = c.active.slots (top source c.active.function k) in
       let is_x : Is v.value x = subst (λ z. Is v.value (operand_word c.active.slots z)) there is in
-      two source pages calls some_page (negated c k)
+      two source pages calls (negated c k)
       (ap (λ z. computed kinds.Int (truth_of z) k e w) (zero_is v.value x is_x)) shared shared first (λ choice. refl) second (λ equal. omega (arith, equal))
       (λ choice. negated_twice (truth (not (x == 0))) d k e w c q refl shared facts holds end lands)
 
@@ -382,7 +383,7 @@ module _ (source : Program) (pages calls : ℕ) (some_page : 1 ≤ pages) where
   chain_lands : (os : Operations) (g : ℕ) (locals : ℕ → Option ℕ) (d p q : ℕ) (frames : List Frame) (k : List Entry)
       → OperationsAt (code_of source g) (bounds_at source g) os (operands.Slot (next_slot os d (top source g k))) d (top source g k) p q
       → LandsStack source g locals d q frames k → LandsStack source g locals (next_slot os d (top source g k)) p frames (Needs (Chain os) ∷ k)
-  chain_lands NoOperations g locals d p q frames k (is, end) lands = lands_at source pages calls some_page g locals d p q frames k end lands
+  chain_lands NoOperations g locals d p q frames k (is, end) lands = lands_at source pages calls g locals d p q frames k end lands
   chain_lands (ThenCompute u b os) g locals d p q frames k ops lands = in_temporary (omega arith) (to_slot (d, q, ops, lands))
   chain_lands (ThenTest u b os) g locals d p q frames k ops lands = in_temporary (omega arith) (to_slot (d, q, ops, lands))
   chain_lands os g locals d p q frames k ops lands = absurd ops
@@ -393,7 +394,7 @@ module _ (source : Program) (pages calls : ℕ) (some_page : 1 ≤ pages) where
       → At (code_of source c.active.function) c.active.next i → ((choice : Choice) → plain_step.performed (lower_program source) choice c i ≡ plain.Running (at c m))
       → ((x : ℕ) → i ≢ instructions.Unary plain_unary.Not x (operands.Slot (top source c.active.function k)))
       → (c.active.slots (top source c.active.function k) == 0) ≡ f
-      → SharedAt source calls w c → DataIn source c.active.slots k e w c
+      → SharedAt source pages calls w c → DataIn source c.active.slots k e w c
       → Holds c.active.slots (base_of source c.active.function) (held k)
       → TruthAt (code_of source c.active.function) (bounds_at source c.active.function) (top source c.active.function k) d m r
       → LandsStack source c.active.function e.locals d r c.frames (Needs (Chain os) ∷ k)
@@ -402,9 +403,9 @@ module _ (source : Program) (pages calls : ℕ) (some_page : 1 ≤ pages) where
       let code = code_of source c.active.function in
       let free = top source c.active.function k in
       let there = at c m in
-      three source pages calls some_page there (negated there k) does shared
-      (shared_within source pages calls some_page w there shared) (shared_way source pages calls some_page (Given v) (Needs (Chain (ThenTest u b os)) ∷ k) e w there shared)
-      (shared_within source pages calls some_page w (negated there k) shared) (shared_way source pages calls some_page (Given v) (Needs (Chain (ThenTest u b os)) ∷ k) e w (negated there k) shared)
+      three source pages calls there (negated there k) does shared
+      (shared_within source pages calls w there shared) (shared_way source pages calls (Given v) (Needs (Chain (ThenTest u b os)) ∷ k) e w there shared)
+      (shared_within source pages calls w (negated there k) shared) (shared_way source pages calls (Given v) (Needs (Chain (ThenTest u b os)) ∷ k) e w (negated there k) shared)
       here jumps first (λ choice. refl) second
       (other_place code c.active.next m i (instructions.Unary plain_unary.Not free (operands.Slot free)) here first (other free))
       (other_place code c.active.next (m + 1) i (instructions.Unary plain_unary.Not d (operands.Slot free)) here second (other d)) (λ equal. omega (arith, equal))
@@ -427,13 +428,13 @@ module _ (source : Program) (pages calls : ℕ) (some_page : 1 ≤ pages) where
   tests logical.AndThen b os v false k e w c d q told (shared, facts, is, holds) (m, r, there, jump, at_b, truths, ops) lands =
       let free = top source c.active.function k in
       let does = ap (λ (x : Option Bool). tested x logical.AndThen b os k e w) (zero_is v.value _ is ∙ ap Some told) in
-      one source pages calls some_page does shared jump
+      one source pages calls does shared jump
       (λ choice. not_taken (Running (Evaluating b) (Needs Decide ∷ Needs (Chain os) ∷ k) e w) c _ m told
       (shared, facts, into_slot free m at_b holds (in_temporary (omega arith) (next_slot os d free, r, refl, truths, chain_lands os c.active.function e.locals d r q c.frames k ops lands))))
   tests logical.OrElse b os v true k e w c d q told (shared, facts, is, holds) (m, r, there, jump, at_b, truths, ops) lands =
       let free = top source c.active.function k in
       let does = ap (λ (x : Option Bool). tested x logical.OrElse b os k e w) (zero_is v.value _ is ∙ ap Some told) in
-      one source pages calls some_page does shared jump
+      one source pages calls does shared jump
       (λ choice. not_taken (Running (Evaluating b) (Needs Decide ∷ Needs (Chain os) ∷ k) e w) c _ m (ap not told)
       (shared, facts, into_slot free m at_b holds (in_temporary (omega arith) (next_slot os d free, r, refl, truths, chain_lands os c.active.function e.locals d r q c.frames k ops lands))))
   tests logical.OrElse b os v false k e w c d q told (shared, facts, is, holds) (m, r, there, jump, at_b, truths, ops) lands =
@@ -459,13 +460,13 @@ module _ (source : Program) (pages calls : ℕ) (some_page : 1 ≤ pages) where
       → GoesBehind v (Needs (Chain (ThenCompute u b os)) ∷ k) e w c
   chain_goes_on (Some known) u b os v l k e w c r m well is_known (shared, facts, is, holds) (r_is, begin) applied =
       let g = c.active.function in
-      silently source pages calls some_page (Running (Given v) (Needs (Chain (ThenCompute u b os)) ∷ k) e w) (Running (Evaluating b) (Needs (Apply u v) ∷ Needs (Chain os) ∷ k) e w) (plain.Running c) (awaited (is_kind v.kind kinds.Int) (Apply u v) b os k e w well)
+      silently source pages calls (Running (Given v) (Needs (Chain (ThenCompute u b os)) ∷ k) e w) (Running (Evaluating b) (Needs (Apply u v) ∷ Needs (Chain os) ∷ k) e w) (plain.Running c) (awaited (is_kind v.kind kinds.Int) (Apply u v) b os k e w well)
       (shared, facts, as_right (l, r, is_known ∙ ap Some (sym r_is), is, holds, subst (λ x. AppliedStack source g e.locals u l r x c.frames (Needs (Chain os) ∷ k)) (sym begin) applied))
       (omega arith)
   chain_goes_on None u b os v l k e w c r m well is_known (shared, facts, is, holds) (r_is, (there, at_b)) applied =
       let g = c.active.function in
       let free = suc (top source g k) in
-      silently source pages calls some_page (Running (Given v) (Needs (Chain (ThenCompute u b os)) ∷ k) e w) (Running (Evaluating b) (Needs (Apply u v) ∷ Needs (Chain os) ∷ k) e w) (plain.Running c) (awaited (is_kind v.kind kinds.Int) (Apply u v) b os k e w well) (
+      silently source pages calls (Running (Given v) (Needs (Chain (ThenCompute u b os)) ∷ k) e w) (Running (Evaluating b) (Needs (Apply u v) ∷ Needs (Chain os) ∷ k) e w) (plain.Running c) (awaited (is_kind v.kind kinds.Int) (Apply u v) b os k e w well) (
         shared,
         facts,
         as_operand r m
@@ -479,7 +480,7 @@ module _ (source : Program) (pages calls : ℕ) (some_page : 1 ≤ pages) where
       → IsWell (step source (Running (Given v) (Needs (Chain os) ∷ k) e w)) → Stands v o k e w c
       → ValueStack source c.active.function e.locals o c.active.next c.frames (Needs (Chain os) ∷ k) → GoesBehind v (Needs (Chain os) ∷ k) e w c
   chains NoOperations v o k e w c well (shared, facts, is, holds) stack =
-      silently source pages calls some_page (Running (Given v) (Needs (Chain NoOperations) ∷ k) e w) (Running (Given v) k e w) (plain.Running c) refl
+      silently source pages calls (Running (Given v) (Needs (Chain NoOperations) ∷ k) e w) (Running (Given v) k e w) (plain.Running c) refl
       (shared, in_operand o facts is holds stack)
       (omega arith)
   chains (ThenCompute u b os) v o k e w c well stands (to_slot (d, q, (r, m, s, at_b, at, ops), lands)) =
@@ -497,13 +498,13 @@ module _ (source : Program) (pages calls : ℕ) (some_page : 1 ≤ pages) where
 
   -- the value of an assignment is where it is to be, or one instruction brings it there
   data Handed (v : Kinded) (k : List Entry) (e : Environment) (w : World) (c : Configuration) : Type 0 where
-    at_once : Related source calls (Given v) k e w c → Handed v k e w c
+    at_once : Related source pages calls (Given v) k e w c → Handed v k e w c
     by_copy : (i : Instruction) → At (code_of source c.active.function) c.active.next i
-        → ((choice : Choice) → Matches source calls (Running (Given v) k e w) (performed (lower_program source) choice c i)) → Handed v k e w c
+        → ((choice : Choice) → Matches source pages calls (Running (Given v) k e w) (performed (lower_program source) choice c i)) → Handed v k e w c
 
   -- a value that is in a slot already has landed there
   landed_there : (v : Kinded) (d : ℕ) (k : List Entry) (e : Environment) (w : World) (c : Configuration) (q : ℕ) → Stands v (operands.Slot d) k e w c → c.active.next ≡ q
-      → LandsStack source c.active.function e.locals d q c.frames k → Related source calls (Given v) k e w c
+      → LandsStack source c.active.function e.locals d q c.frames k → Related source pages calls (Given v) k e w c
   landed_there v d k e w c q (shared, facts, is, holds) end (in_temporary least stack) =
       (shared, in_operand (operands.Slot d) facts is holds (subst (λ r. ValueStack source c.active.function e.locals (operands.Slot d) r c.frames k) (sym end) stack))
   landed_there v d k e w c q (shared, facts, is, holds) end (in_local below stack) =
@@ -526,7 +527,7 @@ module _ (source : Program) (pages calls : ℕ) (some_page : 1 ≤ pages) where
       at_once (landed_there v d k e w c q (subst (λ x. Stands v (operands.Slot x) k e w c) (eqb-true n d same) stands) end lands)
   copied true v (operands.Word n) d k e w c q same stands end lands = absurd (let f : false ≡ true = same in cc)
   copied false v o d k e w c q same (shared, facts, is, holds) (here, end) lands =
-      by_copy (instructions.Move d o) here (λ choice. landed source pages calls some_page v (operand_word c.active.slots o) d k e w c q is shared facts holds end lands)
+      by_copy (instructions.Move d o) here (λ choice. landed source pages calls v (operand_word c.active.slots o) d k e w c q is shared facts holds end lands)
 
   handed : (v : Kinded) (o : Operand) (k : List Entry) (e : Environment) (w : World) (c : Configuration) (q : ℕ) → c.active.next ≡ q → Stands v o k e w c
       → HandsOnStack source c.active.function e.locals o q c.frames k → Handed v k e w c
@@ -539,23 +540,19 @@ module _ (source : Program) (pages calls : ℕ) (some_page : 1 ≤ pages) where
 
   -- a step that ends so, behind one instruction or behind none
   hands_behind : {focus : Focus} {before : List Entry} {w0 : World} {i : Instruction} (v : Kinded) (k : List Entry) (e : Environment) (w : World) (c d : Configuration)
-      → step source (Running focus before e w0) ≡ Running (Given v) k e w → SharedAt source calls w0 c → SharedAt source calls w0 d
+      → step source (Running focus before e w0) ≡ Running (Given v) k e w → SharedAt source pages calls w0 c → SharedAt source pages calls w0 d
       → At (code_of source c.active.function) c.active.next i → ((choice : Choice) → performed (lower_program source) choice c i ≡ plain.Running d) → c.active.next ≢ d.active.next
-      → Handed v k e w d → IsMatched source pages calls some_page (Running focus before e w0) (plain.Running c)
+      → Handed v k e w d → IsMatched source pages calls (Running focus before e w0) (plain.Running c)
   hands_behind {focus} {before} {w0} {i} v k e w c d does shared shared_d here first other (at_once related) =
-      one source pages calls some_page does shared here (λ choice. subst (Matches source calls (Running (Given v) k e w)) (sym (first choice)) related)
+      one source pages calls does shared here (λ choice. subst (Matches source pages calls (Running (Given v) k e w)) (sym (first choice)) related)
   hands_behind {focus} {before} {w0} {i} v k e w c d does shared shared_d here first other (by_copy j at goes) =
-      two source pages calls some_page d does shared shared_d here first at other goes
+      two source pages calls d does shared shared_d here first at other goes
 
   hands_at_once : (v : Kinded) (before : List Entry) (k : List Entry) (e : Environment) (w0 w : World) (c : Configuration)
-      → step source (Running (Given v) before e w0) ≡ Running (Given v) k e w → SharedAt source calls w0 c
+      → step source (Running (Given v) before e w0) ≡ Running (Given v) k e w → SharedAt source pages calls w0 c
       → weight (Running (Given v) k e w) < weight (Running (Given v) before e w0) → Handed v k e w c → GoesBehind v before e w0 c
-  hands_at_once v before k e w0 w c does shared lighter (at_once related) = silently source pages calls some_page (Running (Given v) before e w0) (Running (Given v) k e w) (plain.Running c) does related lighter
-  hands_at_once v before k e w0 w c does shared lighter (by_copy i at goes) = one source pages calls some_page does shared at goes
-
-  -- a temporary is no local
-  local_apart : (g n : ℕ) (k : List Entry) → n < base_of source g → top source g k ≢ n
-  local_apart g n k few same = absurd (omega (arith, same, few, height-least (base_of source g) (held k)))
+  hands_at_once v before k e w0 w c does shared lighter (at_once related) = silently source pages calls (Running (Given v) before e w0) (Running (Given v) k e w) (plain.Running c) does related lighter
+  hands_at_once v before k e w0 w c does shared lighter (by_copy i at goes) = one source pages calls does shared at goes
 
   stores : (object : ℕ) (v : Kinded) (l : Lvalue) (o to : Operand) (k : List Entry) (e : Environment) (w : World) (c : Configuration) (q : ℕ)
       → object_of e l ≡ Some object → IsWell (stored_at (Thin object 0) v (Given v) k e w) → Stands v o k e w c
@@ -588,7 +585,7 @@ module _ (source : Program) (pages calls : ℕ) (some_page : 1 ≤ pages) where
       (handed v to k e next after q end (
         shared,
         data_assigned_global source g w.objects next.objects e.locals (callers k) c.active.slots c.globals c.frames n v.value x
-            (global_there source pages calls some_page g n few)
+            (global_there source pages calls g n few)
             (ap (contents next.objects) same ∙ written_here w object stored.at v.value stored.object_there stored.cell_there)
             (λ i other. written_elsewhere w object stored.at v.value stored.object_there stored.cell_there i (λ equal. other (equal ∙ sym same)))
             (written_length w object stored.at v.value stored.object_there stored.cell_there) is facts,
@@ -605,7 +602,7 @@ module _ (source : Program) (pages calls : ℕ) (some_page : 1 ≤ pages) where
 
   -- the local has the value already
   catches_up : (object n old : ℕ) (v : Kinded) (k : List Entry) (e : Environment) (w : World) (c : Configuration)
-      → e.locals n ≡ Some object → IsWell (stored_at (Thin object 0) v (Given v) k e w) → SharedAt source calls w c → DataIn source (put c.active.slots n old) k e w c
+      → e.locals n ≡ Some object → IsWell (stored_at (Thin object 0) v (Given v) k e w) → SharedAt source pages calls w c → DataIn source (put c.active.slots n old) k e w c
       → Is v.value (c.active.slots n) → Holds c.active.slots (base_of source c.active.function) (held k)
       → HandsOnStack source c.active.function e.locals (operands.Slot n) c.active.next c.frames k → GoesBehind v (Needs (Store (Thin object 0)) ∷ k) e w c
   catches_up object n old v k e w c found well shared facts is holds hands =
@@ -627,21 +624,21 @@ module _ (source : Program) (pages calls : ℕ) (some_page : 1 ≤ pages) where
   hands_on : (f : Callee) (before : List Kinded) (cs : Arguments) (v : Kinded) (o : Operand) (k : List Entry) (e : Environment) (w : World) (c : Configuration) → Stands v o (Needs (Pass f before cs) ∷ k) e w c
       → ValueStack source c.active.function e.locals o c.active.next c.frames (Needs (Pass f before cs) ∷ k) → GoesBehind v (Needs (Pass f before cs) ∷ k) e w c
   hands_on callees.Putchar [] NoArguments v o k e w c (shared, facts, is, holds) (none, single, write, prints) =
-      silently source pages calls some_page (Running (Given v) (Needs (Pass callees.Putchar [] NoArguments) ∷ k) e w) (Running (Calling callees.Putchar (v ∷ [])) k e w) (plain.Running c) refl
+      silently source pages calls (Running (Given v) (Needs (Pass callees.Putchar [] NoArguments) ∷ k) e w) (Running (Calling callees.Putchar (v ∷ [])) k e w) (plain.Running c) refl
       (shared, facts, (v, o, refl, is, holds, (write, prints)))
       (omega arith)
   hands_on callees.Putchar [] (MoreArguments c' cs) v o k e w c stands (none, single, write, prints) = absurd (let f : MoreArguments c' cs ≡ NoArguments = single in cc)
   hands_on callees.Putchar (u ∷ before) cs v o k e w c stands (none, single, write, prints) = absurd (let f : u ∷ before ≡ [] = none in cc)
   hands_on callees.Getchar before cs v o k e w c (shared, facts, is, holds) (d, m, q, all, there, here, call, long, lands) =
-      silently source pages calls some_page (Running (Given v) (Needs (Pass callees.Getchar before cs) ∷ k) e w) (passes callees.Getchar (v ∷ before) cs k e w) (plain.Running c) refl
-      (passes_related source pages calls some_page callees.Getchar (v ∷ before) cs k e w c d m q all shared facts here call (omega (arith, long))
+      silently source pages calls (Running (Given v) (Needs (Pass callees.Getchar before cs) ∷ k) e w) (passes callees.Getchar (v ∷ before) cs k e w) (plain.Running c) refl
+      (passes_related source pages calls callees.Getchar (v ∷ before) cs k e w c d m q all shared facts here call (omega (arith, long))
       (subst (λ x. Is v.value (operand_word c.active.slots x)) there is, holds) lands)
-      (omega (arith, passes_weight source pages calls some_page callees.Getchar (v ∷ before) cs k e w))
+      (omega (arith, passes_weight source pages calls callees.Getchar (v ∷ before) cs k e w))
   hands_on (callees.Function n) before cs v o k e w c (shared, facts, is, holds) (d, m, q, all, there, here, call, long, lands) =
-      silently source pages calls some_page (Running (Given v) (Needs (Pass (callees.Function n) before cs) ∷ k) e w) (passes (callees.Function n) (v ∷ before) cs k e w) (plain.Running c) refl
-      (passes_related source pages calls some_page (callees.Function n) (v ∷ before) cs k e w c d m q all shared facts here call (omega (arith, long))
+      silently source pages calls (Running (Given v) (Needs (Pass (callees.Function n) before cs) ∷ k) e w) (passes (callees.Function n) (v ∷ before) cs k e w) (plain.Running c) refl
+      (passes_related source pages calls (callees.Function n) (v ∷ before) cs k e w c d m q all shared facts here call (omega (arith, long))
       (subst (λ x. Is v.value (operand_word c.active.slots x)) there is, holds) lands)
-      (omega (arith, passes_weight source pages calls some_page (callees.Function n) (v ∷ before) cs k e w))
+      (omega (arith, passes_weight source pages calls (callees.Function n) (v ∷ before) cs k e w))
 
   -- ---- what is done with the value of a whole expression
 
@@ -660,7 +657,7 @@ module _ (source : Program) (pages calls : ℕ) (some_page : 1 ≤ pages) where
   initialises n kind js v o k e w c well (shared, facts, is, holds) (loop, q, here, few, items, stack) =
       let g = c.active.function in
       let x = operand_word c.active.slots o in
-      one source pages calls some_page (makes_local n kind js v k e w well) shared here
+      one source pages calls (makes_local n kind js v k e w well) shared here
       (λ choice. (
         shared,
         behind_statement loop
@@ -671,13 +668,13 @@ module _ (source : Program) (pages calls : ℕ) (some_page : 1 ≤ pages) where
       ))
 
   initialises_ahead : (n old : ℕ) (kind : Kind) (js : Items) (v : Kinded) (k : List Entry) (e : Environment) (w : World) (c : Configuration) (loop : ℕ)
-      → IsWell (step source (Running (Given v) (Needs (Initialise n kind js) ∷ k) e w)) → SharedAt source calls w c
+      → IsWell (step source (Running (Given v) (Needs (Initialise n kind js) ∷ k) e w)) → SharedAt source pages calls w c
       → DataIn source (put c.active.slots n old) (Needs (Initialise n kind js) ∷ k) e w c → n < base_of source c.active.function → Is v.value (c.active.slots n)
       → StatementStack source c.active.function loop c.active.next c.frames (Rest js ∷ k) → GoesBehind v (Needs (Initialise n kind js) ∷ k) e w c
   initialises_ahead n old kind js v k e w c loop well shared facts few is stack =
       let g = c.active.function in
       let slots = c.active.slots in
-      silently source pages calls some_page (Running (Given v) (Needs (Initialise n kind js) ∷ k) e w)
+      silently source pages calls (Running (Given v) (Needs (Initialise n kind js) ∷ k) e w)
       (Running Proceeding (Rest js ∷ k) (with_local e n (length w.objects)) (made w (variable e.home kind (Some v.value)))) (plain.Running c)
       (makes_local n kind js v k e w well) (
         shared,
@@ -691,28 +688,28 @@ module _ (source : Program) (pages calls : ℕ) (some_page : 1 ≤ pages) where
   -- a condition that has failed or not, by the comparison of two operands
   chooses : (s t : Statement) (v : Kinded) (f : Bool) (failing : Comparison) (l r : Operand) (k : List Entry) (e : Environment) (w : World) (c : Configuration)
       → is_zero v.value ≡ Some f → compares failing (operand_word c.active.slots l) (operand_word c.active.slots r) ≡ f
-      → SharedAt source calls w c → DataIn source c.active.slots (Needs (Choose s t) ∷ k) e w c
+      → SharedAt source pages calls w c → DataIn source c.active.slots (Needs (Choose s t) ∷ k) e w c
       → ConditionStack source c.active.function failing l r c.active.next c.frames (Needs (Choose s t) ∷ k) → GoesBehind v (Needs (Choose s t) ∷ k) e w c
   chooses s t v true failing l r k e w c fails told shared facts (loop, m, q, jump, at_s, over, at_t, stack) =
-      one source pages calls some_page (ap (λ (x : Option Bool). chosen x s t k e w) fails) shared jump
+      one source pages calls (ap (λ (x : Option Bool). chosen x s t k e w) fails) shared jump
       (λ choice. taken (Running (Executing t) (Join ∷ k) e w) c _ (m + 1) told (shared, facts, (loop, q, at_t, (q, in_place refl, stack))))
   chooses s t v false failing l r k e w c fails told shared facts (loop, m, q, jump, at_s, over, at_t, stack) =
-      one source pages calls some_page (ap (λ (x : Option Bool). chosen x s t k e w) fails) shared jump
+      one source pages calls (ap (λ (x : Option Bool). chosen x s t k e w) fails) shared jump
       (λ choice. not_taken (Running (Executing s) (Join ∷ k) e w) c _ (m + 1) told (shared, facts, (loop, m, at_s, (q, by_jump over, stack))))
 
   loops : (a : Expression) (s : Statement) (v : Kinded) (f : Bool) (failing : Comparison) (l r : Operand) (k : List Entry) (e : Environment) (w : World) (c : Configuration)
       → is_zero v.value ≡ Some f → compares failing (operand_word c.active.slots l) (operand_word c.active.slots r) ≡ f
-      → SharedAt source calls w c → DataIn source c.active.slots (Needs (Test a s) ∷ k) e w c
+      → SharedAt source pages calls w c → DataIn source c.active.slots (Needs (Test a s) ∷ k) e w c
       → ConditionStack source c.active.function failing l r c.active.next c.frames (Needs (Test a s) ∷ k) → GoesBehind v (Needs (Test a s) ∷ k) e w c
   loops a s v true failing l r k e w c fails told shared facts (loop, outer, q, (x, y, m, n, leave, at_a, again, at_body, repeats, after), i, jump, at_s, back, stack) =
-      two source pages calls some_page (at c (break_target loop)) (ap (λ (z : Option Bool). looped z a s k e w) fails) shared shared
+      two source pages calls (at c (break_target loop)) (ap (λ (z : Option Bool). looped z a s k e w) fails) shared shared
       jump (λ choice. ap (λ z. plain_step.branches c z (break_target loop)) told)
       leave
       (other_place (code_of source c.active.function) c.active.next (break_target loop) _ _ jump leave
       (λ same. let f : instructions.Branch failing l r (break_target loop) ≡ instructions.Jump q = same in cc))
       (λ choice. (shared, behind_statement outer facts stack))
   loops a s v false failing l r k e w c fails told shared facts (loop, outer, q, around, m, jump, at_s, back, stack) =
-      one source pages calls some_page (ap (λ (z : Option Bool). looped z a s k e w) fails) shared jump
+      one source pages calls (ap (λ (z : Option Bool). looped z a s k e w) fails) shared jump
       (λ choice. not_taken (Running (Executing s) (Loop a s ∷ k) e w) c _ _ told (shared, facts, (loop, m, at_s, (outer, q, around, back, stack))))
 
   -- ---- all that waits for a value
@@ -735,35 +732,35 @@ module _ (source : Program) (pages calls : ℕ) (some_page : 1 ≤ pages) where
   stands_given v o (Needs (Test a s) ∷ k) e w c well (shared, facts, is, holds) stack =
       loops a s v (operand_word c.active.slots o == 0) comparisons.Equal o (operands.Word 0) k e w c (zero_is v.value _ is) refl shared facts stack
   stands_given v o (Needs Return ∷ k) e w c well (shared, facts, is, holds) (loop, q, s, there, here, single, stack) =
-      silently source pages calls some_page (Running (Given v) (Needs Return ∷ k) e w) (Running (Returning (Some v)) k e w) (plain.Running c) refl
+      silently source pages calls (Running (Given v) (Needs Return ∷ k) e w) (Running (Returning (Some v)) k e w) (plain.Running c) refl
       (shared, facts, (loop, q, s, here, subst (λ x. Is v.value (operand_word c.active.slots x)) there is, single, stack))
       (omega arith)
   stands_given v o (Discard ∷ k) e w c well (shared, facts, is, holds) (loop, stack) =
-      silently source pages calls some_page (Running (Given v) (Discard ∷ k) e w) (Running Proceeding k e w) (plain.Running c) refl
+      silently source pages calls (Running (Given v) (Discard ∷ k) e w) (Running Proceeding k e w) (plain.Running c) refl
       (shared, behind_statement loop facts stack)
       (omega arith)
   stands_given v o (Needs a ∷ k) e w c well stands stack = absurd stack
   stands_given v o (entry ∷ k) e w c well stands stack = absurd (well refl)
 
-  dropped_given : (v : Kinded) (k : List Entry) (e : Environment) (w : World) (c : Configuration) → SharedAt source calls w c → DataIn source c.active.slots k e w c
+  dropped_given : (v : Kinded) (k : List Entry) (e : Environment) (w : World) (c : Configuration) → SharedAt source pages calls w c → DataIn source c.active.slots k e w c
       → DroppedStack source c.active.function c.active.next c.frames k → GoesBehind v k e w c
   dropped_given v (Discard ∷ k) e w c shared facts (loop, stack) =
-      silently source pages calls some_page (Running (Given v) (Discard ∷ k) e w) (Running Proceeding k e w) (plain.Running c) refl
+      silently source pages calls (Running (Given v) (Discard ∷ k) e w) (Running Proceeding k e w) (plain.Running c) refl
       (shared, behind_statement loop facts stack)
       (omega arith)
   dropped_given v k e w c shared facts stack = absurd stack
 
-  ahead_given : (v : Kinded) (n old : ℕ) (k : List Entry) (e : Environment) (w : World) (c : Configuration) → IsWell (step source (Running (Given v) k e w)) → SharedAt source calls w c
+  ahead_given : (v : Kinded) (n old : ℕ) (k : List Entry) (e : Environment) (w : World) (c : Configuration) → IsWell (step source (Running (Given v) k e w)) → SharedAt source pages calls w c
       → DataIn source (put c.active.slots n old) k e w c → n < base_of source c.active.function → Is v.value (c.active.slots n) → Holds c.active.slots (base_of source c.active.function) (held k)
       → AheadStack source c.active.function e.locals n c.active.next c.frames k → GoesBehind v k e w c
   ahead_given v n old (Needs (ConvertTo from to) ∷ k) e w c well shared facts below is holds (quiet, stack) =
       converts_ahead from to v n k e w c well quiet is
       (λ does.
-      silently source pages calls some_page (Running (Given v) (Needs (ConvertTo from to) ∷ k) e w) (Running (Given (of_kind to v.value)) k e w) (plain.Running c) does
+      silently source pages calls (Running (Given v) (Needs (ConvertTo from to) ∷ k) e w) (Running (Given (of_kind to v.value)) k e w) (plain.Running c) does
       (shared, ahead n (old, facts) below is holds stack)
       (omega arith))
   ahead_given v n old (Needs (Chain NoOperations) ∷ k) e w c well shared facts below is holds stack =
-      silently source pages calls some_page (Running (Given v) (Needs (Chain NoOperations) ∷ k) e w) (Running (Given v) k e w) (plain.Running c) refl
+      silently source pages calls (Running (Given v) (Needs (Chain NoOperations) ∷ k) e w) (Running (Given v) k e w) (plain.Running c) refl
       (shared, ahead n (old, facts) below is holds stack)
       (omega arith)
   ahead_given v n old (Needs (Store place) ∷ k) e w c well shared facts below is holds (object, place_is, found, hands) =
@@ -775,23 +772,23 @@ module _ (source : Program) (pages calls : ℕ) (some_page : 1 ≤ pages) where
       (subst (λ x. x < base_of source c.active.function) (sym same) below) (subst (λ x. Is v.value (c.active.slots x)) (sym same) is) (q, items, stack)
   ahead_given v n old k e w c well shared facts below is holds stack = absurd stack
 
-  compared_given : (v : Kinded) (failing : Comparison) (l r : Operand) (k : List Entry) (e : Environment) (w : World) (c : Configuration) → SharedAt source calls w c → DataIn source c.active.slots k e w c
+  compared_given : (v : Kinded) (failing : Comparison) (l r : Operand) (k : List Entry) (e : Environment) (w : World) (c : Configuration) → SharedAt source pages calls w c → DataIn source c.active.slots k e w c
       → is_zero v.value ≡ Some (compares failing (operand_word c.active.slots l) (operand_word c.active.slots r))
       → ConditionStack source c.active.function failing l r c.active.next c.frames k → GoesBehind v k e w c
   compared_given v failing l r (Needs (Chain NoOperations) ∷ k) e w c shared facts fails stack =
-      silently source pages calls some_page (Running (Given v) (Needs (Chain NoOperations) ∷ k) e w) (Running (Given v) k e w) (plain.Running c) refl
+      silently source pages calls (Running (Given v) (Needs (Chain NoOperations) ∷ k) e w) (Running (Given v) k e w) (plain.Running c) refl
       (shared, compared failing l r facts fails stack)
       (omega arith)
   compared_given v failing l r (Needs (Choose s t) ∷ k) e w c shared facts fails stack = chooses s t v _ failing l r k e w c fails refl shared facts stack
   compared_given v failing l r (Needs (Test a s) ∷ k) e w c shared facts fails stack = loops a s v _ failing l r k e w c fails refl shared facts stack
   compared_given v failing l r k e w c shared facts fails stack = absurd stack
 
-  left_given : (v : Kinded) (k : List Entry) (e : Environment) (w : World) (c : Configuration) → IsWell (step source (Running (Given v) k e w)) → SharedAt source calls w c → DataIn source c.active.slots k e w c
+  left_given : (v : Kinded) (k : List Entry) (e : Environment) (w : World) (c : Configuration) → IsWell (step source (Running (Given v) k e w)) → SharedAt source pages calls w c → DataIn source c.active.slots k e w c
       → ReadyAt source v e.locals c.active.function c.active.next c.active.slots c.frames k → GoesBehind v k e w c
   left_given v (Needs (Apply u left) ∷ k) e w c well shared facts ready = applies u left v k e w c well shared facts ready
   left_given v k e w c well shared facts ready = absurd ready
 
-  pub given : (v : Kinded) (k : List Entry) (e : Environment) (w : World) (c : Configuration) → IsStep source pages calls some_page (Given v) k e w c
+  pub given : (v : Kinded) (k : List Entry) (e : Environment) (w : World) (c : Configuration) → IsStep source pages calls (Given v) k e w c
   given v k e w c well (shared, in_operand o facts is holds stack) = stands_given v o k e w c well (shared, facts, is, holds) stack
   given v k e w c well (shared, nowhere facts stack) = dropped_given v k e w c shared facts stack
   given v k e w c well (shared, ahead n (old, facts) below is holds stack) = ahead_given v n old k e w c well shared facts below is holds stack

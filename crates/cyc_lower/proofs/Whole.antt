@@ -9,8 +9,11 @@ use Rattle.cyc_types.specs.TypedTrees as typed
 use Rattle.cyc_types.specs.Numbered.{IsNumberedProgram}
 use Rattle.cyc_words.specs.Simulation as simulation
 use Rattle.cyc_words.specs.Simulation.{Failed, NeverFails, Follows, Steps}
+use Rattle.cyc_store.specs.State.{StoreState, sizes_in}
+use Rattle.cyc_store.specs.New.{IsNew}
+use Rattle.cyc_store.proofs.NewStores.{new_demand}
 use Rattle.cyc_plain.specs.State as plain
-use Rattle.cyc_plain.specs.State.{Configuration, start_store}
+use Rattle.cyc_plain.specs.State.{Configuration}
 use Rattle.cyc_plain.specs.Step as plain_step
 use Rattle.cyc_plain.proofs.RunLaws.{lawful}
 use Rattle.cyc_words.proofs.Simulation.{simulates}
@@ -46,22 +49,22 @@ globals_many : (gs : List GlobalVariable) → length gs ≤ length (map global_o
 globals_many [] = omega arith
 globals_many (g ∷ gs) = omega (arith, globals_many gs)
 
-module _ (source : Program) (pages calls : ℕ) (some_page : 1 ≤ pages) (stand : FunctionsStand source pages calls some_page) where
+module _ (source : Program) (pages calls : ℕ) (stand : FunctionsStand source pages calls) where
   -- ---- all steps
 
-  stepping : (focus : Focus) (k : List Entry) (e : Environment) (w : World) (c : Configuration) → IsWell (step source (Running focus k e w)) → Related source calls focus k e w c
-      → IsMatched source pages calls some_page (Running focus k e w) (plain.Running c)
-  stepping (Evaluating a) k e w c well related = evaluating source pages calls some_page a k e w c well related
-  stepping (Given v) k e w c well related = given source pages calls some_page v k e w c well related
-  stepping (Executing s) k e w c well related = executing source pages calls some_page s k e w c well related
-  stepping Proceeding k e w c well related = proceeding source pages calls some_page k e w c well related
-  stepping (Calling f before) k e w c well related = calling source pages calls some_page stand f before k e w c well related
-  stepping (Entering h arguments) k e w c well related = entering source pages calls some_page h arguments k e w c well related
-  stepping (Binding n types arguments body) k e w c well related = binding source pages calls some_page n types arguments body k e w c well related
-  stepping Breaking k e w c well related = breaking source pages calls some_page k e w c well related
-  stepping Continuing k e w c well related = continuing source pages calls some_page k e w c well related
-  stepping (Returning v) k e w c well related = returning source pages calls some_page v k e w c well related
-  stepping (Throwing tag value) k e w c well related = throwing source pages calls some_page tag value k e w c well related
+  stepping : (focus : Focus) (k : List Entry) (e : Environment) (w : World) (c : Configuration) → IsWell (step source (Running focus k e w)) → Related source pages calls focus k e w c
+      → IsMatched source pages calls (Running focus k e w) (plain.Running c)
+  stepping (Evaluating a) k e w c well related = evaluating source pages calls a k e w c well related
+  stepping (Given v) k e w c well related = given source pages calls v k e w c well related
+  stepping (Executing s) k e w c well related = executing source pages calls s k e w c well related
+  stepping Proceeding k e w c well related = proceeding source pages calls k e w c well related
+  stepping (Calling f before) k e w c well related = calling source pages calls stand f before k e w c well related
+  stepping (Entering h arguments) k e w c well related = entering source pages calls h arguments k e w c well related
+  stepping (Binding n types arguments body) k e w c well related = binding source pages calls n types arguments body k e w c well related
+  stepping Breaking k e w c well related = breaking source pages calls k e w c well related
+  stepping Continuing k e w c well related = continuing source pages calls k e w c well related
+  stepping (Returning v) k e w c well related = returning source pages calls v k e w c well related
+  stepping (Throwing tag value) k e w c well related = throwing source pages calls tag value k e w c well related
   stepping focus k e w c well (shared, facts, at) = absurd at
 
   -- what fails is within all limits
@@ -75,7 +78,7 @@ module _ (source : Program) (pages calls : ℕ) (some_page : 1 ≤ pages) (stand
   goes_well s never failed =
       never (step source s) (sym (ap (λ (b : Bool). if b then step source s else Ended Full (output_of s) (input_of s)) (failed_within (step source s) failed))) failed
 
-  steps : Steps (above source pages calls some_page) (below source pages calls some_page) (matching source pages calls some_page)
+  steps : Steps (above source pages calls) (below source pages calls) (matching source pages calls)
   steps (Running focus k e w) (plain.Running c) related running never = stepping focus k e w c (goes_well (Running focus k e w) never) related
   steps (Running focus k e w) (plain.Ended ending output input) related running never = absurd related
   steps (Running focus k e w) (plain.Stuck output input) related running never = absurd related
@@ -85,20 +88,20 @@ module _ (source : Program) (pages calls : ℕ) (some_page : 1 ≤ pages) (stand
 
   -- ---- the start
 
-  start_related : (h : Function) (input : List ℕ) → slice_get source.functions source.main ≡ Some h → 1 ≤ calls
-      → Matches source calls (Running (Entering h []) (Main ∷ []) no_locals (first_world source input)) (plain_step.start (lower_program source) input)
-  start_related h input there some_call =
+  start_related : (h : Function) (store : StoreState) (input : List ℕ) → slice_get source.functions source.main ≡ Some h → IsNew pages store → 1 ≤ pages → 1 ≤ calls
+      → Matches source pages calls (Running (Entering h []) (Main ∷ []) no_locals (first_world source input)) (plain_step.start (lower_program source) store input)
+  start_related h store input there new some_page some_call =
       let w = first_world source input in
       let words : ℕ → ℕ = λ global. slice_index (map lower_global source.globals) global in
       let slots : ℕ → ℕ = λ slot. 0 in
-      entered source pages calls some_page stand source.main h [] (Main ∷ []) w slots words [] [] start_store [] input there
+      entered source pages calls stand source.main h [] (Main ∷ []) w slots words [] [] store [] input there
       (record {
         same_output = refl;
         same_input = refl;
-        one_page = refl;
         quiet = (tt, (tt, tt));
-        heap_alone = refl;
-        no_class = refl;
+        same_sizes = ap (λ (s : StoreState). sizes_in s.regions) new.2;
+        same_classes = ap (λ (s : StoreState). s.classes) new.2;
+        few_pages = omega (arith, new_demand pages store new, some_page);
         fits = omega (arith, some_call);
       }) (
         length w.objects,
@@ -124,15 +127,16 @@ module _ (source : Program) (pages calls : ℕ) (some_page : 1 ≤ pages) (stand
         is,
       )
 
-  follows_source : (input : List ℕ) → 1 ≤ calls → FollowsSource source (lower_program source) pages calls input
-  follows_source input some_call never =
+  follows_source : (store : StoreState) (input : List ℕ) → IsNew pages store → 1 ≤ pages → 1 ≤ calls → FollowsSource source (lower_program source) pages calls store input
+  follows_source store input new some_page some_call never =
       let (h, starts, there) = from_start (slice_get source.functions source.main) input refl some_call (never 0 (start source input) refl) in
-      simulates (above source pages calls some_page) (below source pages calls some_page) (matching source pages calls some_page) steps (lawful (lower_program source) pages calls) [] (start source input) never
-      (plain_step.start (lower_program source) input)
+      simulates (above source pages calls) (below source pages calls) (matching source pages calls) steps (lawful (lower_program source) pages calls) [] (start source input) never
+      (plain_step.start (lower_program source) store input)
       (ap (λ s. status_in (status_of s)) starts)
-      (subst (λ s. Matches source calls s (plain_step.start (lower_program source) input)) (sym starts) (start_related h input there some_call))
+      (subst (λ s. Matches source pages calls s (plain_step.start (lower_program source) store input)) (sym starts) (start_related h store input there new some_page some_call))
 
 -- A program whose numbers are in range does what its source does.
-pub follows : (source : Program) → IsNumberedProgram source → (pages calls : ℕ) (input : List ℕ) → 1 ≤ pages → 1 ≤ calls → FollowsSource source (lower_program source) pages calls input
-follows source numbered pages calls input some_page some_call =
-    follows_source source pages calls some_page (functions_stand source pages calls some_page numbered) input some_call
+pub follows : (source : Program) → IsNumberedProgram source → (pages calls : ℕ) (store : StoreState) (input : List ℕ) → IsNew pages store → 1 ≤ pages → 1 ≤ calls
+    → FollowsSource source (lower_program source) pages calls store input
+follows source numbered pages calls store input new some_page some_call =
+    follows_source source pages calls (functions_stand source pages calls numbered) store input new some_page some_call

@@ -6,6 +6,8 @@ use Rattle.cyc_types.specs.TypedTrees.{Function, Program}
 use Rattle.cyc_types.specs.Numbered.{IsNumberedProgram}
 use Rattle.cyc_types.specs.Weight.{function_weight}
 use Rattle.cyc_words.specs.Simulation.{NeverFails, Follows}
+use Rattle.cyc_store.specs.State.{StoreState}
+use Rattle.cyc_store.specs.New.{IsNew}
 use Rattle.cyc_plain.specs.declared.limits.TheConstants.{MOST_GLOBALS}
 use Rattle.cyc_plain.specs.Program.{Routine, Program as PlainProgram, size, places_of}
 use Rattle.cyc_plain.specs.Step.{machine}
@@ -27,12 +29,12 @@ HasTooMany p f = (h : Function) × (slice_get p.functions MOST_FUNCTIONS ≡ Som
 
 -- ---- what the plain program does
 
--- Each run of the plain program is one of the source, with these limits and this input, if no run of the source fails. The
--- steps of the plain program that match one of the source meet no place twice.
-abbrev pub FollowsSource : Program → PlainProgram → (pages calls : ℕ) → (input : List ℕ) → Type 0
-FollowsSource source lowered pages calls input =
+-- Each run of the plain program from this store is one of the source, with these limits and this input, if no run of the source
+-- fails. The steps of the plain program that match one of the source meet no place twice.
+abbrev pub FollowsSource : Program → PlainProgram → (pages calls : ℕ) → StoreState → (input : List ℕ) → Type 0
+FollowsSource source lowered pages calls store input =
     NeverFails (source_machine source pages calls) (start source input)
-    → Follows (source_machine source pages calls) (machine lowered pages calls) [] (λ s. places_of lowered) (start source input) (plain.start lowered input)
+    → Follows (source_machine source pages calls) (machine lowered pages calls) [] (λ s. places_of lowered) (start source input) (plain.start lowered store input)
 
 -- ---- what is promised
 
@@ -59,7 +61,7 @@ pub record IsLowered (source : Program) (lowered : PlainProgram) : Type 0 where
   pub words : HasWords lowered
   pub functions : AreLoweredFunctions source.functions lowered.functions
   pub globals : length lowered.globals ≡ length source.globals
-  pub follows : (pages calls : ℕ) (input : List ℕ) → 1 ≤ pages → 1 ≤ calls → FollowsSource source lowered pages calls input
+  pub follows : (pages calls : ℕ) (store : StoreState) (input : List ℕ) → IsNew pages store → 1 ≤ pages → 1 ≤ calls → FollowsSource source lowered pages calls store input
 
 -- What is asked of the typed tree. That of a text has it all: it is slice_get, its constants are words, and it has fewer globals
 -- than tokens.

@@ -35,7 +35,7 @@ impl Emitter {
     }
 
     /// A conversion of a value where it is: where it may not be null, it is tested.
-    fn conversion(&mut self, to: Kind, value: Operand) -> Result<(), AllocError>
+    fn convert(&mut self, to: Kind, value: Operand) -> Result<(), AllocError>
         ensures { Appends result self.old self.new (conversion_code to value (length self.old.code.items)) }
     {
         if matches!(to, Kind::NonNull) {
@@ -45,7 +45,7 @@ impl Emitter {
     }
 
     /// A divisor is tested, but a number other than 0.
-    fn divisor(&mut self, value: Operand) -> Result<(), AllocError>
+    fn check_divisor(&mut self, value: Operand) -> Result<(), AllocError>
         ensures { Appends result self.old self.new (divisor_code value (length self.old.code.items)) }
     {
         match value {
@@ -55,7 +55,7 @@ impl Emitter {
     }
 
     /// An operator on two operands.
-    fn operator(
+    fn lower_operator(
         &mut self,
         operator: Operator,
         left: Operand,
@@ -65,7 +65,7 @@ impl Emitter {
         ensures { Appends result self.old self.new (operator_code operator left right (length self.old.code.items) slot) }
     {
         if matches!(operator, Operator::Divide | Operator::Remainder) {
-            self.divisor(right)?;
+            self.check_divisor(right)?;
         }
         self.emit(Instruction::Binary {
             operator: binary_operator(operator),
@@ -76,7 +76,7 @@ impl Emitter {
     }
 
     /// The truth of the word in `free`: 0 stays 0, and any other word becomes 1.
-    fn truth(&mut self, free: usize, slot: usize) -> Result<(), AllocError>
+    fn make_truth(&mut self, free: usize, slot: usize) -> Result<(), AllocError>
         ensures { Appends result self.old self.new (truth_code free slot) }
     {
         let operand = Operand::Slot { number: free };
@@ -106,7 +106,7 @@ impl Emitter {
     }
 
     /// What stands for a form that is not built yet, and is never run.
-    fn missing(&mut self, slot: usize) -> Result<(), AllocError>
+    fn emit_missing(&mut self, slot: usize) -> Result<(), AllocError>
         ensures { Appends result self.old self.new (instructions.Move slot (operands.Word 0) ∷ []) }
     {
         self.emit(Instruction::Move {
@@ -117,7 +117,7 @@ impl Emitter {
 
     /// The value of an expression comes to a slot.
     #[cycle(expression)]
-    pub(crate) fn expression(
+    pub(crate) fn lower_expression(
         &mut self,
         value: &Expr,
         slot: usize,
@@ -138,7 +138,7 @@ impl Emitter {
                 ..
             } => self.call(*callee, arguments, slot, free),
             Expr::Unary { operator, operand } => {
-                let operand = self.operand(operand, free)?;
+                let operand = self.lower_operand(operand, free)?;
                 self.emit(Instruction::Unary {
                     operator: unary_operator(*operator),
                     destination: slot,
@@ -146,20 +146,20 @@ impl Emitter {
                 })
             }
             Expr::Binary { first, rest, .. } => {
-                let left = self.left(first, rest, slot, free)?;
-                self.operations(rest, left, slot, free)
+                let left = self.lower_left(first, rest, slot, free)?;
+                self.lower_operations(rest, left, slot, free)
             }
             Expr::Assign { target, value, .. } => {
-                let assigned = self.assignment(*target, value, free)?;
+                let assigned = self.lower_assignment(*target, value, free)?;
                 self.copy(assigned, slot)
             }
-            _ => self.missing(slot),
+            _ => self.emit_missing(slot),
         }
     }
 
     /// An expression is an operand: it has no code, or its code brings the value to a slot.
     #[cycle(expression)]
-    pub(crate) fn operand(&mut self, value: &Expr, free: usize) -> Result<Operand, AllocError>
+    pub(crate) fn lower_operand(&mut self, value: &Expr, free: usize) -> Result<Operand, AllocError>
         requires { operand_of (view_expression value.now) ≡ None → free ≤ most_locals + length self.old.code.items }
         ensures { Gives (value_operand (view_expression value.now) free) result self.old self.new (value_code (view_expression value.now) (length self.old.code.items) free) }
     {
@@ -167,7 +167,7 @@ impl Emitter {
             Some(known) => Ok(known),
             None => {
                 let slot = value_slot(value, free);
-                self.expression(value, slot, free)?;
+                self.lower_expression(value, slot, free)?;
                 Ok(Operand::Slot { number: slot })
             }
         }
@@ -196,11 +196,11 @@ impl Emitter {
                 })
             }
             Callee::Getchar => {
-                self.arguments(arguments, free)?;
+                self.lower_arguments(arguments, free)?;
                 self.emit(Instruction::ReadByte { destination: slot })
             }
             Callee::Function { number } => {
-                self.arguments(arguments, free)?;
+                self.lower_arguments(arguments, free)?;
                 self.emit(Instruction::Call {
                     function: number,
                     arguments: free,
@@ -219,7 +219,7 @@ impl Emitter {
     {
         let mut byte = Operand::Slot { number: free };
         for argument in arguments {
-            byte = self.converted_operand(argument, free)?;
+            byte = self.lower_converted(argument, free)?;
         }
         self.emit(Instruction::WriteByte { source: byte })?;
         Ok(byte)
@@ -227,14 +227,14 @@ impl Emitter {
 
     /// Each argument comes into the slot behind that of the one before.
     #[cycle(expression)]
-    fn arguments(&mut self, arguments: &[Converted], first: usize) -> Result<(), AllocError>
+    fn lower_arguments(&mut self, arguments: &[Converted], first: usize) -> Result<(), AllocError>
         requires { first ≤ most_locals + length self.old.code.items }
         ensures { Appends result self.old self.new (arguments_code (arguments_of arguments.now) (length self.old.code.items) first) }
     {
         let mut slot = first;
         for argument in arguments {
-            self.expression(&argument.value, slot, slot)?;
-            self.conversion(argument.to, Operand::Slot { number: slot })?;
+            self.lower_expression(&argument.value, slot, slot)?;
+            self.convert(argument.to, Operand::Slot { number: slot })?;
             slot += 1;
         }
         Ok(())
@@ -242,18 +242,18 @@ impl Emitter {
 
     /// A value that is converted where it is.
     #[cycle(expression)]
-    fn converted_operand(&mut self, value: &Converted, free: usize) -> Result<Operand, AllocError>
+    fn lower_converted(&mut self, value: &Converted, free: usize) -> Result<Operand, AllocError>
         requires { free ≤ most_locals + length self.old.code.items }
         ensures { Gives (converted_operand (view_converted value.now) free) result self.old self.new (converted_operand_code (view_converted value.now) (length self.old.code.items) free) }
     {
-        let operand = self.operand(&value.value, free)?;
-        self.conversion(value.to, operand)?;
+        let operand = self.lower_operand(&value.value, free)?;
+        self.convert(value.to, operand)?;
         Ok(operand)
     }
 
     /// A slot gets a converted value, behind all that may be raised.
     #[cycle(expression)]
-    pub(crate) fn initial(
+    pub(crate) fn lower_initial(
         &mut self,
         value: &Converted,
         slot: usize,
@@ -263,18 +263,18 @@ impl Emitter {
         ensures { Appends result self.old self.new (initial_code (view_converted value.now) (length self.old.code.items) slot free) }
     {
         if matches!(value.to, Kind::NonNull) {
-            let source = self.converted_operand(value, free)?;
+            let source = self.lower_converted(value, free)?;
             return self.emit(Instruction::Move {
                 destination: slot,
                 source,
             });
         }
-        self.expression(&value.value, slot, free)
+        self.lower_expression(&value.value, slot, free)
     }
 
     /// An assignment, and where its value stands then.
     #[cycle(expression)]
-    fn assignment(
+    fn lower_assignment(
         &mut self,
         target: Lvalue,
         value: &Converted,
@@ -285,11 +285,11 @@ impl Emitter {
     {
         match target {
             Lvalue::Local { number, .. } => {
-                self.initial(value, number, free)?;
+                self.lower_initial(value, number, free)?;
                 Ok(Operand::Slot { number })
             }
             Lvalue::Global { number } => {
-                let source = self.converted_operand(value, free)?;
+                let source = self.lower_converted(value, free)?;
                 self.emit(Instruction::StoreGlobal {
                     global: number,
                     source,
@@ -301,7 +301,7 @@ impl Emitter {
 
     /// The left operand of a chain, which may be without code where the right one is.
     #[cycle(expression)]
-    fn left(
+    fn lower_left(
         &mut self,
         first: &Expr,
         rest: &[Operation],
@@ -312,16 +312,16 @@ impl Emitter {
         ensures { Gives (operand_or (left_of (view_expression first.now) (operations_of rest.now)) (left_slot (view_expression first.now) (operations_of rest.now) slot free)) result self.old self.new (left_code (view_expression first.now) (operations_of rest.now) (length self.old.code.items) slot free) }
     {
         if takes_operand(rest) {
-            return self.operand(first, free);
+            return self.lower_operand(first, free);
         }
         let to = if rest.is_empty() { slot } else { free };
-        self.expression(first, to, free)?;
+        self.lower_expression(first, to, free)?;
         Ok(Operand::Slot { number: to })
     }
 
     /// One operator of a chain with its right operand. What it gives comes to a slot.
     #[cycle(expression)]
-    fn operation(
+    fn lower_operation(
         &mut self,
         operation: &Operation,
         left: Operand,
@@ -334,24 +334,24 @@ impl Emitter {
     {
         match operation {
             Operation::Compute { operator, operand } => {
-                let right = self.operand(operand, free + 1)?;
-                self.operator(*operator, left, right, slot)
+                let right = self.lower_operand(operand, free + 1)?;
+                self.lower_operator(*operator, left, right, slot)
             }
             Operation::Test { operator, operand } => {
                 let jump = self.place();
                 self.emit(test_jump(*operator, free, 0))?;
-                self.expression(operand, free, free)?;
+                self.lower_expression(operand, free, free)?;
                 let behind = self.place();
                 self.patch(jump, test_jump(*operator, free, behind));
-                self.truth(free, slot)
+                self.make_truth(free, slot)
             }
-            Operation::Pointer { .. } | Operation::PointerPeek { .. } => self.missing(slot),
+            Operation::Pointer { .. } | Operation::PointerPeek { .. } => self.emit_missing(slot),
         }
     }
 
     /// A chain, from its first operator on. What the last one gives comes to a slot.
     #[cycle(expression)]
-    fn operations(
+    fn lower_operations(
         &mut self,
         operations: &[Operation],
         first: Operand,
@@ -367,14 +367,14 @@ impl Emitter {
         for operation in operations {
             behind -= 1;
             let to = if behind == 0 { slot } else { free };
-            self.operation(operation, left, to, free)?;
+            self.lower_operation(operation, left, to, free)?;
             left = Operand::Slot { number: to };
         }
         Ok(())
     }
 
     /// A call whose value nobody wants.
-    fn discarded_call(
+    fn discard_call(
         &mut self,
         callee: Callee,
         arguments: &[Converted],
@@ -394,7 +394,7 @@ impl Emitter {
     }
 
     /// An expression whose value nobody wants.
-    pub(crate) fn discarded(&mut self, value: &Expr, free: usize) -> Result<(), AllocError>
+    pub(crate) fn discard(&mut self, value: &Expr, free: usize) -> Result<(), AllocError>
         requires { free ≤ most_locals + length self.old.code.items }
         ensures { Appends result self.old self.new (discarded_code (view_expression value.now) (length self.old.code.items) free) }
     {
@@ -403,20 +403,20 @@ impl Emitter {
                 callee,
                 arguments,
                 ..
-            } => self.discarded_call(*callee, arguments, free),
+            } => self.discard_call(*callee, arguments, free),
             Expr::Assign { target, value, .. } => {
-                self.assignment(*target, value, free)?;
+                self.lower_assignment(*target, value, free)?;
                 Ok(())
             }
             _ => {
-                self.operand(value, free)?;
+                self.lower_operand(value, free)?;
                 Ok(())
             }
         }
     }
 
     /// A condition that is a value compared with 0.
-    fn with_zero(
+    fn compare_with_zero(
         &mut self,
         failing: Comparison,
         value: &Expr,
@@ -425,7 +425,7 @@ impl Emitter {
         requires { free ≤ most_locals + length self.old.code.items }
         ensures { Gives (zero_condition failing (view_expression value.now) free) result self.old self.new (value_code (view_expression value.now) (length self.old.code.items) free) }
     {
-        let left = self.operand(value, free)?;
+        let left = self.lower_operand(value, free)?;
         Ok(Condition {
             failing,
             left,
@@ -434,7 +434,7 @@ impl Emitter {
     }
 
     /// A condition that is a chain: one operator that compares is left to the jump.
-    fn chain_condition(
+    fn compare_chain(
         &mut self,
         value: &Expr,
         first: &Expr,
@@ -446,12 +446,12 @@ impl Emitter {
         ensures { Gives (condition_of (view_expression value.now) free) result self.old self.new (condition_code (view_expression value.now) (length self.old.code.items) free) }
     {
         if rest.len() != 1 {
-            return self.with_zero(Comparison::Equal, value, free);
+            return self.compare_with_zero(Comparison::Equal, value, free);
         }
         if let Some(Operation::Compute { operator, operand }) = rest.first() {
             if let Some(failing) = failing_comparison(*operator) {
-                let left = self.left(first, rest, free, free)?;
-                let right = self.operand(operand, free + 1)?;
+                let left = self.lower_left(first, rest, free, free)?;
+                let right = self.lower_operand(operand, free + 1)?;
                 return Ok(Condition {
                     failing,
                     left,
@@ -459,40 +459,44 @@ impl Emitter {
                 });
             }
         }
-        self.with_zero(Comparison::Equal, value, free)
+        self.compare_with_zero(Comparison::Equal, value, free)
     }
 
     /// A condition: two operands that are compared.
-    pub(crate) fn condition(&mut self, value: &Expr, free: usize) -> Result<Condition, AllocError>
+    pub(crate) fn lower_condition(
+        &mut self,
+        value: &Expr,
+        free: usize,
+    ) -> Result<Condition, AllocError>
         requires { free ≤ most_locals + length self.old.code.items }
         ensures { Gives (condition_of (view_expression value.now) free) result self.old self.new (condition_code (view_expression value.now) (length self.old.code.items) free) }
     {
         match value {
-            Expr::Binary { first, rest, .. } => self.chain_condition(value, first, rest, free),
+            Expr::Binary { first, rest, .. } => self.compare_chain(value, first, rest, free),
             Expr::Unary {
                 operator: typed::UnaryOperator::Not,
                 operand,
-            } => self.with_zero(Comparison::NotEqual, operand, free),
-            _ => self.with_zero(Comparison::Equal, value, free),
+            } => self.compare_with_zero(Comparison::NotEqual, operand, free),
+            _ => self.compare_with_zero(Comparison::Equal, value, free),
         }
     }
 
     /// A value that is to be in a slot: in that of a local, or in `free`.
-    pub(crate) fn in_slot(&mut self, value: &Expr, free: usize) -> Result<usize, AllocError>
+    pub(crate) fn lower_to_slot(&mut self, value: &Expr, free: usize) -> Result<usize, AllocError>
         requires { free ≤ most_locals + length self.old.code.items }
         ensures { Gives (slot_or (operand_of (view_expression value.now)) free) result self.old self.new (code_unless_slot (operand_of (view_expression value.now)) (expression_code (view_expression value.now) (length self.old.code.items) free free)) }
     {
         match operand_of(value) {
             Some(Operand::Slot { number }) => Ok(number),
             Some(Operand::Word { .. }) | None => {
-                self.expression(value, free, free)?;
+                self.lower_expression(value, free, free)?;
                 Ok(free)
             }
         }
     }
 
     /// A value that is returned, converted, and its slot.
-    pub(crate) fn converted_slot(
+    pub(crate) fn convert_to_slot(
         &mut self,
         value: &Converted,
         free: usize,
@@ -500,8 +504,8 @@ impl Emitter {
         requires { free ≤ most_locals + length self.old.code.items }
         ensures { Gives (converted_slot (view_converted value.now) free) result self.old self.new (converted_slot_code (view_converted value.now) (length self.old.code.items) free) }
     {
-        let slot = self.in_slot(&value.value, free)?;
-        self.conversion(value.to, Operand::Slot { number: slot })?;
+        let slot = self.lower_to_slot(&value.value, free)?;
+        self.convert(value.to, Operand::Slot { number: slot })?;
         Ok(slot)
     }
 }

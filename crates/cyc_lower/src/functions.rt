@@ -44,7 +44,7 @@ fn lower_function(alloc: Global, function: &typed::Function) -> Result<Function,
 {
     let locals = function.parameters.len() + function.locals.len();
     let mut emitter = Emitter::new(alloc);
-    emitter.items(&function.body, 0, locals)?;
+    emitter.lower_items(&function.body, 0, locals)?;
     emitter.emit(Instruction::Return { value: locals })?;
     Ok(Function {
         name: function.span,

@@ -2,10 +2,10 @@
 ghost use Rattle.std.specs.Prelude.{◌≤◌};
 ghost use Rattle.cyc_words.specs.Decision.{Decides};
 ghost use Rattle.cyc_syntax.specs.TokenRule.{max_tokens};
+ghost use Rattle.cyc_types.specs.typing.WellTyped.{IsWellTypedProgram};
 ghost use Rattle.cyc_types.specs.Weight.{program_weight};
 ghost use Rattle.cyc_types.specs.TypedTreeView.{view_program};
 ghost use Rattle.cyc_lower.specs.Lowered.{CanBeLowered, HasTooMany, IsAccepted, IsLowered};
-ghost use Rattle.cyc_lower.specs.Emission.{IsElaborated};
 
 use crate::functions::lower_tree;
 use crate::limits::MOST_FUNCTIONS;
@@ -19,7 +19,7 @@ use std::alloc::Global;
 /// A program of more than `MOST_FUNCTIONS` functions is refused, at the name of the first one too many, with
 /// `TooManyFunctions`. Any other may be refused for want of memory only.
 pub fn lower(alloc: Global, program: &Flowed) -> Result<Plain, Fault>
-    requires elaborated { IsElaborated (view_program program.now.tree) }
+    requires well_typed { IsWellTypedProgram (view_program program.now.tree) }
     requires small { program_weight (view_program program.now.tree) ≤ max_tokens }
     requires can_be { CanBeLowered (view_program program.now.tree) }
 

@@ -12,19 +12,19 @@ use std::alloc::AllocError;
 
 impl Emitter {
     /// A return of a value in a slot.
-    fn returned(&mut self, value: &Option<Converted>, free: usize) -> Result<(), AllocError>
+    fn lower_return(&mut self, value: &Option<Converted>, free: usize) -> Result<(), AllocError>
         requires { free ≤ most_locals + length self.old.code.items }
         ensures { Appends result self.old self.new (return_code (option_map view_converted value.now) (length self.old.code.items) free) }
     {
         let from = match value {
-            Some(value) => self.converted_slot(value, free)?,
+            Some(value) => self.convert_to_slot(value, free)?,
             None => free,
         };
         self.emit(Instruction::Return { value: from })
     }
 
     /// The declaration of a local, which gets its initial value if it has one.
-    fn declaration(
+    fn lower_declaration(
         &mut self,
         number: usize,
         value: &Option<Converted>,
@@ -36,11 +36,11 @@ impl Emitter {
         let Some(value) = value else {
             return Ok(());
         };
-        self.initial(value, number, free)
+        self.lower_initial(value, number, free)
     }
 
     /// A jump to the end of the loop that begins at this place, by the second of its two jumps.
-    fn broken(&mut self, head: usize) -> Result<(), AllocError>
+    fn lower_break(&mut self, head: usize) -> Result<(), AllocError>
         requires { head ≤ length self.old.code.items }
         ensures { Appends result self.old self.new (Instruction.Jump (break_target head) ∷ []) }
     {
@@ -48,7 +48,7 @@ impl Emitter {
     }
 
     /// A jump to the condition of the loop that begins at this place.
-    fn continued(&mut self, head: usize) -> Result<(), AllocError>
+    fn lower_continue(&mut self, head: usize) -> Result<(), AllocError>
         requires { head ≤ length self.old.code.items }
         ensures { Appends result self.old self.new (Instruction.Jump (continue_target head) ∷ []) }
     {
@@ -58,43 +58,48 @@ impl Emitter {
     /// A loop begins with two jumps, one over the other to its condition, and one to its end. So the targets of a `break` and of
     /// a `continue` are known before the body's code is made.
     #[cycle(statement)]
-    fn looped(&mut self, body: &Stmt, condition: &Expr, free: usize) -> Result<(), AllocError>
+    fn lower_loop(&mut self, body: &Stmt, condition: &Expr, free: usize) -> Result<(), AllocError>
         requires { free ≤ most_locals + length self.old.code.items }
         ensures { Appends result self.old self.new (loop_code (view_expression condition.now) (view_statement body.now) (length self.old.code.items) free) }
     {
         let head = self.place();
-        self.continued(head)?;
+        self.lower_continue(head)?;
         let leaving = self.reserve()?;
-        let condition = self.condition(condition, free)?;
+        let condition = self.lower_condition(condition, free)?;
         self.emit(failing_jump(condition, leaving))?;
-        self.statement(body, head, free)?;
-        self.continued(head)?;
+        self.lower_statement(body, head, free)?;
+        self.lower_continue(head)?;
         self.jump_here(leaving);
         Ok(())
     }
 
     /// A statement in the loop that begins at this place, if one is around it.
     #[cycle(statement)]
-    fn statement(&mut self, statement: &Stmt, head: usize, free: usize) -> Result<(), AllocError>
+    fn lower_statement(
+        &mut self,
+        statement: &Stmt,
+        head: usize,
+        free: usize,
+    ) -> Result<(), AllocError>
         requires slots { free ≤ most_locals + length self.old.code.items }
         requires begun { head ≤ length self.old.code.items }
         ensures { Appends result self.old self.new (statement_code (view_statement statement.now) (length self.old.code.items) head free) }
     {
         match statement {
-            Stmt::Block { items, .. } => self.items(items, head, free),
+            Stmt::Block { items, .. } => self.lower_items(items, head, free),
             Stmt::Empty => Ok(()),
-            Stmt::Evaluate { value } => self.discarded(value, free),
+            Stmt::Evaluate { value } => self.discard(value, free),
             Stmt::If {
                 condition,
                 then,
                 otherwise,
             } => {
-                let condition = self.condition(condition, free)?;
+                let condition = self.lower_condition(condition, free)?;
                 let over_then = self.reserve()?;
-                self.statement(then, head, free)?;
+                self.lower_statement(then, head, free)?;
                 let over_otherwise = self.reserve()?;
                 self.jump_here_if_failing(over_then, condition);
-                self.statement(otherwise, head, free)?;
+                self.lower_statement(otherwise, head, free)?;
                 self.jump_here(over_otherwise);
                 Ok(())
             }
@@ -102,31 +107,31 @@ impl Emitter {
                 condition,
                 body,
                 ..
-            } => self.looped(body, condition, free),
-            Stmt::Return { value } => self.returned(value, free),
-            Stmt::Break => self.broken(head),
-            Stmt::Continue => self.continued(head),
+            } => self.lower_loop(body, condition, free),
+            Stmt::Return { value } => self.lower_return(value, free),
+            Stmt::Break => self.lower_break(head),
+            Stmt::Continue => self.lower_continue(head),
             // These are not built yet, and never run.
             Stmt::Swap { .. } | Stmt::Throw { .. } | Stmt::Try { .. } => Ok(()),
         }
     }
 
     #[cycle(statement)]
-    fn item(&mut self, item: &Item, head: usize, free: usize) -> Result<(), AllocError>
+    fn lower_item(&mut self, item: &Item, head: usize, free: usize) -> Result<(), AllocError>
         requires slots { free ≤ most_locals + length self.old.code.items }
         requires begun { head ≤ length self.old.code.items }
         ensures { Appends result self.old self.new (item_code item.now (length self.old.code.items) head free) }
     {
         match item {
-            Item::Execute { statement } => self.statement(statement, head, free),
-            Item::Local { number, value, .. } => self.declaration(*number, value, free),
+            Item::Execute { statement } => self.lower_statement(statement, head, free),
+            Item::Local { number, value, .. } => self.lower_declaration(*number, value, free),
             _ => Ok(()),
         }
     }
 
     /// The items of a block.
     #[cycle(statement)]
-    pub(crate) fn items(
+    pub(crate) fn lower_items(
         &mut self,
         items: &[Item],
         head: usize,
@@ -137,7 +142,7 @@ impl Emitter {
         ensures { Appends result self.old self.new (items_code (items_of items.now) (length self.old.code.items) head free) }
     {
         for item in items {
-            self.item(item, head, free)?;
+            self.lower_item(item, head, free)?;
         }
         Ok(())
     }

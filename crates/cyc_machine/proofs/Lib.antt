@@ -7,6 +7,8 @@ pub mod RegisterLaws
 pub mod MemoryLaws
 -- the fast loop
 pub mod Operations
+-- words that are kept, and those that are left out
+pub mod Widening
 -- loading
 pub mod Segments
 -- runs by computation

@@ -5,6 +5,7 @@ pub mod constants;
 mod event;
 mod fast;
 mod fault;
+mod kept;
 pub mod laws;
 mod limits;
 mod machine;

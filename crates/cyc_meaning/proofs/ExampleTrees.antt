@@ -189,7 +189,7 @@ new placement t a = New placement (Plain kinds.Int a) t
 
 -- `{for i < n : e}`, with the counter of the outermost level
 abbrev pub array : Placement → Ty → Expression → Expression → Expression
-array placement t n a = New placement (Array 0 n kinds.Int a) t
+array placement t n a = New placement (Array here 0 n kinds.Int a) t
 
 -- ---- statements
 

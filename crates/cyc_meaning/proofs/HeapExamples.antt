@@ -277,8 +277,8 @@ abbrev row : Expression → typed.Dereference
 row i = Element (variable 0 fats) i fat
 
 arrays_of_arrays : status_of (run (program (
-    define 0 fats (convert fats fats (New OnHeap (Array 0 (Number 3) kinds.Fat (
-    New OnHeap (Array 1 (Number 3) kinds.Int (two (two (Counter 0) operators.Multiply (Number 10)) operators.Add (Counter 1))) fat)) fats))
+    define 0 fats (convert fats fats (New OnHeap (Array here 0 (Number 3) kinds.Fat (
+    New OnHeap (Array here 1 (Number 3) kinds.Int (two (two (Counter 0) operators.Multiply (Number 10)) operators.Add (Counter 1))) fat)) fats))
     ∷ define 1 at_fat (convert at_fat at_fat (AddressOfCell (row (Number 1)) at_fat))
     ∷ execute (typed.Store (typed.Target kinds.NonNull (variable 1 at_fat) fat) (convert fat fat (Load (row (Number 2)))) (Value fat))
     ∷ execute (put (element (Load (row (Number 1))) (Number 0)) (Number 9))
@@ -348,8 +348,8 @@ empty_array = refl
 
 -- an array in an array's elements: {for i < 2 : numelts(new {for j < i + 1 : j + i})}; return p[1];
 nested_counters : long_end (program (
-    define 0 fat (convert fat fat (New OnHeap (Array 0 (Number 2) kinds.Int (
-    Load (element (New OnHeap (Array 1 (two (Counter 0) operators.Add (Number 1)) kinds.Int (two (Counter 1) operators.Add (Counter 0))) fat) (Counter 0)))) fat))
+    define 0 fat (convert fat fat (New OnHeap (Array here 0 (Number 2) kinds.Int (
+    Load (element (New OnHeap (Array here 1 (two (Counter 0) operators.Add (Number 1)) kinds.Int (two (Counter 1) operators.Add (Counter 0))) fat) (Counter 0)))) fat))
     ∷ return (Load (element (variable 0 fat) (Number 1)))
     ∷ [])) ≡ HasEnded (Returned (pos 2))
 nested_counters = refl

@@ -345,11 +345,11 @@ evaluating (typed.Store d c t) stack e w = Goes refl Keeps (λ h. h)
 evaluating (New OnHeap (Plain kind a) t) stack e w = Goes refl Keeps (λ h. h)
 evaluating (New OnHeap (Fields NoArguments) t) stack e w = filling (InRegion 0) [] stack e w
 evaluating (New OnHeap (Fields (MoreArguments (Convert from to a) fields)) t) stack e w = Goes refl Keeps (λ h. h)
-evaluating (New OnHeap (Array level count kind element) t) stack e w = Goes refl Keeps (λ h. h)
+evaluating (New OnHeap (Array place level count kind element) t) stack e w = Goes refl Keeps (λ h. h)
 evaluating (New AsUnique (Plain kind a) t) stack e w = Goes refl Keeps (λ h. h)
 evaluating (New AsUnique (Fields NoArguments) t) stack e w = filling (Unique true) [] stack e w
 evaluating (New AsUnique (Fields (MoreArguments (Convert from to a) fields)) t) stack e w = Goes refl Keeps (λ h. h)
-evaluating (New AsUnique (Array level count kind element) t) stack e w = Goes refl Keeps (λ h. h)
+evaluating (New AsUnique (Array place level count kind element) t) stack e w = Goes refl Keeps (λ h. h)
 evaluating (New (ByHandle a) initial t) stack e w = Goes refl Keeps (λ h. h)
 
 deciding : {access : Bool} (decides fails : Bool) (b : Expression) (rest : Operations) (stack : List Entry) (e : Environment) (w : World) → Silent access stack e w (decided decides fails b rest stack e w)
@@ -396,7 +396,7 @@ placing_at : (initial : Initial) (region : ℕ) (stack : List Entry) (e : Enviro
 placing_at (Plain kind a) region stack e w = Goes refl Keeps (λ h. h)
 placing_at (Fields NoArguments) region stack e w = filling (InRegion region) [] stack e w
 placing_at (Fields (MoreArguments (Convert from to a) fields)) region stack e w = Goes refl Keeps (λ h. h)
-placing_at (Array level count kind element) region stack e w = Goes refl Keeps (λ h. h)
+placing_at (Array place level count kind element) region stack e w = Goes refl Keeps (λ h. h)
 
 placing : (initial : Initial) (value : Value) (stack : List Entry) (e : Environment) (w : World) → Silent (is_access_of (PlaceBy initial)) stack e w (makes_by initial value stack e w)
 placing initial (Handle region) stack e w = placing_at initial region stack e w

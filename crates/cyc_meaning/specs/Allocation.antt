@@ -87,7 +87,7 @@ fills_element object count index level kind element value stack e w =
 abbrev pub makes : Owner → Initial → List Entry → Environment → World → State
 makes owner (Plain kind a) stack e w = Running (Evaluating a) (Needs (MakePlain owner kind) ∷ stack) e w
 makes owner (Fields fields) stack e w = makes_fields owner [] fields stack e w
-makes owner (Array level count kind element) stack e w = Running (Evaluating count) (Needs (MakeArray owner level kind element) ∷ stack) e w
+makes owner (Array place level count kind element) stack e w = Running (Evaluating count) (Needs (MakeArray owner level kind element) ∷ stack) e w
 
 -- `new` makes an object in the heap, `rnew` in the region of a handle, which is evaluated first, or a unique one
 abbrev pub allocates : Placement → Initial → List Entry → Environment → World → State

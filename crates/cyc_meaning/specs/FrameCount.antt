@@ -81,7 +81,7 @@ abbrev mutual
   pub initial_value_need : Initial → (handle own : ℕ) → ℕ
   initial_value_need (Plain k a) handle own = max (handle + words_of_kind k + own) (handle + expression_need a)
   initial_value_need (Fields cs) handle own = max (handle + argument_words cs + own) (arguments_need cs handle)
-  initial_value_need (Array l n k a) handle own =
+  initial_value_need (Array p l n k a) handle own =
       max (handle + expression_need n) (max (handle + array_words + expression_need a) (handle + array_words + words_of_kind k + own))
 
   -- a conversion does not raise the need of what is converted

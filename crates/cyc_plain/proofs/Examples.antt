@@ -2,6 +2,8 @@
 use Rattle.std.proofs.Common.{◌≡◌, ℕ, List, [], ◌∷◌, pos, negsuc, refl}
 use Rattle.cyc_words.specs.Word.{slt_of, sar_of, div_of, rem_of}
 use Rattle.cyc_words.specs.Ending.{Returned, Uncaught, Full}
+use Rattle.cyc_store.specs.State.{StoreState}
+use Rattle.cyc_store.specs.State as stores
 use Rattle.cyc_plain.specs.declared.instruction.Instruction.{Instruction}
 use Rattle.cyc_plain.specs.declared.instruction.Instruction.TheVariants.{Move, Unary, Binary, Jump, Branch, Call, Return, ReadByte, WriteByte, LoadGlobal, StoreGlobal}
 use Rattle.cyc_plain.specs.declared.instruction.Instruction.TheVariants as instructions
@@ -33,9 +35,19 @@ function parameters code = record {
 abbrev program : List Instruction → Program
 program code = record { functions = function 0 code ∷ []; globals = 3 ∷ []; main = 0 }
 
+abbrev empty_store : StoreState
+empty_store = stores.start 3 (λ (address : ℕ). 0)
+
 -- the state of a program after so many steps, with room for so many calls
 abbrev after : ℕ → ℕ → Program → List ℕ → State
-after steps calls p input = run p 3 calls zeros steps (start p input)
+after steps calls p input = run p 3 calls zeros steps (start p empty_store input)
+
+-- the same from a store with a block of two words
+abbrev two_words : StoreState
+two_words = stores.made_in empty_store 1 (record { address = 0x20000000; size = 2 })
+
+abbrev after_with_block : ℕ → Program → State
+after_with_block steps p = run p 3 1 zeros steps (start p two_words [])
 
 -- ---- constants and operators
 
@@ -239,3 +251,20 @@ equal_is_not_less_unsigned = refl
 
 words_are_operands : status_of (after 2 1 (program (Binary binary.Subtract 0 (Word 7) (Word 9) ∷ Return 0 ∷ [])) []) ≡ Ended (Returned (negsuc 1))
 words_are_operands = refl
+
+-- ---- memory
+
+stored_is_loaded : status_of (after_with_block 3 (program (instructions.Store (Word 0x20000000) 4 (Word 7) ∷ instructions.Load 0 (Word 0x20000004) 0 ∷ Return 0 ∷ []))) ≡ Ended (Returned (pos 7))
+stored_is_loaded = refl
+
+other_words_stay : status_of (after_with_block 3 (program (instructions.Store (Word 0x20000000) 4 (Word 7) ∷ instructions.Load 0 (Word 0x20000000) 0 ∷ Return 0 ∷ []))) ≡ Ended (Returned (pos 0))
+other_words_stay = refl
+
+load_behind_the_block_is_stuck : status_of (after_with_block 1 (program (instructions.Load 0 (Word 0x20000000) 8 ∷ Return 0 ∷ []))) ≡ Failed
+load_behind_the_block_is_stuck = refl
+
+store_before_the_block_is_stuck : status_of (after_with_block 1 (program (instructions.Store (Word 0x20000000) 0xfffffffc (Word 7) ∷ Return 0 ∷ []))) ≡ Failed
+store_before_the_block_is_stuck = refl
+
+words_are_moved : status_of (after 4 1 (program (Move 1 (Word 5) ∷ Move 2 (Word 6) ∷ instructions.MoveWords 0 1 2 ∷ Return 1 ∷ [])) []) ≡ Ended (Returned (pos 6))
+words_are_moved = refl

@@ -5,6 +5,7 @@ use Rattle.std.proofs.lemmas.Option.{get_or_from_slice_get}
 use Rattle.std.specs.Prelude.{All, IsSomeAnd, if◌then◌else◌}
 use Rattle.std.specs.List.{AllByRecursion}
 use Rattle.cyc_words.specs.Ending.{Full}
+use Rattle.cyc_store.specs.State.{StoreState}
 use Rattle.cyc_plain.specs.declared.instruction.Instruction.{Instruction}
 use Rattle.cyc_plain.specs.declared.instruction.Instruction.TheVariants as instructions
 use Rattle.cyc_plain.specs.declared.instruction.BinaryOperator.{BinaryOperator}
@@ -98,6 +99,9 @@ module _ (program : Program) (well : IsWellFormed program) (choice : Choice) (c 
 
   performs : (i : Instruction) → slice_get here.code c.active.next ≡ Some i → IsInRange program here i → IsPlaced program (performed program choice c i)
   performs (instructions.Move destination source) at range = (behind _ at refl, waiting)
+  performs (instructions.MoveWords destination source count) at range = absurd range
+  performs (instructions.Load destination address offset) at range = absurd range
+  performs (instructions.Store address offset source) at range = absurd range
   performs (instructions.Unary operator destination operand) at range = (behind _ at refl, waiting)
   performs (instructions.Binary operator destination left right) at range =
       if_either (IsPlaced program) (has_no_result operator (operand_word c.active.slots right)) (Stuck c.output c.input) (gives c destination (binary_result operator (operand_word c.active.slots left) (operand_word c.active.slots right))) tt (behind (instructions.Binary operator destination left right) at refl, waiting)
@@ -131,8 +135,8 @@ placed_run program pages calls (suc n) old new well placed (mid, (choice, allowe
     (limited_either (IsPlaced program) pages calls old (step program choice old) (λ within. placed_step program choice old well placed) tt) in
     placed_run program pages calls n mid new well next rest
 
-pub placed_start : (program : Program) (input : List ℕ) → IsWellFormed program → IsPlaced program (start program input)
-placed_start program input well = ((well.main, has_code program (routine_at program program.main) (routine_in program program.main well well.main)), tt)
+pub placed_start : (program : Program) (store : StoreState) (input : List ℕ) → IsWellFormed program → IsPlaced program (start program store input)
+placed_start program store input well = ((well.main, has_code program (routine_at program program.main) (routine_in program program.main well well.main)), tt)
 
 -- ---- getting stuck
 
@@ -149,33 +153,37 @@ returns_not : (c : Configuration) (value results : ℕ) (frames : List Frame) �
 returns_not c value results [] failed = let e : status_of (returns c value results []) ≡ simulation.Failed = failed in cc
 returns_not c value results (f ∷ frames) failed = not_failed c failed
 
-fails : (program : Program) (choice : Choice) (c : Configuration) (i : Instruction) → instruction_at program (place_of (Running c)) ≡ Some i → status_of (performed program choice c i) ≡ simulation.Failed → DividesByZero program (Running c)
-fails program choice c (instructions.Binary operator destination left right) at failed = divides program c operator destination left right (has_no_result operator (operand_word c.active.slots right)) refl at failed
-fails program choice c (instructions.Return value) at failed = absurd (returns_not c value (routine_at program c.active.function).results c.frames failed)
-fails program choice c (instructions.Uncaught tag value) at failed = absurd (let e : status_of (performed program choice c (instructions.Uncaught tag value)) ≡ simulation.Failed = failed in cc)
-fails program choice c (instructions.Move destination source) at failed = absurd (not_failed c failed)
-fails program choice c (instructions.Unary operator destination operand) at failed = absurd (not_failed c failed)
-fails program choice c (instructions.Jump target) at failed = absurd (not_failed c failed)
-fails program choice c (instructions.Branch comparison left right target) at failed = absurd (not_failed c failed)
-fails program choice c (instructions.Call function arguments count result) at failed = absurd (not_failed c failed)
-fails program choice c (instructions.ReadByte destination) at failed = absurd (not_failed c failed)
-fails program choice c (instructions.WriteByte source) at failed = absurd (not_failed c failed)
-fails program choice c (instructions.LoadGlobal destination global) at failed = absurd (not_failed c failed)
-fails program choice c (instructions.StoreGlobal global source) at failed = absurd (not_failed c failed)
+fails : (program : Program) (choice : Choice) (c : Configuration) (i : Instruction) → instruction_at program (place_of (Running c)) ≡ Some i → IsInRange program (routine_at program c.active.function) i → status_of (performed program choice c i) ≡ simulation.Failed → DividesByZero program (Running c)
+fails program choice c (instructions.Binary operator destination left right) at range failed = divides program c operator destination left right (has_no_result operator (operand_word c.active.slots right)) refl at failed
+fails program choice c (instructions.Return value) at range failed = absurd (returns_not c value (routine_at program c.active.function).results c.frames failed)
+fails program choice c (instructions.Uncaught tag value) at range failed = absurd (let e : status_of (performed program choice c (instructions.Uncaught tag value)) ≡ simulation.Failed = failed in cc)
+fails program choice c (instructions.Move destination source) at range failed = absurd (not_failed c failed)
+fails program choice c (instructions.Unary operator destination operand) at range failed = absurd (not_failed c failed)
+fails program choice c (instructions.Jump target) at range failed = absurd (not_failed c failed)
+fails program choice c (instructions.Branch comparison left right target) at range failed = absurd (not_failed c failed)
+fails program choice c (instructions.Call function arguments count result) at range failed = absurd (not_failed c failed)
+fails program choice c (instructions.ReadByte destination) at range failed = absurd (not_failed c failed)
+fails program choice c (instructions.WriteByte source) at range failed = absurd (not_failed c failed)
+fails program choice c (instructions.LoadGlobal destination global) at range failed = absurd (not_failed c failed)
+fails program choice c (instructions.StoreGlobal global source) at range failed = absurd (not_failed c failed)
+fails program choice c (instructions.MoveWords destination source count) at range failed = absurd range
+fails program choice c (instructions.Load destination address offset) at range failed = absurd range
+fails program choice c (instructions.Store address offset source) at range failed = absurd range
 
-fails_placed : (program : Program) (choice : Choice) (s : State) → IsPlaced program s → status_of s ≡ simulation.Running → status_of (step program choice s) ≡ simulation.Failed → DividesByZero program s
-fails_placed program choice (Running c) ((inside, next), waiting) running failed =
+fails_placed : (program : Program) (choice : Choice) (s : State) → IsWellFormed program → IsPlaced program s → status_of s ≡ simulation.Running → status_of (step program choice s) ≡ simulation.Failed → DividesByZero program s
+fails_placed program choice (Running c) well ((inside, next), waiting) running failed =
     let (i, at) = get_below (routine_at program c.active.function).code c.active.next next in
-    fails program choice c i at (subst (λ (o : Option Instruction). status_of (executed program choice c o) ≡ simulation.Failed) at failed)
-fails_placed program choice (Ended ending output input) placed running failed = absurd (let e : simulation.Ended ending ≡ simulation.Running = running in cc)
-fails_placed program choice (Stuck output input) placed running failed = absurd (let e : simulation.Failed ≡ simulation.Running = running in cc)
+    let range = holds_at (IsInRange program (routine_at program c.active.function)) (routine_at program c.active.function).code c.active.next i (routine_in program c.active.function well inside).instructions at in
+    fails program choice c i at range (subst (λ (o : Option Instruction). status_of (executed program choice c o) ≡ simulation.Failed) at failed)
+fails_placed program choice (Ended ending output input) well placed running failed = absurd (let e : simulation.Ended ending ≡ simulation.Running = running in cc)
+fails_placed program choice (Stuck output input) well placed running failed = absurd (let e : simulation.Failed ≡ simulation.Running = running in cc)
 
 -- A run of a well-formed program gets stuck only where it divides by 0.
-pub stuck_only_by_division : (program : Program) (pages calls n : ℕ) (input : List ℕ) (old new : State) → IsWellFormed program → Run (machine program pages calls) n (start program input) old
+pub stuck_only_by_division : (program : Program) (pages calls n : ℕ) (store : StoreState) (input : List ℕ) (old new : State) → IsWellFormed program → Run (machine program pages calls) n (start program store input) old
     → status_of old ≡ simulation.Running → Step program pages calls old new → status_of new ≡ simulation.Failed → DividesByZero program old
-stuck_only_by_division program pages calls n input old new well run running (choice, allowed, is) failed =
-    let placed = placed_run program pages calls n (start program input) old well (placed_start program input well) run in
+stuck_only_by_division program pages calls n store input old new well run running (choice, allowed, is) failed =
+    let placed = placed_run program pages calls n (start program store input) old well (placed_start program store input well) run in
     limited_either (λ (s : State). status_of s ≡ simulation.Failed → DividesByZero program old) pages calls old (step program choice old)
-    (λ within fails. fails_placed program choice old placed running fails)
+    (λ within fails. fails_placed program choice old well placed running fails)
     (λ fails. absurd (let e : simulation.Ended Full ≡ simulation.Failed = fails in cc))
     (ap status_of (sym is) ∙ failed)

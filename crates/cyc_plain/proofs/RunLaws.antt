@@ -5,6 +5,9 @@ use Rattle.std.proofs.lemmas.Bool.{le-leb, and_from}
 use Rattle.cyc_words.specs.Ending.{Ending, Full}
 use Rattle.cyc_words.specs.Prefix.{IsPrefix}
 use Rattle.cyc_words.proofs.PrefixLemmas.{IsPrefix-refl, IsPrefix-append}
+use Rattle.cyc_store.specs.State.{StoreState}
+use Rattle.cyc_store.specs.New.{IsNew}
+use Rattle.cyc_store.proofs.NewStores.{new_demand}
 use Rattle.cyc_plain.specs.declared.instruction.Instruction.{Instruction}
 use Rattle.cyc_plain.specs.declared.instruction.Instruction.TheVariants as instructions
 use Rattle.cyc_plain.specs.Operators.{has_no_result, binary_result}
@@ -12,7 +15,7 @@ use Rattle.cyc_words.specs.Simulation as simulation
 use Rattle.cyc_words.specs.Simulation.{Status, IsLawful, Run}
 use Rattle.cyc_plain.specs.Program.{Program, routine_at}
 use Rattle.cyc_plain.specs.State.{Frame, Configuration, State, Running, Ended, Stuck, output_of, input_of, status_of, place_of}
-use Rattle.cyc_plain.specs.Step.{Choice, IsAllowed, gives, operand_word, returns, performed, executed, instruction_at, step, is_within, limited, limited_step, Step, start, machine}
+use Rattle.cyc_plain.specs.Step.{Choice, IsAllowed, gives, operand_word, returns, loads, saves, performed, executed, instruction_at, step, is_within, limited, limited_step, Step, start, machine}
 use Rattle.cyc_words.proofs.Simulation.{Run-grows, Run-stays}
 
 -- ---- limits
@@ -63,8 +66,17 @@ returned : (c : Configuration) (value results : ℕ) (frames : List Frame) → G
 returned c value results [] = same c
 returned c value results (f ∷ frames) = same c
 
+loaded : (c : Configuration) (destination : ℕ) (found : Option ℕ) → GoesOn c (loads c destination found)
+loaded c destination None = same c
+loaded c destination (Some word) = same c
+
+saved : (c : Configuration) (address word : ℕ) (found : Option ℕ) → GoesOn c (saves c address word found)
+saved c address word None = same c
+saved c address word (Some old) = same c
+
 performs : (program : Program) (choice : Choice) (c : Configuration) (i : Instruction) → GoesOn c (performed program choice c i)
 performs program choice c (instructions.Move destination source) = same c
+performs program choice c (instructions.MoveWords destination source count) = same c
 performs program choice c (instructions.Unary operator destination operand) = same c
 performs program choice c (instructions.Binary operator destination left right) = if_either (GoesOn c) (has_no_result operator (operand_word c.active.slots right)) (Stuck c.output c.input) (gives c destination (binary_result operator (operand_word c.active.slots left) (operand_word c.active.slots right))) (same c) (same c)
 performs program choice c (instructions.Jump target) = same c
@@ -75,6 +87,8 @@ performs program choice c (instructions.ReadByte destination) = (IsPrefix-refl c
 performs program choice c (instructions.WriteByte source) = (IsPrefix-append c.output _, ([], refl))
 performs program choice c (instructions.LoadGlobal destination global) = same c
 performs program choice c (instructions.StoreGlobal global source) = same c
+performs program choice c (instructions.Load destination address offset) = loaded c destination _
+performs program choice c (instructions.Store address offset source) = saved c _ _ _
 performs program choice c (instructions.Uncaught tag value) = same c
 
 executes : (program : Program) (choice : Choice) (c : Configuration) (o : Option Instruction) → GoesOn c (executed program choice c o)
@@ -145,5 +159,6 @@ stays_within program pages calls (suc n) old new within (mid, (choice, allowed, 
     ap (is_within pages calls) is ∙ limited_either (λ (s : State). is_within pages calls s ≡ true) pages calls old (step program choice old) (λ (w : is_within pages calls (step program choice old) ≡ true). w) (over_within pages calls Full (output_of old) (input_of old)) in
     stays_within program pages calls n mid new next rest
 
-pub starts_within : (program : Program) (pages calls : ℕ) (input : List ℕ) → 1 ≤ pages → 1 ≤ calls → is_within pages calls (start program input) ≡ true
-starts_within program pages calls input some_page some_call = and_from _ _ (le-leb 1 pages some_page) (le-leb 1 calls some_call)
+pub starts_within : (program : Program) (pages calls : ℕ) (store : StoreState) (input : List ℕ) → IsNew pages store → 1 ≤ pages → 1 ≤ calls → is_within pages calls (start program store input) ≡ true
+starts_within program pages calls store input new some_page some_call =
+    and_from _ _ (le-leb _ pages (omega (arith, new_demand pages store new, some_page))) (le-leb 1 calls some_call)

@@ -1,7 +1,7 @@
 -- What slots hold after a word, or some words, are put into them.
-use Rattle.std.proofs.Common.{◌≡◌, ◌≢◌, ℕ, ◌+◌, ◌-◌, ◌≤◌, ◌<◌, Bool, true, false, ◌&&◌, refl, sym, ap, ◌∙◌, arith, inl, inr}
+use Rattle.std.proofs.Common.{◌≡◌, ◌≢◌, ℕ, ◌+◌, ◌-◌, ◌≤◌, ◌<◌, Bool, true, false, ◌&&◌, refl, ap, ◌∙◌, arith}
 use Rattle.std.specs.Prelude.{◌==◌, nat_le, nat_lt, if◌then◌else◌}
-use Rattle.std.proofs.lemmas.Bool.{cases_lt, cases_eq, eq-eqb, le-leb, lt-ltb, and_from, and_left, and_right, false_from_ne_true, eqb-true, ltb-true, leb-true}
+use Rattle.std.proofs.lemmas.Bool.{eq-eqb, le-leb, lt-ltb, and_from, and_left, and_right, false_from_ne_true, eqb-true, ltb-true, leb-true}
 use Rattle.cyc_plain.specs.State.{Words, put, copied}
 
 chosen : (b c : Bool) (x y : ℕ) → b ≡ c → (if b then x else y) ≡ (if c then x else y)
@@ -37,20 +37,3 @@ copied-above from to source count destination number above =
   where
     not_both : number < destination + count → ⊥
     not_both below = omega arith
-
--- one word copied is one word put
-pub copied-one : (from to : Words) (source destination : ℕ) → copied from source 1 to destination ≡ put to destination (from source)
-copied-one from to source destination = λ i. λ (number : ℕ). at number i
-  where
-    at : (number : ℕ) → copied from source 1 to destination number ≡ put to destination (from source) number
-    at number = elim (cases_eq number destination) [
-      | inl same ↦
-          let start : number ≡ destination + 0 = omega (arith, same) in
-          let first : source + 0 ≡ source = omega arith in
-          ap (copied from source 1 to destination) start ∙ copied-inside from to source 1 destination 0 (omega arith) ∙ ap from first
-          ∙ sym (ap (put to destination (from source)) same ∙ put-same to destination (from source))
-      | inr apart ↦ elim (cases_lt number destination) [
-        | inl below ↦ copied-below from to source 1 destination number below ∙ sym (put-other to destination number (from source) apart)
-        | inr above ↦ copied-above from to source 1 destination number (omega arith) ∙ sym (put-other to destination number (from source) apart)
-      ]
-    ]

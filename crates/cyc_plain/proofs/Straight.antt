@@ -1,17 +1,46 @@
 -- Straight code runs to the configuration that it says, and meets no place twice.
-use Rattle.std.proofs.Common.{◌≡◌, ◌≢◌, ℕ, zero, suc, ◌+◌, ◌≤◌, ◌<◌, Bool, true, false, List, [], ◌∷◌, ◌++◌, length, Some, slice_get, refl, sym, ap, subst, ◌∙◌, arith, length-append}
+use Rattle.std.proofs.Common.{◌≡◌, ◌≢◌, ℕ, zero, suc, ◌+◌, ◌<◌, true, false, List, [], ◌∷◌, ◌++◌, length, Some, slice_get, refl, sym, ap, subst, ◌∙◌, arith, length-append, append_assoc}
 use Rattle.std.specs.List.{AllByRecursion}
-use Rattle.cyc_words.specs.Simulation.{Machine, Path, Comes, IsDistinct}
+use Rattle.cyc_words.specs.Simulation.{Path, Comes, IsDistinct}
+use Rattle.cyc_store.specs.State.{StoreState}
 use Rattle.cyc_plain.specs.declared.instruction.Instruction.{Instruction}
 use Rattle.cyc_plain.specs.declared.instruction.Instruction.TheVariants as instructions
 use Rattle.cyc_plain.specs.declared.instruction.BinaryOperator.{BinaryOperator}
 use Rattle.cyc_plain.specs.declared.instruction.BinaryOperator.TheVariants as binary
 use Rattle.cyc_plain.specs.declared.instruction.Operand.{Operand}
 use Rattle.cyc_plain.specs.Program.{Program, CodePlace, routine_at}
-use Rattle.cyc_plain.specs.State.{Frame, Store, Configuration, State, Running}
+use Rattle.cyc_plain.specs.State.{Frame, Configuration, State, Running}
 use Rattle.cyc_plain.specs.Step.{Choice, performed, is_within, Step, machine}
 use Rattle.cyc_plain.specs.Straight.{At, HasAt, is_total, is_straight, AreStraight, configuration_or, executed_in, places_behind}
 use Rattle.cyc_plain.proofs.Steps.{step_performs}
+
+-- ---- where code stands
+
+pub has_front : (code : List Instruction) (p : ℕ) (a b : List Instruction) → HasAt code p (a ++ b) → HasAt code p a
+has_front code p [] b has = tt
+has_front code p (i ∷ a) b (at, rest) = (at, has_front code (p + 1) a b rest)
+
+pub has_back : (code : List Instruction) (p : ℕ) (a b : List Instruction) → HasAt code p (a ++ b) → HasAt code (p + length a) b
+has_back code p [] b has = subst (λ q. HasAt code q b) (let e : p ≡ p + 0 = omega arith in e) has
+has_back code p (i ∷ a) b (at, rest) =
+    subst (λ q. HasAt code q b) (let e : p + 1 + length a ≡ p + suc (length a) = omega arith in e) (has_back code (p + 1) a b rest)
+
+get_here : (front : List Instruction) (i : Instruction) (back : List Instruction) → slice_get (front ++ i ∷ back) (length front) ≡ Some i
+get_here [] i back = refl
+get_here (j ∷ front) i back = get_here front i back
+
+has_from : (front code : List Instruction) → HasAt (front ++ code) (length front) code
+has_from front [] = tt
+has_from front (i ∷ code) =
+    let longer : length (front ++ i ∷ []) ≡ length front + 1 = length-append front (i ∷ []) in (
+      get_here front i code,
+      subst (λ q. HasAt (front ++ i ∷ code) q code) longer
+          (subst (λ l. HasAt l (length (front ++ i ∷ [])) code) (append_assoc front (i ∷ []) code) (has_from (front ++ i ∷ []) code)),
+    )
+
+-- a code has itself
+pub has_whole : (code : List Instruction) → HasAt code 0 code
+has_whole code = has_from [] code
 
 -- ---- one instruction
 
@@ -35,6 +64,7 @@ binary_one program choice c operator destination left right total = record { giv
 is_one : (program : Program) (choice : Choice) (c : Configuration) (i : Instruction) → is_straight i ≡ true → IsOne program choice c i
 is_one program choice c (instructions.Binary operator destination left right) straight = binary_one program choice c operator destination left right straight
 is_one program choice c (instructions.Move destination source) straight = record { gives = λ other. refl; keeps = record { function = refl; next = refl; frames = refl; store = refl } }
+is_one program choice c (instructions.MoveWords destination source count) straight = record { gives = λ other. refl; keeps = record { function = refl; next = refl; frames = refl; store = refl } }
 is_one program choice c (instructions.Unary operator destination operand) straight = record { gives = λ other. refl; keeps = record { function = refl; next = refl; frames = refl; store = refl } }
 is_one program choice c (instructions.ReadByte destination) straight = record { gives = λ other. refl; keeps = record { function = refl; next = refl; frames = refl; store = refl } }
 is_one program choice c (instructions.WriteByte source) straight = record { gives = λ other. refl; keeps = record { function = refl; next = refl; frames = refl; store = refl } }
@@ -71,7 +101,7 @@ module _ (program : Program) (pages calls : ℕ) (choice : Choice) where
 
   same_limits : (c d : Configuration) → Keeps c d → is_within pages calls (Running d) ≡ is_within pages calls (Running c)
   same_limits c d k =
-      ap (λ (s : Store). is_within pages calls (Running (record d { store = s }))) k.store
+      ap (λ (s : StoreState). is_within pages calls (Running (record d { store = s }))) k.store
       ∙ ap (λ (fs : List Frame). is_within pages calls (Running (record d { frames = fs; store = c.store }))) k.frames
 
   stands_behind : (c d : Configuration) (is : List Instruction) → Keeps c d → HasAt (routine_at program c.active.function).code (c.active.next + 1) is → Stands d is

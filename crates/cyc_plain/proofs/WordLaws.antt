@@ -1,11 +1,13 @@
 -- Every value in a run is a word.
-use Rattle.std.proofs.Common.{◌≡◌, ℕ, zero, suc, ◌+◌, ◌-◌, ◌^◌, ◌<◌, Bool, true, false, not, ◌&&◌, List, [], ◌∷◌, length, drop, Option, Some, None, slice_get, refl, sym, subst, arith, inl, inr}
+use Rattle.std.proofs.Common.{◌≡◌, ℕ, zero, suc, ◌+◌, ◌-◌, ◌%◌, ◌^◌, ◌<◌, Bool, true, false, not, ◌&&◌, List, [], ◌∷◌, length, drop, Option, Some, None, slice_get, refl, sym, subst, arith, inl, inr}
 use Rattle.std.specs.Prelude.{◌==◌, if◌then◌else◌, nat_le, nat_lt, int_le, slice_index, unwrap_or}
 use Rattle.std.specs.List.{AllByRecursion}
 use Rattle.std.proofs.lemmas.Bool.{cases_lt}
 use Rattle.std.proofs.lemmas.List.{get_or_past}
-use Rattle.cyc_words.specs.Word.{IsWord, signed}
+use Rattle.cyc_words.specs.Word.{IsWord, signed, add_of}
 use Rattle.cyc_words.proofs.WordLemmas.{IsWord-add_of, IsWord-sub_of, IsWord-shl_of, IsWord-sar_of, IsWord-div_of, IsWord-rem_of, IsWord-slt_of, IsWord-bit_and, IsWord-bit_or, IsWord-bit_xor}
+use Rattle.cyc_store.specs.State as stores
+use Rattle.cyc_store.specs.State.{StoreState, Holder, homes, holder, word_at, has_saved}
 use Rattle.cyc_plain.specs.declared.instruction.UnaryOperator.{UnaryOperator}
 use Rattle.cyc_plain.specs.declared.instruction.UnaryOperator.TheVariants as unary
 use Rattle.cyc_plain.specs.declared.instruction.BinaryOperator.{BinaryOperator}
@@ -18,7 +20,7 @@ use Rattle.cyc_plain.specs.Operators.{truth, unary_result, binary_result, has_no
 use Rattle.cyc_words.specs.Simulation.{Run}
 use Rattle.cyc_plain.specs.Program.{Program, CodePlace, no_routine, routine_at}
 use Rattle.cyc_plain.specs.State.{Words, AreWords, put, copied, Frame, Configuration, State, Running, Ended, Stuck, place_of, HoldsWords}
-use Rattle.cyc_plain.specs.Step.{Choice, IsAllowed, gives, operand_word, returns, performed, executed, instruction_at, step, start, machine}
+use Rattle.cyc_plain.specs.Step.{Choice, IsAllowed, gives, operand_word, returns, loads, saves, performed, executed, instruction_at, step, start, machine}
 use Rattle.cyc_plain.specs.WellFormed.{IsOfWord, HasWord, HasWords}
 use Rattle.cyc_plain.proofs.RunLaws.{limited_either, if_either}
 use Rattle.cyc_plain.proofs.Placed.{holds_at}
@@ -66,6 +68,10 @@ copied_words : (from to : Words) (source count destination : ℕ) → AreWords f
 copied_words from to source count destination v w number =
     either_word (nat_le destination number && nat_lt number (destination + count)) (from (source + (number - destination))) (to number) (v (source + (number - destination))) (w number)
 
+stored_words : (s : StoreState) (address word : ℕ) (found : Option ℕ) → stores.AreWords s.memory → IsWord word → stores.AreWords (has_saved s address word found).memory
+stored_words s address word None all w = all
+stored_words s address word (Some old) all w = put_words s.memory address word all w
+
 first_word : (input : List ℕ) → AllByRecursion IsWord input → IsWord (unwrap_or (slice_get input 0) (2 ^ 32 - 1))
 first_word [] all = omega arith
 first_word (b ∷ input) (first, rest) = first
@@ -83,9 +89,9 @@ known_word : (program : Program) (place : CodePlace) (i : Instruction) → HasWo
 known_word program place i words at =
     holds_at HasWord (routine_at program place.function).code place.index i (words.functions place.function no_routine (function_known program place i at)) at
 
-module _ (program : Program) (choice : Choice) (allowed : AreWords choice.contents) (c : Configuration) (slots : AreWords c.active.slots) (frames : AreFrames c.frames) (globals : AreWords c.globals) (input : AllByRecursion IsWord c.input) where
+module _ (program : Program) (choice : Choice) (allowed : AreWords choice.contents) (c : Configuration) (slots : AreWords c.active.slots) (frames : AreFrames c.frames) (globals : AreWords c.globals) (store : stores.AreWords c.store.memory) (input : AllByRecursion IsWord c.input) where
   given : (destination word : ℕ) → IsWord word → HoldsWords (gives c destination word)
-  given destination word w = (put_words c.active.slots destination word slots w, frames, globals, input)
+  given destination word w = (put_words c.active.slots destination word slots w, frames, globals, store, input)
 
   known : (o : Operand) → IsOfWord o → IsWord (operand_word c.active.slots o)
   known (operands.Slot number) w = slots number
@@ -93,26 +99,43 @@ module _ (program : Program) (choice : Choice) (allowed : AreWords choice.conten
 
   returned : (value results : ℕ) (waiting : List Frame) → AreFrames waiting → HoldsWords (returns c value results waiting)
   returned value results [] all = tt
-  returned value results (f ∷ waiting) (first, rest) = (copied_words c.active.slots f.caller.slots value results f.result slots first, rest, globals, input)
+  returned value results (f ∷ waiting) (first, rest) = (copied_words c.active.slots f.caller.slots value results f.result slots first, rest, globals, store, input)
+
+  loaded : (destination address : ℕ) (aligned : Bool) (found : Option Holder) → HoldsWords (loads c destination (if aligned then stores.word_in found c.store.memory address else None))
+  loaded destination address false found = tt
+  loaded destination address true None = tt
+  loaded destination address true (Some h) = given destination (c.store.memory address) (store address)
+
+  saved : (address word : ℕ) (found : Option ℕ) → IsWord word → HoldsWords (saves c address word found)
+  saved address word None w = tt
+  saved address word (Some old) w = (slots, frames, globals, stored_words c.store address word (word_at c.store address) store w, input)
 
   performs : (i : Instruction) → HasWord i → HoldsWords (performed program choice c i)
   performs (instructions.Move destination source) w = given destination (operand_word c.active.slots source) (known source w)
+  performs (instructions.MoveWords destination source count) w =
+      (copied_words c.active.slots c.active.slots source count destination slots slots, frames, globals, store, input)
   performs (instructions.Unary operator destination operand) w =
       given destination (unary_result operator (operand_word c.active.slots operand)) (IsWord-unary_result operator (operand_word c.active.slots operand) (known operand w))
   performs (instructions.Binary operator destination left right) (first, second) =
       if_either HoldsWords (has_no_result operator (operand_word c.active.slots right)) (Stuck c.output c.input) (gives c destination (binary_result operator (operand_word c.active.slots left) (operand_word c.active.slots right)))
       tt (given destination (binary_result operator (operand_word c.active.slots left) (operand_word c.active.slots right)) (IsWord-binary_result operator (operand_word c.active.slots left) (operand_word c.active.slots right) (known left first) (known right second)))
-  performs (instructions.Jump target) w = (slots, frames, globals, input)
-  performs (instructions.Branch comparison left right target) w = (slots, frames, globals, input)
+  performs (instructions.Jump target) w = (slots, frames, globals, store, input)
+  performs (instructions.Branch comparison left right target) w = (slots, frames, globals, store, input)
   performs (instructions.Call function arguments count result) w =
-      (copied_words c.active.slots choice.contents arguments count 0 slots allowed, (slots, frames), globals, input)
+      (copied_words c.active.slots choice.contents arguments count 0 slots allowed, (slots, frames), globals, store, input)
   performs (instructions.Return value) w = returned value (routine_at program c.active.function).results c.frames frames
   performs (instructions.ReadByte destination) w =
-      (put_words c.active.slots destination (unwrap_or (slice_get c.input 0) (2 ^ 32 - 1)) slots (first_word c.input input), frames, globals, rest_words c.input input)
-  performs (instructions.WriteByte source) w = (slots, frames, globals, input)
+      (put_words c.active.slots destination (unwrap_or (slice_get c.input 0) (2 ^ 32 - 1)) slots (first_word c.input input), frames, globals, store, rest_words c.input input)
+  performs (instructions.WriteByte source) w = (slots, frames, globals, store, input)
   performs (instructions.LoadGlobal destination global) w = given destination (c.globals global) (globals global)
   performs (instructions.StoreGlobal global source) w =
-      (slots, frames, put_words c.globals global (operand_word c.active.slots source) globals (known source w), input)
+      (slots, frames, put_words c.globals global (operand_word c.active.slots source) globals (known source w), store, input)
+  performs (instructions.Load destination address offset) w =
+      let at : ℕ = add_of (operand_word c.active.slots address) offset in
+      loaded destination at (at % 4 == 0) (holder (homes c.store) at)
+  performs (instructions.Store address offset source) (first, second, third) =
+      let at : ℕ = add_of (operand_word c.active.slots address) offset in
+      saved at (operand_word c.active.slots source) (word_at c.store at) (known source third)
   performs (instructions.Uncaught tag value) w = tt
 
   executes : (o : Option Instruction) → ((i : Instruction) → o ≡ Some i → HasWord i) → HoldsWords (executed program choice c o)
@@ -120,8 +143,8 @@ module _ (program : Program) (choice : Choice) (allowed : AreWords choice.conten
   executes None w = tt
 
 words_step : (program : Program) (choice : Choice) (s : State) → HasWords program → IsAllowed program s choice → HoldsWords s → HoldsWords (step program choice s)
-words_step program choice (Running c) words allowed (slots, frames, globals, input) =
-    executes program choice allowed c slots frames globals input (instruction_at program (place_of (Running c))) (λ i at. known_word program (place_of (Running c)) i words at)
+words_step program choice (Running c) words allowed (slots, frames, globals, store, input) =
+    executes program choice allowed c slots frames globals store input (instruction_at program (place_of (Running c))) (λ i at. known_word program (place_of (Running c)) i words at)
 words_step program choice (Ended ending output input) words allowed holds = tt
 words_step program choice (Stuck output input) words allowed holds = tt
 
@@ -137,11 +160,11 @@ bytes_are_words : (input : List ℕ) → AllByRecursion (λ b. b < 256) input �
 bytes_are_words [] all = tt
 bytes_are_words (b ∷ input) (first, rest) = ((omega (arith, first)), bytes_are_words input rest)
 
-pub words_at_start : (program : Program) (input : List ℕ) → HasWords program → AllByRecursion (λ b. b < 256) input → HoldsWords (start program input)
-words_at_start program input words bytes =
+pub words_at_start : (program : Program) (store : StoreState) (input : List ℕ) → HasWords program → stores.AreWords store.memory → AllByRecursion (λ b. b < 256) input → HoldsWords (start program store input)
+words_at_start program store input words memory bytes =
     let global_words : (global : ℕ) → IsWord (slice_index program.globals global) = λ global.
     elim (cases_lt global (length program.globals)) [
       | inl below ↦ words.globals global 0 below
       | inr past ↦ subst IsWord (sym (get_or_past program.globals global 0 past)) (let e : 0 < 2 ^ 32 = omega arith in e)
     ] in
-    ((λ slot. omega arith), tt, global_words, bytes_are_words input bytes)
+    ((λ slot. omega arith), tt, global_words, memory, bytes_are_words input bytes)

@@ -61,6 +61,7 @@ operator_size operator = 11
 
 abbrev pub instruction_size : Instruction → ℕ
 instruction_size (instructions.Move destination source) = 6
+instruction_size (instructions.MoveWords destination source count) = 2 + 6 * count
 instruction_size (instructions.Unary operator destination operand) = 7
 instruction_size (instructions.Binary operator destination left right) = operator_size operator
 instruction_size (instructions.Jump target) = 2
@@ -71,6 +72,8 @@ instruction_size (instructions.ReadByte destination) = 5
 instruction_size (instructions.WriteByte source) = 5
 instruction_size (instructions.LoadGlobal destination global) = 5
 instruction_size (instructions.StoreGlobal global source) = 5
+instruction_size (instructions.Load destination address offset) = 7
+instruction_size (instructions.Store address offset source) = 7
 instruction_size (instructions.Uncaught tag value) = 7
 
 abbrev pub size : Routine → ℕ

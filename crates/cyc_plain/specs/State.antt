@@ -1,10 +1,12 @@
 -- The state of a plain program that runs. Every value is a word; slots and globals are functions from numbers to words,
 -- of which a well-formed program asks only for those that there are.
-use Rattle.std.specs.Prelude.{ℕ, suc, ◌+◌, ◌-◌, ◌==◌, ◌&&◌, nat_le, nat_lt, List, length, if◌then◌else◌}
+use Rattle.std.specs.Prelude.{ℕ, suc, ◌+◌, ◌-◌, ◌==◌, ◌&&◌, nat_le, nat_lt, List, Option, length, if◌then◌else◌}
 use Rattle.std.specs.List.{AllByRecursion}
 use Rattle.cyc_words.specs.Word.{IsWord}
 use Rattle.cyc_words.specs.Ending.{Ending}
 use Rattle.cyc_words.specs.Simulation as simulation
+use Rattle.cyc_store.specs.State as stores
+use Rattle.cyc_store.specs.State.{StoreState, word_at, saved}
 use Rattle.cyc_plain.specs.Program.{CodePlace}
 
 -- the word that each slot, or each global, holds
@@ -35,22 +37,24 @@ pub record Frame : Type 0 where
   pub caller : Activation
   pub result : ℕ
 
--- What the store holds. Without services that allocate this is how many pages it has given out.
-pub record Store : Type 0 where
-  pub pages : ℕ
-
--- the heap has one page from the start
-abbrev pub start_store : Store
-start_store = record { pages = 1 }
-
 -- a run that goes on: the call that is executed, the calls that wait, newest first, and what all of them share
 pub record Configuration : Type 0 where
   pub active : Activation
   pub frames : List Frame
   pub globals : Words
-  pub store : Store
+  pub store : StoreState
   pub output : List ℕ
   pub input : List ℕ
+
+-- Memory is read and written by these two. It is the store alone.
+
+-- the word at an address, where it is that of a word of a live block
+abbrev pub memory_at : Configuration → (address : ℕ) → Option ℕ
+memory_at c address = word_at c.store address
+
+-- the word at an address is written, where there is one
+abbrev pub with_memory : Configuration → (address word : ℕ) → Configuration
+with_memory c address word = record c { store = saved c.store address word }
 
 -- A state: under way, ended, or unable to go on.
 pub data State : Type 0 where
@@ -80,9 +84,9 @@ place_of (Running c) = record { function = c.active.function; index = c.active.n
 place_of (Ended ending output input) = record { function = 0; index = 0 }
 place_of (Stuck output input) = record { function = 0; index = 0 }
 
--- the pages of the store that are in use, and the calls under way
+-- the pages of the store that its blocks ask for, and the calls under way
 abbrev pub demand : State → ℕ
-demand (Running c) = c.store.pages
+demand (Running c) = stores.demand c.store
 demand (Ended ending output input) = 0
 demand (Stuck output input) = 0
 
@@ -91,12 +95,13 @@ depth (Running c) = suc (length c.frames)
 depth (Ended ending output input) = 0
 depth (Stuck output input) = 0
 
--- all that the slots, the globals and the input hold are words
+-- all that the slots, the globals, the store and the input hold are words
 abbrev pub HoldsWords : State → Type 0
 HoldsWords (Running c) =
     AreWords c.active.slots
     × AllByRecursion (λ f. AreWords f.caller.slots) c.frames
     × AreWords c.globals
+    × stores.AreWords c.store.memory
     × AllByRecursion IsWord c.input
 HoldsWords (Ended ending output input) = Unit {0}
 HoldsWords (Stuck output input) = Unit {0}

@@ -1,8 +1,9 @@
 -- What a plain program does: a step is a function of the state and of what is chosen. So the steps of a program are a
 -- relation, since nothing is said of the choice but that it is allowed.
 use Rattle.std.specs.Prelude.{◌≡◌, ℕ, zero, suc, ◌+◌, ◌-◌, ◌%◌, ◌^◌, Bool, ◌&&◌, nat_le, List, [], ◌∷◌, ◌++◌, drop, Option, Some, None, unwrap_or, slice_get, slice_index, if◌then◌else◌}
-use Rattle.cyc_words.specs.Word.{signed}
+use Rattle.cyc_words.specs.Word.{signed, add_of}
 use Rattle.cyc_words.specs.Ending.{Returned, Uncaught, Full}
+use Rattle.cyc_store.specs.State.{StoreState}
 use Rattle.cyc_plain.specs.declared.instruction.Instruction.{Instruction}
 use Rattle.cyc_plain.specs.declared.instruction.Instruction.TheVariants as instructions
 use Rattle.cyc_plain.specs.declared.instruction.Operand.{Operand}
@@ -10,7 +11,7 @@ use Rattle.cyc_plain.specs.declared.instruction.Operand.TheVariants as operands
 use Rattle.cyc_plain.specs.Operators.{unary_result, binary_result, has_no_result, compares}
 use Rattle.cyc_plain.specs.Program.{Program, CodePlace, routine_at}
 use Rattle.cyc_words.specs.Simulation.{Machine}
-use Rattle.cyc_plain.specs.State.{Words, AreWords, put, copied, Frame, Configuration, State, Running, Ended, Stuck, start_store, output_of, input_of, status_of, place_of, demand, depth}
+use Rattle.cyc_plain.specs.State.{Words, AreWords, put, copied, Frame, Configuration, memory_at, with_memory, State, Running, Ended, Stuck, output_of, input_of, status_of, place_of, demand, depth}
 
 -- What a step may choose freely: the words that are in the slots of a new call before they are written.
 pub record Choice : Type 0 where
@@ -66,10 +67,22 @@ abbrev pub operand_word : Words → Operand → ℕ
 operand_word slots (operands.Slot number) = slots number
 operand_word slots (operands.Word word) = word
 
+-- A word of memory comes to a slot, or a word comes to memory. Where memory has none there, the run cannot go on.
+
+abbrev pub loads : Configuration → (destination : ℕ) → Option ℕ → State
+loads c destination (Some word) = gives c destination word
+loads c destination None = Stuck c.output c.input
+
+abbrev pub saves : Configuration → (address word : ℕ) → Option ℕ → State
+saves c address word (Some old) = Running (advanced (with_memory c address word))
+saves c address word None = Stuck c.output c.input
+
 -- what an instruction does
 abbrev pub performed : Program → Choice → Configuration → Instruction → State
 performed program choice c (instructions.Move destination source) =
     gives c destination (operand_word c.active.slots source)
+performed program choice c (instructions.MoveWords destination source count) =
+    Running (advanced (with_slots c (copied c.active.slots source count c.active.slots destination)))
 performed program choice c (instructions.Unary operator destination operand) =
     gives c destination (unary_result operator (operand_word c.active.slots operand))
 performed program choice c (instructions.Binary operator destination left right) =
@@ -90,6 +103,11 @@ performed program choice c (instructions.WriteByte source) =
 performed program choice c (instructions.LoadGlobal destination global) = gives c destination (c.globals global)
 performed program choice c (instructions.StoreGlobal global source) =
     Running (advanced (record c { globals = put c.globals global (operand_word c.active.slots source) }))
+performed program choice c (instructions.Load destination address offset) =
+    loads c destination (memory_at c (add_of (operand_word c.active.slots address) offset))
+performed program choice c (instructions.Store address offset source) =
+    saves c (add_of (operand_word c.active.slots address) offset) (operand_word c.active.slots source)
+    (memory_at c (add_of (operand_word c.active.slots address) offset))
 performed program choice c (instructions.Uncaught tag value) =
     Ended (Uncaught tag (signed (operand_word c.active.slots value))) c.output c.input
 
@@ -124,13 +142,13 @@ Step program pages calls old new =
     (choice : Choice) × IsAllowed program old choice × (new ≡ limited_step program pages calls choice old)
 
 -- `main` is called, nothing is printed yet, and all of the input is still to be read
-abbrev pub start : Program → List ℕ → State
-start program input =
+abbrev pub start : Program → StoreState → List ℕ → State
+start program store input =
     Running (record {
       active = record { function = program.main; next = 0; slots = λ (slot : ℕ). 0; handlers = [] };
       frames = [];
       globals = λ (global : ℕ). slice_index program.globals global;
-      store = start_store;
+      store = store;
       output = [];
       input = input;
     })

@@ -26,6 +26,7 @@ is_total operator = true
 -- an instruction behind which the next one is always executed
 abbrev pub is_straight : Instruction → Bool
 is_straight (instructions.Move destination source) = true
+is_straight (instructions.MoveWords destination source count) = true
 is_straight (instructions.Unary operator destination operand) = true
 is_straight (instructions.Binary operator destination left right) = is_total operator
 is_straight (instructions.ReadByte destination) = true

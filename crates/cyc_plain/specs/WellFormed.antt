@@ -29,9 +29,11 @@ abbrev pub IsOperand : Routine → Operand → Type 0
 IsOperand r (operands.Slot number) = number < r.slots
 IsOperand r (operands.Word word) = Unit {0}
 
--- the slots, targets, globals and functions that an instruction of a function names are there
+-- The slots, targets, globals and functions that an instruction of a function names are there. No program moves several words or
+-- asks memory yet.
 abbrev pub IsInRange : Program → Routine → Instruction → Type 0
 IsInRange program r (instructions.Move destination source) = (destination < r.slots) × IsOperand r source
+IsInRange program r (instructions.MoveWords destination source count) = ⊥
 IsInRange program r (instructions.Unary operator destination operand) =
     (destination < r.slots) × IsOperand r operand
 IsInRange program r (instructions.Binary operator destination left right) =
@@ -48,6 +50,8 @@ IsInRange program r (instructions.LoadGlobal destination global) =
     (destination < r.slots) × (global < length program.globals)
 IsInRange program r (instructions.StoreGlobal global source) =
     (global < length program.globals) × IsOperand r source
+IsInRange program r (instructions.Load destination address offset) = ⊥
+IsInRange program r (instructions.Store address offset source) = ⊥
 IsInRange program r (instructions.Uncaught tag value) = IsOperand r value
 
 -- after these the instruction behind them is never executed next
@@ -87,6 +91,8 @@ HasWord (instructions.Binary operator destination left right) = IsOfWord left ×
 HasWord (instructions.Branch comparison left right target) = IsOfWord left × IsOfWord right
 HasWord (instructions.WriteByte source) = IsOfWord source
 HasWord (instructions.StoreGlobal global source) = IsOfWord source
+HasWord (instructions.Load destination address offset) = IsOfWord address × IsWord offset
+HasWord (instructions.Store address offset source) = IsOfWord address × IsWord offset × IsOfWord source
 HasWord (instructions.Uncaught tag value) = IsWord tag × IsOfWord value
 HasWord instruction = Unit {0}
 

@@ -66,6 +66,12 @@ pub enum Instruction {
         destination: usize,
         source: Operand,
     },
+    /// The `count` words from the slot `source` on come into the slots from `destination` on.
+    MoveWords {
+        destination: usize,
+        source: usize,
+        count: usize,
+    },
     Unary {
         operator: UnaryOperator,
         destination: usize,
@@ -113,6 +119,18 @@ pub enum Instruction {
     },
     StoreGlobal {
         global: usize,
+        source: Operand,
+    },
+    /// The word of memory so many bytes behind an address.
+    Load {
+        destination: usize,
+        address: Operand,
+        offset: u32,
+    },
+    /// The word of memory so many bytes behind an address is written.
+    Store {
+        address: Operand,
+        offset: u32,
         source: Operand,
     },
     /// The run ends, with an exception of this tag and this word that nothing caught.

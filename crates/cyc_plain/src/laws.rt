@@ -5,6 +5,9 @@ ghost use Rattle.std.specs.Prelude.{◌≡◌, ◌≢◌, ℕ, ◌+◌, ◌<◌,
 ghost use Rattle.std.specs.List.{AllByRecursion};
 ghost use Rattle.cyc_words.specs.Ending.{Ending, Full};
 ghost use Rattle.cyc_words.specs.Prefix.{IsPrefix};
+ghost use Rattle.cyc_store.specs.State.{StoreState};
+ghost use Rattle.cyc_store.specs.State as stores;
+ghost use Rattle.cyc_store.specs.New.{IsNew};
 ghost use Rattle.cyc_plain.specs.Program.{Program, CodePlace, routine_at, places_of};
 ghost use Rattle.cyc_plain.specs.declared.instruction.Instruction.{Instruction};
 ghost use Rattle.cyc_words.specs.Simulation.{Run, Path, IsDistinct};
@@ -37,8 +40,8 @@ pub fn always_goes_on()
 /// A run keeps its limits: a step that keeps them is the program's own, and one that does not ends the run with `Full`, with
 /// output and input as before it.
 pub fn limits_are_kept()
-    ensures starts { (program : Program) (pages calls : ℕ) (input : List ℕ) → 1 ≤ pages → 1 ≤ calls
-        → is_within pages calls (start program input) ≡ true }
+    ensures starts { (program : Program) (pages calls : ℕ) (store : StoreState) (input : List ℕ) → IsNew pages store → 1 ≤ pages → 1 ≤ calls
+        → is_within pages calls (start program store input) ≡ true }
     ensures stays { (program : Program) (pages calls count : ℕ) (old new : State) → is_within pages calls old ≡ true
         → Run (machine program pages calls) count old new → is_within pages calls new ≡ true }
     ensures within { (program : Program) (pages calls : ℕ) (choice : Choice) (old : State) → is_within pages calls (step program choice old) ≡ true
@@ -49,15 +52,16 @@ pub fn limits_are_kept()
 
 /// A run of a well-formed program is never stuck but at a division by 0.
 pub fn only_division_is_stuck()
-    ensures { (program : Program) (pages calls count : ℕ) (input : List ℕ) (old new : State) → IsWellFormed program
-        → Run (machine program pages calls) count (start program input) old → status_of old ≡ simulation.Running
+    ensures { (program : Program) (pages calls count : ℕ) (store : StoreState) (input : List ℕ) (old new : State) → IsWellFormed program
+        → Run (machine program pages calls) count (start program store input) old → status_of old ≡ simulation.Running
         → Step program pages calls old new → status_of new ≡ simulation.Failed → DividesByZero program old }
 {}
 
-/// In a run of a program whose numbers are words, on an input of bytes, every value is a word.
+/// In a run of a program whose numbers are words, from a store of words and on an input of bytes, every value is a word.
 pub fn values_are_words()
-    ensures { (program : Program) (pages calls count : ℕ) (input : List ℕ) (new : State) → HasWords program
-        → AllByRecursion (λ b. b < 256) input → Run (machine program pages calls) count (start program input) new → HoldsWords new }
+    ensures { (program : Program) (pages calls count : ℕ) (store : StoreState) (input : List ℕ) (new : State) → HasWords program
+        → stores.AreWords store.memory → AllByRecursion (λ b. b < 256) input → Run (machine program pages calls) count (start program store input) new
+        → HoldsWords new }
 {}
 
 /// Where an instruction stands is one of the program's places.

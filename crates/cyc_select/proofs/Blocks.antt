@@ -1,22 +1,22 @@
 -- Blocks: safe instructions one behind another that write registers and leave memory as it is.
-use Rattle.std.proofs.Common.{◌≡◌, ◌≢◌, ℕ, ◌<◌, List, [], ◌∷◌, ◌++◌, refl, ap, ◌∙◌, arith}
+use Rattle.std.proofs.Common.{◌≡◌, ◌≢◌, ℕ, ◌<◌, List, [], ◌∷◌, ◌++◌, ap, ◌∙◌, arith}
 use Rattle.cyc_isa.specs.declared.instr.Instr.{Instr}
 use Rattle.cyc_machine.specs.declared.constants.TheConstants.{RETURN_ADDRESS}
 use Rattle.cyc_plain.specs.State.{Words}
 use Rattle.cyc_select.specs.declared.constants.TheConstants.{ZERO, FRAME, CALLS}
-use Rattle.cyc_select.proofs.Views.{does_r, does_w}
+use Rattle.cyc_select.proofs.Views.{Contents, does_r, does_w}
 use Rattle.cyc_select.proofs.Walks.{after_r, after_w, AreSafe, after_r-append, after_w-append}
 
 module _ (globals stack : ℕ) where
   -- Instructions that write one register: where they have been executed, a word is in this register, and any other is as before.
-  pub record Puts (is : List Instr) (r w : Words) (target at word : ℕ) : Type 0 where
+  pub record Puts (is : List Instr) (r : Words) (w : Contents) (target at word : ℕ) : Type 0 where
     pub safe : AreSafe globals stack is r w
     pub memory : after_w is r w ≡ w
     pub result : after_r is r w at ≡ word
     pub others : (n : ℕ) → n < 32 → n ≢ target → after_r is r w n ≡ r n
 
   -- instructions that leave what a call keeps
-  pub record Keeps (is : List Instr) (r w : Words) : Type 0 where
+  pub record Keeps (is : List Instr) (r : Words) (w : Contents) : Type 0 where
     pub safe : AreSafe globals stack is r w
     pub memory : after_w is r w ≡ w
     pub zero : after_r is r w ZERO ≡ r ZERO
@@ -31,7 +31,7 @@ module _ (globals stack : ℕ) where
     pub not_left : CALLS ≢ n
     pub not_back : RETURN_ADDRESS ≢ n
 
-  pub puts_keeps : (is : List Instr) (r w : Words) (target at word : ℕ) → IsScratch target → Puts is r w target at word → Keeps is r w
+  pub puts_keeps : (is : List Instr) (r : Words) (w : Contents) (target at word : ℕ) → IsScratch target → Puts is r w target at word → Keeps is r w
   puts_keeps is r w target at word scratch puts = record {
     safe = puts.safe;
     memory = puts.memory;
@@ -41,19 +41,16 @@ module _ (globals stack : ℕ) where
     back = puts.others RETURN_ADDRESS (omega arith) scratch.not_back;
   }
 
-  pub keeps_none : (r w : Words) → Keeps [] r w
-  keeps_none r w = record { safe = tt; memory = refl; zero = refl; base = refl; left = refl; back = refl }
-
   -- ---- one block behind another
 
-  pub safe_append : (is js : List Instr) (r w : Words) → AreSafe globals stack is r w → AreSafe globals stack js (after_r is r w) (after_w is r w) → AreSafe globals stack (is ++ js) r w
+  pub safe_append : (is js : List Instr) (r : Words) (w : Contents) → AreSafe globals stack is r w → AreSafe globals stack js (after_r is r w) (after_w is r w) → AreSafe globals stack (is ++ js) r w
   safe_append [] js r w first second = second
   safe_append (i ∷ is) js r w (one, rest) second = (one, safe_append is js (does_r i r w) (does_w i r w) rest second)
 
-  pub after_both : (is js : List Instr) (r w : Words) (n : ℕ) → after_r (is ++ js) r w n ≡ after_r js (after_r is r w) (after_w is r w) n
+  pub after_both : (is js : List Instr) (r : Words) (w : Contents) (n : ℕ) → after_r (is ++ js) r w n ≡ after_r js (after_r is r w) (after_w is r w) n
   after_both is js r w n = ap (λ (q : Words). q n) (after_r-append is js r w)
 
-  pub keeps_append : (is js : List Instr) (r w : Words) → Keeps is r w → Keeps js (after_r is r w) (after_w is r w) → Keeps (is ++ js) r w
+  pub keeps_append : (is js : List Instr) (r : Words) (w : Contents) → Keeps is r w → Keeps js (after_r is r w) (after_w is r w) → Keeps (is ++ js) r w
   keeps_append is js r w first second = record {
     safe = safe_append is js r w first.safe second.safe;
     memory = after_w-append is js r w ∙ (second.memory ∙ first.memory);

@@ -10,6 +10,7 @@ use Rattle.cyc_isa.specs.declared.instr.Instr.{Instr}
 use Rattle.cyc_isa.specs.declared.instr.BranchOp.TheVariants as branch
 use Rattle.cyc_isa.specs.Decoding.{register_of}
 use Rattle.cyc_machine.specs.State.{data_base, stack_end, globals_length, words_per_call}
+use Rattle.cyc_store.specs.State.{demand}
 use Rattle.cyc_plain.specs.declared.instruction.Instruction.TheVariants as plain
 use Rattle.cyc_plain.specs.Program.{Program, no_routine, routine_at}
 use Rattle.cyc_plain.specs.State as states
@@ -30,6 +31,7 @@ use Rattle.cyc_select.specs.Selection.{slot_offset, small, minus, store, add_imm
 use Rattle.cyc_select.proofs.Cells.{IsCell}
 use Rattle.cyc_select.proofs.Lines.{line_first}
 use Rattle.cyc_select.proofs.Operations.{add_small, take_small}
+use Rattle.cyc_select.proofs.Views.{Contents, written}
 use Rattle.cyc_select.proofs.Walks.{Stands, stands_front, stands_back, after_r, after_w, Walk, now_at, walk_end, walk_few, walk_block, walk_branch, walk_call, walk_full}
 use Rattle.cyc_select.proofs.Copies.{Copied, copied_all}
 use Rattle.cyc_select.proofs.Standing.{Holds, Chain, Standing, behind_line, lies, chain_kept, word_cell, return_cell, return_address, standing_return}
@@ -47,7 +49,7 @@ length-copies caller callee source slot (suc count) =
     e
 
 module _ (program : Program) (well : IsWellFormed program) (frames : List Frame) (fit : AreFrames program frames) (code : Labelled) (formed : IsFormed code) (addresses : ℕ → ℕ) (pages calls : ℕ) (few : calls ≤ 4096)
-    (lie : AreAddresses code addresses) (c : Configuration) (run : labelled.Configuration) (r w : Words) (base : ℕ)
+    (lie : AreAddresses code addresses) (c : Configuration) (run : labelled.Configuration) (r : Words) (w : Contents) (base : ℕ)
     (now : At program well frames fit code formed addresses pages calls few (instruction_line program c.active.function c.active.next) c.output c.input r w run)
     (s : Standing program frames addresses pages calls c r w base (r RETURN_ADDRESS) (suc (length c.frames)) c.active.slots)
     (callee arguments count result : ℕ) (at_i : instruction_at program (states.place_of (states.Running c)) ≡ Some (plain.Call callee arguments count result))
@@ -66,7 +68,7 @@ module _ (program : Program) (well : IsWellFormed program) (frames : List Frame)
   abbrev Goes : (least lo hi : ℕ) → State → Type 0
   Goes least lo hi t = Walk code formed addresses globals_length (words_per_call * calls) least lo hi c.output (Reached program well frames fit code formed addresses pages calls few c) t
 
-  abbrev AtLine : ℕ → (q m : Words) → labelled.Configuration → Type 0
+  abbrev AtLine : ℕ → (q : Words) (m : Contents) → labelled.Configuration → Type 0
   AtLine line q m d = At program well frames fit code formed addresses pages calls few line c.output c.input q m d
 
   abbrev entry : List Instr
@@ -101,7 +103,7 @@ module _ (program : Program) (well : IsWellFormed program) (frames : List Frame)
   full_step none =
       let choice_of : states.State = performed program zeros c (plain.Call callee arguments count result) in
       let deep : nat_le (suc (suc (length c.frames))) calls ≡ false = lt-leb (suc (suc (length c.frames))) calls (omega (arith, s.left, none)) in
-      let over : is_within pages calls (performed program zeros c (plain.Call callee arguments count result)) ≡ false = and_right (nat_le c.store.pages pages) _ deep in
+      let over : is_within pages calls (performed program zeros c (plain.Call callee arguments count result)) ≡ false = and_right (nat_le (demand c.store) pages) _ deep in
       let is : step program zeros (states.Running c) ≡ performed program zeros c (plain.Call callee arguments count result) = ap (executed program zeros c) at_i in (
         states.Ended Full c.output c.input,
         (zeros, zeros_allowed program (states.Running c), sym (limited-full pages calls (states.Running c) (step program zeros (states.Running c)) (ap (is_within pages calls) is ∙ over))),
@@ -143,7 +145,7 @@ module _ (program : Program) (well : IsWellFormed program) (frames : List Frame)
     abbrev r1 : Words
     r1 = after_r entry r w
 
-    abbrev w1 : Words
+    abbrev w1 : Contents
     w1 = after_w entry r w
 
     entered_left : r1 CALLS ≡ r CALLS - 1
@@ -154,12 +156,12 @@ module _ (program : Program) (well : IsWellFormed program) (frames : List Frame)
         ap (λ (x : ℕ). add_of x (sign_extended (minus (4 * its.words)))) s.base_is
         ∙ take_small base (4 * its.words) (omega (arith, here_lies.0)) (omega (arith, some)) (omega (arith, room)) (omega (arith, low_is, room, here_lies.1, s.deep))
 
-    saved : w1 ≡ put w (base + 4 * mine.return_address) (r RETURN_ADDRESS)
-    saved = ap (λ (a : ℕ). put w a (r RETURN_ADDRESS)) (return_address program well frames fit addresses pages calls few c r w base (r RETURN_ADDRESS) (suc (length c.frames)) c.active.slots s)
+    saved : w1 ≡ written w (base + 4 * mine.return_address) (r RETURN_ADDRESS)
+    saved = ap (λ (a : ℕ). written w a (r RETURN_ADDRESS)) (return_address program well frames fit addresses pages calls few c r w base (r RETURN_ADDRESS) (suc (length c.frames)) c.active.slots s)
 
     -- the caller stands as before, with its return address in its frame
     s1 : Standing program frames addresses pages calls c r w1 base (r RETURN_ADDRESS) (suc (length c.frames)) c.active.slots
-    s1 = subst (λ (x : Words). Standing program frames addresses pages calls c r x base (r RETURN_ADDRESS) (suc (length c.frames)) c.active.slots) (sym saved)
+    s1 = subst (λ (x : Contents). Standing program frames addresses pages calls c r x base (r RETURN_ADDRESS) (suc (length c.frames)) c.active.slots) (sym saved)
         (standing_return program well frames fit addresses pages calls few c r w base (r RETURN_ADDRESS) (suc (length c.frames)) c.active.slots s (r RETURN_ADDRESS))
 
     callee_cell : (word : ℕ) → word < its.words → IsCell globals_length (words_per_call * calls) (low + 4 * word)
@@ -181,7 +183,7 @@ module _ (program : Program) (well : IsWellFormed program) (frames : List Frame)
     abbrev r2 : Words
     r2 = after_r passed r1 w1
 
-    abbrev w2 : Words
+    abbrev w2 : Contents
     w2 = after_w passed r1 w1
 
     abbrev r3 : Words
@@ -189,7 +191,7 @@ module _ (program : Program) (well : IsWellFormed program) (frames : List Frame)
 
     -- what is in the new slots before they are written
     abbrev choice : Choice
-    choice = record { contents = λ (slot : ℕ). w2 (low + slot_offset its slot) }
+    choice = record { contents = λ (slot : ℕ). w2.words (low + slot_offset its slot) }
 
     abbrev entered : Configuration
     entered = record c {
@@ -200,20 +202,20 @@ module _ (program : Program) (well : IsWellFormed program) (frames : List Frame)
     line_is : here + 3 + 3 + length passed + 1 ≡ behind_line program c.active.function c.active.next callee arguments count result
     line_is = omega (arith, length-copies mine its arguments 0 count)
 
-    above_kept : (a : ℕ) → base ≤ a → w2 a ≡ w1 a
+    above_kept : (a : ℕ) → base ≤ a → w2.words a ≡ w1.words a
     above_kept a over = copied_now.outside a (inr over)
 
     own_chain : Chain program frames addresses w2 base (r RETURN_ADDRESS) c.active.function c.frames
     own_chain = chain_kept program frames fit addresses w1 w2 base (r RETURN_ADDRESS) c.active.function c.frames (λ a over. above_kept a (omega (arith, over))) s1.chain
 
-    saved_is : w2 (base + 4 * mine.return_address) ≡ r RETURN_ADDRESS
-    saved_is = above_kept (base + 4 * mine.return_address) (omega arith) ∙ (ap (λ (m : Words). m (base + 4 * mine.return_address)) saved ∙ put-same w (base + 4 * mine.return_address) (r RETURN_ADDRESS))
+    saved_is : w2.words (base + 4 * mine.return_address) ≡ r RETURN_ADDRESS
+    saved_is = above_kept (base + 4 * mine.return_address) (omega arith) ∙ (ap (λ (m : Contents). m.words (base + 4 * mine.return_address)) saved ∙ put-same w.words (base + 4 * mine.return_address) (r RETURN_ADDRESS))
 
     new_holds : Holds program frames callee low w2 (copied c.active.slots arguments count choice.contents 0)
     new_holds slot below = elim (cases_lt slot count) [
       | inl argument ↦
           let zero_slot : slot ≡ 0 + slot = omega arith in
-          ap (λ (x : ℕ). w2 (low + slot_offset its x)) zero_slot
+          ap (λ (x : ℕ). w2.words (low + slot_offset its x)) zero_slot
           ∙ (copied_now.inside slot argument
           ∙ (s1.holds (arguments + slot) (omega (arith, argument, in_range.arguments_in_range))
           ∙ sym (ap (copied c.active.slots arguments count choice.contents 0) zero_slot ∙ copied-inside c.active.slots choice.contents arguments count 0 slot argument)))
@@ -231,7 +233,7 @@ module _ (program : Program) (well : IsWellFormed program) (frames : List Frame)
       ap addresses line_is,
       subst (λ (b : ℕ). Holds program frames c.active.function b w2 c.active.slots) (sym low_is)
           (λ slot below. above_kept (base + slot_offset mine slot) (omega arith) ∙ s1.holds slot below),
-      subst (λ (b : ℕ). Chain program frames addresses w2 b (w2 (b + 4 * mine.return_address)) c.active.function c.frames) (sym low_is)
+      subst (λ (b : ℕ). Chain program frames addresses w2 b (w2.words (b + 4 * mine.return_address)) c.active.function c.frames) (sym low_is)
           (subst (λ (x : ℕ). Chain program frames addresses w2 base x c.active.function c.frames) (sym saved_is) own_chain),
     )
 
@@ -246,6 +248,7 @@ module _ (program : Program) (well : IsWellFormed program) (frames : List Frame)
       chain = new_chain;
       globals = λ global below. copied_now.outside (data_base + 4 * global) (inl (omega (arith, below, well.globals, low_is, room, here_lies.1, deeper))) ∙ s1.globals global below;
       input = s.input;
+      store = copied_now.store ∙ s1.store;
       paged = s.paged;
     }
       where

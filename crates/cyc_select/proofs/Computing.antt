@@ -28,13 +28,13 @@ use Rattle.cyc_select.proofs.Cells.{IsCell}
 use Rattle.cyc_select.proofs.Halves.{fits_is, zero_is}
 use Rattle.cyc_select.proofs.Operations.{two_halves, zero_test, not_zero_test}
 use Rattle.cyc_select.proofs.Plans.{operation_result, outcome_result, operation_word, plan_word}
-use Rattle.cyc_select.proofs.Views.{IsWritable}
+use Rattle.cyc_select.proofs.Views.{Contents, IsWritable}
 use Rattle.cyc_select.proofs.Walks.{after_r, after_w}
 
 module _ (globals stack : ℕ) where
   -- ---- words
 
-  pub word_puts : (q m : Words) (target word : ℕ) → q ZERO ≡ 0 → IsWritable (target % 32) → IsWord word → Puts globals stack (word_code target word) q m (target % 32) (target % 32) word
+  pub word_puts : (q : Words) (m : Contents) (target word : ℕ) → q ZERO ≡ 0 → IsWritable (target % 32) → IsWord word → Puts globals stack (word_code target word) q m (target % 32) (target % 32) word
   word_puts q m target word zero writable fits = go (fits_signed word) (nat_lt word (2 ^ 16)) (word % 2 ^ 16 == 0) refl refl
     where
       upper : ℕ
@@ -76,23 +76,23 @@ module _ (globals stack : ℕ) where
   -- ---- operands
 
   -- an operand is a word, or the word of a slot that lies where it can be read
-  abbrev pub IsHeld : Frame → (base : ℕ) → (w slots : Words) → Operand → Type 0
+  abbrev pub IsHeld : Frame → (base : ℕ) → (w : Contents) (slots : Words) → Operand → Type 0
   IsHeld frame base w slots (operands.Slot number) =
-      IsCell globals stack (memory_address base (slot_offset frame number)) × (w (memory_address base (slot_offset frame number)) ≡ slots number)
+      IsCell globals stack (memory_address base (slot_offset frame number)) × (w.words (memory_address base (slot_offset frame number)) ≡ slots number)
   IsHeld frame base w slots (operands.Word word) = IsWord word
 
   -- from registers and memory on, where the frame lies as before
-  module _ (frame : Frame) (base : ℕ) (w slots : Words) (q m : Words) (zero : q ZERO ≡ 0) (same : q FRAME ≡ base) (memory : m ≡ w) where
+  module _ (frame : Frame) (base : ℕ) (w : Contents) (slots : Words) (q : Words) (m : Contents) (zero : q ZERO ≡ 0) (same : q FRAME ≡ base) (memory : m ≡ w) where
     pub load_puts : (target : ℕ) → IsWritable (target % 32) → (o : Operand) → IsHeld frame base w slots o
         → Puts globals stack (load_code frame target o) q m (target % 32) (target % 32) (operand_word slots o)
     load_puts target writable (operands.Slot number) held = record {
       safe = ((writable, subst (λ (b : ℕ). IsCell globals stack (memory_address b (slot_offset frame number))) (sym same) held.0), tt);
       memory = refl;
       result =
-          put-same q (target % 32) (m (memory_address (q FRAME) (slot_offset frame number)))
-          ∙ (ap (λ (x : Words). x (memory_address (q FRAME) (slot_offset frame number))) memory
-          ∙ (ap (λ (b : ℕ). w (memory_address b (slot_offset frame number))) same ∙ held.1));
-      others = λ n below other. put-other q (target % 32) n (m (memory_address (q FRAME) (slot_offset frame number))) other;
+          put-same q (target % 32) (m.words (memory_address (q FRAME) (slot_offset frame number)))
+          ∙ (ap (λ (x : Contents). x.words (memory_address (q FRAME) (slot_offset frame number))) memory
+          ∙ (ap (λ (b : ℕ). w.words (memory_address b (slot_offset frame number))) same ∙ held.1));
+      others = λ n below other. put-other q (target % 32) n (m.words (memory_address (q FRAME) (slot_offset frame number))) other;
     }
     load_puts target writable (operands.Word word) held = word_puts q m target word zero writable held
 
@@ -109,7 +109,7 @@ module _ (globals stack : ℕ) where
   -- ---- two operands
 
   -- both words are in registers
-  pub record AreLoaded (is : List Instr) (q m : Words) (left right a b : ℕ) : Type 0 where
+  pub record AreLoaded (is : List Instr) (q : Words) (m : Contents) (left right a b : ℕ) : Type 0 where
     pub keeps : Keeps globals stack is q m
     pub left_is : after_r is q m (left % 32) ≡ a
     pub right_is : after_r is q m (right % 32) ≡ b
@@ -160,7 +160,7 @@ module _ (globals stack : ℕ) where
       put-other (put (put q 32 high) 33 low) FIRST n word other
       ∙ (put-other (put q 32 high) 33 n low (not_high n 33 below (omega arith)) ∙ put-other q 32 n high (not_high n 32 below (omega arith)))
 
-  operation_puts : (o : Operation) (q m : Words) (left right : ℕ) → IsComputable o (q (left % 32)) (q (right % 32))
+  operation_puts : (o : Operation) (q : Words) (m : Contents) (left right : ℕ) → IsComputable o (q (left % 32)) (q (right % 32))
       → Puts globals stack (operation_code o left right) q m FIRST FIRST (operation_result o (q (left % 32)) (q (right % 32)))
   operation_puts (operations.Arithmetic op) q m left right fine =
       record { safe = (refl, tt); memory = refl; result = refl; others = λ n below other. put-other q FIRST n _ other }
@@ -195,7 +195,7 @@ module _ (globals stack : ℕ) where
     others = λ n below other. kept q n _ _ _ below other;
   }
 
-  outcome_puts : (o : Outcome) (q m : Words) → q ZERO ≡ 0 → Puts globals stack (outcome_code o) q m FIRST FIRST (outcome_result o (q FIRST))
+  outcome_puts : (o : Outcome) (q : Words) (m : Contents) → q ZERO ≡ 0 → Puts globals stack (outcome_code o) q m FIRST FIRST (outcome_result o (q FIRST))
   outcome_puts outcomes.AsItIs q m zero = record { safe = tt; memory = refl; result = refl; others = λ n below other. refl }
   outcome_puts outcomes.WhetherZero q m zero =
       record { safe = (refl, tt); memory = refl; result = zero_test (q FIRST); others = λ n below other. put-other q FIRST n _ other }
@@ -211,12 +211,12 @@ module _ (globals stack : ℕ) where
       ap (λ (x : ℕ). add_of x (sign_extended 65535)) zero ∙ (ap (add_of 0) (sign_extended_high 65535 (omega arith) (omega arith)) ∙ refl)
 
   -- the first operand's register has a word
-  pub record Leaves (is : List Instr) (q m : Words) (word : ℕ) : Type 0 where
+  pub record Leaves (is : List Instr) (q : Words) (m : Contents) (word : ℕ) : Type 0 where
     pub keeps : Keeps globals stack is q m
     pub result : after_r is q m FIRST ≡ word
 
   -- from registers and memory on, where the frame lies as before
-  module _ (frame : Frame) (base : ℕ) (w slots : Words) (q m : Words) (zero : q ZERO ≡ 0) (same : q FRAME ≡ base) (memory : m ≡ w) where
+  module _ (frame : Frame) (base : ℕ) (w : Contents) (slots : Words) (q : Words) (m : Contents) (zero : q ZERO ≡ 0) (same : q FRAME ≡ base) (memory : m ≡ w) where
     pub operands_put : (left right : Operand) → IsHeld frame base w slots left → IsHeld frame base w slots right
         → AreLoaded (operands_code frame left right) q m (operand_register FIRST left) (operand_register SECOND right) (operand_word slots left) (operand_word slots right)
     operands_put left right left_held right_held =

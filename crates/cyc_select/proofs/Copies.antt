@@ -10,15 +10,17 @@ use Rattle.cyc_frame.specs.declared.frame.Frame.{Frame}
 use Rattle.cyc_select.specs.Selection.{slot_offset, copies}
 use Rattle.cyc_select.proofs.Cells.{IsCell}
 use Rattle.cyc_select.proofs.Operations.{address_at}
+use Rattle.cyc_select.proofs.Views.{Contents, written}
 use Rattle.cyc_select.proofs.Walks.{after_r, after_w, AreSafe}
 
 -- what the copies do to registers and memory
-pub record Copied (globals stack : ℕ) (caller callee : Frame) (low base source slot count : ℕ) (q m : Words) : Type 0 where
+pub record Copied (globals stack : ℕ) (caller callee : Frame) (low base source slot count : ℕ) (q : Words) (m : Contents) : Type 0 where
   pub safe : AreSafe globals stack (copies caller callee source slot count) q m
   pub kept : (n : ℕ) → n ≢ FIRST → after_r (copies caller callee source slot count) q m n ≡ q n
-  pub outside : (a : ℕ) → a < low ⊎ base ≤ a → after_w (copies caller callee source slot count) q m a ≡ m a
-  pub before : (j : ℕ) → j < slot → after_w (copies caller callee source slot count) q m (low + slot_offset callee j) ≡ m (low + slot_offset callee j)
-  pub inside : (j : ℕ) → j < count → after_w (copies caller callee source slot count) q m (low + slot_offset callee (slot + j)) ≡ m (base + slot_offset caller (source + j))
+  pub outside : (a : ℕ) → a < low ⊎ base ≤ a → (after_w (copies caller callee source slot count) q m).words a ≡ m.words a
+  pub before : (j : ℕ) → j < slot → (after_w (copies caller callee source slot count) q m).words (low + slot_offset callee j) ≡ m.words (low + slot_offset callee j)
+  pub inside : (j : ℕ) → j < count → (after_w (copies caller callee source slot count) q m).words (low + slot_offset callee (slot + j)) ≡ m.words (base + slot_offset caller (source + j))
+  pub store : (after_w (copies caller callee source slot count) q m).store ≡ m.store
 
 -- Two frames, one right below the other; both lie in the stack.
 module _ (globals stack : ℕ) (caller callee : Frame) (caller_slots callee_slots : ℕ) (low base : ℕ) (above : low + 4 * callee.words ≡ base)
@@ -39,25 +41,26 @@ module _ (globals stack : ℕ) (caller callee : Frame) (caller_slots callee_slot
       ap (λ (x : ℕ). memory_address x (slot_offset callee slot)) is_low
       ∙ address_at low (slot_offset callee slot) (omega (arith, small, callee_inside slot below)) (omega (arith, above, word, callee_inside slot below))
 
-  pub copied_all : (source slot count : ℕ) (q m : Words) → q FRAME ≡ low → source + count ≤ caller_slots → slot + count ≤ callee_slots → Copied globals stack caller callee low base source slot count q m
+  pub copied_all : (source slot count : ℕ) (q : Words) (m : Contents) → q FRAME ≡ low → source + count ≤ caller_slots → slot + count ≤ callee_slots → Copied globals stack caller callee low base source slot count q m
   copied_all source slot zero q m is_low source_fits slot_fits = record {
     safe = tt;
     kept = λ n other. refl;
     outside = λ a where_to. refl;
     before = λ j below. refl;
     inside = λ j below. absurd (omega (arith, below));
+    store = refl;
   }
   copied_all source slot (suc count) q m is_low source_fits slot_fits =
       let source_below : source < caller_slots = omega (arith, source_fits) in
       let slot_below : slot < callee_slots = omega (arith, slot_fits) in
-      let value : ℕ = m (memory_address (q FRAME) (4 * callee.words + slot_offset caller source)) in
-      let q1 : Words = put q FIRST (m (memory_address (q FRAME) (4 * callee.words + slot_offset caller source))) in
-      let m1 : Words = put m (memory_address (q FRAME) (slot_offset callee slot)) (m (memory_address (q FRAME) (4 * callee.words + slot_offset caller source))) in
+      let value : ℕ = m.words (memory_address (q FRAME) (4 * callee.words + slot_offset caller source)) in
+      let q1 : Words = put q FIRST (m.words (memory_address (q FRAME) (4 * callee.words + slot_offset caller source))) in
+      let m1 : Contents = written m (memory_address (q FRAME) (slot_offset callee slot)) (m.words (memory_address (q FRAME) (4 * callee.words + slot_offset caller source))) in
       let rest = copied_all (suc source) (suc slot) count q1 m1 is_low (omega (arith, source_fits)) (omega (arith, slot_fits)) in
       let to = to_callee q slot is_low slot_below in
       let from = from_caller q source is_low source_below in
-      let m1_is : (a : ℕ) → m1 a ≡ put m (low + slot_offset callee slot) (m (base + slot_offset caller source)) a =
-      λ a. ap (λ (x : ℕ). put m x (m (memory_address (q FRAME) (4 * callee.words + slot_offset caller source))) a) to ∙ ap (λ (x : ℕ). put m (low + slot_offset callee slot) (m x) a) from in
+      let m1_is : (a : ℕ) → m1.words a ≡ put m.words (low + slot_offset callee slot) (m.words (base + slot_offset caller source)) a =
+      λ a. ap (λ (x : ℕ). put m.words x (m.words (memory_address (q FRAME) (4 * callee.words + slot_offset caller source))) a) to ∙ ap (λ (x : ℕ). put m.words (low + slot_offset callee slot) (m.words x) a) from in
       let inside_callee = callee_inside slot slot_below in
       record {
         safe = (
@@ -65,35 +68,36 @@ module _ (globals stack : ℕ) (caller callee : Frame) (caller_slots callee_slot
           (subst (IsCell globals stack) (sym to) (callee_cell slot slot_below), rest.safe),
         );
         kept = λ n other. rest.kept n other ∙ put-other q FIRST n value other;
-        outside = λ a where_to. rest.outside a where_to ∙ (m1_is a ∙ put-other m (low + slot_offset callee slot) a (m (base + slot_offset caller source)) (out_of slot inside_callee a where_to));
+        outside = λ a where_to. rest.outside a where_to ∙ (m1_is a ∙ put-other m.words (low + slot_offset callee slot) a (m.words (base + slot_offset caller source)) (out_of slot inside_callee a where_to));
         before = λ j below.
             rest.before j (omega (arith, below))
             ∙ (m1_is (low + slot_offset callee j)
-            ∙ put-other m (low + slot_offset callee slot) (low + slot_offset callee j) (m (base + slot_offset caller source))
+            ∙ put-other m.words (low + slot_offset callee slot) (low + slot_offset callee j) (m.words (base + slot_offset caller source))
             (λ e. absurd (omega (arith, below, apart j slot (omega (arith, below, slot_below)) slot_below (omega (arith, e))))));
         inside = inside_at source slot count q1 m1 m rest (λ a. m1_is a) slot_below;
+        store = rest.store;
       }
     where
       out_of : (slot : ℕ) → slot_word callee slot < callee.words → (a : ℕ) → a < low ⊎ base ≤ a → a ≢ low + slot_offset callee slot
       out_of slot fits a (inl below) same = omega (arith, below, same)
       out_of slot fits a (inr over) same = omega (arith, over, same, above, fits)
 
-      inside_at : (source slot count : ℕ) (q1 m1 m : Words) → Copied globals stack caller callee low base (suc source) (suc slot) count q1 m1
-          → ((a : ℕ) → m1 a ≡ put m (low + slot_offset callee slot) (m (base + slot_offset caller source)) a) → slot < callee_slots
-          → (j : ℕ) → j < suc count → after_w (copies caller callee (suc source) (suc slot) count) q1 m1 (low + slot_offset callee (slot + j)) ≡ m (base + slot_offset caller (source + j))
+      inside_at : (source slot count : ℕ) (q1 : Words) (m1 m : Contents) → Copied globals stack caller callee low base (suc source) (suc slot) count q1 m1
+          → ((a : ℕ) → m1.words a ≡ put m.words (low + slot_offset callee slot) (m.words (base + slot_offset caller source)) a) → slot < callee_slots
+          → (j : ℕ) → j < suc count → (after_w (copies caller callee (suc source) (suc slot) count) q1 m1).words (low + slot_offset callee (slot + j)) ≡ m.words (base + slot_offset caller (source + j))
       inside_at source slot count q1 m1 m rest m1_is slot_below zero below =
           let here : slot + 0 ≡ slot = omega arith in
           let there : source ≡ source + 0 = omega arith in
-          ap (λ (x : ℕ). after_w (copies caller callee (suc source) (suc slot) count) q1 m1 (low + slot_offset callee x)) here
+          ap (λ (x : ℕ). (after_w (copies caller callee (suc source) (suc slot) count) q1 m1).words (low + slot_offset callee x)) here
           ∙ (rest.before slot (omega arith)
           ∙ (m1_is (low + slot_offset callee slot)
-          ∙ (put-same m (low + slot_offset callee slot) (m (base + slot_offset caller source)) ∙ ap (λ (x : ℕ). m (base + slot_offset caller x)) there)))
+          ∙ (put-same m.words (low + slot_offset callee slot) (m.words (base + slot_offset caller source)) ∙ ap (λ (x : ℕ). m.words (base + slot_offset caller x)) there)))
       inside_at source slot count q1 m1 m rest m1_is slot_below (suc j) below =
           let here : slot + suc j ≡ suc slot + j = omega arith in
           let there : suc source + j ≡ source + suc j = omega arith in
-          ap (λ (x : ℕ). after_w (copies caller callee (suc source) (suc slot) count) q1 m1 (low + slot_offset callee x)) here
+          ap (λ (x : ℕ). (after_w (copies caller callee (suc source) (suc slot) count) q1 m1).words (low + slot_offset callee x)) here
           ∙ (rest.inside j (omega (arith, below))
           ∙ (m1_is (base + slot_offset caller (suc source + j))
-          ∙ (put-other m (low + slot_offset callee slot) (base + slot_offset caller (suc source + j)) (m (base + slot_offset caller source))
+          ∙ (put-other m.words (low + slot_offset callee slot) (base + slot_offset caller (suc source + j)) (m.words (base + slot_offset caller source))
           (out_of slot (callee_inside slot slot_below) (base + slot_offset caller (suc source + j)) (inr (omega arith)))
-          ∙ ap (λ (x : ℕ). m (base + slot_offset caller x)) there)))
+          ∙ ap (λ (x : ℕ). m.words (base + slot_offset caller x)) there)))

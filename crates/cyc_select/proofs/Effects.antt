@@ -27,7 +27,7 @@ use Rattle.cyc_plain.specs.State.{Words}
 use Rattle.cyc_select.specs.Machine.{Configuration, State, Running, core_of, memory_of, machine_of, world_of, from_world, settled, Performs, word_in}
 use Rattle.cyc_select.specs.Machine as labelled
 use Rattle.cyc_select.proofs.Cells.{IsCell, cell, place_of-data, place_of-stack}
-use Rattle.cyc_select.proofs.Views.{View, does_r, does_w, IsSafe, moved, view_put, view_product, view_store}
+use Rattle.cyc_select.proofs.Views.{Contents, View, does_r, does_w, IsSafe, moved, view_put, view_product, view_store}
 
 -- what is performed without an event leaves this
 performs_to : (c : Configuration) (i : Instr) (left : machines.State) (next : State) → executes (machine_of c) i ≡ Does Ran left → left.phase ≡ phases.Running
@@ -57,7 +57,7 @@ divides a b nonzero least = or_from (b == 0) (a == 2 ^ 31 && b == 2 ^ 32 - 1) (n
 ])
 
 -- a cell has a place that can be written
-module _ (globals stack : ℕ) (c : Configuration) (r w : Words) (view : View globals stack c r w) where
+module _ (globals stack : ℕ) (c : Configuration) (r : Words) (w : Contents) (view : View globals stack c r w) where
   stands : (a : ℕ) → IsCell globals stack a → (is_nowhere (place_of (memory_of c) a) ≡ false) × (is_dead (memory_of c) (place_of (memory_of c) a) ≡ false) × (is_text (place_of (memory_of c) a) ≡ false)
   stands a (inl (aligned, from, below)) =
       let there = place_of-data c.globals c.stack c.store a (aligned, from, omega (arith, below, view.data_words)) in
@@ -122,7 +122,7 @@ module _ (globals stack : ℕ) (c : Configuration) (r w : Words) (view : View gl
   moved_view (LoadUpper target half) safe =
       view_put globals stack c r w view target.number (load_upper_result half) (load_upper_result half) (c.line + 1) target.in_range safe refl
   moved_view (Memory LoadWord target base offset) (writable, at) =
-      view_put globals stack c r w view target.number (cell (memory_of c) (memory_address (word_in c base.number) offset)) (w (memory_address (r base.number) offset)) (c.line + 1) target.in_range writable
+      view_put globals stack c r w view target.number (cell (memory_of c) (memory_address (word_in c base.number) offset)) (w.words (memory_address (r base.number) offset)) (c.line + 1) target.in_range writable
       (ap (cell (memory_of c)) (same_address base offset) ∙ view.mem (memory_address (r base.number) offset) at)
   moved_view (Memory StoreWord source base offset) at =
       view_store globals stack c r w view (memory_address (r base.number) offset) (memory_address (word_in c base.number) offset) (word_in c source.number) (r source.number) (c.line + 1) at (same_address base offset) (view.reg source.number source.in_range)

@@ -5,16 +5,6 @@ use Rattle.cyc_frame.specs.declared.frame.Frame.{Frame}
 use Rattle.cyc_select.specs.declared.code.Line.{Line}
 use Rattle.cyc_select.specs.Selection.{load, store_slot, slot_offset, copies, ordinary}
 
--- pieces one behind another
-pub in_four : {A : Type 0} (old a b c d first second third new : List A) → first ≡ old ++ a → second ≡ first ++ b → third ≡ second ++ c → new ≡ third ++ d
-    → new ≡ old ++ (a ++ (b ++ (c ++ d)))
-in_four {A} old a b c d first second third new one two three four =
-    four
-    ∙ ap (λ (l : List A). l ++ d) (three ∙ ap (λ (l : List A). l ++ c) (two ∙ ap (λ (l : List A). l ++ b) one))
-    ∙ append_assoc ((old ++ a) ++ b) c d
-    ∙ append_assoc (old ++ a) b (c ++ d)
-    ∙ append_assoc old a (b ++ (c ++ d))
-
 -- one argument more is copied
 pub copied : (caller callee : Frame) (source slot count : ℕ) (all old new : List Line) → slot < count
     → new ≡ old ++ ordinary (load FIRST (4 * callee.words + slot_offset caller (source + slot)) ∷ store_slot callee FIRST slot ∷ [])

@@ -11,7 +11,6 @@ use Rattle.cyc_machine.specs.State.{data_base}
 use Rattle.cyc_plain.specs.declared.instruction.Instruction.{Instruction}
 use Rattle.cyc_plain.specs.declared.instruction.Instruction.TheVariants as plain
 use Rattle.cyc_plain.specs.declared.instruction.BinaryOperator.{BinaryOperator}
-use Rattle.cyc_plain.specs.declared.instruction.Comparison.{Comparison}
 use Rattle.cyc_plain.specs.declared.instruction.UnaryOperator.{UnaryOperator}
 use Rattle.cyc_plain.specs.declared.instruction.Operand.{Operand}
 use Rattle.cyc_plain.specs.declared.instruction.Operand.TheVariants as operands
@@ -37,12 +36,12 @@ use Rattle.cyc_select.specs.declared.plan.Outcome.TheVariants as outcomes
 use Rattle.cyc_select.specs.declared.plan.Plan.{Plan}
 use Rattle.cyc_select.specs.declared.plan.Test.{Test}
 use Rattle.cyc_select.specs.declared.plan.Test.TheVariants as tests
-use Rattle.cyc_select.specs.Plans.{comparison_plan, unary_plan, binary_plan, test_of}
+use Rattle.cyc_select.specs.Plans.{unary_plan, binary_plan, test_of}
 use Rattle.cyc_select.specs.Labelled.{Labelled, IsFormed, IsFormedLine}
 use Rattle.cyc_select.specs.Numbers.{fits_signed, is_zero_word}
 use Rattle.cyc_select.specs.Selection.{slot_offset, ordinary, copies, load_all, store_all, store_slot, pop_frame, load_upper, constant, or_immediate, is_tested, part_of, plan_count, small, syscall, add_immediate, minus, upper_of_global, at_global, word_code, load_code, load_count, operand_code, operand_register, operands_code, operation_code, outcome_code, operation_of, computed_code, plan_code, test_code, branch_line, quotient_code, loads_code, divided_code, divide_code, result_registers, ending_code, ending_count, operator_code, operator_count, body, behind, body_count, count_of, function_count, functions_count, function_line, instruction_line, code_lines, function_lines, start_lines, select_of}
 use Rattle.cyc_select.proofs.Lines.{line_first}
-use Rattle.cyc_select.proofs.Plans.{AllOfTest, all_comparison, all_unary, all_binary, all_test}
+use Rattle.cyc_select.proofs.Plans.{AllOfTest, all_unary, all_binary, all_test}
 use Rattle.cyc_select.proofs.Returns.{loaded, length_registers}
 use Rattle.cyc_select.proofs.Structure.{length_body, stand}
 use Rattle.cyc_select.proofs.Walks.{Stands}
@@ -117,6 +116,9 @@ count_some program function (plain.ReadByte destination) = omega arith
 count_some program function (plain.WriteByte source) = omega arith
 count_some program function (plain.LoadGlobal destination global) = omega arith
 count_some program function (plain.StoreGlobal global source) = omega arith
+count_some program function (plain.MoveWords destination source count) = omega arith
+count_some program function (plain.Load destination address offset) = omega arith
+count_some program function (plain.Store address offset source) = omega arith
 count_some program function (plain.Uncaught tag value) = omega arith
 
 module _ (program : Program) (well : IsWellFormed program) (words : HasWords program) (frames : List Frame) (fit : AreFrames program frames) where
@@ -261,9 +263,6 @@ module _ (program : Program) (well : IsWellFormed program) (words : HasWords pro
     zero_there : IsThere (operands.Word 0)
     zero_there = (tt, omega arith)
 
-    comparison_there : (comparison : Comparison) (left right : Operand) → IsThere left → IsThere right → IsPlanThere (comparison_plan comparison left right)
-    comparison_there = all_comparison IsThere zero_there IsPlanThere (λ op left right outcome l r. (l, r, tt)) (λ op left half outcome fits l. (l, zero_there, fits))
-
     unary_there : (operator : UnaryOperator) (operand : Operand) → IsThere operand → IsPlanThere (unary_plan operator operand)
     unary_there = all_unary IsThere zero_there IsPlanThere (λ op left right outcome l r. (l, r, tt)) (λ op left half outcome fits l. (l, zero_there, fits))
 
@@ -361,6 +360,9 @@ module _ (program : Program) (well : IsWellFormed program) (words : HasWords pro
     body_formed (plain.StoreGlobal global source) n (a, b) fits long =
         formed_append (operand_code frame FIRST source) (upper_of_global global ∷ at_global StoreWord (operand_register FIRST source) global ∷ []) (operand_formed FIRST source (b, fits))
         ((refl, upper_fits global a), ((refl, low_fits (data_base + 4 * global)), tt))
+    body_formed (plain.MoveWords destination source count) n in_range fits long = absurd in_range
+    body_formed (plain.Load destination address offset) n in_range fits long = absurd in_range
+    body_formed (plain.Store address offset source) n in_range fits long = absurd in_range
     body_formed (plain.Uncaught tag value) n below (tag_fits, value_fits) long =
         formed_append (word_code ARGUMENT tag) (load_code frame SECOND_ARGUMENT value ++ small SERVICE END_UNCAUGHT ∷ syscall ∷ []) (word_formed ARGUMENT tag tag_fits)
         (formed_append (load_code frame SECOND_ARGUMENT value) (small SERVICE END_UNCAUGHT ∷ syscall ∷ []) (load_formed SECOND_ARGUMENT value (below, value_fits)) ((refl, (omega arith)), ((refl, tt), tt)))
@@ -379,6 +381,9 @@ module _ (program : Program) (well : IsWellFormed program) (words : HasWords pro
     behind_formed (plain.WriteByte source) in_range = tt
     behind_formed (plain.LoadGlobal destination global) in_range = tt
     behind_formed (plain.StoreGlobal global source) in_range = tt
+    behind_formed (plain.MoveWords destination source count) in_range = absurd in_range
+    behind_formed (plain.Load destination address offset) in_range = absurd in_range
+    behind_formed (plain.Store address offset source) in_range = absurd in_range
     behind_formed (plain.Uncaught tag value) in_range = tt
 
   function_formed : (function n : ℕ) → function < length program.functions → n ≡ function_line program function → Formed (code_lines program frames function n (routine_at program function).code)

@@ -8,6 +8,7 @@ use Rattle.cyc_machine.specs.declared.constants.TheConstants.{RETURN_ADDRESS}
 use Rattle.cyc_words.specs.Word.{IsWord}
 use Rattle.cyc_isa.specs.Effect.{memory_address}
 use Rattle.cyc_machine.specs.State.{globals_length, words_per_call}
+use Rattle.cyc_store.specs.State.{demand}
 use Rattle.cyc_plain.specs.declared.instruction.Instruction.{Instruction}
 use Rattle.cyc_plain.specs.declared.instruction.Instruction.TheVariants as plain
 use Rattle.cyc_plain.specs.Program.{Program, routine_at}
@@ -23,6 +24,7 @@ use Rattle.cyc_select.specs.Machine as labelled
 use Rattle.cyc_select.specs.Machine.{State, Running, Ended}
 use Rattle.cyc_select.specs.Selection.{slot_offset, instruction_line, count_of}
 use Rattle.cyc_select.proofs.Lines.{line_next}
+use Rattle.cyc_select.proofs.Views.{Contents, written}
 use Rattle.cyc_select.proofs.Walks.{Now, now_at}
 use Rattle.cyc_select.proofs.Standing.{behind_line, Standing, slot_address, standing_registers, standing_at, standing_slot}
 
@@ -31,14 +33,14 @@ abbrev pub result_register : ℕ → ℕ
 result_register k = slice_index (2 ∷ 3 ∷ 5 ∷ []) k
 
 module _ (program : Program) (well : IsWellFormed program) (frames : List Frame) (fit : AreFrames program frames) (code : Labelled) (formed : IsFormed code) (addresses : ℕ → ℕ) (pages calls : ℕ) (few : calls ≤ 4096) where
-  abbrev pub At : ℕ → (out input : List ℕ) → (r w : Words) → labelled.Configuration → Type 0
+  abbrev pub At : ℕ → (out input : List ℕ) → (r : Words) (w : Contents) → labelled.Configuration → Type 0
   At line out input r w run = Now code formed addresses globals_length (words_per_call * calls) line out input r w run
 
   -- the instruction's own lines are next
   pub record Ready (c : Configuration) (t : State) : Type 0 where
     pub run : labelled.Configuration
     pub r : Words
-    pub w : Words
+    pub w : Contents
     pub base : ℕ
     pub is : t ≡ Running run
     pub now : At (instruction_line program c.active.function c.active.next) c.output c.input r w run
@@ -48,7 +50,7 @@ module _ (program : Program) (well : IsWellFormed program) (frames : List Frame)
   pub record Back (c : Configuration) (t : State) : Type 0 where
     pub run : labelled.Configuration
     pub r : Words
-    pub w : Words
+    pub w : Contents
     pub base : ℕ
     pub index : ℕ
     pub callee : ℕ
@@ -62,7 +64,7 @@ module _ (program : Program) (well : IsWellFormed program) (frames : List Frame)
     pub next : c.active.next ≡ index + 1
     pub call : instruction_at program (record { function = c.active.function; index = index }) ≡ Some (plain.Call callee arguments count result)
     pub now : At (behind_line program c.active.function index callee arguments count result) c.output c.input r w run
-    pub standing : Standing program frames addresses pages calls c r w base (w (base + 4 * (frame_at frames c.active.function).return_address)) (suc (suc (length c.frames))) waiting
+    pub standing : Standing program frames addresses pages calls c r w base (w.words (base + 4 * (frame_at frames c.active.function).return_address)) (suc (suc (length c.frames))) waiting
     pub returned : (k : ℕ) → k < (routine_at program callee).results → r (result_register k) ≡ values (first + k)
     pub slots : c.active.slots ≡ copied values first (routine_at program callee).results waiting result
 
@@ -75,8 +77,8 @@ module _ (program : Program) (well : IsWellFormed program) (frames : List Frame)
   abbrev pub Reached : Configuration → State → Type 0
   Reached c t = (next : states.State) × Step program pages calls (states.Running c) next × Matches next t
 
-  pub within : (d : Configuration) → d.store.pages ≤ pages → suc (length d.frames) ≤ calls → is_within pages calls (states.Running d) ≡ true
-  within d paged deep = and_from _ _ (le-leb d.store.pages pages paged) (le-leb (suc (length d.frames)) calls deep)
+  pub within : (d : Configuration) → demand d.store ≤ pages → suc (length d.frames) ≤ calls → is_within pages calls (states.Running d) ≡ true
+  within d paged deep = and_from _ _ (le-leb (demand d.store) pages paged) (le-leb (suc (length d.frames)) calls deep)
 
   -- by an instruction that stays within the limits
   pub reached : (c : Configuration) (choice : Choice) (i : Instruction) (next : states.State) (t : State) → IsAllowed program (states.Running c) choice
@@ -86,24 +88,24 @@ module _ (program : Program) (well : IsWellFormed program) (frames : List Frame)
       let keeps_step : is_within pages calls (step program choice (states.Running c)) ≡ true = ap (is_within pages calls) is ∙ keeps in
       (next, (choice, allowed, sym (limited-within pages calls (states.Running c) (step program choice (states.Running c)) keeps_step ∙ is)), matches)
 
-  module _ (c : Configuration) (i : Instruction) (at : instruction_at program (states.place_of (states.Running c)) ≡ Some i) (r w : Words) (base : ℕ)
+  module _ (c : Configuration) (i : Instruction) (at : instruction_at program (states.place_of (states.Running c)) ≡ Some i) (r : Words) (w : Contents) (base : ℕ)
       (s : Standing program frames addresses pages calls c r w base (r RETURN_ADDRESS) (suc (length c.frames)) c.active.slots) where
     -- An instruction that gives a word to a slot, and perhaps reads.
-    pub reached_gives : (destination word : ℕ) (input : List ℕ) (line : ℕ) (run : labelled.Configuration) (r' w' : Words)
+    pub reached_gives : (destination word : ℕ) (input : List ℕ) (line : ℕ) (run : labelled.Configuration) (r' : Words) (w' : Contents)
         → destination < (routine_at program c.active.function).slots
         → performed program zeros c i ≡ gives (record c { input = input }) destination word
         → AllByRecursion IsWord input
         → line ≡ instruction_line program c.active.function c.active.next + count_of program c.active.function i
         → r' 0 ≡ r 0 → r' FRAME ≡ r FRAME → r' CALLS ≡ r CALLS → r' RETURN_ADDRESS ≡ r RETURN_ADDRESS
-        → w' ≡ put w (memory_address (r FRAME) (slot_offset (frame_at frames c.active.function) destination)) word
+        → w' ≡ written w (memory_address (r FRAME) (slot_offset (frame_at frames c.active.function) destination)) word
         → At line c.output input r' w' run → Reached c (Running run)
-    reached_gives destination word input line run r' w' below does fine line_is zero_same base_same left_same back_same written now =
+    reached_gives destination word input line run r' w' below does fine line_is zero_same base_same left_same back_same puts now =
         let d : Configuration = record c { active = record c.active { next = c.active.next + 1; slots = put c.active.slots destination word }; input = input } in
         let address = slot_address program well frames fit addresses pages calls few c r w base (r RETURN_ADDRESS) (suc (length c.frames)) c.active.slots s destination below in
         let put_slot = standing_slot program well frames fit addresses pages calls few c r w base (r RETURN_ADDRESS) (suc (length c.frames)) c.active.slots s destination word below in
         let in_w' : Standing program frames addresses pages calls c r w' base (r RETURN_ADDRESS) (suc (length c.frames)) (put c.active.slots destination word) =
-        subst (λ (x : Words). Standing program frames addresses pages calls c r x base (r RETURN_ADDRESS) (suc (length c.frames)) (put c.active.slots destination word))
-        (sym (written ∙ ap (λ (a : ℕ). put w a word) address)) put_slot in
+        subst (λ (x : Contents). Standing program frames addresses pages calls c r x base (r RETURN_ADDRESS) (suc (length c.frames)) (put c.active.slots destination word))
+        (sym (puts ∙ ap (λ (a : ℕ). written w a word) address)) put_slot in
         let in_r' = standing_registers program well frames fit addresses pages calls few c r w' base (r RETURN_ADDRESS) (suc (length c.frames)) (put c.active.slots destination word) in_w' r' zero_same base_same left_same in
         let there = standing_at program well frames fit addresses pages calls few c r' w' base (r RETURN_ADDRESS) (suc (length c.frames)) (put c.active.slots destination word) in_r' d refl refl refl refl fine in
         let with_back = subst (λ (b : ℕ). Standing program frames addresses pages calls d r' w' base b (suc (length c.frames)) (put c.active.slots destination word)) (sym back_same) there in
@@ -120,7 +122,7 @@ module _ (program : Program) (well : IsWellFormed program) (frames : List Frame)
         }))
 
     -- an instruction that goes to a place of the same code, and may print
-    pub reached_at : (d : Configuration) (line : ℕ) (run : labelled.Configuration) (r' w' : Words)
+    pub reached_at : (d : Configuration) (line : ℕ) (run : labelled.Configuration) (r' : Words) (w' : Contents)
         → d.active.function ≡ c.active.function → d.active.slots ≡ c.active.slots → d.frames ≡ c.frames → d.globals ≡ c.globals → d.store ≡ c.store → d.input ≡ c.input
         → performed program zeros c i ≡ states.Running d
         → line ≡ instruction_line program d.active.function d.active.next
@@ -133,7 +135,7 @@ module _ (program : Program) (well : IsWellFormed program) (frames : List Frame)
         let with_slots = subst (λ (x : Words). Standing program frames addresses pages calls d r' w base (r RETURN_ADDRESS) (suc (length c.frames)) x) (sym slots_same) there in
         let with_back = subst (λ (b : ℕ). Standing program frames addresses pages calls d r' w base b (suc (length c.frames)) d.active.slots) (sym back_same) with_slots in
         let with_depth = subst (λ (fs : List states.Frame). Standing program frames addresses pages calls d r' w base (r' RETURN_ADDRESS) (suc (length fs)) d.active.slots) (sym frames_same) with_back in
-        let with_memory = subst (λ (x : Words). Standing program frames addresses pages calls d r' x base (r' RETURN_ADDRESS) (suc (length d.frames)) d.active.slots) (sym unchanged) with_depth in
+        let with_memory = subst (λ (x : Contents). Standing program frames addresses pages calls d r' x base (r' RETURN_ADDRESS) (suc (length d.frames)) d.active.slots) (sym unchanged) with_depth in
         reached c zeros i (states.Running d) (Running run) (zeros_allowed program (states.Running c)) at does
         (within d with_memory.paged with_memory.deep)
         (inl (record {

@@ -15,7 +15,7 @@ use Rattle.cyc_frame.specs.Layout.{IsFrame}
 use Rattle.cyc_frame.specs.declared.frame.Frame.{Frame}
 use Rattle.cyc_select.specs.declared.constants.TheConstants.{START_LINES}
 use Rattle.cyc_select.specs.Selection.{ending_count, count_of, function_count, functions_count, function_line, instruction_line, code_lines, function_lines}
-use Rattle.cyc_select.specs.Plans.{unary_plan, test_of}
+use Rattle.cyc_select.specs.Plans.{test_of}
 use Rattle.cyc_select.specs.Emission.{AreReached, AreFew, most_lines, instruction_lines, function_starts, AreReady, AreTables}
 use Rattle.cyc_select.proofs.Counts.{word_small, load_small, operand_small, unary_small, test_small, operator_small}
 
@@ -46,6 +46,9 @@ count_small program function few (plain.ReadByte destination) = omega arith
 count_small program function few (plain.WriteByte source) = omega (arith, load_small source)
 count_small program function few (plain.LoadGlobal destination global) = omega arith
 count_small program function few (plain.StoreGlobal global source) = omega (arith, operand_small source)
+count_small program function few (plain.MoveWords destination source count) = omega arith
+count_small program function few (plain.Load destination address offset) = omega arith
+count_small program function few (plain.Store address offset source) = omega arith
 count_small program function few (plain.Uncaught tag value) = omega (arith, word_small tag, load_small value)
 
 code_small : (program : Program) (function : ℕ) → AreFew program → (code : List Instruction) → sum_by (count_of program function) code ≤ sum_by instruction_size code

@@ -32,6 +32,7 @@ use Rattle.cyc_select.proofs.Calls.{length_ordinary}
 use Rattle.cyc_select.proofs.Cells.{IsCell}
 use Rattle.cyc_select.proofs.Lines.{line_next}
 use Rattle.cyc_select.proofs.Operations.{add_small}
+use Rattle.cyc_select.proofs.Views.{Contents, written}
 use Rattle.cyc_select.proofs.Walks.{Stands, stands_front, stands_back, after_r, after_w, AreSafe, Walk, now_at, now_is, walk_end, walk_few, walk_from, walk_block, walk_branch, walk_return, walk_returned}
 use Rattle.cyc_select.proofs.Standing.{Chain, Standing, behind_line, lies, slot_address, slot_cell, slot_word_is, return_cell, return_address, standing_slot}
 use Rattle.cyc_select.proofs.Matches.{At, Ready, Back, Reached, reached, within, result_register}
@@ -49,7 +50,7 @@ length_loaded frame value (suc (suc zero)) few = refl
 length_loaded frame value (suc (suc (suc zero))) few = refl
 length_loaded frame value (suc (suc (suc (suc count)))) few = absurd (omega (arith, few))
 
-record AreLoaded (globals stack : ℕ) (frame : Frame) (value count : ℕ) (r w slots : Words) : Type 0 where
+record AreLoaded (globals stack : ℕ) (frame : Frame) (value count : ℕ) (r : Words) (w : Contents) (slots : Words) : Type 0 where
   pub safe : AreSafe globals stack (loaded frame value count) r w
   pub zero_same : after_r (loaded frame value count) r w 0 ≡ r 0
   pub base_moved : after_r (loaded frame value count) r w FRAME ≡ add_of (r FRAME) (sign_extended (4 * frame.words))
@@ -58,11 +59,11 @@ record AreLoaded (globals stack : ℕ) (frame : Frame) (value count : ℕ) (r w 
   pub unchanged : after_w (loaded frame value count) r w ≡ w
   pub returned : (k : ℕ) → k < count → after_r (loaded frame value count) r w (result_register k) ≡ slots (value + k)
 
-module _ (globals stack : ℕ) (frame : Frame) (r w slots : Words) (value number : ℕ)
+module _ (globals stack : ℕ) (frame : Frame) (r : Words) (w : Contents) (slots : Words) (value number : ℕ)
     (cell : (slot : ℕ) → slot < number → IsCell globals stack (memory_address (r FRAME) (slot_offset frame slot)))
-    (word_is : (slot : ℕ) → slot < number → w (memory_address (r FRAME) (slot_offset frame slot)) ≡ slots slot) where
+    (word_is : (slot : ℕ) → slot < number → w.words (memory_address (r FRAME) (slot_offset frame slot)) ≡ slots slot) where
   abbrev word : ℕ → ℕ
-  word slot = w (memory_address (r FRAME) (slot_offset frame slot))
+  word slot = w.words (memory_address (r FRAME) (slot_offset frame slot))
 
   first_is : value < number → word value ≡ slots (value + 0)
   first_is below = word_is value below ∙ ap slots (let e : value ≡ value + 0 = omega arith in e)
@@ -128,7 +129,7 @@ module _ (globals stack : ℕ) (frame : Frame) (r w slots : Words) (value number
   are_loaded (suc (suc (suc (suc count)))) few fits = absurd (omega (arith, few))
 
 module _ (program : Program) (well : IsWellFormed program) (frames : List Frame) (fit : AreFrames program frames) (code : Labelled) (formed : IsFormed code) (addresses : ℕ → ℕ) (pages calls : ℕ) (few : calls ≤ 4096)
-    (lie : AreAddresses code addresses) (c : Configuration) (run : labelled.Configuration) (r w : Words) (base : ℕ)
+    (lie : AreAddresses code addresses) (c : Configuration) (run : labelled.Configuration) (r : Words) (w : Contents) (base : ℕ)
     (now : At program well frames fit code formed addresses pages calls few (instruction_line program c.active.function c.active.next) c.output c.input r w run)
     (s : Standing program frames addresses pages calls c r w base (r RETURN_ADDRESS) (suc (length c.frames)) c.active.slots)
     (value : ℕ) (at_i : instruction_at program (states.place_of (states.Running c)) ≡ Some (plain.Return value))
@@ -151,13 +152,13 @@ module _ (program : Program) (well : IsWellFormed program) (frames : List Frame)
   abbrev Goes : (least lo hi : ℕ) → State → Type 0
   Goes least lo hi t = Walk code formed addresses globals_length (words_per_call * calls) least lo hi c.output (Reached program well frames fit code formed addresses pages calls few c) t
 
-  abbrev AtLine : ℕ → (q m : Words) → labelled.Configuration → Type 0
+  abbrev AtLine : ℕ → (q : Words) (m : Contents) → labelled.Configuration → Type 0
   AtLine line q m d = At program well frames fit code formed addresses pages calls few line c.output c.input q m d
 
   cell : (slot : ℕ) → slot < (routine_at program c.active.function).slots → IsCell globals_length (words_per_call * calls) (memory_address (r FRAME) (slot_offset frame slot))
   cell slot below = slot_cell program well frames fit addresses pages calls few c r w base (r RETURN_ADDRESS) (suc (length c.frames)) c.active.slots s slot below
 
-  word_is : (slot : ℕ) → slot < (routine_at program c.active.function).slots → w (memory_address (r FRAME) (slot_offset frame slot)) ≡ c.active.slots slot
+  word_is : (slot : ℕ) → slot < (routine_at program c.active.function).slots → w.words (memory_address (r FRAME) (slot_offset frame slot)) ≡ c.active.slots slot
   word_is slot below = slot_word_is program well frames fit addresses pages calls few c r w base (r RETURN_ADDRESS) (suc (length c.frames)) c.active.slots s slot below
 
   -- ---- the end of the run
@@ -204,7 +205,7 @@ module _ (program : Program) (well : IsWellFormed program) (frames : List Frame)
       ∙ add_small base (4 * frame.words) (omega (arith, own.within, own.small)) (omega (arith, l.below_end))) in
       let deep : suc (suc (length waiting)) ≤ calls = subst (λ (fs : List states.Frame). suc (length fs) ≤ calls) under s.deep in
       let left : r CALLS + suc (suc (length waiting)) ≡ calls = subst (λ (fs : List states.Frame). r CALLS + suc (length fs) ≡ calls) under s.left in
-      let there : Standing program frames addresses pages calls next_state (after_r (loaded frame value results) r w) w above (w (above + 4 * (frame_at frames f.caller.function).return_address)) (suc (suc (length waiting))) f.caller.slots = record {
+      let there : Standing program frames addresses pages calls next_state (after_r (loaded frame value results) r w) w above (w.words (above + 4 * (frame_at frames f.caller.function).return_address)) (suc (suc (length waiting))) f.caller.slots = record {
         known = known;
         base_is = base_is;
         zero_is = load.zero_same ∙ s.zero_is;
@@ -214,6 +215,7 @@ module _ (program : Program) (well : IsWellFormed program) (frames : List Frame)
         chain = chain;
         globals = s.globals;
         input = s.input;
+        store = s.store;
         paged = s.paged;
       } in
       walk_few code formed addresses globals_length (words_per_call * calls) 1 (size + 1) line hi c.output _ (Running d) (omega arith)
@@ -244,7 +246,7 @@ module _ (program : Program) (well : IsWellFormed program) (frames : List Frame)
         is = refl;
         next = next;
         call = at;
-        now = subst (λ (m : Words). AtLine (behind_line program f.caller.function index c.active.function arguments count f.result) (after_r (loaded frame value results) r w) m g) load.unchanged returned;
+        now = subst (λ (m : Contents). AtLine (behind_line program f.caller.function index c.active.function arguments count f.result) (after_r (loaded frame value results) r w) m g) load.unchanged returned;
         standing = there;
         returned = load.returned;
         slots = refl;
@@ -347,10 +349,10 @@ no_slots from to source destination number = elim (cases_lt number destination) 
 
 module _ (program : Program) (well : IsWellFormed program) (frames : List Frame) (fit : AreFrames program frames) (addresses : ℕ → ℕ) (pages calls : ℕ) (few : calls ≤ 4096)
     (c : Configuration) (q : Words) (base back depth result first : ℕ) (values waiting : Words) where
-  abbrev StandsWith : (m slots : Words) → Type 0
+  abbrev StandsWith : (m : Contents) (slots : Words) → Type 0
   StandsWith m slots = Standing program frames addresses pages calls c q m base back depth slots
 
-  same_slots : (m slots slots' : Words) → ((slot : ℕ) → slots slot ≡ slots' slot) → StandsWith m slots → StandsWith m slots'
+  same_slots : (m : Contents) (slots slots' : Words) → ((slot : ℕ) → slots slot ≡ slots' slot) → StandsWith m slots → StandsWith m slots'
   same_slots m slots slots' same s = record {
     known = s.known;
     base_is = s.base_is;
@@ -361,6 +363,7 @@ module _ (program : Program) (well : IsWellFormed program) (frames : List Frame)
     chain = s.chain;
     globals = s.globals;
     input = s.input;
+    store = s.store;
     paged = s.paged;
   }
 
@@ -369,12 +372,12 @@ module _ (program : Program) (well : IsWellFormed program) (frames : List Frame)
   Given k [] = Unit {0}
   Given k (source ∷ sources) = (q (source % 32) ≡ values (first + k)) × Given (suc k) sources
 
-  record AreStored (slot k : ℕ) (sources : List ℕ) (m : Words) : Type 0 where
+  record AreStored (slot k : ℕ) (sources : List ℕ) (m : Contents) : Type 0 where
     pub safe : AreSafe globals_length (words_per_call * calls) (store_all (frame_at frames c.active.function) slot sources) q m
     pub same : after_r (store_all (frame_at frames c.active.function) slot sources) q m ≡ q
     pub standing : StandsWith (after_w (store_all (frame_at frames c.active.function) slot sources) q m) (copied values first (k + length sources) waiting result)
 
-  are_stored : (slot k : ℕ) (sources : List ℕ) (m : Words) → slot ≡ result + k → result + (k + length sources) ≤ (routine_at program c.active.function).slots → Given k sources
+  are_stored : (slot k : ℕ) (sources : List ℕ) (m : Contents) → slot ≡ result + k → result + (k + length sources) ≤ (routine_at program c.active.function).slots → Given k sources
       → StandsWith m (copied values first k waiting result) → AreStored slot k sources m
   are_stored slot k [] m is_slot fits given s = record {
     safe = tt;
@@ -384,10 +387,10 @@ module _ (program : Program) (well : IsWellFormed program) (frames : List Frame)
   are_stored slot k (source ∷ sources) m is_slot fits (one, others) s =
       let below : slot < (routine_at program c.active.function).slots = omega (arith, is_slot, fits) in
       let there = slot_address program well frames fit addresses pages calls few c q m base back depth (copied values first k waiting result) s slot below in
-      let m1 : Words = put m (memory_address (q FRAME) (slot_offset (frame_at frames c.active.function) slot)) (q (source % 32)) in
+      let m1 : Contents = written m (memory_address (q FRAME) (slot_offset (frame_at frames c.active.function) slot)) (q (source % 32)) in
       let put_one = standing_slot program well frames fit addresses pages calls few c q m base back depth (copied values first k waiting result) s slot (q (source % 32)) below in
       let in_m1 : StandsWith m1 (put (copied values first k waiting result) slot (q (source % 32))) =
-      subst (λ (a : ℕ). StandsWith (put m a (q (source % 32))) (put (copied values first k waiting result) slot (q (source % 32)))) (sym there) put_one in
+      subst (λ (a : ℕ). StandsWith (written m a (q (source % 32))) (put (copied values first k waiting result) slot (q (source % 32)))) (sym there) put_one in
       let next = same_slots m1 (put (copied values first k waiting result) slot (q (source % 32))) (copied values first (suc k) waiting result)
       (λ number. slots_next values waiting first k result slot number (q (source % 32)) is_slot one) in_m1 in
       let rest = are_stored (suc slot) (suc k) sources m1 (omega (arith, is_slot)) (omega (arith, fits)) others next in
@@ -404,7 +407,7 @@ module _ (program : Program) (well : IsWellFormed program) (frames : List Frame)
   given (suc (suc (suc zero))) few_results holds = (holds 0 (omega arith), (holds 1 (omega arith), (holds 2 (omega arith), tt)))
   given (suc (suc (suc (suc count)))) few_results holds = absurd (omega (arith, few_results))
 
-  pub stored : (count : ℕ) (m : Words) → count ≤ 3 → result + count ≤ (routine_at program c.active.function).slots → ((k : ℕ) → k < count → q (result_register k) ≡ values (first + k)) → StandsWith m waiting
+  pub stored : (count : ℕ) (m : Contents) → count ≤ 3 → result + count ≤ (routine_at program c.active.function).slots → ((k : ℕ) → k < count → q (result_register k) ≡ values (first + k)) → StandsWith m waiting
       → (AreSafe globals_length (words_per_call * calls) (store_all (frame_at frames c.active.function) result (result_registers count)) q m)
       × (after_r (store_all (frame_at frames c.active.function) result (result_registers count)) q m ≡ q)
       × StandsWith (after_w (store_all (frame_at frames c.active.function) result (result_registers count)) q m) (copied values first count waiting result)
@@ -429,13 +432,13 @@ module _ (program : Program) (well : IsWellFormed program) (frames : List Frame)
   kept_words = store_all own_frame b.result (result_registers (routine_at program b.callee).results)
 
   abbrev saved : ℕ
-  saved = b.w (b.base + 4 * own_frame.return_address)
+  saved = b.w.words (b.base + 4 * own_frame.return_address)
 
   abbrev restored : Words
   restored = after_r first_two b.r b.w
 
   back_is : restored RETURN_ADDRESS ≡ saved
-  back_is = ap b.w (return_address program well frames fit addresses pages calls few c b.r b.w b.base saved (suc (suc (length c.frames))) b.waiting b.standing)
+  back_is = ap b.w.words (return_address program well frames fit addresses pages calls few c b.r b.w b.base saved (suc (suc (length c.frames))) b.waiting b.standing)
 
   left_is : restored CALLS ≡ b.r CALLS + 1
   left_is = add_small (b.r CALLS) 1 (omega arith) (omega (arith, b.standing.left))
@@ -462,6 +465,7 @@ module _ (program : Program) (well : IsWellFormed program) (frames : List Frame)
     chain = b.standing.chain;
     globals = b.standing.globals;
     input = b.standing.input;
+    store = b.standing.store;
     paged = b.standing.paged;
   }
     where

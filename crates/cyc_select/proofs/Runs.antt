@@ -41,6 +41,7 @@ use Rattle.cyc_select.specs.Plans.{binary_plan}
 use Rattle.cyc_select.proofs.Halves.{divisor_is}
 use Rattle.cyc_select.proofs.Operations.{negated_quotient, negated_remainder}
 use Rattle.cyc_select.proofs.Plans.{multiply_divide_result}
+use Rattle.cyc_select.proofs.Views.{Contents}
 use Rattle.cyc_select.proofs.Walks.{Stands, stands_front, stands_back, Rises, rising_distinct, rising_inside, comes_map, Quiet, Walk}
 use Rattle.cyc_select.proofs.Standing.{Standing, behind_line}
 use Rattle.cyc_select.proofs.Matches.{At, Ready, Matches, Reached}
@@ -134,7 +135,7 @@ module _ (program : Program) (well : IsWellFormed program) (words : HasWords pro
       (ap (executed program zeros c) at
       ∙ ap (λ (b : Bool). if b then states.Stuck c.output c.input else gives c destination (binary_result operator (operand_word c.active.slots left) (operand_word c.active.slots right))) (none (operand_word c.active.slots right) is_zero))
 
-  module _ (c : Configuration) (never : Never c) (run : labelled.Configuration) (r w : Words) (base : ℕ)
+  module _ (c : Configuration) (never : Never c) (run : labelled.Configuration) (r : Words) (w : Contents) (base : ℕ)
       (now : At program well frames fit code formed addresses pages calls few (instruction_line program c.active.function c.active.next) c.output c.input r w run)
       (s : Standing program frames addresses pages calls c r w base (r RETURN_ADDRESS) (suc (length c.frames)) c.active.slots) where
     abbrev here : ℕ
@@ -216,6 +217,9 @@ module _ (program : Program) (well : IsWellFormed program) (words : HasWords pro
     instruction_goes (plain.WriteByte source) at below fits stands = write_goes program well frames fit code formed addresses pages calls few c run r w base now s source at (below, fits) stands
     instruction_goes (plain.LoadGlobal destination global) at (a, b) fits stands = load_global_goes program well frames fit code formed addresses pages calls few c run r w base now s destination global at a b stands
     instruction_goes (plain.StoreGlobal global source) at (a, b) fits stands = store_global_goes program well frames fit code formed addresses pages calls few c run r w base now s global source at a (b, fits) stands
+    instruction_goes (plain.MoveWords destination source count) at in_range fits stands = absurd in_range
+    instruction_goes (plain.Load destination address offset) at in_range fits stands = absurd in_range
+    instruction_goes (plain.Store address offset source) at in_range fits stands = absurd in_range
     instruction_goes (plain.Uncaught tag value) at below (tag_fits, value_fits) stands = uncaught_goes program well frames fit code formed addresses pages calls few c run r w base now s tag value at (below, value_fits) tag_fits stands
 
   -- ---- a step from a state that matches

@@ -58,13 +58,14 @@ use Rattle.cyc_select.proofs.Halves.{divisor_is}
 use Rattle.cyc_select.proofs.Lines.{line_next}
 use Rattle.cyc_select.proofs.Operations.{add_small, global_lies}
 use Rattle.cyc_select.proofs.Plans.{multiply_divide_result, AllOfTest, operation_word, plan_word, unary_word, binary_word, test_taken, test_goes, all_unary, all_binary, all_test}
+use Rattle.cyc_select.proofs.Views.{Contents, written}
 use Rattle.cyc_select.proofs.Walks.{Stands, stands_front, stands_back, stands_first, stands_behind, after_r, after_w, after_w-append, AreSafe, Walk, now_at, now_is, walk_end, walk_few, walk_from, walk_block, walk_branch, walk_jump, walk_get, walk_put, walk_uncaught}
 use Rattle.cyc_select.proofs.Standing.{Standing, slot_cell, slot_word_is, global_cell, standing_global, standing_registers, standing_at}
 use Rattle.cyc_select.proofs.Matches.{At, Reached, reached, reached_gives, reached_at, within}
 
 module _ (program : Program) (well : IsWellFormed program) (frames : List Frame) (fit : AreFrames program frames) (code : Labelled) (formed : IsFormed code) (addresses : ℕ → ℕ) (pages calls : ℕ) (few : calls ≤ 4096)
     (c : Configuration)
-    (run : labelled.Configuration) (r w : Words) (base : ℕ)
+    (run : labelled.Configuration) (r : Words) (w : Contents) (base : ℕ)
     (now : At program well frames fit code formed addresses pages calls few (instruction_line program c.active.function c.active.next) c.output c.input r w run)
     (s : Standing program frames addresses pages calls c r w base (r RETURN_ADDRESS) (suc (length c.frames)) c.active.slots) where
   abbrev here : ℕ
@@ -76,7 +77,7 @@ module _ (program : Program) (well : IsWellFormed program) (frames : List Frame)
   abbrev slots : ℕ
   slots = (routine_at program c.active.function).slots
 
-  abbrev Safe : List Instr → (r w : Words) → Type 0
+  abbrev Safe : List Instr → (r : Words) (w : Contents) → Type 0
   Safe is r w = AreSafe globals_length (words_per_call * calls) is r w
 
   abbrev Goes : (least lo hi : ℕ) → State → Type 0
@@ -86,9 +87,9 @@ module _ (program : Program) (well : IsWellFormed program) (frames : List Frame)
   cell slot below = slot_cell program well frames fit addresses pages calls few c r w base (r RETURN_ADDRESS) (suc (length c.frames)) c.active.slots s slot below
 
   abbrev word_at : ℕ → ℕ
-  word_at slot = w (memory_address (r FRAME) (slot_offset frame slot))
+  word_at slot = w.words (memory_address (r FRAME) (slot_offset frame slot))
 
-  word_is : (slot : ℕ) → slot < slots → w (memory_address (r FRAME) (slot_offset frame slot)) ≡ c.active.slots slot
+  word_is : (slot : ℕ) → slot < slots → w.words (memory_address (r FRAME) (slot_offset frame slot)) ≡ c.active.slots slot
   word_is slot below = slot_word_is program well frames fit addresses pages calls few c r w base (r RETURN_ADDRESS) (suc (length c.frames)) c.active.slots s slot below
 
   -- ---- operands
@@ -124,11 +125,11 @@ module _ (program : Program) (well : IsWellFormed program) (frames : List Frame)
       let store : List Instr = store_slot frame register destination ∷ [] in
       let all : List Instr = is ++ store in
       let enough : length (is ++ store) ≡ count = omega (arith, length-append is store, long) in
-      let written : after_w (is ++ store) r w ≡ put w (memory_address (r FRAME) (slot_offset frame destination)) word =
+      let puts : after_w (is ++ store) r w ≡ written w (memory_address (r FRAME) (slot_offset frame destination)) word =
       after_w-append is store r w
-      ∙ (ap (λ (x : Words). put x (memory_address (after_r is r w FRAME) (slot_offset frame destination)) (after_r is r w (register % 32))) keeps.memory
-      ∙ (ap (λ (x : ℕ). put w (memory_address x (slot_offset frame destination)) (after_r is r w (register % 32))) keeps.base
-      ∙ ap (put w (memory_address (r FRAME) (slot_offset frame destination))) result)) in
+      ∙ (ap (λ (x : Contents). written x (memory_address (after_r is r w FRAME) (slot_offset frame destination)) (after_r is r w (register % 32))) keeps.memory
+      ∙ (ap (λ (x : ℕ). written w (memory_address x (slot_offset frame destination)) (after_r is r w (register % 32))) keeps.base
+      ∙ ap (written w (memory_address (r FRAME) (slot_offset frame destination))) result)) in
       let safe = safe_append globals_length (words_per_call * calls) is store r w keeps.safe
       (subst (λ (x : ℕ). IsCell globals_length (words_per_call * calls) (memory_address x (slot_offset frame destination))) (sym keeps.base) (cell destination below), tt) in
       let same : (n : ℕ) → after_r (is ++ store) r w n ≡ after_r is r w n = after_both globals_length (words_per_call * calls) is store r w in
@@ -137,7 +138,7 @@ module _ (program : Program) (well : IsWellFormed program) (frames : List Frame)
       (λ d later.
       walk_end code formed addresses globals_length (words_per_call * calls) (here + length all) (here + count) c.output _ (Running d) (omega (arith, enough))
       (reached_gives program well frames fit code formed addresses pages calls few c i at_i r w base s destination word c.input (here + length all) d (after_r all r w) (after_w all r w)
-      below does s.input (omega (arith, enough, counted)) (same 0 ∙ keeps.zero) (same FRAME ∙ keeps.base) (same CALLS ∙ keeps.left) (same RETURN_ADDRESS ∙ keeps.back) written later)))
+      below does s.input (omega (arith, enough, counted)) (same 0 ∙ keeps.zero) (same FRAME ∙ keeps.base) (same CALLS ∙ keeps.left) (same RETURN_ADDRESS ∙ keeps.back) puts later)))
 
   -- ---- values
 
@@ -201,8 +202,8 @@ module _ (program : Program) (well : IsWellFormed program) (frames : List Frame)
 
   -- ---- division
 
-  abbrev into : ℕ → ℕ → Words
-  into destination word = put w (memory_address (r FRAME) (slot_offset frame destination)) word
+  abbrev into : ℕ → ℕ → Contents
+  into destination word = written w (memory_address (r FRAME) (slot_offset frame destination)) word
 
   -- what is read after a division
   abbrev result_of : MoveFromOp → ℕ → ℕ → ℕ
@@ -218,7 +219,7 @@ module _ (program : Program) (well : IsWellFormed program) (frames : List Frame)
   divides_kept High destination q n below other =
       put-other (put (put q 32 _) 33 _) FIRST n _ other ∙ (put-other (put q 32 _) 33 n _ (λ e. absurd (omega (arith, e, below))) ∙ put-other q 32 n _ (λ e. absurd (omega (arith, e, below))))
 
-  divides_written : (which : MoveFromOp) (destination : ℕ) (q : Words) → after_w (divides which destination) q w ≡ put w (memory_address (q FRAME) (slot_offset frame destination)) (result_of which (q FIRST) (q SECOND))
+  divides_written : (which : MoveFromOp) (destination : ℕ) (q : Words) → after_w (divides which destination) q w ≡ written w (memory_address (q FRAME) (slot_offset frame destination)) (result_of which (q FIRST) (q SECOND))
   divides_written Low destination q = refl
   divides_written High destination q = refl
 
@@ -251,7 +252,7 @@ module _ (program : Program) (well : IsWellFormed program) (frames : List Frame)
         (divides_kept which destination q FRAME (omega arith) (λ x. absurd (omega (arith, x))) ∙ base_same)
         (divides_kept which destination q CALLS (omega arith) (λ x. absurd (omega (arith, x))) ∙ left_same)
         (divides_kept which destination q RETURN_ADDRESS (omega arith) (λ x. absurd (omega (arith, x))) ∙ back_same)
-        (divides_written which destination q ∙ (ap (λ (x : ℕ). put w (memory_address x (slot_offset frame destination)) (result_of which (q FIRST) (q SECOND))) base_same ∙ ap (into destination) result))
+        (divides_written which destination q ∙ (ap (λ (x : ℕ). written w (memory_address x (slot_offset frame destination)) (result_of which (q FIRST) (q SECOND))) base_same ∙ ap (into destination) result))
         later)))
 
     abbrev tested : List Instr
@@ -467,7 +468,7 @@ module _ (program : Program) (well : IsWellFormed program) (frames : List Frame)
   load_global_goes destination global at_i below global_below stands =
       gives_by (plain.LoadGlobal destination global) at_i (upper_of_global global ∷ at_global LoadWord FIRST global ∷ []) FIRST destination (c.globals global) 3
       (record { safe = (refl, ((refl, global_stands global global_below), tt)); memory = refl; zero = refl; base = refl; left = refl; back = refl })
-      (ap w (global_memory global global_below) ∙ s.globals global global_below) below refl (omega arith) (omega arith) stands
+      (ap w.words (global_memory global global_below) ∙ s.globals global global_below) below refl (omega arith) (omega arith) stands
 
   not_second : (b : Bool) → (if b then ZERO else FIRST) % 32 ≢ SECOND
   not_second true same = absurd (omega (arith, same))
@@ -483,19 +484,19 @@ module _ (program : Program) (well : IsWellFormed program) (frames : List Frame)
       let keeps = puts_keeps globals_length (words_per_call * calls) is r w FIRST _ _ (first_scratch globals_length (words_per_call * calls)) puts in
       let long : length is ≡ operand_count source = length_operand frame FIRST source in
       let q : Words = put (after_r is r w) SECOND (load_upper_result ((data_base + 4 * global + 2 ^ 15) / 2 ^ 16)) in
-      let v : Words = put (after_w is r w) (memory_address upper ((data_base + 4 * global) % 2 ^ 16)) (q (operand_register FIRST source % 32)) in
+      let v : Contents = written (after_w is r w) (memory_address upper ((data_base + 4 * global) % 2 ^ 16)) (q (operand_register FIRST source % 32)) in
       let d : Configuration = record c { active = record c.active { next = c.active.next + 1 }; globals = put c.globals global (word_of source) } in
       let stored : q (operand_register FIRST source % 32) ≡ word_of source =
       put-other (after_r is r w) SECOND (operand_register FIRST source % 32) upper (not_second (is_zero_word source)) ∙ puts.result in
-      let written : v ≡ put w (data_base + 4 * global) (word_of source) =
-      ap (λ (x : Words). put x (memory_address upper ((data_base + 4 * global) % 2 ^ 16)) (q (operand_register FIRST source % 32))) keeps.memory
-      ∙ (ap (λ (a : ℕ). put w a (q (operand_register FIRST source % 32))) (global_memory global global_below) ∙ ap (put w (data_base + 4 * global)) stored) in
+      let puts : v ≡ written w (data_base + 4 * global) (word_of source) =
+      ap (λ (x : Contents). written x (memory_address upper ((data_base + 4 * global) % 2 ^ 16)) (q (operand_register FIRST source % 32))) keeps.memory
+      ∙ (ap (λ (a : ℕ). written w a (q (operand_register FIRST source % 32))) (global_memory global global_below) ∙ ap (written w (data_base + 4 * global)) stored) in
       let one = standing_global program well frames fit addresses pages calls few c r w base (r RETURN_ADDRESS) (suc (length c.frames)) c.active.slots s global (word_of source) global_below in
       let c' : Configuration = record c { globals = put c.globals global (word_of source) } in
-      let two = standing_registers program well frames fit addresses pages calls few c' r (put w (data_base + 4 * global) (word_of source)) base (r RETURN_ADDRESS) (suc (length c.frames)) c.active.slots one q keeps.zero keeps.base keeps.left in
-      let three = standing_at program well frames fit addresses pages calls few c' q (put w (data_base + 4 * global) (word_of source)) base (r RETURN_ADDRESS) (suc (length c.frames)) c.active.slots two d refl refl refl refl s.input in
-      let with_back = subst (λ (b : ℕ). Standing program frames addresses pages calls d q (put w (data_base + 4 * global) (word_of source)) base b (suc (length c.frames)) c.active.slots) (sym keeps.back) three in
-      let four = subst (λ (x : Words). Standing program frames addresses pages calls d q x base (q RETURN_ADDRESS) (suc (length c.frames)) c.active.slots) (sym written) with_back in
+      let two = standing_registers program well frames fit addresses pages calls few c' r (written w (data_base + 4 * global) (word_of source)) base (r RETURN_ADDRESS) (suc (length c.frames)) c.active.slots one q keeps.zero keeps.base keeps.left in
+      let three = standing_at program well frames fit addresses pages calls few c' q (written w (data_base + 4 * global) (word_of source)) base (r RETURN_ADDRESS) (suc (length c.frames)) c.active.slots two d refl refl refl refl s.input in
+      let with_back = subst (λ (b : ℕ). Standing program frames addresses pages calls d q (written w (data_base + 4 * global) (word_of source)) base b (suc (length c.frames)) c.active.slots) (sym keeps.back) three in
+      let four = subst (λ (x : Contents). Standing program frames addresses pages calls d q x base (q RETURN_ADDRESS) (suc (length c.frames)) c.active.slots) (sym puts) with_back in
       let line : here + length is + 2 ≡ instruction_line program c.active.function (c.active.next + 1) = omega (arith, line_next program c.active.function c.active.next (plain.StoreGlobal global source) at_i, long) in
       walk_few code formed addresses globals_length (words_per_call * calls) 1 (length is + (2 + 0)) here (here + (operand_count source + 2)) c.output _ (Running run) (omega arith)
       (walk_block code formed addresses globals_length (words_per_call * calls) is (2 + 0) here here (here + (operand_count source + 2)) c.output c.input _ r w run now (stands_first code here is last stands) keeps.safe (omega arith)

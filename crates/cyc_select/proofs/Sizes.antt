@@ -113,6 +113,9 @@ module _ (program : Program) (frames : List Frame) (few_results : (function : �
   body_words function here (plain.LoadGlobal destination global) = omega arith
   body_words function here (plain.StoreGlobal global source) =
       omega (arith, words_ordinary (operand_code (frame_at frames function) FIRST source ++ upper_of_global global ∷ at_global StoreWord (operand_register FIRST source) global ∷ []), length-append (operand_code (frame_at frames function) FIRST source) (upper_of_global global ∷ at_global StoreWord (operand_register FIRST source) global ∷ []), length_operand (frame_at frames function) FIRST source, operand_small source)
+  body_words function here (plain.MoveWords destination source count) = omega arith
+  body_words function here (plain.Load destination address offset) = omega arith
+  body_words function here (plain.Store address offset source) = omega arith
   body_words function here (plain.Uncaught tag value) =
       let last : List Instr = small SERVICE END_UNCAUGHT ∷ syscall ∷ [] in
       let loads : List Instr = load_code (frame_at frames function) SECOND_ARGUMENT value ++ last in

@@ -6,6 +6,7 @@ use Rattle.cyc_select.specs.declared.constants.TheConstants.{CALLS, FRAME}
 use Rattle.cyc_words.specs.Word.{IsWord}
 use Rattle.cyc_isa.specs.Effect.{memory_address}
 use Rattle.cyc_machine.specs.State.{data_base, stack_end, globals_length, words_per_call}
+use Rattle.cyc_store.specs.State.{StoreState, demand}
 use Rattle.cyc_plain.specs.declared.instruction.Instruction.TheVariants as plain
 use Rattle.cyc_plain.specs.Program.{Program, routine_at}
 use Rattle.cyc_plain.specs.State as states
@@ -19,11 +20,12 @@ use Rattle.cyc_frame.specs.declared.frame.Frame.{Frame}
 use Rattle.cyc_select.specs.Selection.{slot_offset, instruction_line, body_count}
 use Rattle.cyc_select.proofs.Cells.{IsCell}
 use Rattle.cyc_select.proofs.Operations.{address_at}
+use Rattle.cyc_select.proofs.Views.{Contents, written}
 
 -- the slots of a function's call whose frame lies at this address
-abbrev pub Holds : Program → List Frame → (function base : ℕ) → (w slots : Words) → Type 0
+abbrev pub Holds : Program → List Frame → (function base : ℕ) → (w : Contents) (slots : Words) → Type 0
 Holds program frames function base w slots =
-    (slot : ℕ) → slot < (routine_at program function).slots → w (base + slot_offset (frame_at frames function) slot) ≡ slots slot
+    (slot : ℕ) → slot < (routine_at program function).slots → w.words (base + slot_offset (frame_at frames function) slot) ≡ slots slot
 
 -- behind a call
 abbrev pub behind_line : Program → (function index callee arguments count result : ℕ) → ℕ
@@ -31,7 +33,7 @@ behind_line program function index callee arguments count result =
     instruction_line program function index + body_count program function (plain.Call callee arguments count result)
 
 -- the calls that wait, above the call of a function whose frame lies at this address, and which returns to this address
-abbrev pub Chain : Program → List Frame → (addresses : ℕ → ℕ) → (w : Words) → (base back function : ℕ) → List states.Frame → Type 0
+abbrev pub Chain : Program → List Frame → (addresses : ℕ → ℕ) → (w : Contents) → (base back function : ℕ) → List states.Frame → Type 0
 Chain program frames addresses w base back function [] =
     (base + 4 * (frame_at frames function).words ≡ stack_end) × (back ≡ 0) × (function ≡ program.main)
 Chain program frames addresses w base back function (f ∷ waiting) =
@@ -41,14 +43,14 @@ Chain program frames addresses w base back function (f ∷ waiting) =
     × (back ≡ addresses (behind_line program f.caller.function index function arguments count f.result))
     × Holds program frames f.caller.function (base + 4 * (frame_at frames function).words) w f.caller.slots
     × Chain program frames addresses w (base + 4 * (frame_at frames function).words)
-    (w (base + 4 * (frame_at frames function).words + 4 * (frame_at frames f.caller.function).return_address)) f.caller.function waiting
+    (w.words (base + 4 * (frame_at frames function).words + 4 * (frame_at frames f.caller.function).return_address)) f.caller.function waiting
 
 module _ (program : Program) (frames : List Frame) (fit : AreFrames program frames) (addresses : ℕ → ℕ) where
   abbrev pub size_of : ℕ → ℕ
   size_of function = 4 * (frame_at frames function).words
 
   -- memory below does not matter
-  pub chain_kept : (w w' : Words) (base back function : ℕ) (waiting : List states.Frame) → ((a : ℕ) → base + size_of function ≤ a → w' a ≡ w a)
+  pub chain_kept : (w w' : Contents) (base back function : ℕ) (waiting : List states.Frame) → ((a : ℕ) → base + size_of function ≤ a → w'.words a ≡ w.words a)
       → Chain program frames addresses w base back function waiting → Chain program frames addresses w' base back function waiting
   chain_kept w w' base back function [] same chain = chain
   chain_kept w w' base back function (f ∷ waiting) same (arguments, count, index, known, at, next, is_back, holds, chain) =
@@ -62,7 +64,7 @@ module _ (program : Program) (frames : List Frame) (fit : AreFrames program fram
         is_back,
         λ slot below. same (above + slot_offset (frame_at frames f.caller.function) slot) (omega arith) ∙ holds slot below,
         subst (λ (b : ℕ). Chain program frames addresses w' above b f.caller.function waiting) (sym (same (above + 4 * (frame_at frames f.caller.function).return_address) (omega arith)))
-            (chain_kept w w' above (w (above + 4 * (frame_at frames f.caller.function).return_address)) f.caller.function waiting (λ a from. same a (omega arith)) chain),
+            (chain_kept w w' above (w.words (above + 4 * (frame_at frames f.caller.function).return_address)) f.caller.function waiting (λ a from. same a (omega arith)) chain),
       )
 
   -- where frames lie
@@ -71,7 +73,7 @@ module _ (program : Program) (frames : List Frame) (fit : AreFrames program fram
     pub above_low : stack_end ≤ base + 1024 * depth
     pub aligned : base % 4 ≡ 0
 
-  pub chain_lies : (w : Words) (base back function : ℕ) (waiting : List states.Frame) → function < length program.functions → Chain program frames addresses w base back function waiting
+  pub chain_lies : (w : Contents) (base back function : ℕ) (waiting : List states.Frame) → function < length program.functions → Chain program frames addresses w base back function waiting
       → Lies base function (suc (length waiting))
   chain_lies w base back function [] known (last, is_back, is_main) =
       let frame = fit.each function known in
@@ -79,11 +81,11 @@ module _ (program : Program) (frames : List Frame) (fit : AreFrames program fram
   chain_lies w base back function (f ∷ waiting) known (arguments, count, index, caller_known, at, next, is_back, holds, chain) =
       let above : ℕ = base + size_of function in
       let frame = fit.each function known in
-      let lies = chain_lies w above (w (above + 4 * (frame_at frames f.caller.function).return_address)) f.caller.function waiting caller_known chain in
+      let lies = chain_lies w above (w.words (above + 4 * (frame_at frames f.caller.function).return_address)) f.caller.function waiting caller_known chain in
       record { below_end = omega (arith, lies.below_end); above_low = omega (arith, lies.above_low, frame.within, frame.small); aligned = omega (arith, lies.aligned) }
 
 -- a call under way, with these slots
-pub record Standing (program : Program) (frames : List Frame) (addresses : ℕ → ℕ) (pages calls : ℕ) (c : Configuration) (r w : Words) (base back depth : ℕ) (slots : Words) : Type 0 where
+pub record Standing (program : Program) (frames : List Frame) (addresses : ℕ → ℕ) (pages calls : ℕ) (c : Configuration) (r : Words) (w : Contents) (base back depth : ℕ) (slots : Words) : Type 0 where
   pub known : c.active.function < length program.functions
   pub base_is : r FRAME ≡ base
   pub zero_is : r 0 ≡ 0
@@ -91,9 +93,10 @@ pub record Standing (program : Program) (frames : List Frame) (addresses : ℕ �
   pub deep : suc (length c.frames) ≤ calls
   pub holds : Holds program frames c.active.function base w slots
   pub chain : Chain program frames addresses w base back c.active.function c.frames
-  pub globals : (global : ℕ) → global < length program.globals → w (data_base + 4 * global) ≡ c.globals global
+  pub globals : (global : ℕ) → global < length program.globals → w.words (data_base + 4 * global) ≡ c.globals global
   pub input : AllByRecursion IsWord c.input
-  pub paged : c.store.pages ≤ pages
+  pub store : w.store ≡ c.store
+  pub paged : demand c.store ≤ pages
 
 module _ (program : Program) (well : IsWellFormed program) (frames : List Frame) (fit : AreFrames program frames) (addresses : ℕ → ℕ) (pages calls : ℕ) (few : calls ≤ 4096) where
   abbrev data_words : ℕ
@@ -102,7 +105,7 @@ module _ (program : Program) (well : IsWellFormed program) (frames : List Frame)
   abbrev stack_words : ℕ
   stack_words = words_per_call * calls
 
-  module _ (c : Configuration) (r w : Words) (base back depth : ℕ) (slots : Words) (s : Standing program frames addresses pages calls c r w base back depth slots) where
+  module _ (c : Configuration) (r : Words) (w : Contents) (base back depth : ℕ) (slots : Words) (s : Standing program frames addresses pages calls c r w base back depth slots) where
     pub lies : Lies program frames fit addresses base c.active.function (suc (length c.frames))
     lies = chain_lies program frames fit addresses w base back c.active.function c.frames s.known s.chain
 
@@ -124,8 +127,8 @@ module _ (program : Program) (well : IsWellFormed program) (frames : List Frame)
     slot_cell slot below =
         subst (IsCell data_words stack_words) (sym (slot_address slot below)) (word_cell (slot_word (frame_at frames c.active.function) slot) ((fit.each c.active.function s.known).inside slot below))
 
-    pub slot_word_is : (slot : ℕ) → slot < (routine_at program c.active.function).slots → w (memory_address (r FRAME) (slot_offset (frame_at frames c.active.function) slot)) ≡ slots slot
-    slot_word_is slot below = ap w (slot_address slot below) ∙ s.holds slot below
+    pub slot_word_is : (slot : ℕ) → slot < (routine_at program c.active.function).slots → w.words (memory_address (r FRAME) (slot_offset (frame_at frames c.active.function) slot)) ≡ slots slot
+    slot_word_is slot below = ap w.words (slot_address slot below) ∙ s.holds slot below
 
     pub return_address : memory_address (r FRAME) (4 * (frame_at frames c.active.function).return_address) ≡ base + 4 * (frame_at frames c.active.function).return_address
     return_address = word_address (frame_at frames c.active.function).return_address (fit.each c.active.function s.known).return_inside
@@ -151,6 +154,7 @@ module _ (program : Program) (well : IsWellFormed program) (frames : List Frame)
       chain = s.chain;
       globals = s.globals;
       input = s.input;
+      store = s.store;
       paged = s.paged;
     }
 
@@ -168,7 +172,8 @@ module _ (program : Program) (well : IsWellFormed program) (frames : List Frame)
           (subst (λ (fs : List states.Frame). Chain program frames addresses w base back c.active.function fs) (sym frames_same) s.chain);
       globals = λ global below. s.globals global below ∙ ap (λ (g : Words). g global) (sym globals_same);
       input = input;
-      paged = subst (λ (x : states.Store). x.pages ≤ pages) (sym store_same) s.paged;
+      store = s.store ∙ sym store_same;
+      paged = subst (λ (x : StoreState). demand x ≤ pages) (sym store_same) s.paged;
     }
 
     -- a word of the frame and the data are apart
@@ -192,7 +197,7 @@ module _ (program : Program) (well : IsWellFormed program) (frames : List Frame)
 
     -- a slot written
     pub standing_slot : (slot word : ℕ) → slot < (routine_at program c.active.function).slots
-        → Standing program frames addresses pages calls c r (put w (base + slot_offset (frame_at frames c.active.function) slot) word) base back depth (put slots slot word)
+        → Standing program frames addresses pages calls c r (written w (base + slot_offset (frame_at frames c.active.function) slot) word) base back depth (put slots slot word)
     standing_slot slot word below = record {
       known = s.known;
       base_is = s.base_is;
@@ -201,23 +206,24 @@ module _ (program : Program) (well : IsWellFormed program) (frames : List Frame)
       deep = s.deep;
       holds = λ other other_below. elim (cases_eq other slot) [
         | inl same ↦
-            ap (λ (x : ℕ). put w (slot_at slot) word (base + slot_offset (frame_at frames c.active.function) x)) same
-            ∙ (put-same w (slot_at slot) word ∙ sym (ap (put slots slot word) same ∙ put-same slots slot word))
+            ap (λ (x : ℕ). put w.words (slot_at slot) word (base + slot_offset (frame_at frames c.active.function) x)) same
+            ∙ (put-same w.words (slot_at slot) word ∙ sym (ap (put slots slot word) same ∙ put-same slots slot word))
         | inr apart ↦
-            put-other w (slot_at slot) (base + slot_offset (frame_at frames c.active.function) other) word (other_slot slot other below other_below apart)
+            put-other w.words (slot_at slot) (base + slot_offset (frame_at frames c.active.function) other) word (other_slot slot other below other_below apart)
             ∙ (s.holds other other_below ∙ sym (put-other slots slot other word apart))
       ];
-      chain = chain_kept program frames fit addresses w (put w (slot_at slot) word) base back c.active.function c.frames
-          (λ a from. put-other w (slot_at slot) a word (λ e. absurd (omega (arith, e, from, (fit.each c.active.function s.known).inside slot below)))) s.chain;
+      chain = chain_kept program frames fit addresses w (written w (slot_at slot) word) base back c.active.function c.frames
+          (λ a from. put-other w.words (slot_at slot) a word (λ e. absurd (omega (arith, e, from, (fit.each c.active.function s.known).inside slot below)))) s.chain;
       globals = λ global global_below.
-          put-other w (slot_at slot) (data_base + 4 * global) word (above_data (slot_word (frame_at frames c.active.function) slot) global ((fit.each c.active.function s.known).inside slot below) global_below)
+          put-other w.words (slot_at slot) (data_base + 4 * global) word (above_data (slot_word (frame_at frames c.active.function) slot) global ((fit.each c.active.function s.known).inside slot below) global_below)
           ∙ s.globals global global_below;
       input = s.input;
+      store = s.store;
       paged = s.paged;
     }
 
     -- the word for the return address written
-    pub standing_return : (word : ℕ) → Standing program frames addresses pages calls c r (put w (base + 4 * (frame_at frames c.active.function).return_address) word) base back depth slots
+    pub standing_return : (word : ℕ) → Standing program frames addresses pages calls c r (written w (base + 4 * (frame_at frames c.active.function).return_address) word) base back depth slots
     standing_return word = record {
       known = s.known;
       base_is = s.base_is;
@@ -225,21 +231,22 @@ module _ (program : Program) (well : IsWellFormed program) (frames : List Frame)
       left = s.left;
       deep = s.deep;
       holds = λ slot below.
-          put-other w return_at (base + slot_offset (frame_at frames c.active.function) slot) word
+          put-other w.words return_at (base + slot_offset (frame_at frames c.active.function) slot) word
           (λ e. (fit.each c.active.function s.known).beside slot below (omega (arith, e)))
           ∙ s.holds slot below;
-      chain = chain_kept program frames fit addresses w (put w return_at word) base back c.active.function c.frames
-          (λ a from. put-other w return_at a word (λ e. absurd (omega (arith, e, from, (fit.each c.active.function s.known).return_inside)))) s.chain;
+      chain = chain_kept program frames fit addresses w (written w return_at word) base back c.active.function c.frames
+          (λ a from. put-other w.words return_at a word (λ e. absurd (omega (arith, e, from, (fit.each c.active.function s.known).return_inside)))) s.chain;
       globals = λ global below.
-          put-other w return_at (data_base + 4 * global) word (above_data (frame_at frames c.active.function).return_address global (fit.each c.active.function s.known).return_inside below)
+          put-other w.words return_at (data_base + 4 * global) word (above_data (frame_at frames c.active.function).return_address global (fit.each c.active.function s.known).return_inside below)
           ∙ s.globals global below;
       input = s.input;
+      store = s.store;
       paged = s.paged;
     }
 
     -- a global written
     pub standing_global : (global word : ℕ) → global < length program.globals
-        → Standing program frames addresses pages calls (record c { globals = put c.globals global word }) r (put w (data_base + 4 * global) word) base back depth slots
+        → Standing program frames addresses pages calls (record c { globals = put c.globals global word }) r (written w (data_base + 4 * global) word) base back depth slots
     standing_global global word below = record {
       known = s.known;
       base_is = s.base_is;
@@ -247,19 +254,20 @@ module _ (program : Program) (well : IsWellFormed program) (frames : List Frame)
       left = s.left;
       deep = s.deep;
       holds = λ slot slot_below.
-          put-other w (global_at global) (base + slot_offset (frame_at frames c.active.function) slot) word
+          put-other w.words (global_at global) (base + slot_offset (frame_at frames c.active.function) slot) word
           (λ e. above_data (slot_word (frame_at frames c.active.function) slot) global ((fit.each c.active.function s.known).inside slot slot_below) below (sym e))
           ∙ s.holds slot slot_below;
-      chain = chain_kept program frames fit addresses w (put w (global_at global) word) base back c.active.function c.frames
-          (λ a from. put-other w (global_at global) a word (λ e. absurd (omega (arith, e, from, below, well.globals, lies.above_low, s.deep)))) s.chain;
+      chain = chain_kept program frames fit addresses w (written w (global_at global) word) base back c.active.function c.frames
+          (λ a from. put-other w.words (global_at global) a word (λ e. absurd (omega (arith, e, from, below, well.globals, lies.above_low, s.deep)))) s.chain;
       globals = λ other other_below. elim (cases_eq other global) [
         | inl same ↦
-            ap (λ (x : ℕ). put w (global_at global) word (data_base + 4 * x)) same
-            ∙ (put-same w (global_at global) word ∙ sym (ap (put c.globals global word) same ∙ put-same c.globals global word))
+            ap (λ (x : ℕ). put w.words (global_at global) word (data_base + 4 * x)) same
+            ∙ (put-same w.words (global_at global) word ∙ sym (ap (put c.globals global word) same ∙ put-same c.globals global word))
         | inr apart ↦
-            put-other w (global_at global) (data_base + 4 * other) word (λ e. apart (omega (arith, e)))
+            put-other w.words (global_at global) (data_base + 4 * other) word (λ e. apart (omega (arith, e)))
             ∙ (s.globals other other_below ∙ sym (put-other c.globals global other word apart))
       ];
       input = s.input;
+      store = s.store;
       paged = s.paged;
     }

@@ -10,13 +10,13 @@ use Rattle.cyc_words.specs.Word.{IsWord}
 use Rattle.cyc_isa.specs.declared.instr.Instr.{Instr}
 use Rattle.cyc_store.specs.State as stores
 use Rattle.cyc_store.specs.State.{StoreState, Holder, homes, holder, word_at}
+use Rattle.cyc_store.specs.New.{IsNew}
+use Rattle.cyc_store.proofs.NewStores.{new_words, new_demand}
 use Rattle.cyc_machine.specs.Bounds.{AreAllowed}
-use Rattle.cyc_machine.specs.Start.{IsNew}
 use Rattle.cyc_machine.specs.State.{Place, InText, InGlobals, InStack, InStore, Nowhere, loaded, place_of, data_base, stack_base, stack_end, word_number, globals_length, words_per_call}
 use Rattle.cyc_plain.specs.declared.instruction.Instruction.{Instruction}
 use Rattle.cyc_plain.specs.Program.{Program}
 use Rattle.cyc_words.specs.Simulation.{Comes, Follows, IsOnTheWay, NeverFails}
-use Rattle.cyc_plain.specs.State as states
 use Rattle.cyc_plain.specs.State.{Words, AreWords, Configuration}
 use Rattle.cyc_plain.specs.Step as steps
 use Rattle.cyc_plain.specs.Step.{instruction_at}
@@ -34,7 +34,7 @@ use Rattle.cyc_select.proofs.Cells.{cell, place_of-data, place_of-stack}
 use Rattle.cyc_select.proofs.Laws.{lawful}
 use Rattle.cyc_select.proofs.Lines.{line_first}
 use Rattle.cyc_select.proofs.Operations.{take_small}
-use Rattle.cyc_select.proofs.Views.{View}
+use Rattle.cyc_select.proofs.Views.{Contents, View}
 use Rattle.cyc_select.proofs.Walks.{Stands, stands_front, stands_back, Rises, comes_map, Quiet, Walk, Now, now_at, walk_end, walk_few, walk_block, walk_jump, after_r}
 use Rattle.cyc_select.proofs.Standing.{Standing}
 use Rattle.cyc_select.proofs.Matches.{Matches}
@@ -144,8 +144,8 @@ module _ (program : Program) (well : IsWellFormed program) (words : HasWords pro
   abbrev r : Words
   r = word_in run
 
-  abbrev w : Words
-  w = cell (memory_of run)
+  abbrev w : Contents
+  w = record { words = cell (memory_of run); store = store }
 
   few_globals : length code.globals ≤ globals_length
   few_globals = subst (λ (l : List ℕ). length l ≤ globals_length) (sym same_globals) well.globals
@@ -166,10 +166,10 @@ module _ (program : Program) (well : IsWellFormed program) (words : HasWords pro
       no_text n = omega arith
   is_word_at (InGlobals n) = subst IsWord (sym (global_is n)) (all_words program.globals words.globals n)
   is_word_at (InStack n) = subst IsWord (sym (zeros_are (words_per_call * calls) n)) (let e : 0 < 2 ^ 32 = omega arith in e)
-  is_word_at (InStore a) = live_word store (subst (λ (s : StoreState). stores.AreWords s.memory) (sym new.2) new.1) a
+  is_word_at (InStore a) = live_word store (new_words pages store new) a
   is_word_at Nowhere = omega arith
 
-  words_w : AreWords w
+  words_w : AreWords w.words
   words_w a = is_word_at (place_of (memory_of run) a)
 
   listed : (n : ℕ) → IsWord (slice_index (slice_set (slice_set (replicate 32 0) 4 calls) FRAME stack_end) n)
@@ -192,18 +192,19 @@ module _ (program : Program) (well : IsWellFormed program) (words : HasWords pro
     high = refl;
     low = refl;
     mem = λ a at. refl;
+    store = refl;
   }
 
   now : Now code formed addresses globals_length (words_per_call * calls) 0 [] input r w run
   now = record { view = view; r_words = words_r; w_words = words_w; at_line = refl; output = refl; input = refl }
 
   -- the stack holds zeros, and the data range the globals
-  stack_zero : (a : ℕ) → a % 4 ≡ 0 → stack_end - 4 * (words_per_call * calls) ≤ a → a < stack_end → w a ≡ 0
+  stack_zero : (a : ℕ) → a % 4 ≡ 0 → stack_end - 4 * (words_per_call * calls) ≤ a → a < stack_end → w.words a ≡ 0
   stack_zero a aligned from below =
       ap (loaded (memory_of run)) (place_of-stack (globals_of code.globals) (replicate (words_per_call * calls) 0) store a (omega (arith, long_globals)) (omega (arith, long_stack, few)) (aligned, (omega (arith, from, long_stack)), below))
       ∙ zeros_are (words_per_call * calls) (word_number (stack_base (replicate (words_per_call * calls) 0)) a)
 
-  global_word : (global : ℕ) → global < length program.globals → w (data_base + 4 * global) ≡ slice_index program.globals global
+  global_word : (global : ℕ) → global < length program.globals → w.words (data_base + 4 * global) ≡ slice_index program.globals global
   global_word global below =
       ap (loaded (memory_of run)) (place_of-data (globals_of code.globals) (replicate (words_per_call * calls) 0) store (data_base + 4 * global) ((omega arith), (omega arith), (omega (arith, below, well.globals, long_globals))))
       ∙ (global_is (word_number data_base (data_base + 4 * global))
@@ -236,7 +237,7 @@ module _ (program : Program) (well : IsWellFormed program) (words : HasWords pro
     active = record { function = program.main; next = 0; slots = λ (slot : ℕ). 0; handlers = [] };
     frames = [];
     globals = λ (global : ℕ). slice_index program.globals global;
-    store = states.start_store;
+    store = store;
     output = [];
     input = input;
   }
@@ -254,13 +255,14 @@ module _ (program : Program) (well : IsWellFormed program) (words : HasWords pro
     chain = ((let own = fit.each program.main well.main in omega (arith, own.within, own.small)), refl, refl);
     globals = global_word;
     input = bytes_words input bytes;
-    paged = omega (arith, allowed.enough_pages);
+    store = refl;
+    paged = omega (arith, new_demand pages store new, allowed.enough_pages);
   }
     where
       left_one : (n : ℕ) → n ≡ calls - 1 → n + 1 ≡ calls
       left_one n is = omega (arith, is, allowed.enough_calls)
 
-  first_walk : Walk code formed addresses globals_length (words_per_call * calls) 3 0 3 [] (Matches program well frames fit code formed addresses pages calls few (steps.start program input)) (Running run)
+  first_walk : Walk code formed addresses globals_length (words_per_call * calls) 3 0 3 [] (Matches program well frames fit code formed addresses pages calls few (steps.start program store input)) (Running run)
   first_walk =
       walk_few code formed addresses globals_length (words_per_call * calls) 3 (2 + 1) 0 3 [] _ (Running run) (omega arith)
       (walk_block code formed addresses globals_length (words_per_call * calls) first 1 0 0 3 [] input _ r w run now
@@ -280,15 +282,15 @@ module _ (program : Program) (well : IsWellFormed program) (words : HasWords pro
         standing = standing;
       })))))
 
-  pub follows : NeverFails (steps.machine program pages calls) (steps.start program input)
-      → Follows (steps.machine program pages calls) (machine code addresses) (range_with_len 0 3) (own_of program) (steps.start program input) (start code store calls input)
+  pub follows : NeverFails (steps.machine program pages calls) (steps.start program store input)
+      → Follows (steps.machine program pages calls) (machine code addresses) (range_with_len 0 3) (own_of program) (steps.start program store input) (start code store calls input)
   follows never =
       let above = steps.machine program pages calls in
       let below_machine = machine code addresses in
       let m = matching program well words frames fit code formed addresses lie pages calls few stand long in
       let places_are : first_walk.places ≡ range_with_len 0 3 = rising_all 0 3 first_walk.places first_walk.rises first_walk.enough in
-      let comes = comes_map below_machine (Quiet code formed addresses globals_length (words_per_call * calls) []) (Matches program well frames fit code formed addresses pages calls few (steps.start program input))
-      (IsOnTheWay above below_machine (steps.start program input)) (Matches program well frames fit code formed addresses pages calls few (steps.start program input)) first_walk.places (Running run)
-      (λ u quiet. way_before above below_machine m (steps.start program input) u quiet.0 quiet.1) (λ u matches. matches) first_walk.comes in
-      simulates above below_machine m (all_steps program well words frames fit code formed addresses lie pages calls few stand long) (lawful code addresses) (range_with_len 0 3) (steps.start program input) never (Running run) refl
-      (subst (λ (ps : List ℕ). Comes below_machine (IsOnTheWay above below_machine (steps.start program input)) (Matches program well frames fit code formed addresses pages calls few (steps.start program input)) ps (Running run)) places_are comes)
+      let comes = comes_map below_machine (Quiet code formed addresses globals_length (words_per_call * calls) []) (Matches program well frames fit code formed addresses pages calls few (steps.start program store input))
+      (IsOnTheWay above below_machine (steps.start program store input)) (Matches program well frames fit code formed addresses pages calls few (steps.start program store input)) first_walk.places (Running run)
+      (λ u quiet. way_before above below_machine m (steps.start program store input) u quiet.0 quiet.1) (λ u matches. matches) first_walk.comes in
+      simulates above below_machine m (all_steps program well words frames fit code formed addresses lie pages calls few stand long) (lawful code addresses) (range_with_len 0 3) (steps.start program store input) never (Running run) refl
+      (subst (λ (ps : List ℕ). Comes below_machine (IsOnTheWay above below_machine (steps.start program store input)) (Matches program well frames fit code formed addresses pages calls few (steps.start program store input)) ps (Running run)) places_are comes)

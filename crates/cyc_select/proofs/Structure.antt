@@ -88,6 +88,9 @@ module _ (program : Program) (frames : List Frame) (few_results : (function : �
   length_body function here (plain.StoreGlobal global source) =
       let last : List Instr = upper_of_global global ∷ at_global StoreWord (operand_register FIRST source) global ∷ [] in
       omega (arith, length_ordinary (operand_code (frame_at frames function) FIRST source ++ last), length-append (operand_code (frame_at frames function) FIRST source) last, length_operand (frame_at frames function) FIRST source)
+  length_body function here (plain.MoveWords destination source count) = refl
+  length_body function here (plain.Load destination address offset) = refl
+  length_body function here (plain.Store address offset source) = refl
   length_body function here (plain.Uncaught tag value) =
       let last : List Instr = small SERVICE END_UNCAUGHT ∷ syscall ∷ [] in
       let loads : List Instr = load_code (frame_at frames function) SECOND_ARGUMENT value ++ last in
@@ -110,6 +113,9 @@ module _ (program : Program) (frames : List Frame) (few_results : (function : �
   length_behind function (plain.WriteByte source) = refl
   length_behind function (plain.LoadGlobal destination global) = refl
   length_behind function (plain.StoreGlobal global source) = refl
+  length_behind function (plain.MoveWords destination source count) = refl
+  length_behind function (plain.Load destination address offset) = refl
+  length_behind function (plain.Store address offset source) = refl
   length_behind function (plain.Uncaught tag value) = refl
 
   length_both : (function here : ℕ) (i : Instruction) → length (body program frames function here i ++ behind program frames function i) ≡ count_of program function i

@@ -9,6 +9,7 @@ use Rattle.cyc_isa.specs.declared.instr.MemoryOp.TheVariants.{LoadWord, StoreWor
 use Rattle.cyc_isa.specs.declared.instr.MoveFromOp.TheVariants.{High, Low}
 use Rattle.cyc_isa.specs.declared.instr.MultiplyDivideOp.TheVariants.{Multiply, Divide}
 use Rattle.cyc_isa.specs.Effect.{immediate_result, load_upper_result, arithmetic_result, shift_result, high_result, low_result, memory_address}
+use Rattle.cyc_store.specs.State.{StoreState}
 use Rattle.cyc_machine.specs.State as machines
 use Rattle.cyc_machine.specs.State.{Core, Place, InText, InGlobals, InStack, InStore, Nowhere, register, with_register, place_of, loaded, stored, data_base, stack_base, word_number}
 use Rattle.cyc_machine.specs.Step.{after}
@@ -16,10 +17,19 @@ use Rattle.cyc_machine.proofs.MemoryLaws.{length-globals-stored, length-stack-st
 use Rattle.cyc_plain.specs.State.{Words, put}
 use Rattle.cyc_plain.proofs.SlotLaws.{put-same, put-other}
 use Rattle.cyc_select.specs.Machine.{Configuration, core_of, memory_of, machine_of, from_world, word_in}
-use Rattle.cyc_select.proofs.Cells.{IsCell, cell, cell-stored}
+use Rattle.cyc_select.proofs.Cells.{IsCell, cell, place_of-data, place_of-stack, cell-stored}
+
+-- What memory holds: the words of the data range and the stack, by their addresses, and the store.
+pub record Contents : Type 0 where
+  pub words : Words
+  pub store : StoreState
+
+-- a word of the data range or the stack is written
+abbrev pub written : Contents → (address word : ℕ) → Contents
+written w address word = record w { words = put w.words address word }
 
 -- The registers, with HI and LO as 32 and 33, and the memory of a configuration are these. The ranges have so many words.
-pub record View (globals stack : ℕ) (c : Configuration) (r w : Words) : Type 0 where
+pub record View (globals stack : ℕ) (c : Configuration) (r : Words) (w : Contents) : Type 0 where
   pub wide : length c.registers ≡ 32
   pub data_words : length c.globals ≡ globals
   pub stack_words : length c.stack ≡ stack
@@ -28,14 +38,15 @@ pub record View (globals stack : ℕ) (c : Configuration) (r w : Words) : Type 0
   pub reg : (n : ℕ) → n < 32 → word_in c n ≡ r n
   pub high : c.high ≡ r 32
   pub low : c.low ≡ r 33
-  pub mem : (a : ℕ) → IsCell globals stack a → cell (memory_of c) a ≡ w a
+  pub mem : (a : ℕ) → IsCell globals stack a → cell (memory_of c) a ≡ w.words a
+  pub store : c.store ≡ w.store
 
 -- ---- what an instruction does
 
-abbrev pub does_r : Instr → (r w : Words) → Words
+abbrev pub does_r : Instr → (r : Words) (w : Contents) → Words
 does_r (Immediate op target source half) r w = put r target.number (immediate_result op (r source.number) half)
 does_r (LoadUpper target half) r w = put r target.number (load_upper_result half)
-does_r (Memory LoadWord target base offset) r w = put r target.number (w (memory_address (r base.number) offset))
+does_r (Memory LoadWord target base offset) r w = put r target.number (w.words (memory_address (r base.number) offset))
 does_r (Shift op destination source amount) r w = put r destination.number (shift_result op (r source.number) amount.bits)
 does_r (ShiftVariable op destination source by) r w = put r destination.number (shift_result op (r source.number) (r by.number))
 does_r (MoveFrom High destination) r w = put r destination.number (r 32)
@@ -44,8 +55,8 @@ does_r (MultiplyDivide op left right) r w = put (put r 32 (high_result op (r lef
 does_r (Arithmetic op destination left right) r w = put r destination.number (arithmetic_result op (r left.number) (r right.number))
 does_r i r w = r
 
-abbrev pub does_w : Instr → (r w : Words) → Words
-does_w (Memory StoreWord source base offset) r w = put w (memory_address (r base.number) offset) (r source.number)
+abbrev pub does_w : Instr → (r : Words) (w : Contents) → Contents
+does_w (Memory StoreWord source base offset) r w = written w (memory_address (r base.number) offset) (r source.number)
 does_w i r w = w
 
 -- a register that can be written
@@ -89,7 +100,7 @@ set_register core n v m wide below writable =
           ∙ sym (put-other (register core) n m v other)
     ]
 
-module _ (globals stack : ℕ) (c : Configuration) (r w : Words) (view : View globals stack c r w) where
+module _ (globals stack : ℕ) (c : Configuration) (r : Words) (w : Contents) (view : View globals stack c r w) where
   -- one register is written
   pub view_put : (n v word line : ℕ) → n < 32 → IsWritable n → v ≡ word
       → View globals stack (record c { registers = (with_register (core_of c) n v).registers; line = line }) (put r n word) w
@@ -108,6 +119,7 @@ module _ (globals stack : ℕ) (c : Configuration) (r w : Words) (view : View gl
     high = view.high ∙ sym (put-other r n 32 word (λ e. absurd (omega (arith, e, below))));
     low = view.low ∙ sym (put-other r n 33 word (λ e. absurd (omega (arith, e, below))));
     mem = view.mem;
+    store = view.store;
   }
 
   -- another line is next, and other things are printed and read
@@ -122,6 +134,7 @@ module _ (globals stack : ℕ) (c : Configuration) (r w : Words) (view : View gl
     high = view.high;
     low = view.low;
     mem = view.mem;
+    store = view.store;
   }
 
   pub view_at : (line : ℕ) → View globals stack (record c { line = line }) r w
@@ -141,9 +154,17 @@ module _ (globals stack : ℕ) (c : Configuration) (r w : Words) (view : View gl
     high = same_high ∙ sym (put-other (put r 32 high) 33 32 low (λ e. absurd (omega (arith, e))) ∙ put-same r 32 high);
     low = same_low ∙ sym (put-same (put r 32 high) 33 low);
     mem = view.mem;
+    store = view.store;
   }
 
-  -- a word of memory is written
+  -- a word of the data range or the stack is written, and the store stays
+  same_store : (a word : ℕ) → IsCell globals stack a → (stored (memory_of c) (place_of (memory_of c) a) word).store ≡ c.store
+  same_store a word (inl (aligned, from, below)) =
+      ap (λ (p : Place). (stored (memory_of c) p word).store) (place_of-data c.globals c.stack c.store a (aligned, from, omega (arith, below, view.data_words)))
+  same_store a word (inr (aligned, from, below)) =
+      ap (λ (p : Place). (stored (memory_of c) p word).store)
+      (place_of-stack c.globals c.stack c.store a (omega (arith, view.data_words, view.few_globals)) (omega (arith, view.stack_words, view.few_stack)) (aligned, omega (arith, from, view.stack_words), below))
+
   same_memory : (place : Place) (word : ℕ)
       → let m : machines.Memory = record { text = []; globals = (stored (memory_of c) place word).globals; stack = (stored (memory_of c) place word).stack; store = (stored (memory_of c) place word).store } in
       m ≡ stored (memory_of c) place word
@@ -159,7 +180,7 @@ module _ (globals stack : ℕ) (c : Configuration) (r w : Words) (view : View gl
         stack = (stored (memory_of c) (place_of (memory_of c) address) v).stack;
         store = (stored (memory_of c) (place_of (memory_of c) address) v).store;
         line = line;
-      }) r (put w a word)
+      }) r (written w a word)
   view_store a address v word line at same_address same = record {
     wide = view.wide;
     data_words = length-globals-stored (memory_of c) (place_of (memory_of c) address) v ∙ view.data_words;
@@ -177,10 +198,11 @@ module _ (globals stack : ℕ) (c : Configuration) (r w : Words) (view : View gl
         (subst (λ (n : ℕ). IsCell n (length c.stack) a) (sym view.data_words) (subst (λ (n : ℕ). IsCell globals n a) (sym view.stack_words) at))
         (subst (λ (n : ℕ). IsCell n (length c.stack) b) (sym view.data_words) (subst (λ (n : ℕ). IsCell globals n b) (sym view.stack_words) b_at))
         ∙ kept b b_at)));
+    store = ap (λ (x : ℕ). (stored (memory_of c) (place_of (memory_of c) x) v).store) same_address ∙ (same_store a v at ∙ view.store);
   }
     where
-      kept : (b : ℕ) → IsCell globals stack b → put (cell (memory_of c)) a word b ≡ put w a word b
+      kept : (b : ℕ) → IsCell globals stack b → put (cell (memory_of c)) a word b ≡ put w.words a word b
       kept b b_at = elim (cases_eq b a) [
-        | inl equal ↦ (ap (put (cell (memory_of c)) a word) equal ∙ put-same (cell (memory_of c)) a word) ∙ sym (ap (put w a word) equal ∙ put-same w a word)
-        | inr other ↦ put-other (cell (memory_of c)) a b word other ∙ (view.mem b b_at ∙ sym (put-other w a b word other))
+        | inl equal ↦ (ap (put (cell (memory_of c)) a word) equal ∙ put-same (cell (memory_of c)) a word) ∙ sym (ap (put w.words a word) equal ∙ put-same w.words a word)
+        | inr other ↦ put-other (cell (memory_of c)) a b word other ∙ (view.mem b b_at ∙ sym (put-other w.words a b word other))
       ]

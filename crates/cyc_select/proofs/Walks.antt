@@ -27,7 +27,7 @@ use Rattle.cyc_words.specs.Word.{IsWord, signed}
 use Rattle.cyc_isa.specs.Decoding.{trap_code_of}
 use Rattle.cyc_select.specs.Machine.{Configuration, State, Running, Ended, Step, Executes, ExecutesAt, Performs, PerformsOrdinary, machine, status_of, output_of, linked, at, word_in, holds_of}
 use Rattle.cyc_select.specs.Selection.{ordinary, syscall}
-use Rattle.cyc_select.proofs.Views.{View, does_r, does_w, IsSafe, moved, view_at, view_seen, view_put}
+use Rattle.cyc_select.proofs.Views.{Contents, View, does_r, does_w, IsSafe, moved, view_at, view_seen, view_put}
 use Rattle.cyc_select.proofs.Effects.{performed, moved_view, byte_of, given_byte, gets_byte, printed_byte, puts_byte, ends_returned, ends_uncaught, ends_full}
 
 -- ---- rising places
@@ -91,23 +91,23 @@ stands_behind code k (x ∷ xs) ys (first, rest) = stands_to code (k + 1 + lengt
 
 -- ---- one after another
 
-abbrev pub after_r : List Instr → (r w : Words) → Words
+abbrev pub after_r : List Instr → (r : Words) (w : Contents) → Words
 after_r [] r w = r
 after_r (i ∷ is) r w = after_r is (does_r i r w) (does_w i r w)
 
-abbrev pub after_w : List Instr → (r w : Words) → Words
+abbrev pub after_w : List Instr → (r : Words) (w : Contents) → Contents
 after_w [] r w = w
 after_w (i ∷ is) r w = after_w is (does_r i r w) (does_w i r w)
 
-abbrev pub AreSafe : (globals stack : ℕ) → List Instr → (r w : Words) → Type 0
+abbrev pub AreSafe : (globals stack : ℕ) → List Instr → (r : Words) (w : Contents) → Type 0
 AreSafe globals stack [] r w = Unit {0}
 AreSafe globals stack (i ∷ is) r w = IsSafe globals stack i r × AreSafe globals stack is (does_r i r w) (does_w i r w)
 
-pub after_r-append : (is js : List Instr) (r w : Words) → after_r (is ++ js) r w ≡ after_r js (after_r is r w) (after_w is r w)
+pub after_r-append : (is js : List Instr) (r : Words) (w : Contents) → after_r (is ++ js) r w ≡ after_r js (after_r is r w) (after_w is r w)
 after_r-append [] js r w = refl
 after_r-append (i ∷ is) js r w = after_r-append is js (does_r i r w) (does_w i r w)
 
-pub after_w-append : (is js : List Instr) (r w : Words) → after_w (is ++ js) r w ≡ after_w js (after_r is r w) (after_w is r w)
+pub after_w-append : (is js : List Instr) (r : Words) (w : Contents) → after_w (is ++ js) r w ≡ after_w js (after_r is r w) (after_w is r w)
 after_w-append [] js r w = refl
 after_w-append (i ∷ is) js r w = after_w-append is js (does_r i r w) (does_w i r w)
 
@@ -117,7 +117,7 @@ put_words words number word all one other = elim (cases_eq other number) [
   | inr apart ↦ subst IsWord (sym (put-other words number other word apart)) (all other)
 ]
 
-does_words_r : (i : Instr) (r w : Words) → IsEncodable i → AreWords r → AreWords w → AreWords (does_r i r w)
+does_words_r : (i : Instr) (r : Words) (w : Contents) → IsEncodable i → AreWords r → AreWords w.words → AreWords (does_r i r w)
 does_words_r (Immediate op target source half) r w fits all mem = put_words r target.number _ all (IsWord-immediate_result op (r source.number) half (all source.number) fits)
 does_words_r (LoadUpper target half) r w fits all mem = put_words r target.number _ all (IsWord-load_upper_result half fits)
 does_words_r (Memory LoadWord target base offset) r w fits all mem = put_words r target.number _ all (mem (memory_address (r base.number) offset))
@@ -139,8 +139,8 @@ does_words_r (MultiplyDivide op left right) r w fits all mem =
 does_words_r (Arithmetic op destination left right) r w fits all mem =
     put_words r destination.number _ all (IsWord-arithmetic_result op (r left.number) (r right.number) (all left.number) (all right.number))
 
-does_words_w : (i : Instr) (r w : Words) → AreWords r → AreWords w → AreWords (does_w i r w)
-does_words_w (Memory StoreWord source base offset) r w all mem = put_words w (memory_address (r base.number) offset) (r source.number) mem (all source.number)
+does_words_w : (i : Instr) (r : Words) (w : Contents) → AreWords r → AreWords w.words → AreWords (does_w i r w).words
+does_words_w (Memory StoreWord source base offset) r w all mem = put_words w.words (memory_address (r base.number) offset) (r source.number) mem (all source.number)
 does_words_w (Memory LoadWord target base offset) r w all mem = mem
 does_words_w (Immediate op target source half) r w all mem = mem
 does_words_w (LoadUpper target half) r w all mem = mem
@@ -207,40 +207,40 @@ module _ (code : Labelled) (formed : IsFormed code) (addresses : ℕ → ℕ) (g
   walk_from n lo from hi out Goal t below walk = record { places = walk.places; enough = walk.enough; rises = rises_from lo from hi walk.places below walk.rises; comes = walk.comes }
 
   -- The run stands at this line, and registers and memory are these.
-  pub record Now (line : ℕ) (out rest : List ℕ) (r w : Words) (c : Configuration) : Type 0 where
+  pub record Now (line : ℕ) (out rest : List ℕ) (r : Words) (w : Contents) (c : Configuration) : Type 0 where
     pub view : View globals stack c r w
     pub r_words : AreWords r
-    pub w_words : AreWords w
+    pub w_words : AreWords w.words
     pub at_line : c.line ≡ line
     pub output : c.output ≡ out
     pub input : c.input ≡ rest
 
-  pub now_at : (k j : ℕ) (out input : List ℕ) (r w : Words) (c : Configuration) → k ≡ j → Now k out input r w c → Now j out input r w c
+  pub now_at : (k j : ℕ) (out input : List ℕ) (r : Words) (w : Contents) (c : Configuration) → k ≡ j → Now k out input r w c → Now j out input r w c
   now_at k j out input r w c same now = record { view = now.view; r_words = now.r_words; w_words = now.w_words; at_line = now.at_line ∙ same; output = now.output; input = now.input }
 
-  pub now_is : (k : ℕ) (out input : List ℕ) (r w r' w' : Words) (c : Configuration) → r ≡ r' → w ≡ w' → Now k out input r w c → Now k out input r' w' c
+  pub now_is : (k : ℕ) (out input : List ℕ) (r : Words) (w : Contents) (r' : Words) (w' : Contents) (c : Configuration) → r ≡ r' → w ≡ w' → Now k out input r w c → Now k out input r' w' c
   now_is k out input r w r' w' c same_r same_w now =
-      subst (λ (x : Words). Now k out input x w' c) same_r (subst (λ (x : Words). Now k out input r x c) same_w now)
+      subst (λ (x : Words). Now k out input x w' c) same_r (subst (λ (x : Contents). Now k out input r x c) same_w now)
 
   executes_line : (c : Configuration) (l : Line) (next : State) → slice_get code.lines c.line ≡ Some l → Step code addresses (Running c) next → Executes code addresses c l next
   executes_line c l next stands step = subst (λ (o : Option Line). ExecutesAt code addresses c o next) stands step
 
-  stands_now : (k : ℕ) (out input : List ℕ) (r w : Words) (c : Configuration) (l : Line) → Now k out input r w c → slice_get code.lines k ≡ Some l → slice_get code.lines c.line ≡ Some l
+  stands_now : (k : ℕ) (out input : List ℕ) (r : Words) (w : Contents) (c : Configuration) (l : Line) → Now k out input r w c → slice_get code.lines k ≡ Some l → slice_get code.lines c.line ≡ Some l
   stands_now k out input r w c l now stands = ap (slice_get code.lines) now.at_line ∙ stands
 
   -- an ordinary instruction, whatever it does
-  pub performs_now : (k : ℕ) (out input : List ℕ) (r w : Words) (c : Configuration) (i : Instr) (next : State) → Now k out input r w c → slice_get code.lines k ≡ Some (lines.Ordinary i) → is_ordinary i ≡ true
+  pub performs_now : (k : ℕ) (out input : List ℕ) (r : Words) (w : Contents) (c : Configuration) (i : Instr) (next : State) → Now k out input r w c → slice_get code.lines k ≡ Some (lines.Ordinary i) → is_ordinary i ≡ true
       → Step code addresses (Running c) next → Performs c i next
   performs_now k out input r w c i next now stands is step =
       subst (λ (b : Bool). PerformsOrdinary b c i next) is
       (executes_line c (lines.Ordinary i) next (stands_now k out input r w c (lines.Ordinary i) now stands) step)
 
-  pub moved_now : (k : ℕ) (out input : List ℕ) (r w : Words) (c : Configuration) (i : Instr) → Now k out input r w c → IsEncodable i → View globals stack (moved c i) (does_r i r w) (does_w i r w)
+  pub moved_now : (k : ℕ) (out input : List ℕ) (r : Words) (w : Contents) (c : Configuration) (i : Instr) → Now k out input r w c → IsEncodable i → View globals stack (moved c i) (does_r i r w) (does_w i r w)
       → Now (k + 1) out input (does_r i r w) (does_w i r w) (moved c i)
   moved_now k out input r w c i now fits view = record { view = view; r_words = does_words_r i r w fits now.r_words now.w_words; w_words = does_words_w i r w now.r_words now.w_words; at_line = ap (λ (n : ℕ). n + 1) now.at_line; output = now.output; input = now.input }
 
   -- A stretch of safe instructions. (The view of what is left does not depend on what is next.)
-  pub walk_block : (is : List Instr) (n k lo hi : ℕ) (out input : List ℕ) (Goal : State → Type 0) (r w : Words) (c : Configuration)
+  pub walk_block : (is : List Instr) (n k lo hi : ℕ) (out input : List ℕ) (Goal : State → Type 0) (r : Words) (w : Contents) (c : Configuration)
       → Now k out input r w c → Stands code k (ordinary is) → AreSafe globals stack is r w → lo ≤ k
       → ((d : Configuration) → Now (k + length is) out input (after_r is r w) (after_w is r w) d → Walk n (k + length is) hi out Goal (Running d))
       → Walk (length is + n) lo hi out Goal (Running c)
@@ -261,15 +261,15 @@ module _ (code : Labelled) (formed : IsFormed code) (addresses : ℕ → ℕ) (g
 
   -- ---- branches, jumps, calls and returns
 
-  at_now : (k j : ℕ) (out input : List ℕ) (r w : Words) (c : Configuration) → Now k out input r w c → Now j out input r w (at c j)
+  at_now : (k j : ℕ) (out input : List ℕ) (r : Words) (w : Contents) (c : Configuration) → Now k out input r w c → Now j out input r w (at c j)
   at_now k j out input r w c now = record { view = view_at globals stack c r w now.view j; r_words = now.r_words; w_words = now.w_words; at_line = refl; output = now.output; input = now.input }
 
-  holds_now : (k : ℕ) (out input : List ℕ) (r w : Words) (c : Configuration) → Now k out input r w c → (condition : Condition) → holds_of (word_in c) condition ≡ holds_of r condition
+  holds_now : (k : ℕ) (out input : List ℕ) (r : Words) (w : Contents) (c : Configuration) → Now k out input r w c → (condition : Condition) → holds_of (word_in c) condition ≡ holds_of r condition
   holds_now k out input r w c now (conditions.Registers op left right) =
       ap (λ (x : ℕ). branch_taken op x (word_in c right.number)) (now.view.reg left.number left.in_range) ∙ ap (branch_taken op (r left.number)) (now.view.reg right.number right.in_range)
   holds_now k out input r w c now (conditions.Sign op source) = ap (branch_zero_taken op) (now.view.reg source.number source.in_range)
 
-  pub walk_branch : (n k lo hi : ℕ) (out input : List ℕ) (Goal : State → Type 0) (r w : Words) (c : Configuration) (condition : Condition) (label target : ℕ)
+  pub walk_branch : (n k lo hi : ℕ) (out input : List ℕ) (Goal : State → Type 0) (r : Words) (w : Contents) (c : Configuration) (condition : Condition) (label target : ℕ)
       → Now k out input r w c → slice_get code.lines k ≡ Some (lines.Branch condition label) → lo ≤ k
       → (if holds_of r condition then label else k + 1) ≡ target
       → ((d : Configuration) → Now target out input r w d → Walk n (suc k) hi out Goal (Running d))
@@ -284,7 +284,7 @@ module _ (code : Labelled) (formed : IsFormed code) (addresses : ℕ → ℕ) (g
       ∙ ap (λ (x : ℕ). Running (at c x)) there)
       (walk_from n (suc c.line) (suc k) hi out Goal (Running (at c target)) (omega (arith, now.at_line)) (rest (at c target) (at_now k target out input r w c now)))
 
-  pub walk_jump : (n k lo hi : ℕ) (out input : List ℕ) (Goal : State → Type 0) (r w : Words) (c : Configuration) (label : ℕ)
+  pub walk_jump : (n k lo hi : ℕ) (out input : List ℕ) (Goal : State → Type 0) (r : Words) (w : Contents) (c : Configuration) (label : ℕ)
       → Now k out input r w c → slice_get code.lines k ≡ Some (lines.Jump label) → lo ≤ k
       → ((d : Configuration) → Now label out input r w d → Walk n (suc k) hi out Goal (Running d))
       → Walk (suc n) lo hi out Goal (Running c)
@@ -293,7 +293,7 @@ module _ (code : Labelled) (formed : IsFormed code) (addresses : ℕ → ℕ) (g
       (λ next step. executes_line c (lines.Jump label) next (stands_now k out input r w c (lines.Jump label) now stands) step)
       (walk_from n (suc c.line) (suc k) hi out Goal (Running (at c label)) (omega (arith, now.at_line)) (rest (at c label) (at_now k label out input r w c now)))
 
-  pub walk_call : (n k lo hi : ℕ) (out input : List ℕ) (Goal : State → Type 0) (r w : Words) (c : Configuration) (label : ℕ)
+  pub walk_call : (n k lo hi : ℕ) (out input : List ℕ) (Goal : State → Type 0) (r : Words) (w : Contents) (c : Configuration) (label : ℕ)
       → Now k out input r w c → slice_get code.lines k ≡ Some (lines.Call label) → lo ≤ k → IsWord (addresses (k + 1))
       → ((d : Configuration) → Now label out input (put r RETURN_ADDRESS (addresses (k + 1))) w d → Walk n (suc k) hi out Goal (Running d))
       → Walk (suc n) lo hi out Goal (Running c)
@@ -304,7 +304,7 @@ module _ (code : Labelled) (formed : IsFormed code) (addresses : ℕ → ℕ) (g
       (walk_from n (suc c.line) (suc k) hi out Goal (Running (at (linked addresses c) label)) (omega (arith, now.at_line))
       (rest (at (linked addresses c) label) (record { view = view; r_words = put_words r RETURN_ADDRESS (addresses (k + 1)) now.r_words word; w_words = now.w_words; at_line = refl; output = now.output; input = now.input })))
 
-  pub walk_return : (n k lo hi : ℕ) (out input : List ℕ) (Goal : State → Type 0) (r w : Words) (c : Configuration) (line : ℕ)
+  pub walk_return : (n k lo hi : ℕ) (out input : List ℕ) (Goal : State → Type 0) (r : Words) (w : Contents) (c : Configuration) (line : ℕ)
       → AreAddresses code addresses → Now k out input r w c → slice_get code.lines k ≡ Some lines.Return → lo ≤ k → line < length code.lines → r RETURN_ADDRESS ≡ addresses line
       → ((d : Configuration) → Now line out input r w d → Walk n (suc k) hi out Goal (Running d))
       → Walk (suc n) lo hi out Goal (Running c)
@@ -319,11 +319,11 @@ module _ (code : Labelled) (formed : IsFormed code) (addresses : ℕ → ℕ) (g
 
   -- ---- services
 
-  syscall_now : (k : ℕ) (out input : List ℕ) (r w : Words) (c : Configuration) (next : State) → Now k out input r w c → slice_get code.lines k ≡ Some (lines.Ordinary syscall)
+  syscall_now : (k : ℕ) (out input : List ℕ) (r : Words) (w : Contents) (c : Configuration) (next : State) → Now k out input r w c → slice_get code.lines k ≡ Some (lines.Ordinary syscall)
       → Step code addresses (Running c) next → Performs c syscall next
   syscall_now k out input r w c next now stands step = performs_now k out input r w c syscall next now stands refl step
 
-  pub walk_get : (n k lo hi : ℕ) (out input : List ℕ) (Goal : State → Type 0) (r w : Words) (c : Configuration)
+  pub walk_get : (n k lo hi : ℕ) (out input : List ℕ) (Goal : State → Type 0) (r : Words) (w : Contents) (c : Configuration)
       → Now k out input r w c → slice_get code.lines k ≡ Some (lines.Ordinary syscall) → lo ≤ k → r 2 ≡ 1 → IsWord (byte_of input)
       → ((d : Configuration) → Now (k + 1) out (drop 1 input) (put r 2 (byte_of input)) w d → Walk n (suc k) hi out Goal (Running d))
       → Walk (suc n) lo hi out Goal (Running c)
@@ -335,7 +335,7 @@ module _ (code : Labelled) (formed : IsFormed code) (addresses : ℕ → ℕ) (g
       (rest (given_byte c) (record { view = view_seen globals stack _ _ w view (c.line + 1) c.output (drop 1 c.input); r_words = put_words r 2 (byte_of input) now.r_words word; w_words = now.w_words; at_line = ap (λ (x : ℕ). x + 1) now.at_line; output = now.output; input = ap (drop 1) now.input })))
 
   -- the goal is reached as soon as a byte is printed, or the run has ended
-  pub walk_put : (k lo hi : ℕ) (out input : List ℕ) (Goal : State → Type 0) (r w : Words) (c : Configuration)
+  pub walk_put : (k lo hi : ℕ) (out input : List ℕ) (Goal : State → Type 0) (r : Words) (w : Contents) (c : Configuration)
       → Now k out input r w c → slice_get code.lines k ≡ Some (lines.Ordinary syscall) → lo ≤ k → suc k ≤ hi → r 2 ≡ 2
       → ((d : Configuration) → Now (k + 1) (out ++ r 4 % 256 ∷ []) input r w d → Goal (Running d))
       → Walk 1 lo hi out Goal (Running c)
@@ -352,13 +352,13 @@ module _ (code : Labelled) (formed : IsFormed code) (addresses : ℕ → ℕ) (g
         input = now.input;
       })))
 
-  ended_as : (k : ℕ) (out input : List ℕ) (r w : Words) (c : Configuration) (ending ended : Ending) → Now k out input r w c → ending ≡ ended
+  ended_as : (k : ℕ) (out input : List ℕ) (r : Words) (w : Contents) (c : Configuration) (ending ended : Ending) → Now k out input r w c → ending ≡ ended
       → Ended ending c.output c.input ≡ Ended ended out input
   ended_as k out input r w c ending ended now same =
       ap (λ (e : Ending). Ended e c.output c.input) same
       ∙ (ap (λ (l : List ℕ). Ended ended l c.input) now.output ∙ ap (λ (l : List ℕ). Ended ended out l) now.input)
 
-  pub walk_returned : (k lo hi : ℕ) (out input : List ℕ) (Goal : State → Type 0) (r w : Words) (c : Configuration)
+  pub walk_returned : (k lo hi : ℕ) (out input : List ℕ) (Goal : State → Type 0) (r : Words) (w : Contents) (c : Configuration)
       → Now k out input r w c → slice_get code.lines k ≡ Some (lines.Ordinary syscall) → lo ≤ k → suc k ≤ hi → r 2 ≡ 3
       → Goal (Ended (Returned (signed (r 4))) out input) → Walk 1 lo hi out Goal (Running c)
   walk_returned k lo hi out input Goal r w c now stands from below number goal =
@@ -368,7 +368,7 @@ module _ (code : Labelled) (formed : IsFormed code) (addresses : ℕ → ℕ) (g
       ∙ ended_as k out input r w c _ _ now (ap (λ (x : ℕ). Returned (signed x)) (now.view.reg 4 (omega arith))))
       (walk_end (suc c.line) hi out Goal _ (omega (arith, below, now.at_line)) goal)
 
-  pub walk_uncaught : (k lo hi : ℕ) (out input : List ℕ) (Goal : State → Type 0) (r w : Words) (c : Configuration)
+  pub walk_uncaught : (k lo hi : ℕ) (out input : List ℕ) (Goal : State → Type 0) (r : Words) (w : Contents) (c : Configuration)
       → Now k out input r w c → slice_get code.lines k ≡ Some (lines.Ordinary syscall) → lo ≤ k → suc k ≤ hi → r 2 ≡ 4
       → Goal (Ended (Uncaught (r 4) (signed (r 5))) out input) → Walk 1 lo hi out Goal (Running c)
   walk_uncaught k lo hi out input Goal r w c now stands from below number goal =
@@ -379,7 +379,7 @@ module _ (code : Labelled) (formed : IsFormed code) (addresses : ℕ → ℕ) (g
       (ap (λ (x : ℕ). Uncaught x (signed (word_in c 5))) (now.view.reg 4 (omega arith)) ∙ ap (λ (x : ℕ). Uncaught (r 4) (signed x)) (now.view.reg 5 (omega arith))))
       (walk_end (suc c.line) hi out Goal _ (omega (arith, below, now.at_line)) goal)
 
-  pub walk_full : (k lo hi : ℕ) (out input : List ℕ) (Goal : State → Type 0) (r w : Words) (c : Configuration)
+  pub walk_full : (k lo hi : ℕ) (out input : List ℕ) (Goal : State → Type 0) (r : Words) (w : Contents) (c : Configuration)
       → Now k out input r w c → slice_get code.lines k ≡ Some (lines.Ordinary syscall) → lo ≤ k → suc k ≤ hi → r 2 ≡ 11
       → Goal (Ended Full out input) → Walk 1 lo hi out Goal (Running c)
   walk_full k lo hi out input Goal r w c now stands from below number goal =

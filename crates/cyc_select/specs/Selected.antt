@@ -2,8 +2,8 @@
 use Rattle.std.specs.Prelude.{◌≡◌, ℕ, ◌+◌, ◌<◌, ◌≤◌, List, ◌++◌, length, sum_by, Contains, slice_index_or}
 use Rattle.std.specs.List.{AllByRecursion, range_with_len, flat_map}
 use Rattle.cyc_store.specs.State.{StoreState}
+use Rattle.cyc_store.specs.New.{IsNew}
 use Rattle.cyc_machine.specs.Bounds.{AreAllowed}
-use Rattle.cyc_machine.specs.Start.{IsNew}
 use Rattle.cyc_words.specs.Simulation.{NeverFails, Follows}
 use Rattle.cyc_plain.specs.Program.{Program, CodePlace, routine_at, places_of, size}
 use Rattle.cyc_plain.specs.Step as plain
@@ -32,6 +32,6 @@ pub record IsCodeOf (program : Program) (code : Labelled) : Type 0 where
   pub few_words : all_words code.lines ≤ MAX_START_WORDS + sum_by size program.functions
   pub follows : (pages calls : ℕ) → AreAllowed pages calls → (store : StoreState) → IsNew pages store → (input : List ℕ) → AllByRecursion (λ b. b < 256) input
       → (addresses : ℕ → ℕ) → AreAddresses code addresses
-      → NeverFails (plain.machine program pages calls) (plain.start program input)
+      → NeverFails (plain.machine program pages calls) (plain.start program store input)
       → Follows (plain.machine program pages calls) (labelled.machine code addresses) before own
-      (plain.start program input) (labelled.start code store calls input)
+      (plain.start program store input) (labelled.start code store calls input)

@@ -331,6 +331,7 @@ ending_count program function = if function == program.main then 4 else 0
 -- the lines of an instruction up to what it does
 abbrev pub body_count : Program → (function : ℕ) → Instruction → ℕ
 body_count program function (plain.Move destination source) = operand_count source + 1
+body_count program function (plain.MoveWords destination source count) = 1
 body_count program function (plain.Unary operator destination operand) = plan_count (unary_plan operator operand)
 body_count program function (plain.Binary operator destination left right) = operator_count operator left right
 body_count program function (plain.Jump target) = 1
@@ -342,6 +343,8 @@ body_count program function (plain.ReadByte destination) = 3
 body_count program function (plain.WriteByte source) = load_count source + 2
 body_count program function (plain.LoadGlobal destination global) = 3
 body_count program function (plain.StoreGlobal global source) = operand_count source + 2
+body_count program function (plain.Load destination address offset) = 1
+body_count program function (plain.Store address offset source) = 1
 body_count program function (plain.Uncaught tag value) = word_count tag + load_count value + 2
 
 -- behind a call, the lines that are executed after it returned
@@ -438,10 +441,11 @@ returning_code is_main frame here value results =
     ++ ordinary (load_all frame value (result_registers results) ++ pop_frame frame ∷ [])
     ++ lines.Return ∷ []
 
--- what an instruction does, from this line on
+-- What an instruction does, from this line on. One that no program has yet jumps to itself.
 abbrev pub body : Program → List Frame → (function here : ℕ) → Instruction → List Line
 body program frames function here (plain.Move destination source) =
     move_code (frame_at frames function) destination source
+body program frames function here (plain.MoveWords destination source count) = lines.Jump here ∷ []
 body program frames function here (plain.Unary operator destination operand) =
     ordinary (plan_code (frame_at frames function) (unary_plan operator operand) destination)
 body program frames function here (plain.Binary operator destination left right) =
@@ -461,6 +465,8 @@ body program frames function here (plain.LoadGlobal destination global) =
     load_global (frame_at frames function) destination global
 body program frames function here (plain.StoreGlobal global source) =
     store_global (frame_at frames function) global source
+body program frames function here (plain.Load destination address offset) = lines.Jump here ∷ []
+body program frames function here (plain.Store address offset source) = lines.Jump here ∷ []
 body program frames function here (plain.Uncaught tag value) = uncaught_code (frame_at frames function) tag value
 
 -- behind a call, the lines that are executed after it returned

@@ -82,6 +82,9 @@ impl Emitter {
             } => self.load_global(frame, destination, global),
             Instruction::StoreGlobal { global, source } => self.store_global(frame, global, source),
             Instruction::Uncaught { tag, value } => self.uncaught(frame, tag, value),
+            // No program has these yet.
+            Instruction::MoveWords { .. } | Instruction::Load { .. } | Instruction::Store { .. } =>
+                { self.line(Line::Jump { label: here }) }
         }
     }
 

@@ -60,7 +60,10 @@ fn body_count(plain: &Plain, function: usize, instruction: Instruction) -> usize
             right,
             ..
         } => operator_count(operator, left, right),
-        Instruction::Jump { .. } => 1,
+        Instruction::Jump { .. }
+        | Instruction::MoveWords { .. }
+        | Instruction::Load { .. }
+        | Instruction::Store { .. } => 1,
         Instruction::Branch {
             comparison,
             left,

@@ -1,7 +1,7 @@
 -- Which unique block begins at an address, by what a table of pages says.
 use Rattle.std.proofs.Common.{◌≡◌, ◌≢◌, ℕ, ◌+◌, ◌*◌, ◌/◌, ◌%◌, ◌^◌, ◌<◌, ◌≤◌, Bool, true, false, List, length, Option, None, Some, refl, sym, ap, subst, ◌∙◌, inl, inr, lit<, arith}
 use Rattle.std.specs.Prelude.{◌⊎◌, is_some, slice_index_or}
-use Rattle.std.proofs.Math.Nat.{div-le_self, mod-lt, mul-div_cancel}
+use Rattle.std.proofs.Math.Nat.{mod-lt, mul-div_cancel}
 use Rattle.std.proofs.lemmas.List.{get_or_default}
 use Rattle.std.proofs.lemmas.Nat.{pow_pos}
 use Rattle.cyc_words.specs.Demand.{greatest_class}
@@ -80,12 +80,11 @@ module _ (t : PageTable) (lexicals : List ℕ) (classes : List ClassSlots) (b : 
         pub block-class : class ≤ greatest_class
         block-class = subst (λ n. n ≤ greatest_class) page-is.1 (k.laid.slots.bound (word / 1024) page-is.0)
 
-        pub block-there : word / 1024 * 1024 + word % 1024 / 2 ^ class < length t.live.items
-        block-there = within (word / 1024) (word % 1024 / 2 ^ class) (length t.rows.items) (word % 1024) (length t.live.items) there
-            (div-le_self (word % 1024) (2 ^ class)) (mod-lt word (lit< tt)) k.whole.live
+        pub block-there : word < length t.live.items
+        block-there = within (word / 1024) (word % 1024) word (length t.rows.items) (length t.live.items) there (mod-lt word (lit< tt)) (word-split word) k.whole.live
           where
-            within : (p o n w m : ℕ) → p < n → o ≤ w → w < 1024 → m ≡ 1024 * n → p * 1024 + o < m
-            within p o n w m less few bound whole = omega (arith, less, few, bound, whole)
+            within : (p o w n m : ℕ) → p < n → o < 1024 → 1024 * p + o ≡ w → m ≡ 1024 * n → w < m
+            within p o w n m less small split whole = omega (arith, less, small, split, whole)
 
         pub block-inner : (word % 1024 / 2 ^ class * 2 ^ class ≡ word % 1024 → ⊥) → IsNone
         block-inner inner = slot-unless (λ c slot. inner (first c slot))
@@ -97,25 +96,19 @@ module _ (t : PageTable) (lexicals : List ℕ) (classes : List ClassSlots) (b : 
                 ap (λ n. n / 2 ^ class * 2 ^ class) offset ∙ (ap (λ n. n * 2 ^ class) (mul-div_cancel slot.number (pow_pos class)) ∙ sym offset)
 
         module _ (first : word % 1024 / 2 ^ class * 2 ^ class ≡ word % 1024) (mark : Bool)
-            (marked : mark ≡ slice_index_or t.live.items (word / 1024 * 1024 + word % 1024 / 2 ^ class) mark) where
+            (marked : mark ≡ slice_index_or t.live.items word mark) where
           -- the word is the first of its slot
-          place-is : PAGE_WORDS * (word / 1024) + word % 1024 / 2 ^ class * 2 ^ k.layout.class (word / 1024) ≡ word
+          place-is : PAGE_WORDS * (word / 1024) + word % 1024 / 2 ^ k.layout.class (word / 1024) * 2 ^ k.layout.class (word / 1024) ≡ word
           place-is =
-              ap (λ c. PAGE_WORDS * (word / 1024) + word % 1024 / 2 ^ class * 2 ^ c) page-is.1
+              ap (λ c. PAGE_WORDS * (word / 1024) + word % 1024 / 2 ^ c * 2 ^ c) page-is.1
               ∙ (ap (λ n. PAGE_WORDS * (word / 1024) + n) first ∙ word-split word)
-
-          inside : word % 1024 / 2 ^ class * 2 ^ k.layout.class (word / 1024) < PAGE_WORDS
-          inside = subst (λ n. n < 1024) (sym (ap (λ c. word % 1024 / 2 ^ class * 2 ^ c) page-is.1 ∙ first)) (mod-lt word (lit< tt))
 
           mark-is : mark ≡ is_some (lookup address_of b.unique address)
           mark-is =
-              marked ∙ (sym (get_or_default t.live.items (word / 1024 * 1024 + word % 1024 / 2 ^ class) false mark block-there)
-              ∙ (ap (λ n. slice_index_or t.live.items n false) (turned (word / 1024) (word % 1024 / 2 ^ class))
-              ∙ (k.tied.marked (word / 1024) (word % 1024 / 2 ^ class) page-is.0 inside
+              marked ∙ (sym (get_or_default t.live.items word false mark block-there)
+              ∙ (ap (λ n. slice_index_or t.live.items n false) (sym (word-split word))
+              ∙ (k.tied.marked (word / 1024) (word % 1024) page-is.0 (mod-lt word (lit< tt))
               ∙ ap (λ n. is_some (lookup address_of b.unique n)) (ap place_of place-is ∙ sym at))))
-            where
-              turned : (p n : ℕ) → p * 1024 + n ≡ 1024 * p + n
-              turned p n = omega arith
 
           pub block-dead : mark ≡ false → IsNone
           block-dead dead = none-there (lookup address_of b.unique address) (sym mark-is ∙ dead)

@@ -1,5 +1,5 @@
 -- A store on a table of pages stays one where a unique block is freed.
-use Rattle.std.proofs.Common.{◌≡◌, ℕ, suc, ◌+◌, ◌*◌, ◌/◌, ◌%◌, ◌^◌, ◌<◌, ◌≤◌, false, List, [], ◌∷◌, length, Some, refl, sym, ap, subst, ◌∙◌, inl, inr, arith, length-set}
+use Rattle.std.proofs.Common.{◌≡◌, ℕ, suc, ◌+◌, ◌*◌, ◌^◌, ◌<◌, ◌≤◌, false, List, [], ◌∷◌, length, Some, refl, sym, ap, subst, ◌∙◌, inl, inr, arith, length-set}
 use Rattle.std.specs.Prelude.{◌==◌, if◌then◌else◌, is_some, slice_index, slice_index_or, set}
 use Rattle.std.specs.List.{AllByRecursion}
 use Rattle.std.proofs.Math.Nat.{pow-le-pow_right, pow-suc}
@@ -12,6 +12,7 @@ use Rattle.cyc_store.specs.Services.{Free, Done, Serves}
 use Rattle.cyc_store.specs.Soundness.{IsSound}
 use Rattle.cyc_store.specs.Ledger.{Blocks, memory_of, store_of, after}
 use Rattle.cyc_store.specs.Slots.{place_of, slot_block, IsSlot, IsLiveSlot, IsDeadSlot, IsLaidOut}
+use Rattle.cyc_store.specs.Table.{marked_between}
 use Rattle.cyc_store.specs.Kept.{IsChain, IsStocked, IsTied, IsKept, table_of, no_slots}
 use Rattle.cyc_store.specs.declared.change.Change.TheVariants.{Freed}
 use Rattle.cyc_store.specs.declared.row.PageTable.{PageTable}
@@ -21,8 +22,8 @@ use Rattle.cyc_store.proofs.LookupLemmas.{when_equal, when_other, not_both, same
 use Rattle.cyc_store.proofs.Responses.{serves-free, sound-free}
 use Rattle.cyc_store.proofs.SlotLemmas.{holder-unique, slot-live}
 use Rattle.cyc_store.proofs.SlotServices.{with_dead, same-words, first-in, freed-laid}
-use Rattle.cyc_store.proofs.SlotTables.{read-set, marked-table, stock-words, mark-place}
-use Rattle.cyc_store.proofs.TieSlots.{with_mark, with_slots, mark_of_slot, slot-tied}
+use Rattle.cyc_store.proofs.SlotTables.{read-set, marked-table, stock-words}
+use Rattle.cyc_store.proofs.TieSlots.{with_marks, with_slots, slot-tied}
 use Rattle.cyc_store.proofs.WordLemmas.{memory-set, words-put}
 use Rattle.cyc_store.proofs.KeptSlots.{class-there, stock-is, slot-there, mark-there, words-few, link-word}
 
@@ -70,7 +71,7 @@ module _ (t : PageTable) (lexicals : List ℕ) (classes : List ClassSlots) (b : 
       below : (w n : ℕ) → w < n → n ≤ 67108864 → w < 67108864
       below w n less few = omega (arith, less, few)
 
-  pub empty-live : word / 1024 * 1024 + word % 1024 / 2 ^ class < length t.live.items
+  pub empty-live : word + 2 ^ class ≤ length t.live.items
   empty-live = mark-there t lexicals classes b k class empty-class word slot
 
   -- the words afterwards
@@ -121,7 +122,7 @@ module _ (t : PageTable) (lexicals : List ℕ) (classes : List ClassSlots) (b : 
   empty-sound : IsSound (record s { unique = without address_of b.unique (place_of word); memory = memory })
   empty-sound = sound-free s k.layout k.laid (place_of word) (slot_block class word) there memory freed-words freed-keeps
 
-  freed-tied : IsTied (record (with_mark (table_of t) (mark_of_slot slot.page slot.number) false) { word = written }) lexicals
+  freed-tied : IsTied (record (with_marks (table_of t) word (2 ^ class) false) { word = written }) lexicals
       (with_slots (λ (c : ℕ). slice_index_or classes c no_slots) class (record slots { dead = word })) (record b { unique = without address_of b.unique (place_of word) })
       (with_dead k.layout class (word ∷ k.layout.dead class))
   freed-tied = slot-tied (table_of t) lexicals (λ (c : ℕ). slice_index_or classes c no_slots) b k.layout k.tied class word slot false
@@ -130,9 +131,11 @@ module _ (t : PageTable) (lexicals : List ℕ) (classes : List ClassSlots) (b : 
       (record slots { dead = word }) (word ∷ k.layout.dead class) written own-stock
       (λ c away few old. other-stock c few (slice_index_or classes c no_slots) old)
 
-  -- the mark of the slot and its first word are written
+  -- the marks of the slot and its first word are written
   module _ (address : ℕ) (at : address ≡ 536870912 + 4 * word) (c : Blocks) (noted : c ≡ after b (Freed address)) (v : PageTable) (most_is : v.most ≡ t.most)
-      (words_is : v.words.items ≡ set t.words.items word slots.dead) (live_is : v.live.items ≡ set t.live.items (word / 1024 * 1024 + word % 1024 / 2 ^ class) false)
+      (words_is : v.words.items ≡ set t.words.items word slots.dead)
+      (size : ℕ) (many : size ≡ 2 ^ class) (live_is : (other : ℕ) → slice_index_or v.live.items other false ≡ marked_between (λ (i : ℕ). slice_index_or t.live.items i false) word size false other)
+      (whole_is : length v.live.items ≡ length t.live.items)
       (free_is : v.free ≡ t.free) (rows_is : v.rows.items ≡ t.rows.items) where
     freed-blocks : c ≡ record b { unique = without address_of b.unique (place_of word) }
     freed-blocks = noted ∙ ap (λ a. after b (Freed a)) at
@@ -151,7 +154,7 @@ module _ (t : PageTable) (lexicals : List ℕ) (classes : List ClassSlots) (b : 
     empty-kept = subst (IsKept v lexicals (set classes class (record slots { dead = word }))) (sym freed-blocks) (record {
       whole = record {
         words = ap length words_is ∙ (length-set t.words.items word slots.dead ∙ (k.whole.words ∙ ap (λ rs. PAGE_WORDS * length rs) (sym rows_is)));
-        live = ap length live_is ∙ (length-set t.live.items _ false ∙ (k.whole.live ∙ ap (λ rs. PAGE_WORDS * length rs) (sym rows_is)));
+        live = whole_is ∙ (k.whole.live ∙ ap (λ rs. PAGE_WORDS * length rs) (sym rows_is));
       };
       eleven = length-set classes class (record slots { dead = word }) ∙ k.eleven;
       layout = with_dead k.layout class (word ∷ k.layout.dead class);
@@ -159,10 +162,10 @@ module _ (t : PageTable) (lexicals : List ℕ) (classes : List ClassSlots) (b : 
           (freed-laid s k.layout k.laid class word empty-class slot (slot_block class word) there memory empty-sound);
       tied = subst (λ table. IsTied table lexicals (λ (c : ℕ). slice_index_or (set classes class (record slots { dead = word })) c no_slots)
           (record b { unique = without address_of b.unique (place_of word) }) (with_dead k.layout class (word ∷ k.layout.dead class)))
-          (sym (marked-table t v (word / 1024 * 1024 + word % 1024 / 2 ^ class) false written empty-live most_is
+          (sym (marked-table t v word size false written most_is
           (ap (λ ws. λ (i : ℕ). slice_index ws i) words_is ∙ read-set t.words.items word slots.dead 0 empty-word) live_is free_is rows_is
-          ∙ ap (λ n. record (with_mark (table_of t) n false) { word = written }) (mark-place k.layout.pages.owner k.layout.class class word slot)))
-          (subst (λ f. IsTied (record (with_mark (table_of t) (mark_of_slot slot.page slot.number) false) { word = written }) lexicals f
+          ∙ ap (λ n. record (with_marks (table_of t) word n false) { word = written }) many))
+          (subst (λ f. IsTied (record (with_marks (table_of t) word (2 ^ class) false) { word = written }) lexicals f
           (record b { unique = without address_of b.unique (place_of word) }) (with_dead k.layout class (word ∷ k.layout.dead class)))
           (sym (read-set classes class (record slots { dead = word }) no_slots (class-there t lexicals classes b k class empty-class))) freed-tied);
     })

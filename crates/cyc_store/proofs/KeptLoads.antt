@@ -77,15 +77,26 @@ module _ (t : PageTable) (lexicals : List ℕ) (classes : List ClassSlots) (b : 
       clash : (x l : ℕ) → l ≤ (x - 536870912) / 4 → 536870912 ≤ x → x < 536870912 + 4 * l → ⊥
       clash x l past low high = omega (arith, past, low, high)
 
-  pub load-none : (x : ℕ) → (x < 536870912) ⊎ (x % 4 ≡ 0 → ⊥) → word_at s x ≡ None
-  load-none x (inl less) = load-below x less
-  load-none x (inr odd) = odd-word s x odd
-
-  pub load-behind : (x n : ℕ) → x ≡ 536870912 + 4 * n → length t.words.items ≤ n → word_at s x ≡ None
-  load-behind x n place past = load-past x (quarter x n (length t.words.items) place past)
+  pub load-none : (x count : ℕ) → count ≡ length t.words.items → (x < 536870912) ⊎ (x % 4 ≡ 0 → ⊥) ⊎ (536870912 + 4 * count ≤ x) → word_at s x ≡ None
+  load-none x count all (inl less) = load-below x less
+  load-none x count all (inr (inl odd)) = odd-word s x odd
+  load-none x count all (inr (inr past)) = load-past x (quarter x count (length t.words.items) all past)
     where
-      quarter : (x n l : ℕ) → x ≡ 536870912 + 4 * n → l ≤ n → l ≤ (x - 536870912) / 4
-      quarter x n l place past = omega (arith, place, past)
+      quarter : (x n l : ℕ) → n ≡ l → 536870912 + 4 * n ≤ x → l ≤ (x - 536870912) / 4
+      quarter x n l all past = omega (arith, all, past)
+
+  -- all words that are there lie in the store's pages
+  pub words-few : length t.words.items ≤ 67108864
+  words-few = within (length t.words.items) (length t.rows.items) t.most k.whole.words k.tied.few k.tied.most
+    where
+      within : (w n m : ℕ) → w ≡ 1024 * n → n ≤ m → m ≤ 65536 → w ≤ 67108864
+      within w n m whole few most = omega (arith, whole, few, most)
+
+  pub load-inside : (x n : ℕ) → x ≡ 536870912 + 4 * n → n < length t.words.items → (536870912 ≤ x) × (x < 536870912 + 4 * (1024 * t.most))
+  load-inside x n place inside = within x n (length t.words.items) (length t.rows.items) t.most place inside k.whole.words k.tied.few
+    where
+      within : (x n w r m : ℕ) → x ≡ 536870912 + 4 * n → n < w → w ≡ 1024 * r → r ≤ m → (536870912 ≤ x) × (x < 536870912 + 4 * (1024 * m))
+      within x n w r m place inside whole few = (omega (arith, place), omega (arith, place, inside, whole, few))
 
 -- ---- words by their numbers
 

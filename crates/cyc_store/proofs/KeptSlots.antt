@@ -1,8 +1,7 @@
 -- A store on a table of pages stays one where a page is cut into slots of a class, and where a unique block is made in a slot.
-use Rattle.std.proofs.Common.{◌≡◌, ℕ, zero, suc, ◌+◌, ◌-◌, ◌*◌, ◌/◌, ◌%◌, ◌^◌, ◌<◌, ◌≤◌, true, List, [], ◌∷◌, ◌++◌, length, refl, sym, ap, subst, ◌∙◌, inl, inr, lit<, arith, length-set}
+use Rattle.std.proofs.Common.{◌≡◌, ℕ, zero, suc, ◌+◌, ◌-◌, ◌*◌, ◌/◌, ◌^◌, ◌<◌, ◌≤◌, true, false, List, [], ◌∷◌, ◌++◌, length, refl, sym, ap, subst, ◌∙◌, inl, inr, arith, length-set}
 use Rattle.std.specs.Prelude.{is_some, slice_index, slice_index_or, set}
 use Rattle.std.specs.List.{AllByRecursion}
-use Rattle.std.proofs.Math.Nat.{div-le_self, mod-lt}
 use Rattle.std.proofs.lemmas.Bool.{cases_eq}
 use Rattle.std.proofs.lemmas.Nat.{pow_pos}
 use Rattle.cyc_words.specs.Demand.{greatest_class, class_of, blocks_in_page}
@@ -10,7 +9,7 @@ use Rattle.cyc_store.specs.State.{Block, address_of, StoreState, demand, live_in
 use Rattle.cyc_store.specs.Soundness.{IsSound}
 use Rattle.cyc_store.specs.Ledger.{Blocks, store_of, plain_store, blocks_of, after}
 use Rattle.cyc_store.specs.Slots.{place_of, Layout, slot_block, slots_from, IsSlot, IsDeadSlot, IsLaidOut, HasSlot, IsSpent, with_page, Fills, Stocks}
-use Rattle.cyc_store.specs.Table.{Draws}
+use Rattle.cyc_store.specs.Table.{Draws, marked_between}
 use Rattle.cyc_store.specs.Kept.{Table, IsChain, IsStocked, next_slot_of, IsTied, IsKept, table_of, no_slots}
 use Rattle.cyc_store.specs.declared.change.Change.TheVariants.{Stocked, MadeUnique}
 use Rattle.cyc_store.specs.declared.row.PageTable.{PageTable}
@@ -18,14 +17,13 @@ use Rattle.cyc_store.specs.declared.row.TheConstants.{NONE}
 use Rattle.cyc_store.specs.declared.row.ClassSlots.{ClassSlots}
 use Rattle.cyc_store.specs.declared.range.TheConstants.{PAGE_WORDS, MOST_BLOCK_WORDS, UNIQUE}
 use Rattle.cyc_store.proofs.LookupLemmas.{when_equal, when_other, lookup-append_new, lookup-append_other}
-use Rattle.cyc_store.proofs.LiveWords.{word-split}
 use Rattle.cyc_store.proofs.Responses.{sound-unique}
 use Rattle.cyc_store.proofs.SlotServices.{with_dead, dead-placed, dead-apart, dead-classes, dead-demand, dead-laid}
 use Rattle.cyc_store.proofs.SlotStock.{slots-many, stocked, stock-sound, page-empty, stock-laid}
-use Rattle.cyc_store.proofs.SlotTables.{read-set, marked-table, mark-place}
+use Rattle.cyc_store.proofs.SlotTables.{read-set, marked-table}
 use Rattle.cyc_store.proofs.TieLemmas.{IsDrawn}
 use Rattle.cyc_store.proofs.TieOpening.{with_row}
-use Rattle.cyc_store.proofs.TieSlots.{with_mark, with_slots, mark_of_slot, slot-tied, slots_row, fresh_slots, stock-tied}
+use Rattle.cyc_store.proofs.TieSlots.{with_marks, with_slots, slot-tied, slots_row, fresh_slots, stock-tied}
 use Rattle.cyc_store.proofs.KeptServices.{held-same, Rewrites, rewritten-table, rewritten-whole, kept-full, kept-some, kept-drawn, drawn-none, drawn-away}
 
 -- ---- the first of the dead slots
@@ -105,12 +103,11 @@ module _ (t : PageTable) (lexicals : List ℕ) (classes : List ClassSlots) (b : 
       within : (p a z w n m : ℕ) → w ≡ 1024 * p + a → a + z ≤ 1024 → 0 < z → p < n → m ≡ 1024 * n → w < m
       within p a z w n m at fits some less whole = omega (arith, at, fits, some, less, whole)
 
-  pub mark-there : (w : ℕ) → IsSlot k.layout.pages.owner k.layout.class class w → w / 1024 * 1024 + w % 1024 / 2 ^ class < length t.live.items
-  mark-there w slot = within (length t.rows.items) (length t.live.items) (w / 1024) (w % 1024) (w % 1024 / 2 ^ class) (length t.words.items) w
-      (mod-lt w (lit< tt)) (div-le_self (w % 1024) (2 ^ class)) (word-split w) (slot-there w slot) k.whole.words k.whole.live
+  pub mark-there : (w : ℕ) → IsSlot k.layout.pages.owner k.layout.class class w → w + 2 ^ class ≤ length t.live.items
+  mark-there w slot = within slot.page (slot.number * 2 ^ class) (2 ^ class) w (length t.rows.items) (length t.live.items) slot.at slot.fits (k.tied.drawn slot.page UNIQUE slot.owned) k.whole.live
     where
-      within : (n m p o q l w : ℕ) → o < 1024 → q ≤ o → 1024 * p + o ≡ w → w < l → l ≡ 1024 * n → m ≡ 1024 * n → p * 1024 + q < m
-      within n m p o q l w small less split there words live = omega (arith, small, less, split, there, words, live)
+      within : (p a z w n m : ℕ) → w ≡ 1024 * p + a → a + z ≤ 1024 → p < n → m ≡ 1024 * n → w + z ≤ m
+      within p a z w n m at fits less whole = omega (arith, at, fits, less, whole)
 
   pub words-few : length t.words.items ≤ 67108864
   words-few = within (length t.rows.items) t.most (length t.words.items) k.tied.few k.tied.most k.whole.words
@@ -318,7 +315,7 @@ module _ (t : PageTable) (lexicals : List ℕ) (classes : List ClassSlots) (b : 
         below : (w n : ℕ) → w < n → n ≤ 67108864 → w < 67108864
         below w n less few = omega (arith, less, few)
 
-    pub fill-there : next.0 / 1024 * 1024 + next.0 % 1024 / 2 ^ class < length t.live.items
+    pub fill-there : next.0 + 2 ^ class ≤ length t.live.items
     fill-there = mark-there next.0 next-slot.slot
 
     module _ (address size : ℕ) (at : address ≡ 536870912 + 4 * next.0) (many : size ≡ 2 ^ class) (c : Blocks) (noted : c ≡ after b (MadeUnique address size)) where
@@ -343,7 +340,7 @@ module _ (t : PageTable) (lexicals : List ℕ) (classes : List ClassSlots) (b : 
           (dead-placed s k.layout k.laid class next.0 bound first-next.rest first-next.first, dead-apart s k.layout k.laid class next.0 bound first-next.rest first-next.first)
           (subst (λ d. d ≤ t.most) (sym (dead-demand s k.layout k.laid class next.0 bound first-next.rest first-next.first)) k.laid.sound.demand)
 
-      made-tied : IsTied (record (with_mark (table_of t) (mark_of_slot next-slot.slot.page next-slot.slot.number) true) { word = (table_of t).word }) lexicals
+      made-tied : IsTied (record (with_marks (table_of t) next.0 (2 ^ class) true) { word = (table_of t).word }) lexicals
           (with_slots (λ (c : ℕ). slice_index_or classes c no_slots) class next.1) (blocks_of (made_unique (plain_store b) block)) (with_dead k.layout class first-next.rest)
       made-tied = slot-tied (table_of t) lexicals (λ (c : ℕ). slice_index_or classes c no_slots) b k.layout k.tied class next.0 next-slot.slot true (b.unique ++ block ∷ [])
           (made_unique (plain_store b) block).classes
@@ -351,13 +348,14 @@ module _ (t : PageTable) (lexicals : List ℕ) (classes : List ClassSlots) (b : 
           (λ first other. lookup-append_other address_of b.unique block first (λ e. other (sym e)))
           next.1 first-next.rest (table_of t).word first-next.stock (λ other away few old. old)
 
-      -- the mark of the slot is written
-      pub fill-kept : (v : PageTable) → v.most ≡ t.most → v.words.items ≡ t.words.items → v.live.items ≡ set t.live.items (next.0 / 1024 * 1024 + next.0 % 1024 / 2 ^ class) true
+      -- the marks of the slot are written
+      pub fill-kept : (v : PageTable) → v.most ≡ t.most → v.words.items ≡ t.words.items
+          → ((word : ℕ) → slice_index_or v.live.items word false ≡ marked_between (λ (i : ℕ). slice_index_or t.live.items i false) next.0 size true word) → length v.live.items ≡ length t.live.items
           → v.free ≡ t.free → v.rows.items ≡ t.rows.items → IsKept v lexicals (set classes class next.1) c
-      fill-kept v most_is words_is live_is free_is rows_is = subst (IsKept v lexicals (set classes class next.1)) (sym made-noted) (record {
+      fill-kept v most_is words_is live_is whole_is free_is rows_is = subst (IsKept v lexicals (set classes class next.1)) (sym made-noted) (record {
         whole = record {
           words = ap length words_is ∙ (k.whole.words ∙ ap (λ rs. PAGE_WORDS * length rs) (sym rows_is));
-          live = ap length live_is ∙ (length-set t.live.items _ true ∙ (k.whole.live ∙ ap (λ rs. PAGE_WORDS * length rs) (sym rows_is)));
+          live = whole_is ∙ (k.whole.live ∙ ap (λ rs. PAGE_WORDS * length rs) (sym rows_is));
         };
         eleven = length-set classes class next.1 ∙ k.eleven;
         layout = with_dead k.layout class first-next.rest;
@@ -365,9 +363,9 @@ module _ (t : PageTable) (lexicals : List ℕ) (classes : List ClassSlots) (b : 
             (sym (held-same t.most t.words.items v.most v.words.items (blocks_of (made_unique (plain_store b) block)) most_is (λ i. ap (λ ws. slice_index ws i) words_is)))
             (dead-laid s k.layout k.laid class next.0 bound first-next.rest first-next.first s.memory made-sound);
         tied = subst (λ table. IsTied table lexicals (λ (c : ℕ). slice_index_or (set classes class next.1) c no_slots) (blocks_of (made_unique (plain_store b) block)) (with_dead k.layout class first-next.rest))
-            (sym (marked-table t v (next.0 / 1024 * 1024 + next.0 % 1024 / 2 ^ class) true (table_of t).word fill-there most_is (ap (λ ws. λ (i : ℕ). slice_index ws i) words_is) live_is free_is rows_is
-            ∙ ap (λ n. record (with_mark (table_of t) n true) { word = (table_of t).word }) (mark-place k.layout.pages.owner k.layout.class class next.0 next-slot.slot)))
-            (subst (λ f. IsTied (record (with_mark (table_of t) (mark_of_slot next-slot.slot.page next-slot.slot.number) true) { word = (table_of t).word }) lexicals f
+            (sym (marked-table t v next.0 size true (table_of t).word most_is (ap (λ ws. λ (i : ℕ). slice_index ws i) words_is) live_is free_is rows_is
+            ∙ ap (λ n. record (with_marks (table_of t) next.0 n true) { word = (table_of t).word }) many))
+            (subst (λ f. IsTied (record (with_marks (table_of t) next.0 (2 ^ class) true) { word = (table_of t).word }) lexicals f
             (blocks_of (made_unique (plain_store b) block)) (with_dead k.layout class first-next.rest))
             (sym (read-set classes class next.1 no_slots class-there)) made-tied);
       })

@@ -16,6 +16,7 @@ pub mod KeptUnwinding
 pub mod KeptWords
 pub mod LiveWords
 pub mod LookupLemmas
+pub mod NewStores
 pub mod PageLemmas
 pub mod PageServices
 pub mod PagedAllocation

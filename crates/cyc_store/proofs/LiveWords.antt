@@ -14,7 +14,7 @@ use Rattle.cyc_store.specs.declared.row.Role.{Role}
 use Rattle.cyc_store.specs.declared.row.Role.TheVariants as role
 use Rattle.cyc_store.specs.declared.row.ClassSlots.{ClassSlots}
 use Rattle.cyc_store.specs.declared.range.TheConstants.{STORE_BASE, PAGE_WORDS, UNIQUE}
-use Rattle.cyc_store.proofs.LookupLemmas.{when_equal, when_other, cases_option, same_some, lookup-key}
+use Rattle.cyc_store.proofs.LookupLemmas.{when_equal, when_other, cases_option, not_both, same_some, lookup-key}
 use Rattle.cyc_store.proofs.HolderLemmas.{covers_from}
 use Rattle.cyc_store.proofs.SlotLemmas.{slot-apart, slot-live, filled-live, past-dead}
 
@@ -134,7 +134,7 @@ module _ (t : Table) (lexicals : List ℕ) (classes : ℕ → ClassSlots) (b : B
               ((tied.rows page).marks ∙ (ap (λ o. limit o (l.pages.filled page)) owned ∙ when_other h UNIQUE 0 (l.pages.filled page) other)) below)).1
         ]
 
-    pub live-slots : (class : ℕ) → (t.row page).role ≡ role.Slots class → is_some (holder (homes s) (place_of (PAGE_WORDS * page + offset))) ≡ t.live (PAGE_WORDS * page + offset / 2 ^ class)
+    live-slots : (class : ℕ) → (t.row page).role ≡ role.Slots class → is_some (holder (homes s) (place_of (PAGE_WORDS * page + offset))) ≡ t.live (PAGE_WORDS * page + offset)
     live-slots class is =
         let (owned, same) = slots-owner (sort_of (lookup handle_of b.regions (handle_of_page page))) (l.pages.owner page) (l.class page) class (sym (tied.rows page).plays ∙ is) in
         by owned same
@@ -160,7 +160,7 @@ module _ (t : Table) (lexicals : List ℕ) (classes : ℕ → ClassSlots) (b : B
             within base p a n z e = omega (arith, e)
 
         by : l.pages.owner page ≡ Some UNIQUE → l.class page ≡ class
-            → is_some (holder (homes s) (place_of (PAGE_WORDS * page + offset))) ≡ t.live (PAGE_WORDS * page + offset / 2 ^ class)
+            → is_some (holder (homes s) (place_of (PAGE_WORDS * page + offset))) ≡ t.live (PAGE_WORDS * page + offset)
         by owned same = elim (cases_option (lookup address_of b.unique (place_of (PAGE_WORDS * page + offset / 2 ^ class * 2 ^ class)))) [
           | inl none ↦ ap is_some (slot-apart s l laid class (PAGE_WORDS * page + offset / 2 ^ class * 2 ^ class) slot none (place_of (PAGE_WORDS * page + offset)) inside)
               ∙ sym (mark ∙ ap is_some none)
@@ -181,18 +181,31 @@ module _ (t : Table) (lexicals : List ℕ) (classes : ℕ → ClassSlots) (b : B
               fits = slot-fits class (offset / 2 ^ class) bound (below (offset / 2 ^ class * 2 ^ class) offset PAGE_WORDS least small);
             }
 
-            mark : t.live (PAGE_WORDS * page + offset / 2 ^ class) ≡ is_some (lookup address_of b.unique (place_of (PAGE_WORDS * page + offset / 2 ^ class * 2 ^ class)))
-            mark =
-                tied.marked page (offset / 2 ^ class) owned
-                (subst (λ n. offset / 2 ^ class * 2 ^ n < PAGE_WORDS) (sym same) (below (offset / 2 ^ class * 2 ^ class) offset PAGE_WORDS least small))
-                ∙ ap (λ n. is_some (lookup address_of b.unique (place_of (PAGE_WORDS * page + offset / 2 ^ class * 2 ^ n)))) same
+            mark : t.live (PAGE_WORDS * page + offset) ≡ is_some (lookup address_of b.unique (place_of (PAGE_WORDS * page + offset / 2 ^ class * 2 ^ class)))
+            mark = tied.marked page offset owned small ∙ ap (λ n. is_some (lookup address_of b.unique (place_of (PAGE_WORDS * page + offset / 2 ^ n * 2 ^ n)))) same
 
-    pub live-none : (t.row page).filled ≤ offset → ((class : ℕ) → (t.row page).role ≡ role.Slots class → ⊥)
+    live-none : (t.row page).filled ≤ offset → ((class : ℕ) → (t.row page).role ≡ role.Slots class → ⊥)
         → is_some (holder (homes s) (place_of (PAGE_WORDS * page + offset))) ≡ false
     live-none past never = ap is_some (past-dead s l laid page offset small (λ h owned. elim (cases_eq h UNIQUE) [
       | inl same ↦ absurd (never (l.class page) (unique-role page (owned ∙ ap (λ n. Some n) same)))
       | inr other ↦ subst (λ n. n ≤ offset) ((tied.rows page).marks ∙ (ap (λ o. limit o (l.pages.filled page)) owned ∙ when_other h UNIQUE 0 (l.pages.filled page) other)) past
     ]))
+
+    -- behind the fill mark a word's own mark tells
+    pub live-marks : (t.row page).filled ≤ offset → is_some (holder (homes s) (place_of (PAGE_WORDS * page + offset))) ≡ t.live (PAGE_WORDS * page + offset)
+    live-marks past = by (l.pages.owner page) refl
+      where
+        apart : (l.pages.owner page ≡ Some UNIQUE → ⊥) → is_some (holder (homes s) (place_of (PAGE_WORDS * page + offset))) ≡ t.live (PAGE_WORDS * page + offset)
+        apart other =
+            live-none past (λ class is. other (slots-owner (sort_of (lookup handle_of b.regions (handle_of_page page))) (l.pages.owner page) (l.class page) class (sym (tied.rows page).plays ∙ is)).0)
+            ∙ sym (tied.unmarked page offset other small)
+
+        by : (o : Option ℕ) → l.pages.owner page ≡ o → is_some (holder (homes s) (place_of (PAGE_WORDS * page + offset))) ≡ t.live (PAGE_WORDS * page + offset)
+        by None owned = apart (λ e. not_both owned e)
+        by (Some h) owned = elim (cases_eq h UNIQUE) [
+          | inl same ↦ live-slots (l.class page) (unique-role page (owned ∙ ap (λ n. Some n) same))
+          | inr other ↦ apart (λ e. other (same_some (sym owned ∙ e)))
+        ]
 
 -- a word is at its place in its page
 pub word-split : (word : ℕ) → PAGE_WORDS * (word / 1024) + word % 1024 ≡ word

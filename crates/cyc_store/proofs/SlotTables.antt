@@ -2,18 +2,17 @@
 use Rattle.std.proofs.Common.{◌≡◌, ℕ, ◌+◌, ◌*◌, ◌/◌, ◌%◌, ◌^◌, ◌<◌, ◌≤◌, Bool, false, List, length, Option, sym, ap, subst, ◌∙◌, inl, inr, arith, get_or-set_same, get_or-set_other}
 use Rattle.std.specs.Prelude.{◌==◌, if◌then◌else◌, slice_index, slice_index_or, set}
 use Rattle.std.specs.List.{AllByRecursion}
-use Rattle.std.proofs.Math.Nat.{mul-div_cancel}
 use Rattle.std.proofs.lemmas.Bool.{cases_eq}
 use Rattle.std.proofs.lemmas.Nat.{pow_pos}
 use mathlib.Core.Path.{fun_ext}
 use Rattle.cyc_store.specs.Slots.{IsSlot, slots_from}
-use Rattle.cyc_store.specs.Table.{row_at}
+use Rattle.cyc_store.specs.Table.{row_at, marked_between}
 use Rattle.cyc_store.specs.Kept.{IsStocked, table_of}
 use Rattle.cyc_store.specs.declared.row.PageTable.{PageTable}
 use Rattle.cyc_store.specs.declared.row.ClassSlots.{ClassSlots}
 use Rattle.cyc_store.proofs.LookupLemmas.{when_equal, when_other}
 use Rattle.cyc_store.proofs.TieLemmas.{all-left, chain-same}
-use Rattle.cyc_store.proofs.TieSlots.{with_mark, mark_of_slot}
+use Rattle.cyc_store.proofs.TieSlots.{with_marks}
 
 -- what is read of a list where one element is another
 pub read-set : {A : Type 0} (xs : List A) (i : ℕ) (x d : A) → i < length xs
@@ -34,13 +33,12 @@ read-table t v words marks most_is words_is marks_is free_is rows_is =
     ∙ (ap (λ f. record (table_of v) { most = t.most; free = t.free; word = words; live = f }) marks_is
     ∙ ap (λ rs. record (table_of t) { word = words; live = marks; count = length rs; row = λ (p : ℕ). row_at rs p }) rows_is)))
 
--- the mark of one slot is another, and so may be the words
-pub marked-table : (t v : PageTable) (slot : ℕ) (mark : Bool) (words : ℕ → ℕ) → slot < length t.live.items → v.most ≡ t.most
-    → ◌≡◌ {A = ℕ → ℕ} (λ i. slice_index v.words.items i) words → v.live.items ≡ set t.live.items slot mark → v.free ≡ t.free → v.rows.items ≡ t.rows.items
-    → table_of v ≡ record (with_mark (table_of t) slot mark) { word = words }
-marked-table t v slot mark words there most_is words_is live_is free_is rows_is =
-    read-table t v words (with_mark (table_of t) slot mark).live most_is words_is
-    (ap (λ ms. λ (i : ℕ). slice_index_or ms i false) live_is ∙ read-set t.live.items slot mark false there) free_is rows_is
+-- the marks from one on are others, and so may be the words
+pub marked-table : (t v : PageTable) (first count : ℕ) (mark : Bool) (words : ℕ → ℕ) → v.most ≡ t.most → ◌≡◌ {A = ℕ → ℕ} (λ i. slice_index v.words.items i) words
+    → ((word : ℕ) → slice_index_or v.live.items word false ≡ marked_between (λ (i : ℕ). slice_index_or t.live.items i false) first count mark word) → v.free ≡ t.free → v.rows.items ≡ t.rows.items
+    → table_of v ≡ record (with_marks (table_of t) first count mark) { word = words }
+marked-table t v first count mark words most_is words_is live_is free_is rows_is =
+    read-table t v words (with_marks (table_of t) first count mark).live most_is words_is (fun_ext live_is) free_is rows_is
 
 -- the slots of a class stay what they are where the words of the dead ones do
 pub stock-words : (word also : ℕ → ℕ) (slots : ClassSlots) (class : ℕ) (dead : List ℕ) → AllByRecursion (λ x. also x ≡ word x) dead → IsStocked word slots class dead
@@ -52,7 +50,7 @@ stock-words word also slots class dead same old = record {
       (all-left (λ x. also x ≡ word x) old.chain (slots_from (2 ^ class) slots.fresh slots.left) (subst (AllByRecursion (λ x. also x ≡ word x)) old.all same)) old.linked;
 }
 
--- where a slot stands, and its mark, by its first word
+-- where a slot stands, by its first word
 module _ (owner : ℕ → Option ℕ) (class_at : ℕ → ℕ) (class word : ℕ) (slot : IsSlot owner class_at class word) where
   pub slot-page : word / 1024 ≡ slot.page
   slot-page = page slot.page (slot.number * 2 ^ class) (2 ^ class) word slot.at slot.fits (pow_pos class)
@@ -65,12 +63,3 @@ module _ (owner : ℕ → Option ℕ) (class_at : ℕ → ℕ) (class word : ℕ
     where
       offset : (p a z w : ℕ) → w ≡ 1024 * p + a → a + z ≤ 1024 → 0 < z → w % 1024 ≡ a
       offset p a z w at fits some = omega (arith, at, fits, some)
-
-  pub slot-number : word % 1024 / 2 ^ class ≡ slot.number
-  slot-number = ap (λ n. n / 2 ^ class) slot-offset ∙ mul-div_cancel slot.number (pow_pos class)
-
-  pub mark-place : word / 1024 * 1024 + word % 1024 / 2 ^ class ≡ mark_of_slot slot.page slot.number
-  mark-place = ap (λ n. n * 1024 + word % 1024 / 2 ^ class) slot-page ∙ (ap (λ n. slot.page * 1024 + n) slot-number ∙ turned slot.page slot.number)
-    where
-      turned : (p n : ℕ) → p * 1024 + n ≡ 1024 * p + n
-      turned p n = omega arith

@@ -1,10 +1,11 @@
 -- The table of pages, a page at a time.
-use Rattle.std.proofs.Common.{◌≡◌, ℕ, zero, suc, ◌-◌, ◌<◌, List, length, sym, ◌∙◌, arith}
-use Rattle.std.specs.Prelude.{slice_index_or, set}
+use Rattle.std.proofs.Common.{◌≡◌, ℕ, zero, suc, ◌+◌, ◌-◌, ◌<◌, ◌≤◌, Bool, false, List, length, sym, ap, ◌∙◌, inl, inr, arith, get_or-set_same, get_or-set_other}
+use Rattle.std.specs.Prelude.{◌⊎◌, ◌&&◌, nat_le, nat_lt, slice_index_or, set}
+use Rattle.std.proofs.lemmas.Bool.{cases_eq, cases_lt, and_right, cond-true, cond-false, le-leb, lt-leb, le-ltb, lt-ltb}
 use Rattle.std.proofs.lemmas.List.{get_or_default}
 use Rattle.cyc_store.specs.declared.row.Row.{Row}
 use Rattle.cyc_store.specs.declared.row.TheConstants.{NONE}
-use Rattle.cyc_store.specs.Table.{free_row, row_at, given_rows, given_free, AreThere}
+use Rattle.cyc_store.specs.Table.{free_row, row_at, given_rows, given_free, AreThere, marked_between}
 
 -- so many pages of a chain are left to be freed
 pub record IsGiving (rows : List Row) (page left free : ℕ) (first : List Row) (newest count none : ℕ) : Type 0 where
@@ -32,3 +33,45 @@ giving-over rows page (suc left) free first newest count none giving is = absurd
 -- what is read at a page that is there
 pub row_at-read : (rows : List Row) (page : ℕ) (r : Row) → page < length rows → r ≡ slice_index_or rows page r → row_at rows page ≡ r
 row_at-read rows page r inside is = get_or_default rows page (free_row NONE) r inside ∙ sym is
+
+-- ---- marks from one on
+
+pub cases_between : (first count word : ℕ) → ((first ≤ word) × (word < first + count)) ⊎ ((word < first) ⊎ (first + count ≤ word))
+cases_between first count word = elim (cases_lt word first) [
+  | inl below ↦ inr (inl below)
+  | inr low ↦ elim (cases_lt word (first + count)) [
+    | inl high ↦ inl (low, high)
+    | inr past ↦ inr (inr past)
+  ]
+]
+
+pub between-in : (old : ℕ → Bool) (first count : ℕ) (mark : Bool) (word : ℕ) → first ≤ word → word < first + count → marked_between old first count mark word ≡ mark
+between-in old first count mark word low high =
+    cond-true (nat_le first word && nat_lt word (first + count)) mark (old word) (ap (λ (a : Bool). a && nat_lt word (first + count)) (le-leb first word low) ∙ lt-ltb word (first + count) high)
+
+pub between-out : (old : ℕ → Bool) (first count : ℕ) (mark : Bool) (word : ℕ) → (word < first) ⊎ (first + count ≤ word) → marked_between old first count mark word ≡ old word
+between-out old first count mark word (inl below) =
+    cond-false (nat_le first word && nat_lt word (first + count)) mark (old word) (ap (λ (a : Bool). a && nat_lt word (first + count)) (lt-leb first word below))
+between-out old first count mark word (inr past) =
+    cond-false (nat_le first word && nat_lt word (first + count)) mark (old word) (and_right (nat_le first word) (nat_lt word (first + count)) (le-ltb word (first + count) past))
+
+-- one mark more
+pub mark-more : (marks : List Bool) (old : ℕ → Bool) (first n : ℕ) (mark : Bool) → first + n < length marks → ((word : ℕ) → slice_index_or marks word false ≡ marked_between old first n mark word)
+    → (word : ℕ) → slice_index_or (set marks (first + n) mark) word false ≡ marked_between old first (n + 1) mark word
+mark-more marks old first n mark there so_far word = elim (cases_eq word (first + n)) [
+  | inl here ↦
+      ap (λ k. slice_index_or (set marks (first + n) mark) k false) here ∙ (get_or-set_same marks (first + n) mark false there
+      ∙ sym (between-in old first (n + 1) mark word (omega (arith, here)) (omega (arith, here))))
+  | inr other ↦
+      get_or-set_other marks (first + n) word mark false other ∙ (so_far word ∙ elim (cases_between first n word) [
+        | inl (low, high) ↦ between-in old first n mark word low high ∙ sym (between-in old first (n + 1) mark word low (omega (arith, high)))
+        | inr out ↦ between-out old first n mark word out ∙ sym (between-out old first (n + 1) mark word (further other out))
+      ])
+]
+  where
+    further : (word ≡ first + n → ⊥) → (word < first) ⊎ (first + n ≤ word) → (word < first) ⊎ (first + (n + 1) ≤ word)
+    further other (inl below) = inl below
+    further other (inr past) = elim (cases_lt word (first + (n + 1))) [
+      | inl less ↦ absurd (other (omega (arith, past, less)))
+      | inr more ↦ inr more
+    ]

@@ -1,10 +1,10 @@
 -- A table keeps its layout where a unique block fills a slot, where one is freed, and where a page that was taken is cut into
 -- slots.
-use Rattle.std.proofs.Common.{◌≡◌, ◌≢◌, ℕ, ◌+◌, ◌*◌, ◌^◌, ◌<◌, ◌≤◌, Bool, List, [], None, Some, refl, sym, ap, subst, ◌∙◌, inl, inr, arith}
-use Rattle.std.specs.Prelude.{◌==◌, if◌then◌else◌, is_some}
+use Rattle.std.proofs.Common.{◌≡◌, ◌≢◌, ℕ, ◌+◌, ◌*◌, ◌/◌, ◌^◌, ◌<◌, ◌≤◌, Bool, List, [], None, Some, refl, sym, ap, subst, ◌∙◌, inl, inr, arith}
+use Rattle.std.specs.Prelude.{◌==◌, ◌⊎◌, if◌then◌else◌, is_some}
 use Rattle.std.specs.List.{AllByRecursion}
 use Rattle.std.proofs.lemmas.Bool.{cases_eq}
-use Rattle.std.proofs.Math.Nat.{le-mul_of_pos_right}
+use Rattle.std.proofs.Math.Nat.{div-mul-le_self, lt-div-mul-add}
 use Rattle.std.proofs.lemmas.Nat.{pow_pos}
 use Rattle.cyc_words.specs.Demand.{greatest_class, blocks_in_page}
 use Rattle.cyc_store.specs.Lookup.{lookup}
@@ -12,6 +12,7 @@ use Rattle.cyc_store.specs.State.{Block, address_of, Home, handle_of}
 use Rattle.cyc_store.specs.Ledger.{Blocks}
 use Rattle.cyc_store.specs.Pages.{drawn}
 use Rattle.cyc_store.specs.Slots.{place_of, Layout, IsSlot, slots_from}
+use Rattle.cyc_store.specs.Table.{marked_between}
 use Rattle.cyc_store.specs.Kept.{Table, limit, role_of, role_of_owner, sort_of, handle_of_page, IsRow, IsRooted, IsStocked, IsTied}
 use Rattle.cyc_store.specs.declared.row.Role.TheVariants as role
 use Rattle.cyc_store.specs.declared.row.Row.{Row}
@@ -23,12 +24,13 @@ use Rattle.cyc_store.proofs.PagedRegions.{chain-filled}
 use Rattle.cyc_store.proofs.SlotLemmas.{multiples-one}
 use Rattle.cyc_store.proofs.SlotServices.{with_dead, same-words}
 use Rattle.cyc_store.proofs.SlotStock.{stocked}
+use Rattle.cyc_store.proofs.TableLemmas.{cases_between, between-in, between-out}
 use Rattle.cyc_store.proofs.TieOpening.{with_row, owner-away, fresh-handle, free-linked, rooted-drawn}
 
 -- ---- what changes in a table
 
-abbrev pub with_mark : Table → (slot : ℕ) → Bool → Table
-with_mark t slot mark = record t { live = λ (other : ℕ). if other == slot then mark else t.live other }
+abbrev pub with_marks : Table → (first count : ℕ) → Bool → Table
+with_marks t first count mark = record t { live = marked_between t.live first count mark }
 
 abbrev pub with_word : Table → (at word : ℕ) → Table
 with_word t at word = record t { word = λ (other : ℕ). if other == at then word else t.word other }
@@ -36,18 +38,9 @@ with_word t at word = record t { word = λ (other : ℕ). if other == at then wo
 abbrev pub with_slots : (ℕ → ClassSlots) → (class : ℕ) → ClassSlots → ℕ → ClassSlots
 with_slots classes class slots = λ (other : ℕ). if other == class then slots else classes other
 
--- the number of a slot among those of all pages
-abbrev pub mark_of_slot : (page number : ℕ) → ℕ
-mark_of_slot page number = PAGE_WORDS * page + number
-
 -- one slot has one number
 split-one : (p q m n : ℕ) → m < 1024 → n < 1024 → 1024 * p + m ≡ 1024 * q + n → (p ≡ q) × (m ≡ n)
 split-one p q m n small also e = (omega (arith, small, also, e), omega (arith, small, also, e))
-
-number-small : (number z : ℕ) → 0 < z → number * z < 1024 → number < 1024
-number-small number z some less =
-    let most : number ≤ number * z = le-mul_of_pos_right number some in
-    omega (arith, most, less)
 
 -- ---- a slot is filled, or emptied
 
@@ -57,16 +50,55 @@ module _ (t : Table) (lexicals : List ℕ) (classes : ℕ → ClassSlots) (b : B
     (elsewhere : (first : ℕ) → (first ≡ place_of word → ⊥) → lookup address_of unique first ≡ lookup address_of b.unique first)
     (slots : ClassSlots) (dead : List ℕ) (words : ℕ → ℕ) (new : IsStocked words slots class dead)
     (old : (other : ℕ) → (other ≡ class → ⊥) → other ≤ greatest_class → IsStocked t.word (classes other) other (l.dead other) → IsStocked words (classes other) other (l.dead other)) where
-  small : slot.number < 1024
-  small = number-small slot.number (2 ^ class) (pow_pos class) (inside (slot.number * 2 ^ class) (2 ^ class) slot.fits (pow_pos class))
+  abbrev after_marks : Table
+  after_marks = record (with_marks t word (2 ^ class) mark) { word = words }
+
+  -- a word of the slot lies in its page, and its slot begins with the word
+  slot-page : (p n : ℕ) → n < 1024 → word ≤ PAGE_WORDS * p + n → PAGE_WORDS * p + n < word + 2 ^ class → p ≡ slot.page
+  slot-page p n few low high = one p slot.page n (slot.number * 2 ^ class) (2 ^ class) word slot.at slot.fits few low high
     where
+      one : (p q n a z w : ℕ) → w ≡ 1024 * q + a → a + z ≤ 1024 → n < 1024 → w ≤ 1024 * p + n → 1024 * p + n < w + z → p ≡ q
+      one p q n a z w at fits few low high = omega (arith, at, fits, few, low, high)
+
+  first-of : (p n : ℕ) → n < 1024 → word ≤ PAGE_WORDS * p + n → PAGE_WORDS * p + n < word + 2 ^ class → PAGE_WORDS * p + n / 2 ^ l.class p * 2 ^ l.class p ≡ word
+  first-of p n few low high =
+      let pages : p ≡ slot.page = slot-page p n few low high in
+      let (above, below) = bounds p slot.page n (slot.number * 2 ^ class) (2 ^ class) word slot.at pages low high in
+      let least : n / 2 ^ class * 2 ^ class ≤ n = div-mul-le_self n (2 ^ class) in
+      let most : n < n / 2 ^ class * 2 ^ class + 2 ^ class = lt-div-mul-add {a = n} {b = 2 ^ class} (pow_pos class) in
+      let numbers : n / 2 ^ class ≡ slot.number = multiples-one (n / 2 ^ class) slot.number (2 ^ class)
+      (first (n / 2 ^ class * 2 ^ class) n (slot.number * 2 ^ class + 2 ^ class) least below) (first (slot.number * 2 ^ class) n (n / 2 ^ class * 2 ^ class + 2 ^ class) above most) in
+      ap (λ c. PAGE_WORDS * p + n / 2 ^ c * 2 ^ c) (ap l.class pages ∙ slot.same)
+      ∙ (ap (λ q. PAGE_WORDS * q + n / 2 ^ class * 2 ^ class) pages ∙ (ap (λ m. PAGE_WORDS * slot.page + m * 2 ^ class) numbers ∙ sym slot.at))
+    where
+      bounds : (p q n a z w : ℕ) → w ≡ 1024 * q + a → p ≡ q → w ≤ 1024 * p + n → 1024 * p + n < w + z → (a ≤ n) × (n < a + z)
+      bounds p q n a z w at pages low high = (omega (arith, at, pages, low), omega (arith, at, pages, high))
+
+      first : (m n k : ℕ) → m ≤ n → n < k → m < k
+      first m n k low high = omega (arith, low, high)
+
+  -- a word whose slot begins with the word is one of the slot
+  not-out : (p n : ℕ) → n < 1024 → PAGE_WORDS * p + n / 2 ^ l.class p * 2 ^ l.class p ≡ word → (PAGE_WORDS * p + n < word) ⊎ (word + 2 ^ class ≤ PAGE_WORDS * p + n) → ⊥
+  not-out p n few begins (inl below) = clash (PAGE_WORDS * p) (n / 2 ^ l.class p * 2 ^ l.class p) n word begins (div-mul-le_self n (2 ^ l.class p)) below
+    where
+      clash : (p a n w : ℕ) → p + a ≡ w → a ≤ n → p + n < w → ⊥
+      clash p a n w at least below = omega (arith, at, least, below)
+  not-out p n few begins (inr past) =
+      let least : n / 2 ^ l.class p * 2 ^ l.class p ≤ n = div-mul-le_self n (2 ^ l.class p) in
+      let (pages, offsets) = split-one p slot.page (n / 2 ^ l.class p * 2 ^ l.class p) (slot.number * 2 ^ class) (small (n / 2 ^ l.class p * 2 ^ l.class p) n least few) (inside (slot.number * 2 ^ class) (2 ^ class) slot.fits (pow_pos class)) (begins ∙ slot.at) in
+      let sizes : 2 ^ l.class p ≡ 2 ^ class = ap (λ c. 2 ^ c) (ap l.class pages ∙ slot.same) in
+      clash (PAGE_WORDS * p) (n / 2 ^ l.class p * 2 ^ l.class p) n (2 ^ l.class p) (2 ^ class) word begins (lt-div-mul-add {a = n} {b = 2 ^ l.class p} (pow_pos (l.class p))) sizes past
+    where
+      small : (a n : ℕ) → a ≤ n → n < 1024 → a < 1024
+      small a n least few = omega (arith, least, few)
+
       inside : (a z : ℕ) → a + z ≤ 1024 → 0 < z → a < 1024
       inside a z e some = omega (arith, e, some)
 
-  abbrev after_mark : Table
-  after_mark = record (with_mark t (mark_of_slot slot.page slot.number) mark) { word = words }
+      clash : (p a n y z w : ℕ) → p + a ≡ w → n < a + y → y ≡ z → w + z ≤ p + n → ⊥
+      clash p a n y z w at most same past = omega (arith, at, most, same, past)
 
-  pub slot-tied : IsTied after_mark lexicals (with_slots classes class slots) (record { regions = b.regions; unique = unique; classes = counts }) (with_dead l class dead)
+  pub slot-tied : IsTied after_marks lexicals (with_slots classes class slots) (record { regions = b.regions; unique = unique; classes = counts }) (with_dead l class dead)
   slot-tied = record {
     most = tied.most;
     few = tied.few;
@@ -87,44 +119,20 @@ module _ (t : Table) (lexicals : List ℕ) (classes : ℕ → ClassSlots) (b : B
           subst (λ s. IsStocked words s other (if other == class then dead else l.dead other)) (sym (when_other other class slots (classes other) away))
           (subst (IsStocked words (classes other) other) (sym (when_other other class dead (l.dead other) away)) (old other away bound (tied.stock other bound)))
     ];
-    marked = λ p n owned inside. elim (cases_eq (PAGE_WORDS * p + n) (mark_of_slot slot.page slot.number)) [
-      | inl same ↦
-          let (pages, numbers) = split-one p slot.page n slot.number (number-small n (2 ^ l.class p) (pow_pos (l.class p)) inside) small same in
-          let place : PAGE_WORDS * p + n * 2 ^ l.class p ≡ word =
-          ap (λ q. PAGE_WORDS * q + n * 2 ^ l.class q) pages ∙ (ap (λ m. PAGE_WORDS * slot.page + m * 2 ^ l.class slot.page) numbers
-          ∙ (ap (λ c. PAGE_WORDS * slot.page + slot.number * 2 ^ c) slot.same ∙ sym slot.at)) in
-          when_equal (PAGE_WORDS * p + n) (mark_of_slot slot.page slot.number) mark (t.live (PAGE_WORDS * p + n)) same
-          ∙ sym (ap (λ w. is_some (lookup address_of unique (place_of w))) place ∙ here)
-      | inr away ↦
-          when_other (PAGE_WORDS * p + n) (mark_of_slot slot.page slot.number) mark (t.live (PAGE_WORDS * p + n)) away
-          ∙ (tied.marked p n owned inside
-          ∙ sym (ap is_some (elsewhere (place_of (PAGE_WORDS * p + n * 2 ^ l.class p)) (λ e. away (other-slot p n owned inside (same-words (PAGE_WORDS * p + n * 2 ^ l.class p) word e))))))
+    marked = λ p n owned few. elim (cases_between word (2 ^ class) (PAGE_WORDS * p + n)) [
+      | inl (low, high) ↦
+          between-in t.live word (2 ^ class) mark (PAGE_WORDS * p + n) low high
+          ∙ sym (ap (λ w. is_some (lookup address_of unique (place_of w))) (first-of p n few low high) ∙ here)
+      | inr out ↦
+          between-out t.live word (2 ^ class) mark (PAGE_WORDS * p + n) out
+          ∙ (tied.marked p n owned few
+          ∙ sym (ap is_some (elsewhere (place_of (PAGE_WORDS * p + n / 2 ^ l.class p * 2 ^ l.class p)) (λ e. not-out p n few (same-words (PAGE_WORDS * p + n / 2 ^ l.class p * 2 ^ l.class p) word e) out))))
     ];
-    unmarked = λ p n other few. elim (cases_eq (PAGE_WORDS * p + n) (mark_of_slot slot.page slot.number)) [
-      | inl same ↦
-          let (pages, numbers) = split-one p slot.page n slot.number few small same in
-          absurd (other (ap l.pages.owner pages ∙ slot.owned))
-      | inr away ↦ when_other (PAGE_WORDS * p + n) (mark_of_slot slot.page slot.number) mark (t.live (PAGE_WORDS * p + n)) away ∙ tied.unmarked p n other few
+    unmarked = λ p n other few. elim (cases_between word (2 ^ class) (PAGE_WORDS * p + n)) [
+      | inl (low, high) ↦ absurd (other (ap l.pages.owner (slot-page p n few low high) ∙ slot.owned))
+      | inr out ↦ between-out t.live word (2 ^ class) mark (PAGE_WORDS * p + n) out ∙ tied.unmarked p n other few
     ];
   }
-    where
-      -- slots that begin at one word are one
-      other-slot : (p n : ℕ) → l.pages.owner p ≡ Some UNIQUE → n * 2 ^ l.class p < PAGE_WORDS → PAGE_WORDS * p + n * 2 ^ l.class p ≡ word
-          → PAGE_WORDS * p + n ≡ mark_of_slot slot.page slot.number
-      other-slot p n owned inside e =
-          let least : slot.number * 2 ^ class < 1024 = within (slot.number * 2 ^ class) (2 ^ class) slot.fits (pow_pos class) in
-          let (pages, offsets) = split-one p slot.page (n * 2 ^ l.class p) (slot.number * 2 ^ class) inside least (e ∙ slot.at) in
-          let sizes : 2 ^ l.class p ≡ 2 ^ class = ap (λ c. 2 ^ c) (ap l.class pages ∙ slot.same) in
-          let products : n * 2 ^ class ≡ slot.number * 2 ^ class = ap (λ z. n * z) (sym sizes) ∙ offsets in
-          let numbers : n ≡ slot.number = multiples-one n slot.number (2 ^ class) (below (n * 2 ^ class) (slot.number * 2 ^ class) (2 ^ class) products (pow_pos class))
-          (below (slot.number * 2 ^ class) (n * 2 ^ class) (2 ^ class) (sym products) (pow_pos class)) in
-          ap (λ q. PAGE_WORDS * q + n) pages ∙ ap (λ m. PAGE_WORDS * slot.page + m) numbers
-        where
-          within : (a z : ℕ) → a + z ≤ 1024 → 0 < z → a < 1024
-          within a z e some = omega (arith, e, some)
-
-          below : (a c z : ℕ) → a ≡ c → 0 < z → a < c + z
-          below a c z e some = omega (arith, e, some)
 
 -- ---- a page that was taken is cut into slots
 
@@ -193,20 +201,23 @@ module _ (t : Table) (lexicals : List ℕ) (classes : ℕ → ClassSlots) (b : B
           subst (λ s. IsStocked t.word s other (now.dead other)) (sym (when_other other class (fresh_slots page class) (classes other) apart))
           (subst (IsStocked t.word (classes other) other) (sym (when_other other class (slots_from (2 ^ class) (PAGE_WORDS * page) (blocks_in_page class)) (l.dead other) apart)) (tied.stock other bound))
     ];
-    marked = λ p n owned inside. elim (cases_eq p page) [
+    marked = λ p n owned few. elim (cases_eq p page) [
       | inl here ↦
-          let class_is : now.class p ≡ class = when_equal p page class (l.class p) here in
-          let less : n < 1024 = number-small n (2 ^ now.class p) (pow_pos (now.class p)) inside in
+          let least : n / 2 ^ now.class p * 2 ^ now.class p ≤ n = div-mul-le_self n (2 ^ now.class p) in
           ap (λ q. t.live (PAGE_WORDS * q + n)) here
-          ∙ (tied.unmarked page n (λ e. not_both none e) less
-          ∙ sym (ap is_some (empty (PAGE_WORDS * p + n * 2 ^ now.class p) (n * 2 ^ now.class p) (ap (λ q. PAGE_WORDS * q + n * 2 ^ now.class p) here) inside)))
+          ∙ (tied.unmarked page n (λ e. not_both none e) few
+          ∙ sym (ap is_some (empty (PAGE_WORDS * p + n / 2 ^ now.class p * 2 ^ now.class p) (n / 2 ^ now.class p * 2 ^ now.class p) (ap (λ q. PAGE_WORDS * q + n / 2 ^ now.class p * 2 ^ now.class p) here)
+          (small (n / 2 ^ now.class p * 2 ^ now.class p) n least few))))
       | inr other ↦
-          tied.marked p n (sym (when_other p page (Some UNIQUE) (l.pages.owner p) other) ∙ owned) (subst (λ c. n * 2 ^ c < PAGE_WORDS) (when_other p page class (l.class p) other) inside)
-          ∙ ap (λ c. is_some (lookup address_of b.unique (place_of (PAGE_WORDS * p + n * 2 ^ c)))) (sym (when_other p page class (l.class p) other))
+          tied.marked p n (sym (when_other p page (Some UNIQUE) (l.pages.owner p) other) ∙ owned) few
+          ∙ ap (λ c. is_some (lookup address_of b.unique (place_of (PAGE_WORDS * p + n / 2 ^ c * 2 ^ c)))) (sym (when_other p page class (l.class p) other))
     ];
     unmarked = λ p n other few. tied.unmarked p n (λ owned. other (when_other p page (Some UNIQUE) (l.pages.owner p) (owner-away l.pages page p UNIQUE none owned) ∙ owned)) few;
   }
     where
+      small : (a n : ℕ) → a ≤ n → n < 1024 → a < 1024
+      small a n least few = omega (arith, least, few)
+
       row-new : (with_row t page (slots_row class)).row page ≡ slots_row class
       row-new = when_equal page page (slots_row class) (t.row page) refl
 

@@ -1,6 +1,6 @@
 -- How a table of pages keeps a layout: what its rows, words and marks say, as functions, and the heads of its chains. Nothing
 -- here says where these stand.
-use Rattle.std.specs.Prelude.{◌≡◌, ℕ, zero, suc, ◌+◌, ◌-◌, ◌*◌, ◌^◌, ◌<◌, ◌≤◌, ◌==◌, ◌⊎◌, Bool, false, List, [], ◌∷◌, ◌++◌, Option, None, Some, is_some, if◌then◌else◌, length, slice_index, slice_index_or}
+use Rattle.std.specs.Prelude.{◌≡◌, ℕ, zero, suc, ◌+◌, ◌-◌, ◌*◌, ◌/◌, ◌^◌, ◌<◌, ◌≤◌, ◌==◌, ◌⊎◌, Bool, false, List, [], ◌∷◌, ◌++◌, Option, None, Some, is_some, if◌then◌else◌, length, slice_index, slice_index_or}
 use Rattle.std.specs.List.{AllByRecursion}
 use Rattle.cyc_words.specs.Demand.{greatest_class}
 use Rattle.cyc_store.specs.Lookup.{lookup}
@@ -120,9 +120,9 @@ pub record IsTied (t : Table) (lexicals : List ℕ) (classes : ℕ → ClassSlot
   pub roots : (h : ℕ) (r : Home) → lookup handle_of b.regions h ≡ Some r → IsRooted t.row l.pages r
   pub newest : lexicals ≡ lexical_handles b.regions
   pub stock : (class : ℕ) → class ≤ greatest_class → IsStocked t.word (classes class) class (l.dead class)
-  pub marked : (page number : ℕ) → l.pages.owner page ≡ Some UNIQUE → number * 2 ^ l.class page < PAGE_WORDS
-      → t.live (PAGE_WORDS * page + number) ≡ is_some (lookup address_of b.unique (place_of (PAGE_WORDS * page + number * 2 ^ l.class page)))
-  pub unmarked : (page number : ℕ) → (l.pages.owner page ≡ Some UNIQUE → ⊥) → number < PAGE_WORDS → t.live (PAGE_WORDS * page + number) ≡ false
+  pub marked : (page offset : ℕ) → l.pages.owner page ≡ Some UNIQUE → offset < PAGE_WORDS
+      → t.live (PAGE_WORDS * page + offset) ≡ is_some (lookup address_of b.unique (place_of (PAGE_WORDS * page + offset / 2 ^ l.class page * 2 ^ l.class page)))
+  pub unmarked : (page offset : ℕ) → (l.pages.owner page ≡ Some UNIQUE → ⊥) → offset < PAGE_WORDS → t.live (PAGE_WORDS * page + offset) ≡ false
 
 -- ---- a table in memory
 

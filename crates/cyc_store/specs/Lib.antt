@@ -2,6 +2,7 @@ pub mod Answers
 pub mod Kept
 pub mod Ledger
 pub mod Lookup
+pub mod New
 pub mod Pages
 pub mod Run
 pub mod Services

@@ -1,5 +1,5 @@
 -- The table of the pages of a store: what it reads at a page, and what the calls on it do.
-use Rattle.std.specs.Prelude.{◌≡◌, ℕ, zero, suc, ◌*◌, ◌<◌, ◌≤◌, ◌⊎◌, false, List, length, slice_index, slice_index_or, set}
+use Rattle.std.specs.Prelude.{◌≡◌, ℕ, zero, suc, ◌+◌, ◌*◌, ◌<◌, ◌≤◌, ◌⊎◌, Bool, false, ◌&&◌, nat_le, nat_lt, if◌then◌else◌, List, length, slice_index, slice_index_or, set}
 use Rattle.cyc_store.specs.declared.row.PageTable.{PageTable}
 use Rattle.cyc_store.specs.declared.row.Row.{Row}
 use Rattle.cyc_store.specs.declared.row.Role.TheVariants.{Rest}
@@ -36,6 +36,10 @@ pub record Draws (old new : PageTable) (page : ℕ) : Type 0 where
   pub count : length old.rows.items ≤ length new.rows.items
   pub from : ((old.free < length old.rows.items) × (page ≡ old.free) × (new.free ≡ (row_at old.rows.items page).next) × (length new.rows.items ≡ length old.rows.items))
       ⊎ ((length old.rows.items ≤ old.free) × (page ≡ length old.rows.items) × (new.free ≡ old.free) × (length new.rows.items ≡ suc (length old.rows.items)))
+
+-- so many marks from one on are this one, and all others what they were
+abbrev pub marked_between : (old : ℕ → Bool) → (first count : ℕ) → Bool → ℕ → Bool
+marked_between old first count mark word = if nat_le first word && nat_lt word (first + count) then mark else old word
 
 -- ---- a chain of pages is freed, one after another
 

@@ -95,6 +95,23 @@ fn number_at(address: u32) -> Option<u32>
     Some((address - STORE_BASE) / 4)
 }
 
+/// The number of the word at an address, where it is one of so many of the store's first.
+#[inline]
+fn number_below(count: usize, address: u32) -> Option<usize>
+    requires { count ≤ 0x400_0000 }
+    ensures { MatchOption result ((address < STORE_BASE) ⊎ (address % 4 ≢ 0) ⊎ (STORE_BASE + 4 * count ≤ address))
+        (λ word. (word < count) × (address ≡ STORE_BASE + 4 * word)) }
+{
+    let word = (address.wrapping_sub(STORE_BASE) / 4) as usize;
+    if count <= word {
+        return None;
+    }
+    if address % 4 != 0 {
+        return None;
+    }
+    Some(word)
+}
+
 /// The first slot of those that no block is in, and the others.
 #[inline]
 fn next_slot(slots: ClassSlots, words: &Vec<u32>, class: u32) -> (u32, ClassSlots)
@@ -160,10 +177,7 @@ impl PlainStore {
         if offset < row.filled {
             return true;
         }
-        match row.role {
-            Role::Slots(class) => self.table.live[word / 1024 * 1024 + (offset >> class) as usize],
-            _ => false,
-        }
+        self.table.live[word]
     }
 
     /// The number of the word with this address, where it is one of a live block.
@@ -172,14 +186,9 @@ impl PlainStore {
         ensures { MatchOption result (word_at (held_of self.now) address ≡ None)
             (λ word. (word < length self.now.words) × (address ≡ STORE_BASE + 4 * word) × (is_some (word_at (held_of self.now) address) ≡ true)) }
     {
-        let count = self.table.words.len();
-        let Some(number) = number_at(address) else {
+        let Some(word) = number_below(self.table.words.len(), address) else {
             return None;
         };
-        let word = number as usize;
-        if count <= word {
-            return None;
-        }
         if self.is_live(word) { Some(word) } else { None }
     }
 
@@ -299,9 +308,10 @@ impl PlainStore {
     {
         let (word, rest) = next_slot(self.classes[class as usize], &self.table.words, class);
         self.classes[class as usize] = rest;
-        self.table.live[(word / 1024 * 1024 + ((word % 1024) >> class)) as usize] = true;
+        let size = size_of(class);
+        self.table.mark(word as usize, size as usize, true);
         let address = address_at(word);
-        self.ledger = Ledger::with(&self.ledger, &Change::MadeUnique(address, size_of(class)));
+        self.ledger = Ledger::with(&self.ledger, &Change::MadeUnique(address, size));
         address
     }
 
@@ -339,7 +349,7 @@ impl PlainStore {
         if number * size_of(class) != word % 1024 {
             return None;
         }
-        if self.table.live[(word / 1024 * 1024 + number) as usize] {
+        if self.table.live[word as usize] {
             Some((word, class))
         } else {
             None
@@ -351,9 +361,10 @@ impl PlainStore {
         requires { lookup address_of self.old.blocks.unique (STORE_BASE + 4 * word) ≡ Some (record { address = STORE_BASE + 4 * word; size = 2 ^ class }) }
         ensures { Serves (held_of self.old) (Free (STORE_BASE + 4 * word)) Done (held_of self.new) }
     {
-        self.table.live[(word / 1024 * 1024 + ((word % 1024) >> class)) as usize] = false;
         self.table.words[word as usize] = self.classes[class as usize].dead;
         self.classes[class as usize].dead = word;
+        self.table
+            .mark(word as usize, size_of(class) as usize, false);
         self.ledger = Ledger::with(&self.ledger, &Change::Freed(address_at(word)));
     }
 }

@@ -1,6 +1,6 @@
 //! The table of the pages of a store.
 
-ghost use Rattle.std.specs.Prelude.{◌≡◌, [], ◌≤◌, IfOk, OnErr, length, IsTrue, ◌↔◌};
+ghost use Rattle.std.specs.Prelude.{◌≡◌, ℕ, [], ◌+◌, ◌≤◌, IfOk, OnErr, length, slice_index_or, false, IsTrue, ◌↔◌};
 
 use super::range::PAGE_WORDS;
 use std::alloc::{AllocError, Global};
@@ -62,7 +62,7 @@ pub struct PageTable {
     /// How many pages there may be.
     pub most: u32,
     pub words: Vec<u32>,
-    /// Which slots of unique blocks are live: one for each word of all pages, by the number of the slot in its page.
+    /// Which words are those of live unique blocks: one mark for each word of all pages.
     pub live: Vec<bool>,
     pub rows: Vec<Row>,
     /// The first page of the chain of free ones.
@@ -70,7 +70,7 @@ pub struct PageTable {
 }
 
 impl PageTable {
-    ghost use Rattle.cyc_store.specs.Table.{IsWhole, IsSame, Draws, given_rows, given_free, AreThere};
+    ghost use Rattle.cyc_store.specs.Table.{IsWhole, IsSame, Draws, given_rows, given_free, AreThere, marked_between};
 
     /// A table of no pages.
     pub(crate) fn new(alloc: Global, most: u32) -> PageTable
@@ -118,6 +118,21 @@ impl PageTable {
             return Err(AllocError);
         }
         Ok(page as u32)
+    }
+
+    /// Marks so many words from one on as those of a live unique block, or as those of none.
+    pub(crate) fn mark(&mut self, first: usize, count: usize, mark: bool)
+        requires { first + count ≤ length self.old.live.items }
+        ensures live { (word : ℕ) → slice_index_or self.new.live.items word false ≡ marked_between (λ (other : ℕ). slice_index_or self.old.live.items other false) first count mark word }
+        ensures whole { length self.new.live.items ≡ length self.old.live.items }
+        ensures words { self.new.words.items ≡ self.old.words.items }
+        ensures rows { self.new.rows.items ≡ self.old.rows.items }
+        ensures free { self.new.free ≡ self.old.free }
+        ensures most { self.new.most ≡ self.old.most }
+    {
+        for number in 0..count {
+            self.live[first + number] = mark;
+        }
     }
 
     /// Frees a chain of so many pages.

@@ -1,10 +1,11 @@
 //! The trait that each store meets.
 
-ghost use Rattle.std.specs.Prelude.{◌≡◌, Bool, is_some};
+ghost use Rattle.std.specs.Prelude.{◌≡◌, ◌+◌, ◌*◌, ◌<◌, ◌≤◌, Bool, IsSome, IsTrue, is_some};
 ghost use Rattle.cyc_store.specs.Answers.{Responds, allocated, done_unless, opened_dynamic, opened_lexical};
 ghost use Rattle.cyc_store.specs.Services.{Allocate, CloseDynamic, CloseTo, Free, OpenDynamic, OpenLexical};
 ghost use Rattle.cyc_store.specs.Services as services;
 ghost use Rattle.cyc_store.specs.State.{StoreState, saved, word_at};
+ghost use Rattle.cyc_store.specs.declared.range.TheConstants.{STORE_BASE, PAGE_WORDS};
 
 use super::answer::{BadHandle, BadMark, No, NotABlock};
 
@@ -46,12 +47,14 @@ pub trait Store {
     fn free(&mut self, address: u32) -> Result<(), NotABlock>
         ensures { Responds GROWS (held self.old) (Free address) (done_unless services.NotABlock result) (held self.new) };
 
-    /// The word at an address, where it is that of a word of a live block.
+    /// The word at an address, where it is that of a word of a live block, which lies in the store's pages.
     fn load(&self, address: u32) -> Option<u32>
-        ensures { result ≡ word_at (held self.now) address };
+        ensures word { result ≡ word_at (held self.now) address }
+        ensures inside { IsSome result → (STORE_BASE ≤ address) × (address < STORE_BASE + 4 * (PAGE_WORDS * (held self.now).pages)) };
 
-    /// Writes a word of a live block. False where the address is that of none; then nothing changes.
+    /// Writes a word of a live block, which lies in the store's pages. False where the address is that of none; then nothing changes.
     fn save(&mut self, address: u32, word: u32) -> bool
         ensures done { result ≡ is_some (word_at (held self.old) address) }
+        ensures inside { IsTrue result → (STORE_BASE ≤ address) × (address < STORE_BASE + 4 * (PAGE_WORDS * (held self.old).pages)) }
         ensures saved { held self.new ≡ saved (held self.old) address word };
 }

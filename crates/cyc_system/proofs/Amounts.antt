@@ -7,7 +7,7 @@ use Rattle.cyc_syntax.specs.Symbols.{texts_in, symbol_of, symbols_of}
 use Rattle.cyc_syntax.proofs.WeightLemmas.{tree_weight-length}
 use Rattle.cyc_types.specs.TypedTrees.{Program}
 use Rattle.cyc_types.specs.Weight.{program_weight}
-use Rattle.cyc_types.proofs.WeightLemmas.{program_lighter}
+use Rattle.cyc_types.proofs.typing.WeightLemmas.{program_lighter}
 use Rattle.cyc_system.specs.Front.{names_in, IsAcceptedText}
 
 -- the typed program of a text weighs no more than the text may have tokens

@@ -10,14 +10,10 @@ use Rattle.cyc_elf.specs.Reading.{reading}
 use Rattle.cyc_machine.specs.declared.event.End.{End}
 use Rattle.cyc_machine.specs.declared.fault.LoadFault.TheVariants as load
 use Rattle.cyc_machine.specs.Bounds.{Bounds, AreAllowed}
-use Rattle.cyc_machine.specs.declared.event.Event.TheVariants.{Ended}
-use Rattle.cyc_machine.specs.declared.phase.Phase.{Phase}
-use Rattle.cyc_machine.specs.declared.phase.Phase.TheVariants.{Over}
-use Rattle.cyc_machine.specs.Step.{StepIn}
-use Rattle.cyc_machine.specs.Run.{World, Goes, Run, end_of}
+use Rattle.cyc_machine.specs.Run.{World, Run, end_of}
 use Rattle.cyc_machine.specs.Start.{has_outside, start_world}
 use Rattle.cyc_store.specs.State.{StoreState}
-use Rattle.cyc_machine.proofs.RunLaws.{Run-over, Run-output, Run-append, Run-split, over-end_of}
+use Rattle.cyc_machine.proofs.RunLaws.{Goes-rests, Run-over, Run-output, Run-append, Run-split, over-end_of}
 use Rattle.cyc_types.specs.TypedTrees.{Program}
 use Rattle.cyc_meaning.specs.State.{output_of}
 use Rattle.cyc_system.specs.declared.report.Report.{Report}
@@ -34,12 +30,9 @@ use Rattle.cyc_system.proofs.Preservation.{are_alike}
 -- ---- the machine, whatever it runs
 
 -- an ended run can go on for any number of instructions
-over_goes : (w : World) (end : End) → w.machine.phase ≡ Over end → Goes w w
-over_goes w end over = (Ended end, w.machine, subst (λ (p : Phase). StepIn p w.machine (Ended end) w.machine) (sym over) (refl, refl), refl)
-
 ended_rests : (count : ℕ) (w : World) (end : End) → end_of w ≡ Some end → Run count w w
 ended_rests zero w end ended = refl
-ended_rests (suc count) w end ended = (w, over_goes w end (over-end_of w end ended), ended_rests count w end ended)
+ended_rests (suc count) w end ended = (w, Goes-rests w end (over-end_of w end ended), ended_rests count w end ended)
 
 -- a run that has stopped is one of the whole budget
 whole_run : (stop : Stop) (budget count : ℕ) (u w : World) → Run count u w → count ≤ budget → Stops stop budget count w → Run budget u w

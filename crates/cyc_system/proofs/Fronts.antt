@@ -12,9 +12,8 @@ use Rattle.cyc_parse.specs.Acceptance as parser
 use Rattle.cyc_types.specs.TypedTrees.{Program}
 use Rattle.cyc_types.specs.declared.typed.TypedTree.{TypedTree}
 use Rattle.cyc_types.specs.TypedTreeView.{view_program}
-use Rattle.cyc_types.specs.TypingRules.{IsTypedProgram, IsRefusedProgram}
-use Rattle.cyc_types.specs.FlowRules.{IsAllowedProgram}
-use Rattle.cyc_types.specs.FlowRefusals.{IsStoppedProgram}
+use Rattle.cyc_types.specs.typing.Programs.{IsTypedProgram, IsRefusedProgram}
+use Rattle.cyc_types.specs.flow.Programs.{IsAllowedProgram, IsStoppedProgram}
 use Rattle.cyc_flow.specs.declared.check.Flowed.{Flowed}
 use Rattle.cyc_system.specs.Front.{names_in, IsAcceptedText, IsStoppedText, IsRefusedText, HasFault}
 

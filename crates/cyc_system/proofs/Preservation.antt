@@ -5,7 +5,8 @@ use Rattle.cyc_words.specs.Ending.{Ending}
 use Rattle.cyc_elf.specs.Image.{ImageContents}
 use Rattle.cyc_machine.specs.Bounds.{Bounds, AreAllowed}
 use Rattle.cyc_machine.specs.Run.{World, Run, end_in, ending_of}
-use Rattle.cyc_machine.specs.Start.{start_world, IsNew}
+use Rattle.cyc_store.specs.New.{IsNew}
+use Rattle.cyc_machine.specs.Start.{start_world}
 use Rattle.cyc_store.specs.State.{StoreState}
 use Rattle.cyc_machine.specs.declared.event.Cause.{Cause}
 use Rattle.cyc_machine.specs.declared.event.End.{End}

@@ -2,6 +2,7 @@
 use Rattle.std.specs.Prelude.{◌≡◌, ℕ, zero, suc, ◌≤◌, ◌<◌, Bool, List, Option, None, Some, Result, Ok, Err, MatchBool, ◌⊎◌}
 use Rattle.std.specs.Io.KnownBytes.{Keeps, Appends}
 use Rattle.cyc_store.specs.State.{StoreState}
+use Rattle.cyc_store.specs.New.{IsNew}
 use Rattle.cyc_elf.specs.declared.fault.ElfFault.{ElfFault}
 use Rattle.cyc_elf.specs.Image.{ImageContents}
 use Rattle.cyc_machine.specs.declared.fault.LoadFault.TheVariants as load
@@ -10,7 +11,7 @@ use Rattle.cyc_machine.specs.Bounds.{Bounds}
 use Rattle.cyc_machine.specs.State.{State}
 use Rattle.cyc_machine.specs.Step.{Step, WantsMemory}
 use Rattle.cyc_machine.specs.Run.{World, Goes, Run, end_of}
-use Rattle.cyc_machine.specs.Start.{has_outside, start_world, IsNew}
+use Rattle.cyc_machine.specs.Start.{has_outside, start_world}
 use Rattle.cyc_system.specs.declared.report.Report.{Report}
 use Rattle.cyc_system.specs.declared.report.Stop.{Stop}
 use Rattle.cyc_system.specs.declared.report.Stop.TheVariants as stops

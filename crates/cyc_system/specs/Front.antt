@@ -11,9 +11,8 @@ use Rattle.cyc_syntax.specs.Trees.{Declaration}
 use Rattle.cyc_lex.specs.Refusals as lexer
 use Rattle.cyc_parse.specs.Acceptance as parser
 use Rattle.cyc_types.specs.TypedTrees.{Program}
-use Rattle.cyc_types.specs.TypingRules.{IsTypedProgram, IsRefusedProgram}
-use Rattle.cyc_types.specs.FlowRules.{IsAllowedProgram}
-use Rattle.cyc_types.specs.FlowRefusals.{IsStoppedProgram}
+use Rattle.cyc_types.specs.typing.Programs.{IsTypedProgram, IsRefusedProgram}
+use Rattle.cyc_types.specs.flow.Programs.{IsAllowedProgram, IsStoppedProgram}
 
 -- the texts of the names among these tokens, in the order in which they first come
 abbrev pub names_in : List Token → List (List ℕ)

@@ -11,9 +11,10 @@ use Rattle.cyc_elf.specs.Image.{ImageContents, padded}
 use Rattle.cyc_elf.specs.Layout.{layout}
 use Rattle.cyc_elf.specs.Reading.{reading}
 use Rattle.cyc_store.specs.State.{StoreState}
+use Rattle.cyc_store.specs.New.{IsNew}
 use Rattle.cyc_machine.specs.Bounds.{Bounds, AreAllowed}
 use Rattle.cyc_machine.specs.Run.{World, Run, end_of, ending_of}
-use Rattle.cyc_machine.specs.Start.{lies_in_text, has_outside, start_world, IsNew}
+use Rattle.cyc_machine.specs.Start.{lies_in_text, has_outside, start_world}
 use Rattle.cyc_machine.specs.declared.event.Cause.{Cause}
 use Rattle.cyc_machine.specs.declared.event.End.{End}
 use Rattle.cyc_machine.specs.declared.event.End.TheVariants.{Trap}

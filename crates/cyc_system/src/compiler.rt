@@ -6,8 +6,8 @@ ghost use Rattle.cyc_words.specs.Fault.{memory_fault};
 ghost use Rattle.cyc_syntax.specs.TokenRule.{max_tokens};
 ghost use Rattle.cyc_types.specs.TypedTrees.{Program};
 ghost use Rattle.cyc_types.specs.TypedTreeView.{view_program};
+ghost use Rattle.cyc_types.specs.typing.WellTyped.{IsWellTypedProgram};
 ghost use Rattle.cyc_types.specs.Weight.{program_weight};
-ghost use Rattle.cyc_lower.specs.Emission.{IsElaborated};
 ghost use Rattle.cyc_lower.specs.Lowered.{CanBeLowered, IsLowered};
 ghost use Rattle.cyc_system.specs.FullPreservation.{IsImageOf};
 ghost use Rattle.cyc_system.specs.Compiled.{IsTooLarge, IsSmall, IsCompiledText, IsRefusedAtLast, HasFaultAtLast};
@@ -19,6 +19,7 @@ use cyc_flow::Flowed;
 use cyc_frame::{Framed, layout};
 use cyc_lower::lower;
 use cyc_select::select;
+use cyc_types::check_built;
 use cyc_words::Fault;
 use std::alloc::Global;
 
@@ -35,7 +36,7 @@ fn compile_plain(alloc: Global, framed: &Framed) -> Result<Vec<u8>, Fault>
 
 /// Compiles a typed program to an image, as the bytes of a file.
 fn build(alloc: Global, program: &Flowed) -> Result<Vec<u8>, Fault>
-    requires elaborated { IsElaborated (view_program program.now.tree) }
+    requires well_typed { IsWellTypedProgram (view_program program.now.tree) }
     requires small { program_weight (view_program program.now.tree) ≤ max_tokens }
     requires can_be { CanBeLowered (view_program program.now.tree) }
     ensures { Decides (IsSmall (view_program program.now.tree)) (λ p file. IsImageOf p file.items)
@@ -49,16 +50,16 @@ fn build(alloc: Global, program: &Flowed) -> Result<Vec<u8>, Fault>
 /// Compiles a text to an image, as the bytes of a file.
 ///
 /// The front end of the compiler comes first: what it refuses is refused with its fault. A program that it accepts is refused
-/// with `TooManyFunctions` at the name of the 4,097th function, or else with `FrameTooLarge` at the name of the first function whose
-/// frame may need more than 256 words. Any growth may be refused for want of memory.
+/// with `NotBuiltYet` at 1:1 if it has what is not built yet; or else with `TooManyFunctions` at the name of the 4,097th function, or
+/// else with `FrameTooLarge` at the name of the first function whose frame may need more than 256 words. Any growth may be refused for
+/// want of memory.
 pub fn compile(alloc: Global, text: &[u8]) -> Result<Vec<u8>, Fault>
     // What is answered is an image that the machine can load, and that does what the program of the text means: it
     // prints and ends as the program does within its limits, and does nothing else. What is refused is so by the front end, or
-    // its program is too large.
+    // its program is not built, or too large.
     ensures decides { Decides (IsCompiledText text.now) (λ p file. IsImageOf p file.items) (IsRefusedAtLast text.now) (HasFaultAtLast text.now) result }
 {
-    match accept(alloc, text) {
-        Ok(program) => build(alloc, &program),
-        Err(fault) => Err(fault),
-    }
+    let program = accept(alloc, text)?;
+    check_built(&program.tree)?;
+    build(alloc, &program)
 }

@@ -1,10 +1,7 @@
 -- what the crates above cite
 pub mod RuleLaws
-pub mod ProgramParts
-pub mod FlowAnswered
 pub mod TypedTreeViewLemmas
-pub mod WellTypedLemmas
-pub mod NumberedLemmas
+pub mod BuiltLemmas
 pub mod WeightLemmas
 pub mod typing
 -- what the proofs of this crate cite

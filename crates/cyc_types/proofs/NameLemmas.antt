@@ -1,10 +1,13 @@
 -- The table of region names finds what a name stands for, as names come and go.
-use Rattle.std.proofs.Common.{◌≡◌, ℕ, zero, suc, ◌+◌, ◌<◌, cond, List, [], ◌∷◌, ◌++◌, length, map, drop, get_or, Option, Some, None, refl, ap, ◌∙◌, arith}
-use Rattle.std.proofs.lemmas.List.{reverse-append}
+use Rattle.std.specs.List.{list_any}
+use Rattle.std.proofs.Common.{◌≡◌, ℕ, zero, suc, ◌+◌, ◌<◌, Bool, true, false, cond, not, nat_eq, ◌&&◌, List, [], ◌∷◌, ◌++◌, length, map, reverse, take, drop, get_or, Option, Some, None, refl, sym, ap, ◌∙◌, arith}
+use Rattle.std.proofs.lemmas.List.{reverse-append, take_more}
+use Rattle.std.proofs.lemmas.List.Sorted.{IsPermutation-reverse, list_any-IsPermutation}
 use Rattle.std.proofs.lemmas.Bool.{eq-eqb}
 use Rattle.cyc_types.specs.declared.region.Region.{Region}
 use Rattle.cyc_types.specs.declared.names.Binding.{Binding}
-use Rattle.cyc_types.specs.typing.Scopes.{RegionName, region_among}
+use Rattle.cyc_types.specs.typing.Scopes.{region_among}
+use Rattle.cyc_types.specs.typing.Heads.{region_numbers}
 use Rattle.cyc_types.specs.Names.{names_of, Finds}
 
 drop_next : {A : Type 0} (k : ℕ) (xs : List A) → drop 1 (drop k xs) ≡ drop (suc k) xs
@@ -28,3 +31,22 @@ in_range table bs old b f e = known_in table b.name b.region (f.0 b.name ∙ ap 
   where
     front : names_of old ≡ record { name = b.name; region = b.region } ∷ names_of bs
     front = ap names_of e ∙ ap (map (λ (b : Binding). record { name = b.name; region = b.region })) (reverse-append bs (b ∷ []))
+
+-- one binding more
+pub name_more : (bs : List Binding) (i : ℕ) (d : Binding) → i < length bs → region_numbers (names_of (take (i + 1) bs)) ≡ (get_or bs i d).name ∷ region_numbers (names_of (take i bs))
+name_more bs i d lt =
+    ap (λ cs. region_numbers (names_of cs)) (take_more bs i d lt)
+    ∙ ap (λ cs. region_numbers (map (λ (b : Binding). record { name = b.name; region = b.region }) cs)) (reverse-append (take i bs) (get_or bs i d ∷ []))
+
+-- ---- sets of names
+
+not_both : (b : Bool) → (not b && b) ≡ false
+not_both true = refl
+not_both false = refl
+
+-- a table without its names has none
+pub none_left : (table : List Bool) (names : List ℕ) (left : List Bool) (x : ℕ) → get_or table x false ≡ list_any (nat_eq x) (reverse names)
+    → get_or left x false ≡ (not (list_any (nat_eq x) names) && get_or table x false) → get_or left x false ≡ false
+none_left table names left x known is =
+    let same : get_or table x false ≡ list_any (nat_eq x) names = known ∙ sym (list_any-IsPermutation (nat_eq x) names (reverse names) (IsPermutation-reverse names)) in
+    is ∙ ap (λ b. not (list_any (nat_eq x) names) && b) same ∙ not_both (list_any (nat_eq x) names)

@@ -1,17 +1,16 @@
 -- The search over the scopes, from the oldest to the newest.
-use Rattle.std.proofs.Common.{◌≡◌, ℕ, ◌+◌, ◌<◌, Bool, true, false, ◌&&◌, ◌||◌, not, List, [], ◌∷◌, ◌++◌, map, reverse, length, get_or, take, drop, refl, ap, sym, ◌∙◌, subst, arith, ◌↔◌, Option, Some}
+use Rattle.std.proofs.Common.{◌≡◌, ℕ, ◌+◌, ◌-◌, ◌<◌, Bool, true, false, ◌&&◌, ◌||◌, not, List, [], ◌∷◌, ◌++◌, map, reverse, length, get_or, take, drop, refl, ap, sym, ◌∙◌, subst, arith, ◌↔◌, Option, Some}
 use Rattle.std.specs.Prelude.{IsTrue}
 use Rattle.std.specs.Option.{ForSome}
 use Rattle.std.specs.List.{list_any}
 use Rattle.std.proofs.lemmas.Bool.{or_left, or_right}
-use Rattle.std.proofs.lemmas.List.{take_more, reverse-append, take-append-drop}
+use Rattle.std.proofs.lemmas.List.{take_more, reverse-append, take-append-drop, length-reverse, length-drop, drop_at}
 use Rattle.cyc_types.specs.declared.region.Region.{Region}
 use Rattle.cyc_types.specs.declared.region.Region.TheVariants.{Unique}
 use Rattle.cyc_types.specs.declared.scope.Scope.{Scope}
-use Rattle.cyc_types.specs.declared.constraints.Constraint.{Constraint}
-use Rattle.cyc_types.specs.Regions.{region_eq}
+use Rattle.cyc_types.specs.Regions.{region_eq, is_region_among}
 use Rattle.cyc_types.specs.Outlives.{RegionContext, OutlivesIn, live_regions, is_outlived_by_live}
-use Rattle.cyc_types.specs.Closure.{above, above_one_of, above_one_opened, leads, is_outliving, is_above_known, context_of, IsSound}
+use Rattle.cyc_types.specs.Closure.{above, above_one_of, above_one_opened, leads, is_outliving, is_above_known, HasNoUnique}
 use Rattle.cyc_types.proofs.TableLemmas.{any-append, or_comm, or_false}
 use Rattle.cyc_types.proofs.ClosureLemmas.{newest-from, outliving-sound, outliving-complete}
 
@@ -151,12 +150,29 @@ module _ (w : List (Region × Region)) (live : List Region) (scopes : List Scope
     bound = before.bound;
   }
 
--- what `outlives` answers, where its fields are sound
-pub outliving_iff : (constraints : List Constraint) (live : List Region) (scopes : List Scope) (c : RegionContext) (a b : Region) (r : Bool) →
-    IsSound constraints scopes → context_of constraints live scopes ≡ c → r ≡ is_outliving (context_of constraints live scopes) a b →
-    IsTrue r ↔ OutlivesIn c a b
-outliving_iff constraints live scopes c a b r sound e s =
-    subst (λ z. IsTrue r ↔ OutlivesIn z a b) e (
-      λ h. outliving-sound (context_of constraints live scopes) sound.no_unique sound.no_unique_scope a b (sym s ∙ h),
-      λ h. s ∙ outliving-complete (context_of constraints live scopes) sound.no_unique sound.no_unique_scope a b h,
-    )
+pub as_many : (scopes : List Scope) → length scopes ≡ length (reverse scopes)
+as_many scopes = sym (length-reverse scopes)
+
+-- the first so many of a list are, in the order newest first, what is left without the newest
+pub oldest_kept : {X : Type 0} (xs : List X) (n : ℕ) → reverse (take n xs) ≡ drop (length (reverse xs) - n) (reverse xs)
+oldest_kept xs n =
+    let newer : length (reverse (drop n xs)) ≡ length (reverse xs) - n =
+    length-reverse (drop n xs) ∙ length-drop n xs ∙ ap (λ (k : ℕ). k - n) (sym (length-reverse xs)) in
+    sym (ap (drop (length (reverse xs) - n)) (ap reverse (sym (take-append-drop n xs)) ∙ reverse-append (take n xs) (drop n xs))
+    ∙ drop_at (reverse (drop n xs)) (reverse (take n xs)) (length (reverse xs) - n) newer)
+
+-- the test decides the relation
+pub outliving_iff : (c : RegionContext) (a b : Region) (r : Bool) → HasNoUnique c → r ≡ is_outliving c a b → IsTrue r ↔ OutlivesIn c a b
+outliving_iff c a b r apart s = (
+  λ h. outliving-sound c apart.written apart.opened a b (sym s ∙ h),
+  λ h. s ∙ outliving-complete c apart.written apart.opened a b h,
+)
+
+-- what is live, as it is looked for
+pub live_among : (r : Region) (live : List Region) (scopes : List Scope) →
+    is_region_among r (live_regions live (reverse scopes)) ≡ (is_region_among r live || list_any (λ (s : Scope). region_eq s.region r) scopes)
+live_among r live scopes =
+    any-append (λ a. region_eq a r) (map (λ (s : Scope). s.region) (reverse scopes)) live
+    ∙ ap (λ z. z || is_region_among r live)
+    (any-map (λ a. region_eq a r) (λ (s : Scope). s.region) (reverse scopes) ∙ any-reverse (λ (s : Scope). region_eq s.region r) scopes)
+    ∙ or_comm (list_any (λ (s : Scope). region_eq s.region r) scopes) (is_region_among r live)

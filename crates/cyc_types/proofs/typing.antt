@@ -1,7 +1,10 @@
 -- What the typing rules of the whole language derive is well typed.
+pub mod ListLemmas
 pub mod TestLemmas
 pub mod ExpressionLemmas
 pub mod CountLemmas
 pub mod StatementLemmas
 pub mod NamingLemmas
 pub mod ProgramLemmas
+pub mod WeightLemmas
+pub mod IntLemmas

@@ -64,12 +64,11 @@ IsClosed constraints = (a b : Region) → table_leads constraints a b ≡ above 
 abbrev pub names_no_unique_scope : List Scope → Bool
 names_no_unique_scope scopes = list_all (λ s. not (region_eq s.region Unique)) scopes
 
--- what the fields of an `Outlives` keep
-pub record IsSound (constraints : List Constraint) (scopes : List Scope) : Type 0 where
-  pub closed : IsClosed constraints
-  pub no_unique : names_no_unique (written_in constraints) ≡ true
-  pub no_unique_scope : names_no_unique_scope (reverse scopes) ≡ true
+-- neither the constraints nor the scopes have the region of unique pointers
+pub record HasNoUnique (c : RegionContext) : Type 0 where
+  pub written : names_no_unique c.written ≡ true
+  pub opened : names_no_unique_scope c.opened ≡ true
 
--- what they stand for
+-- what the fields of an `Outlives` stand for
 abbrev pub context_of : List Constraint → List Region → List Scope → RegionContext
 context_of constraints live scopes = record { written = written_in constraints; live = live; opened = reverse scopes }

@@ -6,24 +6,20 @@ pub mod TypedTrees
 pub mod TypedTreeView
 pub mod Declarations
 pub mod IntPart
-pub mod Scopes
 pub mod Rules
-pub mod TypingRules
 pub mod typing
-pub mod FlowRules
-pub mod FlowRefusals
-pub mod WellTyped
+pub mod flow
+pub mod Built
 pub mod Numbered
 pub mod Weight
 pub mod Outlives
 -- what the functions inside these crates promise each other: the rules as functions, and the table of constraints
-pub mod FlowChecking
 pub mod Closure
 pub mod Names
 pub mod StructTables
 pub mod WrittenMarks
+pub mod Namings
 pub mod SignatureView
 -- examples
-pub mod RuleReadings
 pub mod RuleExamples
 pub mod OutlivesExamples

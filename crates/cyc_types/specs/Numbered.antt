@@ -1,19 +1,16 @@
 -- What a typed tree of the int language keeps of its own accord, and later phases rely on: each number that it has names something that
 -- is there, each call passes as many arguments as its function has parameters, and a break or a continue stands in a loop. A tree with
 -- any other form does not keep it.
-use Rattle.std.specs.Prelude.{◌≡◌, ℕ, suc, ◌+◌, ◌<◌, Bool, true, false, List, [], ◌∷◌, Option, Some, None, length, slice_get}
+use Rattle.std.specs.Prelude.{◌≡◌, ℕ, suc, ◌+◌, ◌<◌, Bool, true, false, List, [], ◌∷◌, Option, Some, None, map, length, slice_get}
 use Rattle.cyc_types.specs.declared.typed.Callee.{Callee}
 use Rattle.cyc_types.specs.declared.typed.Callee.TheVariants as callees
 use Rattle.cyc_types.specs.Types.{Ty, Int, result_type}
-use Rattle.cyc_types.specs.TypedTrees.{Lvalue, Local, Global, Expression, Number, Copy, Call, Unary, Binary, Assign, Converted, Convert, Arguments, NoArguments, MoreArguments, Operations, NoOperations, ThenCompute, ThenTest, Statement, Block, Empty, Evaluate, If, While, Return, Break, Continue, Items, NoItems, MoreItems, Execute, Declare, Function, Program}
-use Rattle.cyc_types.specs.Scopes.{Signature}
-
-abbrev pub signature_of : Function → Signature
-signature_of h = record { parameters = h.parameters; result = h.result }
+use Rattle.cyc_types.specs.TypedTrees.{Lvalue, Local, Global, Expression, Number, Copy, Call, Unary, Binary, Assign, Converted, Convert, Arguments, NoArguments, MoreArguments, Operations, NoOperations, ThenCompute, ThenTest, Statement, Block, Empty, Evaluate, If, While, Return, Break, Continue, Items, NoItems, MoreItems, Execute, Declare, Signature, Function, Program}
+use Rattle.cyc_types.specs.typing.Scopes.{signature_of_ints}
+use Rattle.cyc_types.specs.typing.WellTyped.{signature_of}
 
 abbrev pub signatures_of : List Function → List Signature
-signatures_of [] = []
-signatures_of (h ∷ hs) = signature_of h ∷ signatures_of hs
+signatures_of hs = map signature_of hs
 
 -- what there is to name
 pub record Numbering : Type 0 where
@@ -26,8 +23,8 @@ pub record Numbering : Type 0 where
 
 -- the signature of what is called
 abbrev pub IsSignature : Numbering → Callee → Signature → Type 0
-IsSignature b callees.Putchar s = s ≡ record { parameters = Int ∷ []; result = Some Int }
-IsSignature b callees.Getchar s = s ≡ record { parameters = []; result = Some Int }
+IsSignature b callees.Putchar s = s ≡ signature_of_ints (Int ∷ [])
+IsSignature b callees.Getchar s = s ≡ signature_of_ints []
 IsSignature b (callees.Function n) s = slice_get b.functions n ≡ Some s
 
 abbrev pub argument_count : Arguments → ℕ
@@ -100,4 +97,4 @@ AreNumberedFunctions globals functions (h ∷ hs) = AreNumberedItems (numbering_
 -- `main` is a function without parameters, whose result is an int
 pub record IsNumberedProgram (p : Program) : Type 0 where
   pub functions : AreNumberedFunctions (length p.globals) (signatures_of p.functions) p.functions
-  pub main : slice_get (signatures_of p.functions) p.main ≡ Some (record { parameters = []; result = Some Int })
+  pub main : slice_get (signatures_of p.functions) p.main ≡ Some (signature_of_ints [])

@@ -1,4 +1,5 @@
--- Worked examples of the typing rules, of the flow rules and of weights, by computation. Each text stands above its verdict; all on one line.
+-- Worked examples over ints of the typing rules, of the flow rules and of weights, by computation. Each text stands above its verdict;
+-- all on one line.
 use Rattle.std.specs.Prelude.{◌≡◌, ℕ, ◌+◌, List, [], ◌∷◌, Some, None, Ok, Err, codes, refl}
 use Rattle.cyc_words.specs.declared.fault.Code.TheVariants as faults
 use Rattle.cyc_syntax.specs.declared.tree.BinaryOperator.TheVariants as operators
@@ -10,9 +11,9 @@ use Rattle.cyc_types.specs.declared.typed.Callee.TheVariants as callees
 use Rattle.cyc_types.specs.declared.typed.Operator.TheVariants as binary
 use Rattle.cyc_types.specs.Types as types
 use Rattle.cyc_types.specs.TypedTrees as typed
-use Rattle.cyc_types.specs.Rules.{Checked, and_then, fault_at, not_built}
-use Rattle.cyc_types.specs.TypingRules.{check_of}
-use Rattle.cyc_types.specs.FlowChecking.{Kept, flow_of}
+use Rattle.cyc_types.specs.Rules.{Checked, and_then, fault_at}
+use Rattle.cyc_types.specs.typing.Programs.{check_of}
+use Rattle.cyc_types.specs.flow.Programs.{flow_of}
 use Rattle.cyc_types.specs.Weight.{program_weight}
 
 -- ---- trees of texts of one line
@@ -67,7 +68,7 @@ abbrev return_0 : ℕ → Item
 return_0 n = Execute (Return (at n) (Some (Number (at (n + 7)) 0)))
 
 -- of typing, and then of flow
-abbrev verdict : List Declaration → Kept
+abbrev verdict : List Declaration → Checked (Unit {0})
 verdict tree = and_then (check_of texts tree) flow_of
 
 -- ---- names and calls
@@ -157,8 +158,8 @@ declared_beforehand : verdict (Global (int 1) (putchar 5) None ∷ main_of (only
 declared_beforehand = refl
 
 -- int main(){ return NULL; }
-beyond_ints : verdict (main_of (only (Execute (Return (at 13) (Some (Null (at 20)))))) 26 ∷ []) ≡ Err not_built
-beyond_ints = refl
+null_is_no_int : verdict (main_of (only (Execute (Return (at 13) (Some (Null (at 20)))))) 26 ∷ []) ≡ Err (fault_at faults.TypeMismatch (at 20))
+null_is_no_int = refl
 
 -- ---- a typed tree
 

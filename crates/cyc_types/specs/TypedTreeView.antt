@@ -72,7 +72,7 @@ abbrev mutual
   pub view_initial : InitialCode → Initial
   view_initial (initial.Plain k e) = Plain k (view_expression e)
   view_initial (initial.Fields' shape row) = Fields (view_arguments row)
-  view_initial (initial.Array l n k e) = Array l (view_expression n) k (view_expression e)
+  view_initial (initial.Array s l n k e) = Array (place_of_span s) l (view_expression n) k (view_expression e)
 
   pub view_arguments : {m : _} → Row_of-Converted m → Arguments
   view_arguments end_of-Converted = NoArguments

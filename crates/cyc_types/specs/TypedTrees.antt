@@ -88,8 +88,8 @@ mutual
     Plain : Kind → Expression → Initial
     -- a struct's fields, in order
     Fields : Arguments → Initial
-    -- `{for i < length : element}`, where the variable is the counter of this level, with elements of this kind
-    Array : (level : ℕ) → (length : Expression) → Kind → (element : Expression) → Initial
+    -- `{for i < length : element}`, where the variable is the counter of this level, with elements of this kind, and with the place of `for`
+    Array : Place → (level : ℕ) → (length : Expression) → Kind → (element : Expression) → Initial
 
   -- an expression whose value is converted once it is evaluated
   pub data Converted : Type 0 where

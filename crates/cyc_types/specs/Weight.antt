@@ -42,7 +42,7 @@ abbrev mutual
   pub initial_weight : Initial → ℕ
   initial_weight (Plain k a) = expression_weight a
   initial_weight (Fields cs) = 3 + arguments_weight cs
-  initial_weight (Array l n k a) = 6 + expression_weight n + expression_weight a
+  initial_weight (Array p l n k a) = 6 + expression_weight n + expression_weight a
 
   pub converted_weight : Converted → ℕ
   converted_weight (Convert from to a) = expression_weight a

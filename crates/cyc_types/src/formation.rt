@@ -37,7 +37,7 @@ fn region_or(names: &RegionNames, left_out: Region, written: Option<Ident>) -> R
 }
 
 /// The heap as often as this.
-fn heaps(alloc: Global, count: usize) -> Result<RcSlice<Region>, AllocError>
+pub(crate) fn heaps(alloc: Global, count: usize) -> Result<RcSlice<Region>, AllocError>
     ensures { IfOk result (λ rs. rc_slice_items rs ≡ replicate count Heap) }
 {
     let mut all = Vec::with_capacity(alloc, count)?;

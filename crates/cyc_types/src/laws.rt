@@ -4,13 +4,11 @@ ghost use Rattle.cyc_words.specs.declared.fault.Fault.{Fault};
 ghost use Rattle.cyc_syntax.specs.Trees.{Declaration};
 ghost use Rattle.cyc_syntax.specs.Weight.{tree_weight};
 ghost use Rattle.cyc_types.specs.TypedTrees.{Statement, Function, Program};
-ghost use Rattle.cyc_types.specs.TypingRules.{IsTypedProgram, IsRefusedProgram, check_of};
-ghost use Rattle.cyc_types.specs.FlowRules.{IsAllowedProgram};
-ghost use Rattle.cyc_types.specs.FlowRefusals.{IsStoppedProgram};
-ghost use Rattle.cyc_types.specs.FlowChecking.{flow_of};
-ghost use Rattle.cyc_types.specs.WellTyped.{IsWellTypedProgram};
-ghost use Rattle.cyc_types.specs.typing.Programs as typing;
-ghost use Rattle.cyc_types.specs.typing.WellTyped as judgement;
+ghost use Rattle.cyc_types.specs.typing.Programs.{IsTypedProgram, IsRefusedProgram, check_of};
+ghost use Rattle.cyc_types.specs.typing.WellTyped.{IsWellTypedProgram};
+ghost use Rattle.cyc_types.specs.flow.Programs.{IsAllowedProgram, IsStoppedProgram, flow_of};
+ghost use Rattle.cyc_types.specs.IntPart.{is_int_program};
+ghost use Rattle.cyc_types.specs.Built.{is_built};
 ghost use Rattle.cyc_types.specs.Numbered.{IsNumberedProgram};
 ghost use Rattle.cyc_types.specs.Weight.{else_weight, statement_weight, function_weight, program_weight};
 
@@ -56,21 +54,14 @@ pub fn typed_trees_are_well_typed()
     ensures { (texts : List (List ℕ)) (tree : List Declaration) (p : Program) → IsTypedProgram texts tree p → IsWellTypedProgram p }
 {}
 
-/// The typing rules of the whole language leave no choice: a tree has one typed tree or one first fault, as the checking function
-/// computes it.
-pub fn whole_checking_is_typing()
-    ensures typed { (texts : List (List ℕ)) (tree : List Declaration) (p : Program) → (typing.check_of texts tree ≡ Ok p) ↔ typing.IsTypedProgram texts tree p }
-    ensures refused { (texts : List (List ℕ)) (tree : List Declaration) (f : Fault) → (typing.check_of texts tree ≡ Err f) ↔ typing.IsRefusedProgram texts tree f }
+/// A well typed program that is built keeps its numbers in range, its calls in step with its functions, and its breaks in loops.
+pub fn built_programs_are_numbered()
+    ensures { (p : Program) → IsWellTypedProgram p → is_built p ≡ true → IsNumberedProgram p }
 {}
 
-/// What the typing rules of the whole language derive is well typed.
-pub fn whole_typed_trees_are_well_typed()
-    ensures { (texts : List (List ℕ)) (tree : List Declaration) (p : Program) → typing.IsTypedProgram texts tree p → judgement.IsWellTypedProgram p }
-{}
-
-/// The typed tree of a program keeps its numbers in range, its calls in step with its functions, and its breaks in loops.
-pub fn typed_trees_are_numbered()
-    ensures { (texts : List (List ℕ)) (tree : List Declaration) (p : Program) → IsTypedProgram texts tree p → IsNumberedProgram p }
+/// A program over ints is built.
+pub fn int_programs_are_built()
+    ensures { (texts : List (List ℕ)) (tree : List Declaration) (p : Program) → is_int_program tree ≡ true → IsTypedProgram texts tree p → is_built p ≡ true }
 {}
 
 /// A typed tree weighs no more than the tree that it is of.
@@ -89,7 +80,9 @@ pub fn programs_outweigh_their_parts()
     ensures declarations { (p : Program) → 3 * length p.globals + 6 * length p.functions ≤ program_weight p }
 {}
 
-/// A function weighs at least two tokens for each parameter, three for each local that it declares, and two for each region.
+/// A function weighs at least two tokens for each parameter, three for each local that it declares, and two for each region but those
+/// that its parameters name.
 pub fn functions_outweigh_their_locals()
-    ensures { (texts : List (List ℕ)) (tree : List Declaration) (p : Program) (n : ℕ) (h : Function) → IsTypedProgram texts tree p → slice_get p.functions n ≡ Some h → 2 * length h.parameters + 3 * length h.locals + 2 * h.regions + 4 ≤ function_weight h }
+    ensures { (p : Program) (n : ℕ) (h : Function) → IsWellTypedProgram p → slice_get p.functions n ≡ Some h
+        → (h.variables + 1 ≤ h.regions) × (2 * length h.parameters + 3 * length h.locals + 2 * h.regions + 4 ≤ function_weight h + 2 * h.variables) }
 {}

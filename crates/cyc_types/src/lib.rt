@@ -1,6 +1,9 @@
 //! Types and regions of the Cyclone subset, the typed tree with its typing rules, and the outlives relation between regions.
 #![tactic(auto)]
 
+pub use built::{Construct, Unbuilt, check_built};
+pub use known::Known;
+pub use name_set::NameSet;
 pub use names::RegionNames;
 pub use outlives::Outlives;
 pub use region::Region;
@@ -10,11 +13,15 @@ pub use structs::StructNames;
 pub use ty::Ty;
 pub use typed::TypedTree;
 
+mod built;
 mod constraints;
 pub mod formation;
+mod known;
 pub mod laws;
+mod name_set;
 mod names;
 mod outlives;
+pub mod parameters;
 mod region;
 mod scope;
 mod signature;

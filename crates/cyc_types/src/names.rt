@@ -1,6 +1,6 @@
 //! The region names in scope, found in constant time.
 
-use crate::Region;
+use crate::{NameSet, Region};
 use std::alloc::{AllocError, Global};
 use std::marker::Model;
 
@@ -34,8 +34,9 @@ impl Model for RegionNames {
 }
 
 impl RegionNames {
-    ghost use Rattle.std.specs.Prelude.{◌≡◌, ℕ, ◌-◌, ◌<◌, [], ◌∷◌, length, drop, get_or, None, OnOk};
+    ghost use Rattle.std.specs.Prelude.{◌≡◌, ℕ, ◌-◌, ◌<◌, [], ◌∷◌, ◌++◌, length, drop, get_or, None, OnOk};
     ghost use Rattle.cyc_types.specs.typing.Scopes.{region_among};
+    ghost use Rattle.cyc_types.specs.typing.Heads.{region_numbers};
 
     pub fn new(alloc: Global) -> RegionNames
         ensures { result ≡ [] }
@@ -96,9 +97,29 @@ impl RegionNames {
             self.undo();
         }
     }
+
+    /// Adds the names to a set, the oldest first.
+    pub fn add_to(&self, set: &mut NameSet) -> Result<(), AllocError>
+        ensures { OnOk result (set.new ≡ region_numbers self.now ++ set.old) }
+    {
+        add_all(&self.bindings, set)
+    }
 }
 
-ghost use Rattle.std.specs.Prelude.{◌≡◌, ℕ, ◌<◌, length, get_or, None, OnOk};
+ghost use Rattle.std.specs.Prelude.{◌≡◌, ℕ, ◌<◌, ◌++◌, length, get_or, None, OnOk};
+ghost use Rattle.cyc_types.specs.typing.Heads.{region_numbers};
+ghost use Rattle.cyc_types.specs.Names.{names_of};
+
+/// Adds the names of bindings to a set, the oldest first.
+#[tactic(auto, using(crate::proofs::NameLemmas::name_more, std::proofs::lemmas::List::take_all))]
+fn add_all(bindings: &[Binding], set: &mut NameSet) -> Result<(), AllocError>
+    ensures { OnOk result (set.new ≡ region_numbers (names_of bindings.now) ++ set.old) }
+{
+    for binding in bindings {
+        set.add(binding.name)?;
+    }
+    Ok(())
+}
 
 /// Makes the table so long that it has a place for this name.
 fn grow(table: &mut Vec<Option<Region>>, name: usize) -> Result<(), AllocError>

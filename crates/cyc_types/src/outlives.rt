@@ -1,12 +1,14 @@
 //! Which region outlives which, by the constraints of a function and the scopes that are open.
-ghost use Rattle.std.specs.Prelude.{◌≡◌, ◌≢◌, ◌↔◌, ◌||◌, [], ◌∷◌, reverse, IsTrue, IfOk, OnOk, OnErr, length, ◌<◌};
+ghost use Rattle.std.specs.Prelude.{◌≡◌, ◌≢◌, ◌↔◌, ◌||◌, ◌-◌, [], ◌∷◌, reverse, drop, IsTrue, IfOk, OnOk, OnErr, length, ◌<◌};
+ghost use Rattle.std.specs.List.{list_any};
 ghost use Rattle.std.specs.Option.{ForSome};
 ghost use Rattle.cyc_types.specs.declared.scope.Scope.{Scope};
-ghost use Rattle.cyc_types.specs.Outlives.{OutlivesIn, live_regions, names_no_unique, is_outlived_by_live};
-ghost use Rattle.cyc_types.specs.Closure.{IsClosed, above, above_one_of, above_one_opened, context_of, is_outliving, is_above_known, leads, written_in};
+ghost use Rattle.cyc_types.specs.Outlives.{OutlivesIn, live_regions, is_outlived_by_live};
+ghost use Rattle.cyc_types.specs.Regions.{region_eq, is_region_among};
+ghost use Rattle.cyc_types.specs.Closure.{HasNoUnique, IsClosed, above, above_one_of, above_one_opened, context_of, is_outliving, is_above_known, leads, written_in};
 
 use crate::Region;
-use crate::constraints::{Constraint, closed, table_leads};
+use crate::constraints::{Constraint, closed, is_region_among, table_leads};
 use crate::scope::{Scope, ScopeKind, is_outlived_by_live};
 use std::alloc::{AllocError, Global};
 use std::marker::Model;
@@ -26,24 +28,23 @@ pub struct Outlives {
 
 impl Model for Outlives {
     ghost use Rattle.cyc_types.specs.Outlives.{RegionContext};
-    ghost use Rattle.cyc_types.specs.Closure.{IsSound, context_of};
+    ghost use Rattle.cyc_types.specs.Closure.{IsClosed, context_of};
 
     ghost Value = { RegionContext };
 
     ghost view = { λ o. context_of o.constraints.items o.live.items o.scopes.items };
 
-    ghost invariant = { λ o. IsSound o.constraints.items o.scopes.items };
+    ghost invariant = { λ o. IsClosed o.constraints.items };
 }
 
 impl Outlives {
-    /// No scope is open yet. The first region of each pair of `written` outlives the second, and none is the unique region; `live`
-    /// are the regions that are live at the start.
+    /// No scope is open yet. The first region of each pair of `written` outlives the second; `live` are the regions that are live at
+    /// the start.
     pub fn new(
         alloc: Global,
         written: &[(Region, Region)],
         live: &[Region],
     ) -> Result<Outlives, AllocError>
-        requires { IsTrue (names_no_unique written.now) }
         ensures written { IfOk result (λ outlives. outlives.written ≡ written.now) }
         ensures live { IfOk result (λ outlives. outlives.live ≡ live.now) }
         ensures opened { IfOk result (λ outlives. outlives.opened ≡ []) }
@@ -57,15 +58,32 @@ impl Outlives {
 
     /// Whether `a` outlives `b`.
     pub fn outlives(&self, a: Region, b: Region) -> bool
-        ensures { IsTrue result ↔ OutlivesIn self.now a b }
+        ensures tested { result ≡ is_outliving self.now a b }
+        // Where neither the constraints nor the scopes have the unique region, this is the relation.
+        ensures related { HasNoUnique self.now → (IsTrue result ↔ OutlivesIn self.now a b) }
     {
         is_outliving(&self.constraints, &self.live, &self.scopes, a, b)
     }
 
-    /// Opens a scope. Its region, which is not the unique one, is live until the scope is closed. It may be a region that the
-    /// constraints name or that is live already, as the region of a key is.
+    /// Whether the region is live.
+    #[tactic(auto, using(crate::proofs::SearchLemmas::live_among))]
+    pub fn is_live(&self, region: Region) -> bool
+        ensures { result ≡ is_region_among region (live_regions self.now.live self.now.opened) }
+    {
+        is_region_among(region, &self.live) || is_opened(&self.scopes, region)
+    }
+
+    /// How many scopes are open.
+    #[tactic(auto, using(crate::proofs::SearchLemmas::as_many))]
+    pub fn len(&self) -> usize
+        ensures { result ≡ length self.now.opened }
+    {
+        self.scopes.len()
+    }
+
+    /// Opens a scope. Its region is live until the scope is closed. It may be a region that the constraints name or that is live
+    /// already, as the region of a key is.
     pub fn open_scope(&mut self, region: Region, kind: ScopeKind) -> Result<(), AllocError>
-        requires { region ≢ Region.Unique }
         ensures opened { OnOk result (self.new ≡ record self.old { opened = record { region = region; kind = kind } ∷ self.old.opened }) }
         ensures unchanged { OnErr result (self.new ≡ self.old) }
     {
@@ -80,6 +98,26 @@ impl Outlives {
     {
         let _ = self.scopes.pop();
     }
+
+    /// Closes all open scopes but this number of the oldest.
+    #[tactic(auto, using(crate::proofs::SearchLemmas::oldest_kept))]
+    pub fn close(&mut self, count: usize)
+        ensures { self.new ≡ record self.old { opened = drop (length self.old.opened - count) self.old.opened } }
+    {
+        self.scopes.truncate(count);
+    }
+}
+
+/// Whether one of these scopes has the region.
+fn is_opened(scopes: &[Scope], region: Region) -> bool
+    ensures { result ≡ list_any (λ s. region_eq s.region region) scopes.now }
+{
+    for scope in scopes {
+        if scope.region == region {
+            return true;
+        }
+    }
+    false
 }
 
 /// Whether `a` outlives `b`: by the constraints and the scopes, or because it outlives the heap.

@@ -253,8 +253,10 @@ pub enum Initial {
     Fields {
         values: Vec<Converted>,
     },
-    /// `{for i < length : element}`, where the variable is the counter of this level, with elements of this kind.
+    /// `{for i < length : element}`, where the variable is the counter of this level, with elements of this kind, and with the place of
+    /// `for`.
     Array {
+        span: Span,
         level: usize,
         length: Expr,
         kind: Kind,

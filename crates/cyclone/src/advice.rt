@@ -35,7 +35,7 @@ pub fn meaning(code: Code) -> &'static str {
         Code::MissingReturn => "control reaches the end of a non-void function",
         Code::TooManyFunctions => "too many functions: at most 4096",
         Code::FrameTooLarge => "stack frame too large: at most 256 words",
-        Code::NotBuiltYet => "not supported yet: this source file goes beyond ints",
+        Code::NotBuiltYet => "not supported yet: this program goes beyond ints",
     }
 }
 
@@ -56,14 +56,14 @@ pub fn hint(code: Code) -> &'static str {
         Code::UnknownName => "declare it, or see how its declaration spells it",
         Code::DeclaredTwice => "rename one of the two",
         Code::TypeMismatch =>
-            "give a value where one is needed, and a call as many arguments as its function has parameters",
+            "give a value of the type that is wanted, and a call as many arguments as its function has parameters",
         Code::NullForNonNull => "use a * or ? pointer, which may be null, or give it a value",
         Code::RegionNotLive => "use it within the block of its region, or open its key first",
         Code::NotOutlived => "use a region that lives as long, or declare the constraint `a > `b",
         Code::EffectNotCovered =>
             "open the region's key round the call, or add the region to the effect",
         Code::UniqueShared => "swap it into a variable by :=: first",
-        Code::NotAPlace => "assign to a variable",
+        Code::NotAPlace => "assign to a variable, or to what a pointer leads to",
         Code::RegionOrKeyMisused => "see which kind of region or key may stand here",
         Code::BadMain => "declare it as int main() { .. }, with no parameters",
         Code::OutsideLoop => "remove it, or use return",
@@ -74,8 +74,7 @@ pub fn hint(code: Code) -> &'static str {
             "return a value on every path; conditions are not evaluated, so end with a return",
         Code::TooManyFunctions => "merge some functions",
         Code::FrameTooLarge => "move some of its variables or expressions to another function",
-        Code::NotBuiltYet =>
-            "write it with ints alone: so far programs over ints are checked and compiled",
+        Code::NotBuiltYet => "write it with ints alone: so far programs over ints are compiled",
     }
 }
 

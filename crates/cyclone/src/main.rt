@@ -10,6 +10,7 @@ mod files;
 mod message;
 mod number;
 mod session;
+mod unbuilt;
 mod work;
 
 use std::process::ExitCode;

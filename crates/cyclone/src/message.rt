@@ -1,23 +1,52 @@
 //! The message for a person who reads why a text was refused.
 use crate::advice::{hint, meaning};
 use crate::excerpt::{Shown, excerpt_at};
-use cyc_words::Fault;
+use crate::unbuilt::name_of;
+use cyc_types::Unbuilt;
+use cyc_words::{Fault, Span};
 use std::fmt;
 
 /// Why the text in the file `name` was refused: the place and what is wrong there, the line with a
-/// mark under the place, and what to do.
+/// mark under the place, and what to do. Where the program has what is not built yet, the place is
+/// that of the function that has it, if one does.
 #[derive(Drop)]
 pub struct Message<'a> {
     pub name: &'a str,
     pub text: &'a [u8],
     pub fault: Fault,
+    pub unbuilt: Option<Unbuilt>,
+}
+
+impl Message<'_> {
+    /// The line and the column that are shown.
+    fn place(&self) -> (u32, u32) {
+        match self.unbuilt {
+            Some(
+                Unbuilt {
+                    span: Some(Span { line, column }),
+                    ..
+                },
+            ) => (line, column),
+            _ => (self.fault.line, self.fault.column),
+        }
+    }
 }
 
 impl fmt::Display for Message<'_> {
     fn fmt<W: fmt::Write>(&self, f: &mut fmt::Formatter<W>) -> fmt::Result {
-        let Fault { code, line, column } = self.fault;
+        let code = self.fault.code;
+        let (line, column) = self.place();
         let name = Shown(self.name.as_bytes());
-        write!(f, "{name}:{line}:{column}: {}\n", meaning(code))?;
+        match self.unbuilt {
+            Some(unbuilt) => {
+                let construct = name_of(unbuilt.construct);
+                write!(
+                    f,
+                    "{name}:{line}:{column}: not supported yet: {construct}\n"
+                )?;
+            }
+            None => write!(f, "{name}:{line}:{column}: {}\n", meaning(code))?,
+        }
         write!(f, "{}", excerpt_at(self.text, line, column))?;
         write!(f, "    hint: {}\n", hint(code))
     }

@@ -7,11 +7,12 @@ use crate::console::{Keyboard, Screen};
 use crate::excerpt::Shown;
 use crate::files::{read_image, read_text, write_image};
 use crate::message::Message;
+use crate::unbuilt::first_unbuilt;
 use crate::work::{check, list_image, run_image};
 use clap::error::ErrorKind;
 use cyc_machine::Limits;
 use cyc_system::compile;
-use cyc_words::Fault;
+use cyc_words::{Code, Fault};
 use std::cell::RefCell;
 use std::env::{Env, FillError};
 use std::io::{BufReader, BufWriter, IsTerminal, Stdout};
@@ -23,7 +24,17 @@ type Buffer = RefCell<BufWriter<Stdout>>;
 fn report_refusal(rt: &HostRuntime, name: &str, text: &[u8], fault: Fault) -> Answer {
     let answer = Answer::from(fault);
     if let Answer::Refused(fault) = answer {
-        let _ = rt.eprint(Message { name, text, fault });
+        let unbuilt = match fault.code {
+            Code::NotBuiltYet => first_unbuilt(rt.alloc(), text),
+            _ => None,
+        };
+        let message = Message {
+            name,
+            text,
+            fault,
+            unbuilt,
+        };
+        let _ = rt.eprint(message);
     }
     answer
 }

@@ -1,5 +1,5 @@
 -- A typed statement declares as many locals and as many regions as the statement that it is of.
-use Rattle.std.proofs.Common.{◌≡◌, ℕ, suc, ◌+◌, Bool, List, [], ◌∷◌, ◌++◌, Option, None, Some, length, refl, sym, ap, subst, ◌∙◌, arith}
+use Rattle.std.proofs.Common.{◌≡◌, ℕ, suc, ◌+◌, Bool, List, [], ◌∷◌, ◌++◌, Option, None, Some, length, refl, sym, ap, subst, ◌∙◌, arith, length-append}
 use Rattle.std.specs.Prelude.{option_map}
 use Rattle.cyc_syntax.specs.Symbols.{Place}
 use Rattle.cyc_syntax.specs.Trees.{Named, WrittenType, Expression, Statement, Block, Labelled, Empty, Evaluate, Swap, If, IfElse, While, Return, Break, Continue, Throw, Try, Body, Braces, Items, NoItems, MoreItems, Execute, Local, Region, Alias, DynamicRegion, Clauses, NoClauses, Default, Case}
@@ -11,7 +11,6 @@ use Rattle.cyc_types.specs.Rules.{Derives}
 use Rattle.cyc_types.specs.typing.Scopes.{Meaning, Unknown, Fixed, Counter, Routine, Scope, meaning_of, counted, locals_in, body_locals, item_locals, clause_locals, regions_in, body_regions, item_regions, clause_regions, behind, in_block, in_labelled, in_body}
 use Rattle.cyc_types.specs.typing.Scopes as scopes
 use Rattle.cyc_types.specs.typing.Statements.{exception_among, thrown, with_caught, behind_clause, opened, aliased, behind_item, rule_statement, rule_body, rule_items, rule_clauses}
-use Rattle.cyc_types.proofs.WellTypedLemmas.{count-append}
 
 -- ---- the nodes of forms that depend on what a name means
 
@@ -48,7 +47,7 @@ AreCountedClauses cs ds = (length (clause_types ds) ≡ clause_locals cs) × (de
 both_counted : (s u : Statement) (t v : typed.Statement) → IsCounted s t → IsCounted u v
     → (length (declared_types t ++ declared_types v) ≡ locals_in s + locals_in u) × (declared_regions t + declared_regions v ≡ regions_in s + regions_in u)
 both_counted s u t v (l, r) (m, n) =
-    (count-append (declared_types t) (declared_types v) ∙ (ap (λ k. k + length (declared_types v)) l ∙ ap (λ k. locals_in s + k) m), ap (λ k. k + declared_regions v) r ∙ ap (λ k. regions_in s + k) n)
+    (length-append (declared_types t) (declared_types v) ∙ (ap (λ k. k + length (declared_types v)) l ∙ ap (λ k. locals_in s + k) m), ap (λ k. k + declared_regions v) r ∙ ap (λ k. regions_in s + k) n)
 
 one_more : (m n : ℕ) → m ≡ n → suc m ≡ 1 + n
 one_more m n e = omega arith
@@ -69,7 +68,7 @@ mutual
   statement_counted g (Evaluate e) t (a, h, (u, eq)) = subst (IsCounted (Evaluate e)) (sym eq) (refl, refl)
   statement_counted g (Swap a b) t (x, kx, (y, ky, (kept, eq))) = subst (IsCounted (Swap a b)) (sym eq) (refl, refl)
   statement_counted g (If p e u) t (a, h, (c, k, (w, eq))) =
-      let (l, r) = statement_counted g u c k in subst (IsCounted (If p e u)) (sym eq) (count-append (declared_types c) [] ∙ (omega arith), (omega arith))
+      let (l, r) = statement_counted g u c k in subst (IsCounted (If p e u)) (sym eq) (length-append (declared_types c) [] ∙ (omega arith), (omega arith))
   statement_counted g (IfElse p e u v) t (a, h, (c, k, (d, m, (w, eq)))) =
       subst (IsCounted (IfElse p e u v)) (sym eq) (both_counted u v c d (statement_counted g u c k) (statement_counted (behind g u) v d m))
   statement_counted g (While p e u) t (a, h, (c, k, (w, eq))) = let (l, r) = statement_counted (in_body g) u c k in subst (IsCounted (While p e u)) (sym eq) (l, r)
@@ -81,7 +80,7 @@ mutual
       let (l, r) = statement_counted g s b kb in
       let (m, n) = clauses_counted (behind g s) [] cs ds ks in
       subst (IsCounted (Try p s cs)) (sym eq)
-      (count-append (declared_types b) (clause_types ds) ∙ (ap (λ k. k + length (clause_types ds)) l ∙ ap (λ k. locals_in s + k) m), ap (λ k. k + declarations.clause_regions ds) r ∙ ap (λ k. regions_in s + k) n)
+      (length-append (declared_types b) (clause_types ds) ∙ (ap (λ k. k + length (clause_types ds)) l ∙ ap (λ k. locals_in s + k) m), ap (λ k. k + declarations.clause_regions ds) r ∙ ap (λ k. regions_in s + k) n)
 
   body_counted : (g : Scope) (c : Body) (js : typed.Items) → Derives (rule_body g c) js → (length (item_types js) ≡ body_locals c) × (declarations.item_regions js ≡ body_regions c)
   body_counted g (Braces p is q) js h = items_counted g is js h
@@ -92,7 +91,7 @@ mutual
       let (l, r) = statement_counted g s t h in
       let (m, n) = items_counted (behind g s) is ks hs in
       subst (AreCounted (MoreItems (Execute s) is)) (sym (eq ∙ ap (λ i. typed.MoreItems i ks) is_j))
-      (count-append (declared_types t) (item_types ks) ∙ (ap (λ k. k + length (item_types ks)) l ∙ ap (λ k. locals_in s + k) m), ap (λ k. k + declarations.item_regions ks) r ∙ ap (λ k. regions_in s + k) n)
+      (length-append (declared_types t) (item_types ks) ∙ (ap (λ k. k + length (item_types ks)) l ∙ ap (λ k. locals_in s + k) m), ap (λ k. k + declarations.item_regions ks) r ∙ ap (λ k. regions_in s + k) n)
   items_counted g (MoreItems (Local w x v) is) js (j, (u, ku, (c, kc, (y, is_j))), (ks, hs, (z, eq))) =
       let (m, n) = items_counted (behind_item g (Local w x v) j) is ks hs in
       subst (AreCounted (MoreItems (Local w x v) is)) (sym (eq ∙ ap (λ i. typed.MoreItems i ks) is_j)) (one_more (length (item_types ks)) (item_locals is) m, none_more (declarations.item_regions ks) (item_regions is) n)
@@ -119,7 +118,7 @@ mutual
       let (m, o) = clauses_counted (behind_clause g (counted v) is) (x.name ∷ before) cs es k in
       let one : length (caught_types (option_map (λ (y : Named). g.next_local) v)) ≡ counted v = caught_counted v g.next_local in
       subst (AreCountedClauses (Case x v is cs)) (sym eq) (
-        count-append (caught_types (option_map (λ (y : Named). g.next_local) v)) (item_types js ++ clause_types es)
-            ∙ (ap (λ k. k + length (item_types js ++ clause_types es)) one ∙ (ap (λ k. counted v + k) (count-append (item_types js) (clause_types es)) ∙ (omega arith))),
+        length-append (caught_types (option_map (λ (y : Named). g.next_local) v)) (item_types js ++ clause_types es)
+            ∙ (ap (λ k. k + length (item_types js ++ clause_types es)) one ∙ (ap (λ k. counted v + k) (length-append (item_types js) (clause_types es)) ∙ (omega arith))),
         omega arith,
       )

@@ -724,10 +724,10 @@ module _ (p : typed.Program) (h : typed.Function) where
     plain_by a (Value t) w i n = (w, n, refl, refl)
     plain_by a v w i n = absurd (cc)
 
-    array_by : (c : Context) (a b : typed.Expression) (v : ValueType) → WellTyped c a (Value Int) → WellTyped (judgement.with_counter c) b v → is_value is_any v ≡ true → is_value is_key v ≡ false
-        → IsMade c (typed.Array c.counters a (kind_of_value v) b) marks.Fat (value_of v)
-    array_by c a b (Value t) w x i n = (refl, w, x, n, refl, refl)
-    array_by c a b v w x i n = absurd (cc)
+    array_by : (c : Context) (p : Place) (a b : typed.Expression) (v : ValueType) → WellTyped c a (Value Int) → WellTyped (judgement.with_counter c) b v → is_value is_any v ≡ true → is_value is_key v ≡ false
+        → IsMade c (typed.Array p c.counters a (kind_of_value v) b) marks.Fat (value_of v)
+    array_by c p a b (Value t) w x i n = (refl, w, x, n, refl, refl)
+    array_by c p a b v w x i n = absurd (cc)
 
     arguments-length : (names : List RegionName) (k : ℕ) (rs : List Named) → is_count (Some k) rs ≡ true → length (arguments_or names k rs) ≡ k
     arguments-length names k [] i = replicate-length k regions.Heap
@@ -837,5 +837,5 @@ module _ (p : typed.Program) (h : typed.Function) where
     made_well g fits (Fields s rs es) m (as', ks, (u, eq)) = subst (IsMadeOf g fits) (sym eq) (fields_well g fits s rs es as' (aligned g es as' ks) (all_well g fits es as' ks))
     made_well g fits (Array q x n e) m (a, ka, (b, kb, (u, eq))) =
         subst (IsMadeOf g fits) (sym eq)
-        (λ (kept : AllKept (array_made g.counters (place_of n) a (place_of e) b).asked).
-        array_by g fits (at g) a b (type_of b) (int_well g fits a (well g fits n a ka) kept.0) (well (with_counter x g) (counting g x fits) e b kb) (kept.1).0 (not_so (is_value is_key (type_of b)) ((kept.1).1).0))
+        (λ (kept : AllKept (array_made g.counters q (place_of n) a (place_of e) b).asked).
+        array_by g fits (at g) q a b (type_of b) (int_well g fits a (well g fits n a ka) kept.0) (well (with_counter x g) (counting g x fits) e b kb) (kept.1).0 (not_so (is_value is_key (type_of b)) ((kept.1).1).0))

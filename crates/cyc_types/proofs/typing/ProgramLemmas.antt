@@ -27,7 +27,7 @@ use Rattle.cyc_types.specs.typing.Programs.{regions_before, exceptions_before, d
 use Rattle.cyc_types.specs.typing.WellTyped.{LocalInScope, WellTypedItems, parameters_in_scope, body_context, IsWellTypedFunction, AreWellTypedFunctions, IsWellTypedGlobal, AreWellTypedGlobals, IsWellTypedProgram}
 use Rattle.cyc_types.specs.typing.WellTyped as judgement
 use Rattle.cyc_types.proofs.ClosureLemmas.{Contains-head}
-use Rattle.cyc_types.proofs.WellTypedLemmas.{Holds, front_of, back_of, not_main}
+use Rattle.cyc_types.proofs.typing.ListLemmas.{Holds, front_of, back_of}
 use Rattle.cyc_types.proofs.typing.TestLemmas.{kept_append, not_so}
 use Rattle.cyc_types.proofs.typing.ExpressionLemmas.{in_scope, all_variables, all_globals, at, IsMeantDeclared, AreKnown, IsExceptionOf, Fits}
 use Rattle.cyc_types.proofs.typing.CountLemmas.{items_counted}
@@ -306,6 +306,10 @@ main_type k r ps e =
     let (effect, constraints) = and_parts (is_left_out ps.effect) (is_empty ps.constraints) others in
     ap (λ ms. of_parts k r ms ps.effect ps.constraints) (nothing_in (members_of ps.list) none)
     ∙ (ap (λ o. of_parts k r [] o ps.constraints) (left_out ps.effect effect) ∙ (ap (λ cs. of_parts k r [] None cs) (nothing_in ps.constraints constraints) ∙ int_written k r result))
+
+not_main : (c d : Bool) → not c ≡ true → c || d ≡ true → d ≡ true
+not_main true d e h = absurd (cc)
+not_main false d e h = h
 
 main_well : (k : Known) (b : Before) (tree : List Declaration) → Derives (rule_heads k b tree) tt → declares k.main tree ≡ true → slice_get (signatures k tree) (function_number k.main tree) ≡ Some (signature_of_ints [])
 main_well k b [] heads d = absurd (cc)

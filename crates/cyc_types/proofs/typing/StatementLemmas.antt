@@ -29,7 +29,7 @@ use Rattle.cyc_types.specs.typing.WellTyped.{Context, IsLive, IsVariable, IsPlac
 use Rattle.cyc_types.specs.typing.WellTyped as judgement
 use Rattle.cyc_types.proofs.ClosureLemmas.{Contains-head, Contains-tail}
 use Rattle.cyc_types.proofs.RegionLemmas.{region_eq-true}
-use Rattle.cyc_types.proofs.WellTypedLemmas.{Holds, front_of, back_of}
+use Rattle.cyc_types.proofs.typing.ListLemmas.{Holds, front_of, back_of}
 use Rattle.cyc_types.proofs.typing.TestLemmas.{kept_append, ty_eq-true, not_so}
 use Rattle.cyc_types.proofs.typing.ExpressionLemmas.{IsKeyOfVariable, in_scope, all_variables, at, IsMeant, Fits, meant, converted_well, int_well, place_of_variable, variable_of_place, seen_well, IsFoundIn, well, found_well}
 use Rattle.cyc_types.proofs.typing.CountLemmas.{AreCounted, statement_counted, items_counted}

@@ -15,7 +15,6 @@ use Rattle.cyc_types.specs.declared.typed.Callee.TheVariants as callees
 use Rattle.cyc_types.specs.Types as types
 use Rattle.cyc_types.specs.Rules.{Checked, fault_at}
 use Rattle.cyc_types.specs.TypedTrees as typed
-use Rattle.cyc_types.specs.TypingRules as ints
 use Rattle.cyc_types.specs.typing.Programs.{check_of}
 
 abbrev at : ℕ → ℕ → Place
@@ -691,7 +690,3 @@ typed_tree : check_of texts (Function (Some (written (at 1 1) Int [])) (the_get 
       main = 1;
     })
 typed_tree = refl
-
--- int g = -1; int v(int a){ return a; } int main(){ int x; { int y = v(g); x = y; } if (x == 1 || !x) while (x) x = x - 1; return x + 1; }
-ints_alone : check_of texts (Global (written (at 1 1) Int []) (the_g 1 5) (Some (Negative (at 1 9) 1)) ∷ Function (Some (written (at 1 13) Int [])) (the_v 1 17) (parameters (Listed ((member (written (at 1 19) Int []) (the_a 1 23)) ∷ [])) None []) (Braces (at 1 25) (MoreItems (Execute (Return (at 1 27) (Some (Variable (the_a 1 34))))) NoItems) (at 1 37)) ∷ Function (Some (written (at 1 39) Int [])) (the_main 1 43) (parameters (Listed []) None []) (Braces (at 1 49) (MoreItems (Local (written (at 1 51) Int []) (the_x 1 55) None) (MoreItems (Execute (Block (Braces (at 1 58) (MoreItems (Local (written (at 1 60) Int []) (the_y 1 64) (Some (Call (the_v 1 68) (MoreExpressions (Variable (the_g 1 70)) NoExpressions)))) (MoreItems (Execute (Evaluate (Assign (Variable (the_x 1 74)) (Variable (the_y 1 78))))) NoItems)) (at 1 81)))) (MoreItems (Execute (If (at 1 83) (Binary (Binary (Variable (the_x 1 87)) (ThenOperation operators.Equal (at 1 89) (Number (at 1 92) 1) NoOperations)) (ThenOperation operators.OrElse (at 1 94) (Prefixed (at 1 97) prefixes.Not (Variable (the_x 1 98))) NoOperations)) (While (at 1 101) (Variable (the_x 1 108)) (Evaluate (Assign (Variable (the_x 1 111)) (Binary (Variable (the_x 1 115)) (ThenOperation operators.Subtract (at 1 117) (Number (at 1 119) 1) NoOperations))))))) (MoreItems (Execute (Return (at 1 122) (Some (Binary (Variable (the_x 1 129)) (ThenOperation operators.Add (at 1 131) (Number (at 1 133) 1) NoOperations))))) NoItems)))) (at 1 136)) ∷ []) ≡ ints.check_of texts (Global (written (at 1 1) Int []) (the_g 1 5) (Some (Negative (at 1 9) 1)) ∷ Function (Some (written (at 1 13) Int [])) (the_v 1 17) (parameters (Listed ((member (written (at 1 19) Int []) (the_a 1 23)) ∷ [])) None []) (Braces (at 1 25) (MoreItems (Execute (Return (at 1 27) (Some (Variable (the_a 1 34))))) NoItems) (at 1 37)) ∷ Function (Some (written (at 1 39) Int [])) (the_main 1 43) (parameters (Listed []) None []) (Braces (at 1 49) (MoreItems (Local (written (at 1 51) Int []) (the_x 1 55) None) (MoreItems (Execute (Block (Braces (at 1 58) (MoreItems (Local (written (at 1 60) Int []) (the_y 1 64) (Some (Call (the_v 1 68) (MoreExpressions (Variable (the_g 1 70)) NoExpressions)))) (MoreItems (Execute (Evaluate (Assign (Variable (the_x 1 74)) (Variable (the_y 1 78))))) NoItems)) (at 1 81)))) (MoreItems (Execute (If (at 1 83) (Binary (Binary (Variable (the_x 1 87)) (ThenOperation operators.Equal (at 1 89) (Number (at 1 92) 1) NoOperations)) (ThenOperation operators.OrElse (at 1 94) (Prefixed (at 1 97) prefixes.Not (Variable (the_x 1 98))) NoOperations)) (While (at 1 101) (Variable (the_x 1 108)) (Evaluate (Assign (Variable (the_x 1 111)) (Binary (Variable (the_x 1 115)) (ThenOperation operators.Subtract (at 1 117) (Number (at 1 119) 1) NoOperations))))))) (MoreItems (Execute (Return (at 1 122) (Some (Binary (Variable (the_x 1 129)) (ThenOperation operators.Add (at 1 131) (Number (at 1 133) 1) NoOperations))))) NoItems)))) (at 1 136)) ∷ [])
-ints_alone = refl

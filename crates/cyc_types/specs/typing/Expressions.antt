@@ -541,11 +541,11 @@ plain_made p a = record {
   mark = marks.NonNull;
 }
 
--- `{for x < n : e}`, where n and e are at these places
-abbrev pub array_made : (level : ℕ) → Place → typed.Expression → Place → typed.Expression → Made
-array_made level p a q b = record {
+-- `{for x < n : e}`, where `for`, n and e are at these places
+abbrev pub array_made : (level : ℕ) → Place → Place → typed.Expression → Place → typed.Expression → Made
+array_made level o p a q b = record {
   asked = int_wanted (type_of a) p ∷ element_demanded (type_of b) q;
-  initial = typed.Array level a (kind_of_value (type_of b)) b;
+  initial = typed.Array o level a (kind_of_value (type_of b)) b;
   target = value_of (type_of b);
   mark = marks.Fat;
 }
@@ -637,4 +637,4 @@ abbrev mutual
   rule_made g (Plain e) = Part (rule g e) (λ a. gives (plain_made (place_of e) a))
   rule_made g (Fields s rs es) = Part (rule_all g es) (λ as'. gives (fields_made g s rs es as'))
   rule_made g (Array p x n e) =
-      Part (rule g n) (λ a. Part (rule (with_counter x g) e) (λ b. gives (array_made g.counters (place_of n) a (place_of e) b)))
+      Part (rule g n) (λ a. Part (rule (with_counter x g) e) (λ b. gives (array_made g.counters p (place_of n) a (place_of e) b)))

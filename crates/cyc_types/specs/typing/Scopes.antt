@@ -202,14 +202,15 @@ abbrev mutual
   clause_regions (Default is) = suc (item_regions is)
   clause_regions (Case x v is cs) = suc (item_regions is) + clause_regions cs
 
+-- the newest first
 abbrev mutual
   pub names_in : Statement → List ℕ
   names_in (Block b) = body_names b
-  names_in (Labelled l b) = l.name ∷ body_names b
+  names_in (Labelled l b) = body_names b ++ l.name ∷ []
   names_in (If p c s) = names_in s
-  names_in (IfElse p c s t) = names_in s ++ names_in t
+  names_in (IfElse p c s t) = names_in t ++ names_in s
   names_in (While p c s) = names_in s
-  names_in (Try p s cs) = names_in s ++ clause_names cs
+  names_in (Try p s cs) = clause_names cs ++ names_in s
   names_in s = []
 
   pub body_names : Body → List ℕ
@@ -217,7 +218,7 @@ abbrev mutual
 
   pub item_names : Items → List ℕ
   item_names NoItems = []
-  item_names (MoreItems i is) = one_item_names i ++ item_names is
+  item_names (MoreItems i is) = item_names is ++ one_item_names i
 
   pub one_item_names : Item → List ℕ
   one_item_names (Execute s) = names_in s
@@ -230,7 +231,7 @@ abbrev mutual
   pub clause_names : Clauses → List ℕ
   clause_names NoClauses = []
   clause_names (Default is) = item_names is
-  clause_names (Case x v is cs) = item_names is ++ clause_names cs
+  clause_names (Case x v is cs) = clause_names cs ++ item_names is
 
 -- ---- scopes
 

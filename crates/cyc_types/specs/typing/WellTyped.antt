@@ -216,7 +216,7 @@ abbrev mutual
   IsMade c (Fields ds) m t =
       (n : ℕ) × (rs : List Region) × (s : StructType) × (slice_get c.structs n ≡ Some s) × (length rs ≡ s.parameters) × ArePassed c (map (substituted_ty rs) s.fields) ds
       × (t ≡ Struct n rs) × (m ≡ marks.NonNull)
-  IsMade c (Array l n k a) m t =
+  IsMade c (Array p l n k a) m t =
       (l ≡ c.counters) × WellTyped c n (Value Int) × WellTyped (with_counter c) a (Value t) × (is_key t ≡ false) × (k ≡ kind_of t) × (m ≡ marks.Fat)
 
   -- the operations behind a left operand of this type give a value of that type

@@ -1,6 +1,6 @@
 use Rattle.std.proofs.Common.{◌≡◌, length, ap, arith}
 use Rattle.cyc_types.specs.TypeView.{view_ty}
-use Rattle.cyc_types.specs.FlowRules.{Reached}
+use Rattle.cyc_types.specs.flow.States.{Reached}
 use Rattle.cyc_flow.specs.declared.state.Fullness.TheVariants as code
 use Rattle.cyc_flow.proofs.States.{all_known}
 use Rattle.cyc_flow.proofs.check.start_of.Goals as goal

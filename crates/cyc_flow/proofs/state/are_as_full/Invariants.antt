@@ -1,4 +1,4 @@
-use Rattle.cyc_types.specs.FlowRules.{are_as_full}
+use Rattle.cyc_types.specs.flow.States.{are_as_full}
 use Rattle.std.proofs.Common.{map}
 use Rattle.cyc_flow.specs.Code.{view_fullness}
 use Rattle.cyc_flow.proofs.States.{Compared}

@@ -5,8 +5,8 @@ use Rattle.cyc_meaning.specs.FrameCount.{items_need}
 use Rattle.cyc_lower.proofs.Routines.{few_locals}
 use Rattle.cyc_lower.proofs.functions.lower_function.Goals as goal
 
-pub items-requires-clause-slots : goal.items-requires-clause-slots
-items-requires-clause-slots c =
+pub lower_items-requires-clause-slots : goal.lower_items-requires-clause-slots
+lower_items-requires-clause-slots c =
     let f = c.args.function.now in
     omega (arith, few_locals f c.requires, c.len.ensures, c.len-2.ensures, f.parameters.ok.0, f.locals.ok.0)
 

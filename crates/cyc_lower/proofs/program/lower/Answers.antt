@@ -14,7 +14,7 @@ returns-then-len-gt-MOST_FUNCTIONS c =
     refused (view_program t) c.new.result (inr (too_many t c.index.result.now c.new.result more c.index.ensures c.new.ensures.code c.new.ensures.line c.new.ensures.column))
 
 pub lower_tree-requires-clause-few : goal.lower_tree-requires-clause-few
-lower_tree-requires-clause-few c = small_frames (view_program c.args.program.now.tree) c.requires.elaborated c.requires.small
+lower_tree-requires-clause-few c = small_frames (view_program c.args.program.now.tree) c.requires.well_typed c.requires.small
 
 pub returns : goal.returns
 returns c =

@@ -5,7 +5,7 @@ use Rattle.cyc_lex.specs.Refusals as lexer
 use Rattle.cyc_parse.specs.Acceptance as parser
 use Rattle.cyc_parse.specs.Acceptance.{declarations_of}
 use Rattle.cyc_types.specs.TypedTreeView.{view_program}
-use Rattle.cyc_types.specs.TypingRules.{IsTypedProgram, IsRefusedProgram}
+use Rattle.cyc_types.specs.typing.Programs.{IsTypedProgram, IsRefusedProgram}
 use Rattle.cyc_system.proofs.Fronts.{passed, stopped, lexed, checked, lexer_answers, parser_answers, checker_answers, flow_answers}
 use Rattle.cyc_system.proofs.front.accept.Goals as goal
 

@@ -1,7 +1,7 @@
 use Rattle.std.proofs.Common.{inl, inr, sym, subst}
 use Rattle.cyc_syntax.specs.Symbols.{symbols_of}
 use Rattle.cyc_parse.specs.Acceptance as parser
-use Rattle.cyc_types.specs.FlowRefusals.{IsStoppedProgram}
+use Rattle.cyc_types.specs.flow.Programs.{IsStoppedProgram}
 use Rattle.cyc_system.specs.Front.{names_in}
 use Rattle.cyc_system.proofs.Fronts.{Lexed, Parsed, typed_here, faulty_here}
 use Rattle.cyc_system.proofs.laws.accepted_or_refused.Goals as goal

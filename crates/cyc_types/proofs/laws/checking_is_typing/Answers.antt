@@ -1,4 +1,4 @@
-use Rattle.cyc_types.specs.TypingRules.{rule_program}
+use Rattle.cyc_types.specs.typing.Programs.{rule_program}
 use Rattle.cyc_types.proofs.RuleLaws.{derived, refused, answers_tree, answers_fault}
 use Rattle.cyc_types.proofs.laws.checking_is_typing.Goals as goal
 

@@ -1,4 +1,4 @@
-use Rattle.cyc_types.specs.TypingRules.{rule_program}
+use Rattle.cyc_types.specs.typing.Programs.{rule_program}
 use Rattle.cyc_types.proofs.RuleLaws.{is_decided}
 use Rattle.cyc_types.proofs.laws.typed_or_refused.Goals as goal
 

@@ -1,6 +1,6 @@
 use Rattle.std.proofs.Common.{ap}
 use Rattle.std.proofs.lemmas.List.{map-set}
-use Rattle.cyc_types.specs.FlowRules.{Reached}
+use Rattle.cyc_types.specs.flow.States.{Reached}
 use Rattle.cyc_flow.specs.Code.{view_fullness}
 use Rattle.cyc_flow.proofs.state.State.with_fullness.Goals as goal
 

@@ -5,8 +5,8 @@ use Rattle.cyc_lower.specs.Emission.{most_locals, HasRoom}
 use Rattle.cyc_lower.proofs.Emitting.{Remains, all_arguments, all_printed, all_operations, PrintedLeft}
 use Rattle.cyc_lower.proofs.emitter.Emitter.+expression.Given as goal
 
-abbrev pub invariant-arguments-loop-argument : goal.invariant-arguments-loop-argument
-invariant-arguments-loop-argument l =
+abbrev pub invariant-lower_arguments-loop-argument : goal.invariant-lower_arguments-loop-argument
+invariant-lower_arguments-loop-argument l =
     Remains all_arguments l.fn.self.code.items l.arguments l.fn.first l.argument-index l.self.code.items l.slot
     × (l.slot ≤ most_locals + length l.self.code.items)
 
@@ -16,8 +16,8 @@ invariant-print-loop-argument l =
     × PrintedLeft l.arguments l.argument-index l.byte l.free
     × (l.free ≤ most_locals + length l.self.code.items)
 
-abbrev pub invariant-operations-loop-operation : goal.invariant-operations-loop-operation
-invariant-operations-loop-operation l =
+abbrev pub invariant-lower_operations-loop-operation : goal.invariant-lower_operations-loop-operation
+invariant-lower_operations-loop-operation l =
     Remains (all_operations l.slot l.free) l.fn.self.code.items l.operations l.fn.first l.operation-index l.self.code.items l.left
     × (l.behind + l.operation-index ≡ length l.operations)
     × (l.free ≤ most_locals + length l.self.code.items)

@@ -4,7 +4,7 @@ use Rattle.cyc_lower.proofs.Emitting.{Remains}
 use Rattle.cyc_lower.proofs.Branching.{all_items}
 use Rattle.cyc_lower.proofs.emitter.Emitter.+statement.Given as goal
 
-abbrev pub invariant-items-loop-item : goal.invariant-items-loop-item
-invariant-items-loop-item l =
+abbrev pub invariant-lower_items-loop-item : goal.invariant-lower_items-loop-item
+invariant-lower_items-loop-item l =
     Remains (all_items l.head) l.fn.self.code.items l.items l.fn.free l.item-index l.self.code.items l.free
     × (l.free ≤ most_locals + length l.self.code.items) × (l.head ≤ length l.self.code.items)

@@ -1,5 +1,4 @@
-use Rattle.std.proofs.Common.{◌≡◌, ◌+◌, ◌*◌, ◌/◌, ◌%◌, ◌^◌, ◌<◌, length, refl, sym, subst, arith}
-use Rattle.std.specs.Vec.{vec_len}
+use Rattle.std.proofs.Common.{ℕ, ◌+◌, ◌≤◌, List, length, sym, subst}
 use Rattle.cyc_store.specs.Ledger.{Stored, held_of, store_of}
 use Rattle.cyc_store.specs.Slots.{HasSlot, Fills}
 use Rattle.cyc_store.proofs.KeptSlots.{dead-there, fresh-there, fill-small, fill-there, fill-fills, fill-kept}
@@ -16,11 +15,10 @@ next_slot-word-requires-clause-fresh c =
     fresh-there f.table f.lexicals.items f.classes f.ledger.blocks c.self.invariant c.args.class c.requires.class
     (subst (λ (v : Stored). HasSlot (held_of v) c.args.class) (sym c.self.view_is) c.requires.some)
 
-pub index_mut-requires : goal.index_mut-requires
-index_mut-requires c =
+pub mark-requires : goal.mark-requires
+mark-requires c =
     let f = c.self.inside in
-    let many : length f.table.live.items ≡ vec_len f.table.live = omega arith in
-    subst (λ n. c.next_slot-word.result.0 / 1024 * 1024 + c.next_slot-word.result.0 % 1024 / 2 ^ c.args.class < n) many
+    subst (λ n. c.next_slot-word.result.0 + n ≤ length f.table.live.items) (sym c.size_of-size.ensures)
     (fill-there f.table f.lexicals.items f.classes f.ledger.blocks c.self.invariant c.args.class c.requires.class
     (subst (λ (v : Stored). HasSlot (held_of v) c.args.class) (sym c.self.view_is) c.requires.some) c.next_slot-word.result c.next_slot-word.ensures)
 
@@ -35,12 +33,18 @@ invariant_of-self c =
     let f = c.self.inside in
     fill-kept f.table f.lexicals.items f.classes f.ledger.blocks c.self.invariant c.args.class c.requires.class
     (subst (λ (v : Stored). HasSlot (held_of v) c.args.class) (sym c.self.view_is) c.requires.some) c.next_slot-word.result c.next_slot-word.ensures
-    c.address_at-address.result c.size_of.result c.address_at-address.ensures c.size_of.ensures c.with-self-inside.result.blocks c.with-self-inside.ensures _ refl refl refl refl refl
+    c.address_at-address.result c.size_of-size.result c.address_at-address.ensures c.size_of-size.ensures c.with-self-inside.result.blocks c.with-self-inside.ensures
+    _ c.mark.ensures.most c.mark.ensures.words c.mark.ensures.live c.mark.ensures.whole c.mark.ensures.free c.mark.ensures.rows
 
 pub returns : goal.returns
 returns c =
     let f = c.self.inside in
-    subst (λ (v : Stored). Fills (held_of v) c.args.class c.address_at-address.result (store_of f.table.most f.table.words.items c.with-self-inside.result.blocks)) c.self.view_is
+    let table = c.mark.new.self in
+    let blocks = c.with-self-inside.result.blocks in
+    let fills : Fills (held_of c.args.self.now) c.args.class c.address_at-address.result (store_of f.table.most f.table.words.items blocks) =
+    subst (λ (v : Stored). Fills (held_of v) c.args.class c.address_at-address.result (store_of f.table.most f.table.words.items blocks)) c.self.view_is
     (fill-fills f.table f.lexicals.items f.classes f.ledger.blocks c.self.invariant c.args.class c.requires.class
     (subst (λ (v : Stored). HasSlot (held_of v) c.args.class) (sym c.self.view_is) c.requires.some) c.next_slot-word.result c.next_slot-word.ensures
-    c.address_at-address.result c.size_of.result c.address_at-address.ensures c.size_of.ensures c.with-self-inside.result.blocks c.with-self-inside.ensures)
+    c.address_at-address.result c.size_of-size.result c.address_at-address.ensures c.size_of-size.ensures blocks c.with-self-inside.ensures) in
+    subst (λ (most : ℕ). Fills (held_of c.args.self.now) c.args.class c.address_at-address.result (store_of most table.words.items blocks)) (sym c.mark.ensures.most)
+    (subst (λ (words : List ℕ). Fills (held_of c.args.self.now) c.args.class c.address_at-address.result (store_of f.table.most words blocks)) (sym c.mark.ensures.words) fills)

@@ -1,8 +1,0 @@
-use Rattle.std.proofs.Common.{◌≡◌, ◌++◌, map, drop}
-use Rattle.cyc_syntax.specs.TreeView.{view_declaration}
-use Rattle.cyc_types.specs.TypedTreeView.{view_global}
-use Rattle.cyc_types.specs.TypingRules.{globals_of}
-use Rattle.cyc_check.proofs.program.globals_of.Given as goal
-
-abbrev pub invariant-loop-declaration : goal.invariant-loop-declaration
-invariant-loop-declaration l = map view_global l.all.items ++ globals_of (map view_declaration (drop l.declaration-index l.declarations)) ≡ globals_of (map view_declaration l.declarations)

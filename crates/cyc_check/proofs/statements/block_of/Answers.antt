@@ -1,7 +1,0 @@
-use Rattle.std.proofs.Common.{Ok, ap, subst}
-use Rattle.cyc_types.proofs.TypedTreeViewLemmas.{view_block}
-use Rattle.cyc_check.specs.Code.{Gives, view_boxed_statement}
-use Rattle.cyc_check.proofs.statements.block_of.Goals as goal
-
-pub returns : goal.returns
-returns c = subst (λ o. Gives view_boxed_statement c.boxed.result o) (ap Ok (view_block c.args.region c.args.items)) c.boxed.ensures

@@ -1,0 +1,137 @@
+//! The nodes of typed statements. What makes or moves a node is a function of its own beside the walk, so that the walk's frames are
+//! small however large a node is.
+ghost use Rattle.std.specs.Prelude.{◌≡◌, Ok, option_map};
+ghost use Rattle.cyc_syntax.specs.TreeView.{place_of_span};
+ghost use Rattle.cyc_types.specs.TypedTrees as nodes;
+ghost use Rattle.cyc_types.specs.TypedTreeView as typed_view;
+ghost use Rattle.cyc_scope.specs.Code.{Gives};
+ghost use Rattle.cyc_forms.specs.Forms.{view_boxed};
+ghost use Rattle.cyc_check.specs.Walks.{view_boxed_statement};
+
+use cyc_scope::Stop;
+use cyc_types::typed;
+use cyc_types::typed::Converted;
+use cyc_words::Span;
+use std::alloc::Global;
+
+/// The node in a box.
+#[inline(never)]
+pub(crate) fn boxed(alloc: Global, statement: typed::Stmt) -> Result<Box<typed::Stmt>, Stop>
+    ensures { Gives view_boxed_statement result (Ok (typed_view.view_statement statement)) }
+{
+    Ok(Box::new(alloc, statement)?)
+}
+
+#[inline(never)]
+pub(crate) fn empty(alloc: Global) -> Result<Box<typed::Stmt>, Stop>
+    ensures { Gives view_boxed_statement result (Ok nodes.Empty) }
+{
+    boxed(alloc, typed::Stmt::Empty)
+}
+
+#[inline(never)]
+pub(crate) fn evaluation(alloc: Global, value: Box<typed::Expr>) -> Result<Box<typed::Stmt>, Stop>
+    ensures { Gives view_boxed_statement result (Ok (nodes.Evaluate (view_boxed value))) }
+{
+    let value = Box::into_inner(value);
+    boxed(alloc, typed::Stmt::Evaluate { value })
+}
+
+#[inline(never)]
+pub(crate) fn block_of(
+    alloc: Global,
+    region: usize,
+    items: Vec<typed::Item>,
+) -> Result<Box<typed::Stmt>, Stop>
+    ensures { Gives view_boxed_statement result (Ok (nodes.Block region (typed_view.items_of items.items))) }
+{
+    boxed(alloc, typed::Stmt::Block { region, items })
+}
+
+#[inline(never)]
+pub(crate) fn choice(
+    alloc: Global,
+    condition: Box<typed::Expr>,
+    then: Box<typed::Stmt>,
+    otherwise: Box<typed::Stmt>,
+) -> Result<Box<typed::Stmt>, Stop>
+    ensures { Gives view_boxed_statement result (Ok (nodes.If (view_boxed condition) (view_boxed_statement then) (view_boxed_statement otherwise))) }
+{
+    let condition = Box::into_inner(condition);
+    boxed(
+        alloc,
+        typed::Stmt::If {
+            condition,
+            then,
+            otherwise,
+        },
+    )
+}
+
+#[inline(never)]
+pub(crate) fn repetition(
+    alloc: Global,
+    span: Span,
+    condition: Box<typed::Expr>,
+    body: Box<typed::Stmt>,
+) -> Result<Box<typed::Stmt>, Stop>
+    ensures { Gives view_boxed_statement result (Ok (nodes.While (place_of_span span) (view_boxed condition) (view_boxed_statement body))) }
+{
+    let condition = Box::into_inner(condition);
+    boxed(
+        alloc,
+        typed::Stmt::While {
+            span,
+            condition,
+            body,
+        },
+    )
+}
+
+#[inline(never)]
+pub(crate) fn return_of(alloc: Global, value: Option<Converted>) -> Result<Box<typed::Stmt>, Stop>
+    ensures { Gives view_boxed_statement result (Ok (nodes.Return (option_map typed_view.view_converted value))) }
+{
+    boxed(alloc, typed::Stmt::Return { value })
+}
+
+#[inline(never)]
+pub(crate) fn throw_of(
+    alloc: Global,
+    tag: usize,
+    value: Option<Box<typed::Expr>>,
+) -> Result<Box<typed::Stmt>, Stop>
+    ensures { Gives view_boxed_statement result (Ok (nodes.Throw tag (option_map view_boxed value))) }
+{
+    let value = match value {
+        Some(value) => Some(Box::into_inner(value)),
+        None => None,
+    };
+    boxed(alloc, typed::Stmt::Throw { tag, value })
+}
+
+#[inline(never)]
+pub(crate) fn try_of(
+    alloc: Global,
+    body: Box<typed::Stmt>,
+    clauses: Vec<typed::Clause>,
+    default: Option<typed::Body>,
+) -> Result<Box<typed::Stmt>, Stop>
+    ensures { Gives view_boxed_statement result (Ok (nodes.Try (view_boxed_statement body) (typed_view.clauses_of clauses.items (typed_view.default_of default)))) }
+{
+    boxed(
+        alloc,
+        typed::Stmt::Try {
+            body,
+            clauses,
+            default,
+        },
+    )
+}
+
+pub(crate) fn execution(statement: Box<typed::Stmt>) -> typed::Item
+    ensures { typed_view.view_item result ≡ nodes.Execute (view_boxed_statement statement) }
+{
+    let statement = Box::into_inner(statement);
+    typed::Item::Execute { statement }
+}

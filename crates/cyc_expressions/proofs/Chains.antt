@@ -1,0 +1,153 @@
+-- How the code walks the values of a list, the operations of a chain, and postfixes.
+use Rattle.std.proofs.Common.{◌≡◌, ℕ, ◌+◌, List, [], ◌∷◌, ◌++◌, Option, Some, None, map, drop, Ok, Err, refl, sym, ap, ◌∙◌}
+use Rattle.std.proofs.lemmas.List.{append_assoc, append-nil}
+use Rattle.std.proofs.lemmas.Option.{same_Some}
+use Rattle.std.specs.declared.boxed.Box.{Box}
+use Rattle.std.specs.declared.alloc.Global.{Global}
+use Rattle.cyc_syntax.specs.declared.tree.Expr.{Expr}
+use Rattle.cyc_syntax.specs.declared.tree.Operation.{Operation as OperationCode}
+use Rattle.cyc_syntax.specs.declared.tree.Postfix.{Postfix}
+use Rattle.cyc_syntax.specs.declared.tree.Postfix.TheVariants as postfix
+use Rattle.cyc_syntax.specs.Symbols.{Place}
+use Rattle.cyc_syntax.specs.Trees.{Named, Expression, Variable, Bracketed}
+use Rattle.cyc_syntax.specs.TreeView.{view_expression, expressions_of, operations_of, then_postfix, postfixes_of}
+use Rattle.cyc_types.specs.declared.typed.Operation.{Operation}
+use Rattle.cyc_types.specs.declared.typed.Operation.TheVariants as operation
+use Rattle.cyc_types.specs.Types.{Ty, ValueType, Value}
+use Rattle.cyc_types.specs.TypedTrees as typed
+use Rattle.cyc_types.specs.TypedTreeView as view
+use Rattle.cyc_words.specs.declared.fault.Fault.{Fault}
+use Rattle.cyc_types.specs.Rules.{Checked, and_then, Rule, gives, unless, run}
+use Rattle.cyc_types.specs.typing.Scopes.{Scope, meaning_of}
+use Rattle.cyc_types.specs.typing.Expressions.{looked, Reached, loaded, rule, rule_looked, rule_all, rule_chain, rule_postfixed, rule_further}
+use Rattle.cyc_scope.specs.declared.stop.Stop.{Stop}
+use Rattle.cyc_scope.specs.declared.stop.Stop.TheVariants as stops
+use Rattle.cyc_scope.specs.Code.{Stops}
+use Rattle.cyc_forms.specs.Forms.{put_operation, GivesOne}
+use Rattle.cyc_expressions.specs.Walks.{name_in, one_operation, one_postfix}
+use Rattle.cyc_expressions.proofs.Loops.{onto, onto-append}
+
+and_then_twice : {A B C : Type 0} (o : Checked A) (f : A → B) (next : B → Checked C) → and_then o (λ a. next (f a)) ≡ and_then (and_then o (λ a. Ok (f a))) next
+and_then_twice (Ok a) f next = refl
+and_then_twice (Err e) f next = refl
+
+under : {A B : Type 0} (o : Checked A) (f h : A → Checked B) → ((a : A) → f a ≡ h a) → and_then o f ≡ and_then o h
+under (Ok a) f h same = same a
+under (Err e) f h same = refl
+
+-- ---- an operand that is looked at
+
+pub looked_named : (g : Scope) (e : Expression) (walked : Rule typed.Expression) (x : Named) → name_in e ≡ Some x → run (rule_looked g e walked) ≡ run (looked (meaning_of g x) x.place)
+looked_named g (Variable y) walked x h = ap (λ (z : Named). run (looked (meaning_of g z) z.place)) (same_Some y x h)
+looked_named g (Bracketed q e) walked x h = looked_named g e walked x h
+looked_named g e walked x h = absurd (cc)
+
+pub looked_unnamed : (g : Scope) (e : Expression) (walked : Rule typed.Expression) → name_in e ≡ None → rule_looked g e walked ≡ walked
+looked_unnamed g (Variable y) walked h = absurd (cc)
+looked_unnamed g (Bracketed q e) walked h = looked_unnamed g e walked h
+looked_unnamed g e walked h = refl
+
+-- ---- values
+
+-- the values so far, and those behind them
+abbrev pub behind_values : List typed.Expression → Checked (List typed.Expression) → Checked (List typed.Expression)
+behind_values xs checked = and_then checked (λ as'. Ok (xs ++ as'))
+
+pub no_values : (checked : Checked (List typed.Expression)) → behind_values [] checked ≡ checked
+no_values (Ok as') = refl
+no_values (Err f) = refl
+
+regrouped : (xs : List typed.Expression) (a : typed.Expression) (checked : Checked (List typed.Expression)) → behind_values xs (and_then checked (λ as'. Ok (a ∷ as'))) ≡ behind_values (xs ++ a ∷ []) checked
+regrouped xs a (Ok as') = ap Ok (sym (append_assoc xs (a ∷ []) as'))
+regrouped xs a (Err f) = refl
+
+pub values_go_on : (g : Scope) (xs ys : List typed.Expression) (zs us : List Expr) (z : Expr) (a : typed.Expression) (whole : Checked (List typed.Expression)) → zs ≡ z ∷ us
+    → run (rule g (view_expression z)) ≡ Ok a → ys ≡ xs ++ a ∷ [] → behind_values xs (run (rule_all g (expressions_of zs))) ≡ whole → behind_values ys (run (rule_all g (expressions_of us))) ≡ whole
+values_go_on g xs ys zs us z a whole is h more so_far =
+    let step : run (rule_all g (expressions_of zs)) ≡ and_then (run (rule_all g (expressions_of us))) (λ as'. Ok (a ∷ as')) =
+    ap (λ vs. run (rule_all g (expressions_of vs))) is ∙ ap (λ o. and_then o (λ b. and_then (run (rule_all g (expressions_of us))) (λ as'. Ok (b ∷ as')))) h in
+    ap (λ vs. behind_values vs (run (rule_all g (expressions_of us)))) more ∙ sym (regrouped xs a (run (rule_all g (expressions_of us)))) ∙ sym (ap (behind_values xs) step) ∙ so_far
+
+pub values_stop : (e : Stop) (g : Scope) (xs : List typed.Expression) (zs us : List Expr) (z : Expr) (whole : Checked (List typed.Expression)) → zs ≡ z ∷ us
+    → Stops e (run (rule g (view_expression z))) → behind_values xs (run (rule_all g (expressions_of zs))) ≡ whole → Stops e whole
+values_stop stops.Memory g xs zs us z whole is h so_far = tt
+values_stop (stops.Refused f) g xs zs us z whole is h so_far =
+    let step : run (rule_all g (expressions_of zs)) ≡ Err f =
+    ap (λ vs. run (rule_all g (expressions_of vs))) is ∙ ap (λ o. and_then o (λ b. and_then (run (rule_all g (expressions_of us))) (λ as'. Ok (b ∷ as')))) h in
+    sym so_far ∙ ap (behind_values xs) step
+
+pub values_end : (g : Scope) (xs : List typed.Expression) (zs : List Expr) (whole : Checked (List typed.Expression)) → zs ≡ [] → behind_values xs (run (rule_all g (expressions_of zs))) ≡ whole → whole ≡ Ok xs
+values_end g xs zs whole is so_far = sym so_far ∙ ap (λ vs. behind_values xs (run (rule_all g (expressions_of vs)))) is ∙ ap Ok (append-nil xs)
+
+-- ---- chains
+
+abbrev pub then_all : List Operation → typed.Operations → typed.Operations
+then_all xs os = onto put_operation (λ f rest. f rest) xs os
+
+-- the operations so far, and those behind them
+abbrev pub behind_operations : List Operation → Checked (typed.Operations × Ty) → Checked (typed.Operations × Ty)
+behind_operations xs checked = and_then checked (λ bs. Ok (then_all xs bs.0, bs.1))
+
+pub no_operations : (checked : Checked (typed.Operations × Ty)) → behind_operations [] checked ≡ checked
+no_operations (Ok bs) = refl
+no_operations (Err f) = refl
+
+chained : (xs : List Operation) (o : Operation) (checked : Checked (typed.Operations × Ty)) → behind_operations xs (and_then checked (λ bs. Ok (put_operation o bs.0, bs.1))) ≡ behind_operations (xs ++ o ∷ []) checked
+chained xs o (Ok bs) = ap (λ os. Ok (os, bs.1)) (sym (onto-append put_operation (λ f rest. f rest) xs o bs.0))
+chained xs o (Err f) = refl
+
+pub chain_goes_on : (g : Scope) (p : Place) (k : Option ℕ) (left : ValueType) (xs ys : List Operation) (zs us : List OperationCode) (z : OperationCode) (o : Operation) (t : Ty) (whole : Checked (typed.Operations × Ty)) → zs ≡ z ∷ us
+    → one_operation g p k left z.operator (view_expression z.operand) ≡ Ok (put_operation o, t) → ys ≡ xs ++ o ∷ []
+    → behind_operations xs (run (rule_chain g p k left (operations_of zs))) ≡ whole → behind_operations ys (run (rule_chain g p None (Value t) (operations_of us))) ≡ whole
+chain_goes_on g p k left xs ys zs us z o t whole is h more so_far =
+    let step : run (rule_chain g p k left (operations_of zs)) ≡ and_then (run (rule_chain g p None (Value t) (operations_of us))) (λ bs. Ok (put_operation o bs.0, bs.1)) =
+    ap (λ vs. run (rule_chain g p k left (operations_of vs))) is
+    ∙ ap (λ c. and_then c (λ put. and_then (run (rule_chain g p None (Value put.1) (operations_of us))) (λ bs. Ok (put.0 bs.0, bs.1)))) h in
+    ap (λ vs. behind_operations vs (run (rule_chain g p None (Value t) (operations_of us)))) more ∙ sym (chained xs o (run (rule_chain g p None (Value t) (operations_of us)))) ∙ sym (ap (behind_operations xs) step) ∙ so_far
+
+pub chain_stops : (e : Stop) (g : Scope) (p : Place) (k : Option ℕ) (left : ValueType) (xs : List Operation) (zs us : List OperationCode) (z : OperationCode) (whole : Checked (typed.Operations × Ty)) → zs ≡ z ∷ us
+    → Stops e (one_operation g p k left z.operator (view_expression z.operand)) → behind_operations xs (run (rule_chain g p k left (operations_of zs))) ≡ whole → Stops e whole
+chain_stops stops.Memory g p k left xs zs us z whole is h so_far = tt
+chain_stops (stops.Refused f) g p k left xs zs us z whole is h so_far =
+    let step : run (rule_chain g p k left (operations_of zs)) ≡ Err f =
+    ap (λ vs. run (rule_chain g p k left (operations_of vs))) is
+    ∙ ap (λ c. and_then c (λ put. and_then (run (rule_chain g p None (Value put.1) (operations_of us))) (λ bs. Ok (put.0 bs.0, bs.1)))) h in
+    sym so_far ∙ ap (behind_operations xs) step
+
+pub then_all_view : (xs : List Operation) → then_all xs typed.NoOperations ≡ view.operations_of xs
+then_all_view [] = refl
+then_all_view (operation.Compute o e ∷ os) = ap (typed.ThenCompute o (view.view_expression e)) (then_all_view os)
+then_all_view (operation.Test o e ∷ os) = ap (typed.ThenTest o (view.view_expression e)) (then_all_view os)
+then_all_view (operation.Pointer o e ∷ os) = ap (typed.ThenPointer o (view.view_expression e)) (then_all_view os)
+then_all_view (operation.PointerPeek n o e ∷ os) = ap (typed.ThenPointerPeek n o (view.view_expression e)) (then_all_view os)
+
+-- at the end the whole is what the rule without operations gives
+pub chain_ends : (g : Scope) (p : Place) (k : Option ℕ) (left : ValueType) (xs : List Operation) (zs : List OperationCode) (whole : Checked (typed.Operations × Ty)) → zs ≡ []
+    → behind_operations xs (run (rule_chain g p k left (operations_of zs))) ≡ whole → whole ≡ behind_operations xs (run (rule_chain g p k left (operations_of [])))
+chain_ends g p k left xs zs whole is so_far = sym so_far ∙ ap (λ vs. behind_operations xs (run (rule_chain g p k left (operations_of vs)))) is
+
+same_ok : {A : Type 0} (a b : A) → ◌≡◌ {A = Checked A} (Ok a) (Ok b) → a ≡ b
+same_ok a b e = ap (λ (r : Checked _). elim r [ Ok x ↦ x | Err f ↦ a ]) e
+
+-- and its type is that of what is left
+pub chain_whole : (xs : List Operation) (known : Option Fault) (t u : Ty) → unless known t ≡ Ok u → behind_operations xs (unless known (typed.NoOperations, t)) ≡ Ok (view.operations_of xs, u)
+chain_whole xs None t u h = ap (λ os. Ok (os, t)) (then_all_view xs) ∙ ap (λ v. Ok (view.operations_of xs, v)) (same_ok t u h)
+chain_whole xs (Some f) t u h = absurd (cc)
+
+-- ---- what stands for what the rule gives
+
+pub one_of : {X Y : Type 0} (meets : X → Y → Type 0) (x : X) (checked : Checked Y) → GivesOne meets (Ok x) checked → (y : Y) × (checked ≡ Ok y) × meets x y
+one_of meets x (Ok y) h = (y, refl, h)
+one_of meets x (Err f) h = absurd h
+
+-- ---- postfixes
+
+-- one postfix, and those behind it
+pub further : (g : Scope) (p : Place) (a : typed.Expression) (z : Postfix) (us : List Postfix) → run (rule_postfixed g p (gives a) (postfixes_of (z ∷ us))) ≡ and_then (one_postfix g p a z) (λ w. run (rule_further g p w (postfixes_of us)))
+further g p a (postfix.Index i) us = and_then_twice (run (rule g (view_expression i))) _ _
+further g p a (postfix.Field f) us = refl
+
+pub next_further : (g : Scope) (p : Place) (w : Reached) (z : Postfix) (us : List Postfix)
+    → run (rule_further g p w (postfixes_of (z ∷ us))) ≡ and_then (run (loaded p w)) (λ a. and_then (one_postfix g p a z) (λ v. run (rule_further g p v (postfixes_of us))))
+next_further g p w (postfix.Index i) us = under (run (loaded p w)) _ _ (λ a. and_then_twice (run (rule g (view_expression i))) _ _)
+next_further g p w (postfix.Field f) us = refl

@@ -1,0 +1,42 @@
+-- A list that the code walks in a loop: what was made of its front, and what is made of the rest.
+use Rattle.std.proofs.Common.{◌≡◌, ℕ, zero, suc, ◌+◌, ◌<◌, ◌≤◌, Some, get_or, slice_get, List, [], ◌∷◌, ◌++◌, drop, length, Ok, Err, refl, sym, ap, ◌∙◌, arith}
+use Rattle.std.proofs.lemmas.List.{drop_more}
+use Rattle.std.proofs.lemmas.Option.{slice_get_within, get_or_from_slice_get}
+use Rattle.cyc_types.specs.Rules.{Checked, and_then}
+
+module _ {X Y B : Type 0} (view : X → Y) (add : Y → B → B) where
+  -- items in front of a list
+  abbrev pub onto : List X → B → B
+  onto [] b = b
+  onto (x ∷ xs) b = add (view x) (onto xs b)
+
+  -- what was made before, and what is still made
+  abbrev pub with_front : List X → Checked B → Checked B
+  with_front front checked = and_then checked (λ b. Ok (onto front b))
+
+  pub onto-append : (front : List X) (x : X) (b : B) → onto (front ++ x ∷ []) b ≡ onto front (add (view x) b)
+  onto-append [] x b = refl
+  onto-append (y ∷ ys) x b = ap (add (view y)) (onto-append ys x b)
+
+  pub regroup : (front : List X) (x : X) (checked : Checked B) → with_front front (and_then checked (λ b. Ok (add (view x) b))) ≡ with_front (front ++ x ∷ []) checked
+  regroup front x (Ok b) = ap Ok (sym (onto-append front x b))
+  regroup front x (Err e) = refl
+
+  pub onto_nothing : (checked : Checked B) → with_front [] checked ≡ checked
+  onto_nothing (Ok b) = refl
+  onto_nothing (Err e) = refl
+
+pub drop_all : {A : Type 0} (xs : List A) (i : ℕ) → length xs ≤ i → drop i xs ≡ []
+drop_all [] zero le = refl
+drop_all [] (suc i) le = refl
+drop_all (x ∷ xs) zero le = absurd (omega (arith, le))
+drop_all (x ∷ xs) (suc i) le = drop_all xs i (omega (arith, le))
+
+-- where a loop has read an item
+pub read : {A : Type 0} (xs : List A) (i : ℕ) (x : A) → i < length xs → x ≡ get_or xs i x → drop i xs ≡ x ∷ drop (i + 1) xs
+read xs i x lt is = drop_more xs i x lt ∙ ap (λ y. y ∷ drop (i + 1) xs) (sym is)
+
+-- and where it has read none yet
+pub first_of : {A : Type 0} (xs : List A) (i : ℕ) → i < length xs → (x : A) × (drop i xs ≡ x ∷ drop (i + 1) xs)
+first_of [] i lt = absurd (omega (arith, lt))
+first_of (x ∷ xs) i lt = (get_or (x ∷ xs) i x, drop_more (x ∷ xs) i x lt)

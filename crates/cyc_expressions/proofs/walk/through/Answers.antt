@@ -1,0 +1,7 @@
+use Rattle.cyc_syntax.specs.TreeView.{place_of_span}
+use Rattle.cyc_types.specs.typing.Expressions.{pointed}
+use Rattle.cyc_forms.specs.Forms.{view_boxed}
+use Rattle.cyc_expressions.proofs.walk.through.Goals as goal
+
+pub returns : goal.returns
+returns c = c.loaded.ensures (pointed c.args.scope.now (place_of_span c.args.pointer_span) (view_boxed c.args.pointer)) c.in_ok-cell.ensures

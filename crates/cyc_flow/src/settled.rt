@@ -1,0 +1,103 @@
+//! What a construct asks, one demand after the other: of those that are broken the lowest code counts, and at one code the first.
+ghost use Rattle.std.specs.Prelude.{◌≡◌, None};
+ghost use Rattle.cyc_syntax.specs.TreeView.{place_of_span};
+ghost use Rattle.cyc_types.specs.Rules.{demand, noted, settled};
+ghost use Rattle.cyc_types.specs.flow.Expressions.{full_demanded, use_demanded, store_demanded, head_demanded};
+ghost use Rattle.cyc_flow.specs.Code.{view_state, Ends};
+
+use crate::state::State;
+use crate::stop::Stop;
+use cyc_words::{Code, Fault, Span};
+
+#[derive(Clone, Copy)]
+pub(crate) struct Settled {
+    /// The fault so far.
+    known: Option<Fault>,
+}
+
+impl Settled {
+    pub(crate) fn new() -> Settled
+        ensures { result.known ≡ None }
+    {
+        Settled { known: None }
+    }
+
+    pub(crate) fn demand(&mut self, code: Code, span: Span, kept: bool)
+        ensures { self.new.known ≡ noted self.old.known (demand code (place_of_span span) kept) }
+    {
+        if kept {
+            return;
+        }
+        if let Some(known) = self.known {
+            if code.number() >= known.code.number() {
+                return;
+            }
+        }
+        self.known = Some(Fault {
+            code,
+            line: span.line,
+            column: span.column,
+        });
+    }
+
+    /// That the local which is named here holds a value that is not lent out.
+    pub(crate) fn look(&mut self, state: &State, span: Span, number: usize)
+        ensures { self.new.known ≡ settled self.old.known (full_demanded (place_of_span span) number (view_state state.now)) }
+    {
+        let fullness = state.fullness(number);
+        self.demand(Code::EmptyVariable, span, !fullness.is_vacant());
+        self.demand(Code::LockedVariable, span, !fullness.is_locked());
+    }
+
+    /// The same, and that no peek of it waits.
+    pub(crate) fn use_local(&mut self, waiting: &[usize], state: &State, span: Span, number: usize)
+        ensures { self.new.known ≡ settled self.old.known (use_demanded waiting.now (place_of_span span) number (view_state state.now)) }
+    {
+        self.look(state, span, number);
+        self.demand(Code::LockedVariable, span, state.is_free(waiting, number));
+    }
+
+    /// That the local which is assigned here is not lent out, and that no peek of it waits.
+    pub(crate) fn store_local(
+        &mut self,
+        waiting: &[usize],
+        state: &State,
+        span: Span,
+        number: usize,
+    )
+        ensures { self.new.known ≡ settled self.old.known (store_demanded waiting.now (place_of_span span) number (view_state state.now)) }
+    {
+        let is_lent = state.fullness(number).is_locked();
+        self.demand(
+            Code::LockedVariable,
+            span,
+            !is_lent && state.is_free(waiting, number),
+        );
+    }
+
+    /// That nothing is emptier here than at the head of the loop whose keyword stands there.
+    pub(crate) fn go_on(&mut self, state: &State, head: &State, span: Span)
+        ensures { self.new.known ≡ settled self.old.known (head_demanded (place_of_span span) (view_state state.now) (view_state head.now)) }
+    {
+        self.demand(Code::LoopEmptiesVariable, span, state.is_at_least(head));
+    }
+
+    /// Whether all demands were kept.
+    pub(crate) fn end(&self) -> Result<(), Stop>
+        ensures { Ends result self.now.known }
+    {
+        match self.known {
+            Some(fault) => Err(Stop::Refused(fault)),
+            None => Ok(()),
+        }
+    }
+}
+
+/// Back at the head of a loop, whose keyword stands there, nothing may be emptier than it was.
+pub(crate) fn check_head(state: &State, head: &State, span: Span) -> Result<(), Stop>
+    ensures { Ends result (settled None (head_demanded (place_of_span span) (view_state state.now) (view_state head.now))) }
+{
+    let mut settled = Settled::new();
+    settled.go_on(state, head, span);
+    settled.end()
+}

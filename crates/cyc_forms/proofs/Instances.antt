@@ -1,0 +1,184 @@
+-- The table of first places gives what the rules say that a signature's variables are.
+use Rattle.std.proofs.Common.{◌≡◌, ℕ, zero, suc, ◌+◌, ◌<◌, ◌≤◌, ◌==◌, Bool, true, false, cond, if◌then◌else◌, ◌||◌, List, [], ◌∷◌, ◌++◌, map, replicate, drop, length, get_or, slice_get, slice_set, unwrap_or, Option, Some, None, refl, sym, ap, ◌∙◌, arith}
+use Rattle.std.specs.List.{list_any}
+use Rattle.std.proofs.lemmas.Bool.{eq-eqb}
+use Rattle.std.proofs.lemmas.Bool.Decides.{nat_tests}
+use Rattle.cyc_types.specs.declared.region.Region.{Region}
+use Rattle.cyc_types.specs.declared.region.Region.TheVariants.{Heap, Unique, Variable}
+use Rattle.cyc_types.specs.Regions.{region_eq}
+use Rattle.cyc_types.specs.declared.ty.Ty.{Ty as TyCode}
+use Rattle.cyc_types.specs.declared.typed.Converted.{Converted as ConvertedCode}
+use Rattle.cyc_types.specs.TypeView.{view_ty}
+use Rattle.cyc_types.specs.TypedTrees.{type_of}
+use Rattle.cyc_types.specs.Types.{Ty, Int, Pointer, Handle, Key, Struct}
+use Rattle.cyc_types.specs.typing.Expressions.{all_paired, paired, paired_argument, paired_arguments, first_place, first_places, is_unique_for_variable}
+use Rattle.cyc_forms.specs.Forms.{value_in}
+use Rattle.cyc_forms.specs.Instances.{noted_at, noted_place, noted_places}
+use Rattle.cyc_forms.proofs.Lists.{drop_all, read}
+
+pub noted_append : (table : List (Option Region)) (ps qs : List (Region × Region)) → noted_places table (ps ++ qs) ≡ noted_places (noted_places table ps) qs
+noted_append table [] qs = refl
+noted_append table (p ∷ ps) qs = noted_append (noted_place table p) ps qs
+
+none_paired : (rs : List Region) → all_paired rs [] ≡ []
+none_paired [] = refl
+none_paired (r ∷ rs) = refl
+
+-- where the regions end
+pub paired_past : (rs ss : List Region) (i : ℕ) → length ss ≤ i → all_paired (drop i rs) (drop i ss) ≡ []
+paired_past rs ss i le = ap (all_paired (drop i rs)) (drop_all ss i le) ∙ none_paired (drop i rs)
+
+none_given : (ts : List Ty) → paired_arguments ts [] ≡ []
+none_given [] = refl
+none_given (t ∷ ts) = refl
+
+module _ (ts : List TyCode) (cs : List ConvertedCode) (i : ℕ) where
+  -- where the values end
+  pub given_past : length cs ≤ i → paired_arguments (map view_ty (drop i ts)) (map value_in (drop i cs)) ≡ []
+  given_past le = ap (λ xs. paired_arguments (map view_ty (drop i ts)) (map value_in xs)) (drop_all cs i le) ∙ none_given (map view_ty (drop i ts))
+
+  pub given_next : (table : List (Option Region)) (t : TyCode) (c : ConvertedCode) → i < length ts → t ≡ get_or ts i t → i < length cs → c ≡ get_or cs i c
+      → noted_places table (paired_arguments (map view_ty (drop i ts)) (map value_in (drop i cs)))
+      ≡ noted_places (noted_places table (paired_argument (view_ty t) (type_of (value_in c)))) (paired_arguments (map view_ty (drop (i + 1) ts)) (map value_in (drop (i + 1) cs)))
+  given_next table t c lt_t is_t lt_c is_c =
+      ap (λ xs. noted_places table (paired_arguments (map view_ty xs) (map value_in (drop i cs)))) (read ts i t lt_t is_t)
+      ∙ ap (λ xs. noted_places table (paired_arguments (map view_ty (t ∷ drop (i + 1) ts)) (map value_in xs))) (read cs i c lt_c is_c)
+      ∙ noted_append table (paired_argument (view_ty t) (type_of (value_in c))) (paired_arguments (map view_ty (drop (i + 1) ts)) (map value_in (drop (i + 1) cs)))
+
+pub paired_int : (t : Ty) → paired t Int ≡ []
+paired_int Int = refl
+paired_int (Pointer k t r) = refl
+paired_int (Handle r) = refl
+paired_int (Key r) = refl
+paired_int (Struct n rs) = refl
+
+pub any_append : {A : Type 0} (test : A → Bool) (ps qs : List A) → list_any test (ps ++ qs) ≡ (list_any test ps || list_any test qs)
+any_append test [] qs = refl
+any_append test (p ∷ ps) qs = either (test p) (list_any test ps) (list_any test qs) (list_any test (ps ++ qs)) (any_append test ps qs)
+  where
+    either : (a b c d : Bool) → d ≡ (b || c) → (a || d) ≡ ((a || b) || c)
+    either true b c d h = refl
+    either false b c d h = h
+
+pub no_unique_int : (t : Ty) → list_any is_unique_for_variable (paired t Int) ≡ false
+no_unique_int t = ap (list_any is_unique_for_variable) (paired_int t)
+
+pub no_unique_heap : (t : Ty) → list_any is_unique_for_variable (paired t (Handle Heap)) ≡ false
+no_unique_heap Int = refl
+no_unique_heap (Pointer k t r) = refl
+no_unique_heap (Handle Heap) = refl
+no_unique_heap (Handle Unique) = refl
+no_unique_heap (Handle (Variable n)) = refl
+no_unique_heap (Key r) = refl
+no_unique_heap (Struct n rs) = refl
+
+-- ---- the table, from the variable of this number on
+
+-- the first place of a variable, if it has one
+abbrev found : List (Region × Region) → ℕ → Option Region
+found [] n = None
+found (p ∷ ps) n = if region_eq p.0 (Variable n) then Some p.1 else found ps n
+
+first_found : (ps : List (Region × Region)) (n : ℕ) → unwrap_or (found ps n) Heap ≡ first_place ps n
+first_found [] n = refl
+first_found (p ∷ ps) n = by_test (region_eq p.0 (Variable n)) (first_found ps n)
+  where
+    by_test : (b : Bool) → unwrap_or (found ps n) Heap ≡ first_place ps n → unwrap_or (cond b (Some p.1) (found ps n)) Heap ≡ cond b p.1 (first_place ps n)
+    by_test true h = refl
+    by_test false h = h
+
+abbrev or_found : Option Region → List (Region × Region) → ℕ → Option Region
+or_found (Some r) ps n = Some r
+or_found None ps n = found ps n
+
+abbrev filled : List (Option Region) → ℕ → List (Region × Region) → List (Option Region)
+filled [] n ps = []
+filled (o ∷ os) n ps = or_found o ps n ∷ filled os (suc n) ps
+
+abbrev noted_one : Option Region → ℕ → Region × Region → Option Region
+noted_one (Some r) n p = Some r
+noted_one None n p = if region_eq p.0 (Variable n) then Some p.1 else None
+
+abbrev noted_from : List (Option Region) → ℕ → Region × Region → List (Option Region)
+noted_from [] n p = []
+noted_from (o ∷ os) n p = noted_one o n p ∷ noted_from os (suc n) p
+
+or_found_noted : (o : Option Region) (p : Region × Region) (ps : List (Region × Region)) (n : ℕ) → or_found (noted_one o n p) ps n ≡ or_found o (p ∷ ps) n
+or_found_noted (Some r) p ps n = refl
+or_found_noted None p ps n = by_test (region_eq p.0 (Variable n))
+  where
+    by_test : (b : Bool) → or_found (cond b (Some p.1) None) ps n ≡ cond b (Some p.1) (found ps n)
+    by_test true = refl
+    by_test false = refl
+
+filled_noted : (table : List (Option Region)) (n : ℕ) (p : Region × Region) (ps : List (Region × Region)) → filled (noted_from table n p) n ps ≡ filled table n (p ∷ ps)
+filled_noted [] n p ps = refl
+filled_noted (o ∷ os) n p ps = ap (λ x. x ∷ filled (noted_from os (suc n) p) (suc n) ps) (or_found_noted o p ps n) ∙ ap (λ xs. or_found o (p ∷ ps) n ∷ xs) (filled_noted os (suc n) p ps)
+
+filled_none : (table : List (Option Region)) (n : ℕ) → filled table n [] ≡ table
+filled_none [] n = refl
+filled_none (Some r ∷ os) n = ap (λ xs. Some r ∷ xs) (filled_none os (suc n))
+filled_none (None ∷ os) n = ap (λ xs. None ∷ xs) (filled_none os (suc n))
+
+noted_one-not : (o : Option Region) (n : ℕ) (r s : Region) → region_eq r (Variable n) ≡ false → noted_one o n (r, s) ≡ o
+noted_one-not (Some q) n r s h = refl
+noted_one-not None n r s h = ap (λ b. cond b (Some s) None) h
+
+-- a variable below all of them
+noted_from-not : (table : List (Option Region)) (n : ℕ) (r s : Region) → ((k : ℕ) → n ≤ k → region_eq r (Variable k) ≡ false) → noted_from table n (r, s) ≡ table
+noted_from-not [] n r s h = refl
+noted_from-not (o ∷ os) n r s h =
+    ap (λ x. x ∷ noted_from os (suc n) (r, s)) (noted_one-not o n r s (h n (omega arith)))
+    ∙ ap (λ xs. o ∷ xs) (noted_from-not os (suc n) r s (λ k le. h k (omega (arith, le))))
+
+below : (m k : ℕ) → m < k → region_eq (Variable m) (Variable k) ≡ false
+below m k l = grind (arith, nat_tests)
+
+above : (m k : ℕ) → m < k → region_eq (Variable k) (Variable m) ≡ false
+above m k l = grind (arith, nat_tests)
+
+same : (m k : ℕ) → m ≡ k → region_eq (Variable m) (Variable k) ≡ true
+same m k e = eq-eqb m k e
+
+-- the table at a variable's number is where its first place stands
+noted_from-at : (table : List (Option Region)) (n m : ℕ) (s : Region) → noted_from table n (Variable (n + m), s) ≡ noted_at (slice_get table m) m s table
+noted_from-at [] n m s = refl
+noted_from-at (o ∷ os) n zero s =
+    ap (λ xs. noted_one o n (Variable (n + 0), s) ∷ xs) (noted_from-not os (suc n) (Variable (n + 0)) s (λ k le. below (n + 0) k (omega (arith, le))))
+    ∙ at_head o
+  where
+    at_head : (o : Option Region) → noted_one o n (Variable (n + 0), s) ∷ os ≡ noted_at (Some o) 0 s (o ∷ os)
+    at_head (Some r) = refl
+    at_head None = ap (λ b. cond b (Some s) None ∷ os) (same (n + 0) n (omega arith))
+noted_from-at (o ∷ os) n (suc m) s =
+    ap (λ x. x ∷ noted_from os (suc n) (Variable (n + suc m), s)) (noted_one-not o n (Variable (n + suc m)) s (above n (n + suc m) (omega arith)))
+    ∙ ap (λ k. o ∷ noted_from os (suc n) (Variable k, s)) (next n m)
+    ∙ ap (λ xs. o ∷ xs) (noted_from-at os (suc n) m s) ∙ behind (slice_get os m)
+  where
+    next : (n m : ℕ) → n + suc m ≡ suc n + m
+    next n m = omega arith
+
+    behind : (k : Option (Option Region)) → o ∷ noted_at k m s os ≡ noted_at k (suc m) s (o ∷ os)
+    behind None = refl
+    behind (Some None) = refl
+    behind (Some (Some r)) = refl
+
+zero_plus : (m : ℕ) → 0 + m ≡ m
+zero_plus m = omega arith
+
+noted_from-place : (table : List (Option Region)) (p : Region × Region) → noted_place table p ≡ noted_from table 0 p
+noted_from-place table (Heap, s) = sym (noted_from-not table 0 Heap s (λ k le. refl))
+noted_from-place table (Unique, s) = sym (noted_from-not table 0 Unique s (λ k le. refl))
+noted_from-place table (Variable m, s) = sym (noted_from-at table 0 m s) ∙ ap (λ k. noted_from table 0 (Variable k, s)) (zero_plus m)
+
+filled_places : (table : List (Option Region)) (ps : List (Region × Region)) → noted_places table ps ≡ filled table 0 ps
+filled_places table [] = sym (filled_none table 0)
+filled_places table (p ∷ ps) = filled_places (noted_place table p) ps ∙ ap (λ t. filled t 0 ps) (noted_from-place table p) ∙ filled_noted table 0 p ps
+
+unplaced : (k n : ℕ) (ps : List (Region × Region)) → map (λ o. unwrap_or o Heap) (filled (replicate k None) n ps) ≡ first_places ps k n
+unplaced zero n ps = refl
+unplaced (suc k) n ps = ap (λ r. r ∷ map (λ o. unwrap_or o Heap) (filled (replicate k None) (suc n) ps)) (first_found ps n) ∙ ap (λ rs. first_place ps n ∷ rs) (unplaced k (suc n) ps)
+
+-- the regions of the table
+pub instance_found : (k : ℕ) (ps : List (Region × Region)) → map (λ o. unwrap_or o Heap) (noted_places (Some Heap ∷ replicate k None) ps) ≡ Heap ∷ first_places ps k 1
+instance_found k ps = ap (map (λ o. unwrap_or o Heap)) (filled_places (Some Heap ∷ replicate k None) ps) ∙ ap (λ rs. Heap ∷ rs) (unplaced k 1 ps)

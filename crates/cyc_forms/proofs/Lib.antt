@@ -1,0 +1,11 @@
+-- tests on types
+pub mod TypeTests
+-- demands
+pub mod Settling
+pub mod Handed
+-- calls
+pub mod Lists
+pub mod Instances
+pub mod PassedValues
+-- new structs
+pub mod NewStructs

@@ -1,0 +1,158 @@
+-- Values that are passed, in loops over expressions, values and types.
+use Rattle.std.proofs.Common.{◌≡◌, ℕ, zero, suc, nat_eq, not, ◌+◌, ◌<◌, ◌≤◌, List, [], ◌∷◌, ◌++◌, length, map, take, drop, get_or, slice_get, option_map, Option, Some, None, Ok, refl, sym, ap, ◌∙◌, arith}
+use Rattle.std.specs.List.{list_any}
+use Rattle.std.proofs.lemmas.Bool.{eqb-true}
+use Rattle.std.proofs.lemmas.List.{length-map}
+use Rattle.std.proofs.lemmas.Option.{same_Some}
+use Rattle.cyc_words.specs.declared.fault.Fault.{Fault}
+use Rattle.cyc_words.specs.declared.fault.Code.TheVariants as codes
+use Rattle.cyc_syntax.specs.declared.tree.Expr.{Expr}
+use Rattle.cyc_syntax.specs.Symbols.{Place}
+use Rattle.cyc_syntax.specs.Trees.{Expression, Expressions, NoExpressions, MoreExpressions, place_of}
+use Rattle.cyc_syntax.specs.TreeView.{view_expression, expressions_of}
+use Rattle.cyc_types.specs.declared.ty.Ty.{Ty as TyCode}
+use Rattle.cyc_types.specs.declared.signature.Signature.{Signature as SignatureCode}
+use Rattle.cyc_types.specs.declared.typed.Callee.{Callee}
+use Rattle.cyc_types.specs.declared.typed.Converted.{Converted as ConvertedCode}
+use Rattle.cyc_types.specs.Types.{Ty, result_type, substituted_ty}
+use Rattle.cyc_types.specs.TypeView.{view_ty}
+use Rattle.cyc_types.specs.SignatureView.{view_signature}
+use Rattle.cyc_types.specs.TypedTrees.{Signature, type_of}
+use Rattle.cyc_types.specs.TypedTrees as typed
+use Rattle.cyc_types.specs.Outlives.{RegionContext}
+use Rattle.cyc_types.specs.TypedTreeView.{view_converted, arguments_of}
+use Rattle.cyc_types.specs.Rules.{Demand, demand, AllKept, settled, unless, run}
+use Rattle.cyc_types.specs.typing.Scopes.{Scope}
+use Rattle.cyc_types.specs.typing.Expressions.{conversion, passed, passed_demanded, paired_argument, is_unique_for_variable, variables_demanded, instance_of, instantiated, call_demanded, called_by}
+use Rattle.cyc_types.proofs.RuleLaws.{settled_append, settled_kept}
+use Rattle.cyc_forms.specs.Forms.{value_in}
+use Rattle.cyc_forms.specs.Passing.{with_kinds, with_kinds_at, all_with_kinds}
+use Rattle.cyc_forms.proofs.Lists.{read, lost, drop_all}
+
+-- ---- what is asked of each, as far as there are all three
+
+-- `many` asks what `one` asks of each
+pub record Asks (one : Expression → typed.Expression → Ty → List Demand) (many : Expressions → List typed.Expression → List Ty → List Demand) : Type 0 where
+  pub no_expressions : (as' : List typed.Expression) (ts : List Ty) → many NoExpressions as' ts ≡ []
+  pub no_values : (es : Expressions) (ts : List Ty) → many es [] ts ≡ []
+  pub no_types : (es : Expressions) (as' : List typed.Expression) → many es as' [] ≡ []
+  pub step : (e : Expression) (es : Expressions) (a : typed.Expression) (as' : List typed.Expression) (t : Ty) (ts : List Ty) → many (MoreExpressions e es) (a ∷ as') (t ∷ ts) ≡ one e a t ++ many es as' ts
+
+module _ (one : Expression → typed.Expression → Ty → List Demand) (many : Expressions → List typed.Expression → List Ty → List Demand) (asks : Asks one many) where
+  -- of these expressions, values and types
+  abbrev pub asked : List Expr → List ConvertedCode → List TyCode → List Demand
+  asked es cs ts = many (expressions_of es) (map value_in cs) (map view_ty ts)
+
+  pub asked_next : (known : Option Fault) (es : List Expr) (cs : List ConvertedCode) (ts : List TyCode) (i : ℕ) (e : Expr) (c : ConvertedCode) (t : TyCode)
+      → i < length es → e ≡ get_or es i e → i < length cs → c ≡ get_or cs i c → i < length ts → t ≡ get_or ts i t
+      → settled known (asked (drop i es) (drop i cs) (drop i ts)) ≡ settled (settled known (one (view_expression e) (value_in c) (view_ty t))) (asked (drop (i + 1) es) (drop (i + 1) cs) (drop (i + 1) ts))
+  asked_next known es cs ts i e c t lt_e is_e lt_c is_c lt_t is_t =
+      ap (λ xs. settled known (asked xs (drop i cs) (drop i ts))) (read es i e lt_e is_e)
+      ∙ ap (λ xs. settled known (asked (e ∷ drop (i + 1) es) xs (drop i ts))) (read cs i c lt_c is_c)
+      ∙ ap (λ xs. settled known (asked (e ∷ drop (i + 1) es) (c ∷ drop (i + 1) cs) xs)) (read ts i t lt_t is_t)
+      ∙ ap (settled known) (asks.step (view_expression e) (expressions_of (drop (i + 1) es)) (value_in c) (map value_in (drop (i + 1) cs)) (view_ty t) (map view_ty (drop (i + 1) ts)))
+      ∙ settled_append known (one (view_expression e) (value_in c) (view_ty t)) (asked (drop (i + 1) es) (drop (i + 1) cs) (drop (i + 1) ts))
+
+  -- where one of the lists ends
+  pub asked_no_expression : (known : Option Fault) (es : List Expr) (cs : List ConvertedCode) (ts : List TyCode) (i : ℕ) → slice_get es i ≡ None → settled known (asked (drop i es) (drop i cs) (drop i ts)) ≡ known
+  asked_no_expression known es cs ts i h =
+      ap (λ xs. settled known (asked xs (drop i cs) (drop i ts))) (lost es i h) ∙ ap (settled known) (asks.no_expressions (map value_in (drop i cs)) (map view_ty (drop i ts)))
+
+  pub asked_no_value : (known : Option Fault) (es : List Expr) (cs : List ConvertedCode) (ts : List TyCode) (i : ℕ) → slice_get cs i ≡ None → settled known (asked (drop i es) (drop i cs) (drop i ts)) ≡ known
+  asked_no_value known es cs ts i h =
+      ap (λ xs. settled known (asked (drop i es) xs (drop i ts))) (lost cs i h) ∙ ap (settled known) (asks.no_values (expressions_of (drop i es)) (map view_ty (drop i ts)))
+
+  pub asked_no_type : (known : Option Fault) (es : List Expr) (cs : List ConvertedCode) (ts : List TyCode) (i : ℕ) → length ts ≤ i → settled known (asked (drop i es) (drop i cs) (drop i ts)) ≡ known
+  asked_no_type known es cs ts i le =
+      ap (λ xs. settled known (asked (drop i es) (drop i cs) xs)) (drop_all ts i le) ∙ ap (settled known) (asks.no_types (expressions_of (drop i es)) (map value_in (drop i cs)))
+
+-- a conversion is asked of each
+abbrev pub one_passed : RegionContext → Expression → typed.Expression → Ty → List Demand
+one_passed c e a t = conversion c (type_of a) t (place_of e)
+
+pub passes : (c : RegionContext) → Asks (one_passed c) (passed_demanded c)
+passes c = record {
+  no_expressions = λ as' ts. refl;
+  no_values = no_values;
+  no_types = no_types;
+  step = λ e es a as' t ts. refl;
+}
+  where
+    no_values : (es : Expressions) (ts : List Ty) → passed_demanded c es [] ts ≡ []
+    no_values NoExpressions ts = refl
+    no_values (MoreExpressions e es) ts = refl
+
+    no_types : (es : Expressions) (as' : List typed.Expression) → passed_demanded c es as' [] ≡ []
+    no_types NoExpressions as' = refl
+    no_types (MoreExpressions e es) [] = refl
+    no_types (MoreExpressions e es) (a ∷ as') = refl
+
+-- that no region variable stands for the region of unique pointers
+abbrev pub one_variable : Expression → typed.Expression → Ty → List Demand
+one_variable e a t = demand codes.RegionOrKeyMisused (place_of e) (not (list_any is_unique_for_variable (paired_argument t (type_of a)))) ∷ []
+
+pub varies : Asks one_variable variables_demanded
+varies = record {
+  no_expressions = λ as' ts. refl;
+  no_values = no_values;
+  no_types = no_types;
+  step = λ e es a as' t ts. refl;
+}
+  where
+    no_values : (es : Expressions) (ts : List Ty) → variables_demanded es [] ts ≡ []
+    no_values NoExpressions ts = refl
+    no_values (MoreExpressions e es) ts = refl
+
+    no_types : (es : Expressions) (as' : List typed.Expression) → variables_demanded es as' [] ≡ []
+    no_types NoExpressions as' = refl
+    no_types (MoreExpressions e es) [] = refl
+    no_types (MoreExpressions e es) (a ∷ as') = refl
+
+-- ---- what each is converted from and to
+
+-- as many values as types
+pub passed_all : (cs : List ConvertedCode) (ts : List TyCode) → length (map value_in cs) ≡ length (map view_ty ts) → arguments_of (all_with_kinds cs ts) ≡ passed (map value_in cs) (map view_ty ts)
+passed_all [] ts h = refl
+passed_all (c ∷ cs) [] h = absurd (omega (arith, h))
+passed_all (c ∷ cs) (t ∷ ts) h = ap (typed.MoreArguments (view_converted (with_kinds c t))) (passed_all cs ts (omega (arith, h)))
+
+pub none_set : (cs : List ConvertedCode) → all_with_kinds cs [] ≡ cs
+none_set [] = refl
+none_set (c ∷ cs) = refl
+
+pub set_more : (cs : List ConvertedCode) (ts : List TyCode) (i : ℕ) (t : TyCode) → slice_get ts i ≡ Some t
+    → with_kinds_at (slice_get (all_with_kinds cs (take i ts)) i) (all_with_kinds cs (take i ts)) i t ≡ all_with_kinds cs (take (suc i) ts)
+set_more [] ts zero t h = refl
+set_more [] ts (suc i) t h = refl
+set_more (c ∷ cs) [] zero t h = absurd (cc)
+set_more (c ∷ cs) [] (suc i) t h = absurd (cc)
+set_more (c ∷ cs) (u ∷ ts) zero t h = ap (λ x. with_kinds c x ∷ cs) (same_Some t u (sym h)) ∙ ap (λ ds. with_kinds c u ∷ ds) (sym (none_set cs))
+set_more (c ∷ cs) (u ∷ ts) (suc i) t h =
+    behind (slice_get (all_with_kinds cs (take i ts)) i) (all_with_kinds cs (take i ts)) ∙ ap (λ ds. with_kinds c u ∷ ds) (set_more cs ts i t h)
+  where
+    behind : (o : Option ConvertedCode) (ds : List ConvertedCode) → with_kinds_at o (with_kinds c u ∷ ds) (suc i) t ≡ with_kinds c u ∷ with_kinds_at o ds i t
+    behind None ds = refl
+    behind (Some d) ds = refl
+
+-- ---- calls
+
+pub counted : (cs : List ConvertedCode) (ts : List TyCode) → nat_eq (length (map value_in cs)) (length (map view_ty ts)) ≡ nat_eq (length cs) (length ts)
+counted cs ts = ap (λ n. nat_eq n (length (map view_ty ts))) (length-map cs value_in) ∙ ap (nat_eq (length cs)) (length-map ts view_ty)
+
+module _ (g : Scope) (f : Callee) (p : Place) (es : Expressions) (cs : List ConvertedCode) (s : Signature) (called : SignatureCode) where
+  abbrev values : List typed.Expression
+  values = map value_in cs
+
+  count_types : (t : Signature) → view_signature called ≡ t → length (map view_ty called.parameters.items) ≡ length t.parameters
+  count_types t h = ap (λ (u : Signature). length u.parameters) h
+
+  -- a call of which nothing is wrong
+  pub called_well : view_signature called ≡ instantiated (instance_of s values) s → settled None (call_demanded g p es values s (view_signature called)) ≡ None
+      → Ok (typed.Call f (arguments_of (all_with_kinds cs called.parameters.items)) (result_type (option_map view_ty called.result))) ≡ run (called_by g f p es values s (instantiated (instance_of s values) s))
+  called_well is kept =
+      let all : AllKept (call_demanded g p es values s (view_signature called)) = settled_kept (call_demanded g p es values s (view_signature called)) kept in
+      let count : length values ≡ length s.parameters = eqb-true (length values) (length s.parameters) all.0 in
+      let types : length (map view_ty called.parameters.items) ≡ length s.parameters = count_types (instantiated (instance_of s values) s) is ∙ length-map s.parameters (substituted_ty (instance_of s values)) in
+      ap (λ as'. Ok (typed.Call f as' (result_type (option_map view_ty called.result)))) (passed_all cs called.parameters.items (count ∙ sym types))
+      ∙ sym (ap (λ o. unless o (typed.Call f (passed values (map view_ty called.parameters.items)) (result_type (option_map view_ty called.result)))) kept)
+      ∙ ap (λ (t : Signature). run (called_by g f p es values s t)) is

@@ -1,0 +1,9 @@
+use Rattle.std.proofs.Common.{◌≡◌, drop}
+use Rattle.cyc_syntax.specs.TreeView.{place_of_span}
+use Rattle.cyc_types.specs.Rules.{settled}
+use Rattle.cyc_types.specs.typing.Expressions.{effect_demanded}
+use Rattle.cyc_forms.proofs.calls.demand_effect.Given as goal
+
+abbrev pub invariant-loop-region : goal.invariant-loop-region
+invariant-loop-region l =
+    settled l.so_far.known (effect_demanded l.scope (place_of_span l.span) (drop l.region-index l.effect)) ≡ settled l.fn.so_far.known (effect_demanded l.scope (place_of_span l.span) l.effect)

@@ -1,0 +1,18 @@
+-- How the code finds what the region variables of a signature are at a call: in a table of the first region at a place of each.
+use Rattle.std.specs.Prelude.{ℕ, List, [], ◌∷◌, Option, Some, None, slice_get, slice_set}
+use Rattle.cyc_types.specs.declared.region.Region.{Region}
+use Rattle.cyc_types.specs.declared.region.Region.TheVariants.{Heap, Unique, Variable}
+
+-- where the variable of this number has no place yet, this region is at its first
+abbrev pub noted_at : Option (Option Region) → ℕ → Region → List (Option Region) → List (Option Region)
+noted_at (Some None) n s table = slice_set table n (Some s)
+noted_at known n s table = table
+
+abbrev pub noted_place : List (Option Region) → Region × Region → List (Option Region)
+noted_place table (Variable n, s) = noted_at (slice_get table n) n s table
+noted_place table (Heap, s) = table
+noted_place table (Unique, s) = table
+
+abbrev pub noted_places : List (Option Region) → List (Region × Region) → List (Option Region)
+noted_places table [] = table
+noted_places table (p ∷ ps) = noted_places (noted_place table p) ps

@@ -1,0 +1,238 @@
+//! What the rules ask of a typed operand: the type of its value.
+ghost use Rattle.std.specs.Prelude.{◌≡◌, IfOk};
+ghost use Rattle.cyc_types.specs.Types.{Value};
+ghost use Rattle.cyc_types.specs.TypeView.{view_ty, view_value_type};
+ghost use Rattle.cyc_types.specs.TypedTrees.{type_of_place, type_of};
+ghost use Rattle.cyc_types.specs.TypedTreeView.{view_expression, view_dereference};
+ghost use Rattle.cyc_types.specs.typing.Tests.{is_pointer, is_unique, is_key, is_fat, is_handle, is_void, is_int, is_value, is_tested, value_of, target_of, region_of, kind_of, kind_of_value};
+ghost use Rattle.cyc_types.specs.typing.Expressions.{is_any, has_members, is_movable};
+ghost use Rattle.cyc_forms.specs.Forms.{view_given};
+
+use crate::types::{
+    has_members, is_fat, is_handle, is_int_type, is_key, is_movable, is_pointer, is_unique,
+    kind_of, region_of, target_of,
+};
+use cyc_types::typed::{Kind, ValueType};
+use cyc_types::{Region, Ty, typed};
+use std::alloc::AllocError;
+
+/// The type of an expression.
+#[derive(Clone, Copy)]
+pub enum Given<'a> {
+    /// There is no value.
+    Void,
+    /// The null pointer, of whatever type is wanted.
+    Null,
+    Int,
+    /// The handle of the heap.
+    HeapHandle,
+    /// A value of the type that its node has.
+    Value(&'a Ty),
+}
+
+/// The type of what is at a place that a pointer leads to.
+pub fn type_of_place(place: &typed::Dereference) -> &Ty
+    ensures { view_ty result.now ≡ type_of_place (view_dereference place.now) }
+{
+    match place {
+        typed::Dereference::Target { of_type, .. }
+        | typed::Dereference::Member { of_type, .. }
+        | typed::Dereference::Element { of_type, .. } => of_type,
+    }
+}
+
+impl<'a> Given<'a> {
+    pub fn by(value: &'a typed::Expr) -> Given<'a>
+        ensures { view_given result ≡ type_of (view_expression value.now) }
+    {
+        match value {
+            typed::Expr::Number { .. }
+            | typed::Expr::Counter { .. }
+            | typed::Expr::NumberOfElements { .. }
+            | typed::Expr::Unary { .. } => Given::Int,
+            typed::Expr::NullPointer => Given::Null,
+            typed::Expr::HeapRegion => Given::HeapHandle,
+            typed::Expr::FreeUnique { .. } | typed::Expr::FreeKey { .. } => Given::Void,
+            typed::Expr::Copy { of_type, .. }
+            | typed::Expr::Move { of_type, .. }
+            | typed::Expr::Peek { of_type, .. }
+            | typed::Expr::AddressOf { of_type, .. }
+            | typed::Expr::AddressOfCell { of_type, .. }
+            | typed::Expr::Binary { of_type, .. }
+            | typed::Expr::New { of_type, .. } => Given::Value(of_type),
+            typed::Expr::Load { source } => Given::Value(type_of_place(source)),
+            typed::Expr::Call { result, .. }
+            | typed::Expr::Assign { result, .. }
+            | typed::Expr::Store { result, .. } => Given::of(result),
+        }
+    }
+
+    fn of(value_type: &'a ValueType) -> Given<'a>
+        ensures { view_given result ≡ view_value_type value_type.now }
+    {
+        match value_type {
+            ValueType::Void => Given::Void,
+            ValueType::Null => Given::Null,
+            ValueType::Value { of_type } => Given::Value(of_type),
+        }
+    }
+
+    pub fn is_void(self) -> bool
+        ensures { result ≡ is_void (view_given self.entry) }
+    {
+        matches!(self, Given::Void)
+    }
+
+    /// Whether it is a value of any type.
+    pub fn is_value(self) -> bool
+        ensures { result ≡ is_value is_any (view_given self.entry) }
+    {
+        match self {
+            Given::Void | Given::Null => false,
+            Given::Int | Given::HeapHandle | Given::Value(_) => true,
+        }
+    }
+
+    pub fn is_int(self) -> bool
+        ensures { result ≡ is_int (view_given self.entry) }
+    {
+        match self {
+            Given::Int => true,
+            Given::Value(of_type) => is_int_type(of_type),
+            Given::Void | Given::Null | Given::HeapHandle => false,
+        }
+    }
+
+    /// Whether it is tested against zero or null.
+    pub fn is_tested(self) -> bool
+        ensures { result ≡ is_tested (view_given self.entry) }
+    {
+        match self {
+            Given::Int => true,
+            Given::Value(of_type) => is_int_type(of_type) || is_pointer(of_type),
+            Given::Void | Given::Null | Given::HeapHandle => false,
+        }
+    }
+
+    pub fn is_pointer(self) -> bool
+        ensures { result ≡ is_value is_pointer (view_given self.entry) }
+    {
+        match self {
+            Given::Value(of_type) => is_pointer(of_type),
+            Given::Void | Given::Null | Given::Int | Given::HeapHandle => false,
+        }
+    }
+
+    /// Whether it is a thin pointer to a struct.
+    pub(crate) fn has_members(self) -> bool
+        ensures { result ≡ is_value has_members (view_given self.entry) }
+    {
+        match self {
+            Given::Value(of_type) => has_members(of_type),
+            Given::Void | Given::Null | Given::Int | Given::HeapHandle => false,
+        }
+    }
+
+    pub(crate) fn is_fat(self) -> bool
+        ensures { result ≡ is_value is_fat (view_given self.entry) }
+    {
+        match self {
+            Given::Value(of_type) => is_fat(of_type),
+            Given::Void | Given::Null | Given::Int | Given::HeapHandle => false,
+        }
+    }
+
+    /// Whether it is a fat pointer that moves by an int.
+    pub(crate) fn is_movable(self) -> bool
+        ensures { result ≡ is_value is_movable (view_given self.entry) }
+    {
+        match self {
+            Given::Value(of_type) => is_movable(of_type),
+            Given::Void | Given::Null | Given::Int | Given::HeapHandle => false,
+        }
+    }
+
+    pub fn is_unique(self) -> bool
+        ensures { result ≡ is_value is_unique (view_given self.entry) }
+    {
+        match self {
+            Given::Value(of_type) => is_unique(of_type),
+            Given::Void | Given::Null | Given::Int | Given::HeapHandle => false,
+        }
+    }
+
+    pub fn is_key(self) -> bool
+        ensures { result ≡ is_value is_key (view_given self.entry) }
+    {
+        match self {
+            Given::Value(of_type) => is_key(of_type),
+            Given::Void | Given::Null | Given::Int | Given::HeapHandle => false,
+        }
+    }
+
+    pub fn is_handle(self) -> bool
+        ensures { result ≡ is_value is_handle (view_given self.entry) }
+    {
+        match self {
+            Given::HeapHandle => true,
+            Given::Value(of_type) => is_handle(of_type),
+            Given::Void | Given::Null | Given::Int => false,
+        }
+    }
+
+    /// The region that a pointer leads to, or that a handle or a key is of; else the heap.
+    pub fn region(self) -> Region
+        ensures { result ≡ region_of (value_of (view_given self.entry)) }
+    {
+        match self {
+            Given::Value(of_type) => region_of(of_type),
+            Given::Void | Given::Null | Given::Int | Given::HeapHandle => Region::Heap,
+        }
+    }
+
+    /// The type of the value, and of what has none that of ints.
+    pub fn of_type(self) -> Result<Ty, AllocError>
+        ensures { IfOk result (λ t. view_ty t ≡ value_of (view_given self.entry)) }
+    {
+        match self {
+            Given::Value(of_type) => of_type.share(),
+            Given::HeapHandle => Ok(Ty::Handle {
+                region: Region::Heap,
+            }),
+            Given::Void | Given::Null | Given::Int => Ok(Ty::Int),
+        }
+    }
+
+    /// The type of what a pointer leads to, and else that of ints.
+    pub(crate) fn target(self) -> Result<Ty, AllocError>
+        ensures { IfOk result (λ t. view_ty t ≡ target_of (value_of (view_given self.entry))) }
+    {
+        match self {
+            Given::Value(of_type) => target_of(of_type),
+            Given::Void | Given::Null | Given::Int | Given::HeapHandle => Ok(Ty::Int),
+        }
+    }
+
+    /// What the pointer is, where it is one.
+    pub(crate) fn pointer_kind(self) -> Kind
+        ensures { result ≡ kind_of (value_of (view_given self.entry)) }
+    {
+        match self {
+            Given::Value(of_type) => kind_of(of_type),
+            Given::HeapHandle => Kind::Handle,
+            Given::Void | Given::Null | Given::Int => Kind::Int,
+        }
+    }
+
+    /// What a cell with the value holds.
+    pub fn kind(self) -> Kind
+        ensures { result ≡ kind_of_value (view_given self.entry) }
+    {
+        match self {
+            Given::Value(of_type) => kind_of(of_type),
+            Given::Null => Kind::Nullable,
+            Given::HeapHandle => Kind::Handle,
+            Given::Void | Given::Int => Kind::Int,
+        }
+    }
+}

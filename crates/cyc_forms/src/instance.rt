@@ -1,0 +1,221 @@
+//! What the region variables of a signature are at a call: the region at the first place of each, in the types of the arguments.
+ghost use Rattle.std.specs.Prelude.{◌≡◌, ◌∷◌, [], map, replicate, unwrap_or, IfOk, Option, Some, None};
+ghost use Rattle.std.specs.List.{list_any};
+ghost use Rattle.cyc_types.specs.declared.region.Region.TheVariants as regions;
+ghost use Rattle.cyc_types.specs.Types as types;
+ghost use Rattle.cyc_types.specs.TypeView.{view_ty};
+ghost use Rattle.cyc_types.specs.SignatureView.{view_signature};
+ghost use Rattle.cyc_types.specs.typing.Expressions.{all_paired, paired, paired_argument, paired_arguments, instance_of, is_unique_for_variable};
+ghost use Rattle.cyc_forms.specs.Forms.{view_given, value_in};
+ghost use Rattle.cyc_forms.specs.Instances.{noted_place, noted_places};
+
+use crate::given::Given;
+use cyc_types::typed::Converted;
+use cyc_types::{Region, Signature, Ty};
+use std::alloc::{AllocError, Global};
+
+/// Notes that a region stands at a place of a region of a parameter's type.
+fn note(table: &mut Vec<Option<Region>>, variable: Region, region: Region)
+    ensures { table.new.items ≡ noted_place table.old.items (variable, region) }
+{
+    let Region::Variable(number) = variable else {
+        return;
+    };
+    if let Some(None) = table.get(number) {
+        table[number] = Some(region);
+    }
+}
+
+/// The same for the arguments of structs.
+#[tactic(auto, using(crate::proofs::Instances::paired_past))]
+fn note_all(table: &mut Vec<Option<Region>>, variables: &[Region], regions: &[Region])
+    ensures { table.new.items ≡ noted_places table.old.items (all_paired variables.now regions.now) }
+{
+    for i in 0..variables.len() {
+        if i >= regions.len() {
+            return;
+        }
+        note(table, variables[i], regions[i]);
+    }
+}
+
+/// The same for all regions of a parameter's type.
+#[tactic(auto, using(crate::proofs::Instances::noted_append))]
+fn note_type(table: &mut Vec<Option<Region>>, parameter: &Ty, given: &Ty)
+    ensures { table.new.items ≡ noted_places table.old.items (paired (view_ty parameter.now) (view_ty given.now)) }
+{
+    match (parameter, given) {
+        (
+            Ty::Pointer { target, region, .. },
+            Ty::Pointer {
+                target: given_target,
+                region: given_region,
+                ..
+            },
+        ) => {
+            note_type(table, target, given_target);
+            note(table, *region, *given_region);
+        }
+        (
+            Ty::Handle { region },
+            Ty::Handle {
+                region: given_region,
+            },
+        ) => note(table, *region, *given_region),
+        (
+            Ty::Key { region },
+            Ty::Key {
+                region: given_region,
+            },
+        ) => note(table, *region, *given_region),
+        (
+            Ty::Struct { regions, .. },
+            Ty::Struct {
+                regions: given_regions,
+                ..
+            },
+        ) => note_all(table, regions, given_regions),
+        _ => {}
+    }
+}
+
+/// The same where the handle of the heap is given.
+fn note_heap_handle(table: &mut Vec<Option<Region>>, parameter: &Ty)
+    ensures { table.new.items ≡ noted_places table.old.items (paired (view_ty parameter.now) (types.Handle regions.Heap)) }
+{
+    if let Ty::Handle { region } = parameter {
+        note(table, *region, Region::Heap);
+    }
+}
+
+#[tactic(auto, using(crate::proofs::Instances::paired_int))]
+fn note_given(table: &mut Vec<Option<Region>>, parameter: &Ty, given: Given<'_>)
+    ensures { table.new.items ≡ noted_places table.old.items (paired_argument (view_ty parameter.now) (view_given given.entry)) }
+{
+    match given {
+        Given::Void | Given::Null | Given::Int => {}
+        Given::HeapHandle => note_heap_handle(table, parameter),
+        Given::Value(of_type) => note_type(table, parameter, of_type),
+    }
+}
+
+#[tactic(auto, using(crate::proofs::Instances::given_past))]
+fn note_arguments(table: &mut Vec<Option<Region>>, parameters: &[Ty], values: &[Converted])
+    ensures { table.new.items ≡ noted_places table.old.items (paired_arguments (map view_ty parameters.now) (map value_in values.now)) }
+{
+    for i in 0..parameters.len() {
+        if i >= values.len() {
+            return;
+        }
+        note_given(table, &parameters[i], Given::by(&values[i].value));
+    }
+}
+
+/// A table of so many variables, of which none has a place yet. None has the number 0.
+fn no_places(alloc: Global, variables: usize) -> Result<Vec<Option<Region>>, AllocError>
+    ensures { IfOk result (λ table. table.items ≡ Some regions.Heap ∷ replicate variables None) }
+{
+    let mut table = Vec::new(alloc);
+    table.push(Some(Region::Heap))?;
+    for _ in 0..variables {
+        table.push(None)?;
+    }
+    Ok(table)
+}
+
+/// The regions of a table; a variable without a place is the heap.
+fn regions_in(alloc: Global, table: &[Option<Region>]) -> Result<Vec<Region>, AllocError>
+    ensures { IfOk result (λ all. all.items ≡ map (λ o. unwrap_or o regions.Heap) table.now) }
+{
+    let mut all = Vec::with_capacity(alloc, table.len())?;
+    for region in table {
+        all.push(region.unwrap_or(Region::Heap))?;
+    }
+    Ok(all)
+}
+
+/// What the region variables of a signature are at a call with these arguments, by their numbers.
+#[tactic(auto, using(crate::proofs::Instances::instance_found))]
+pub(crate) fn instance_of(
+    alloc: Global,
+    signature: &Signature,
+    values: &[Converted],
+) -> Result<Vec<Region>, AllocError>
+    ensures { IfOk result (λ all. all.items ≡ instance_of (view_signature signature.now) (map value_in values.now)) }
+{
+    let mut table = no_places(alloc, signature.variables)?;
+    note_arguments(&mut table, &signature.parameters, values);
+    regions_in(alloc, &table)
+}
+
+// ---- no variable stands for the region of unique pointers
+
+fn is_unique_for_variable(variable: Region, region: Region) -> bool
+    ensures { result ≡ is_unique_for_variable (variable, region) }
+{
+    matches!((variable, region), (Region::Variable(_), Region::Unique))
+}
+
+#[tactic(auto, using(crate::proofs::Instances::paired_past))]
+fn has_unique_argument(variables: &[Region], regions: &[Region]) -> bool
+    ensures { result ≡ list_any is_unique_for_variable (all_paired variables.now regions.now) }
+{
+    for i in 0..variables.len() {
+        if i >= regions.len() {
+            return false;
+        }
+        if is_unique_for_variable(variables[i], regions[i]) {
+            return true;
+        }
+    }
+    false
+}
+
+#[tactic(auto, using(crate::proofs::Instances::any_append))]
+fn has_unique_in(parameter: &Ty, given: &Ty) -> bool
+    ensures { result ≡ list_any is_unique_for_variable (paired (view_ty parameter.now) (view_ty given.now)) }
+{
+    match (parameter, given) {
+        (
+            Ty::Pointer { target, region, .. },
+            Ty::Pointer {
+                target: given_target,
+                region: given_region,
+                ..
+            },
+        ) => {
+            has_unique_in(target, given_target) || is_unique_for_variable(*region, *given_region)
+        }
+        (
+            Ty::Handle { region },
+            Ty::Handle {
+                region: given_region,
+            },
+        ) => is_unique_for_variable(*region, *given_region),
+        (
+            Ty::Key { region },
+            Ty::Key {
+                region: given_region,
+            },
+        ) => is_unique_for_variable(*region, *given_region),
+        (
+            Ty::Struct { regions, .. },
+            Ty::Struct {
+                regions: given_regions,
+                ..
+            },
+        ) => has_unique_argument(regions, given_regions),
+        _ => false,
+    }
+}
+
+/// Whether the region of unique pointers stands at a place of a region variable.
+#[tactic(auto, using(crate::proofs::Instances::no_unique_int, crate::proofs::Instances::no_unique_heap))]
+pub(crate) fn has_unique(parameter: &Ty, given: Given<'_>) -> bool
+    ensures { result ≡ list_any is_unique_for_variable (paired_argument (view_ty parameter.now) (view_given given.entry)) }
+{
+    match given {
+        Given::Void | Given::Null | Given::Int | Given::HeapHandle => false,
+        Given::Value(of_type) => has_unique_in(parameter, of_type),
+    }
+}

@@ -1,0 +1,32 @@
+//! What each form of an expression asks of its own, and the node that it makes, once its parts are walked.
+#![tactic(auto)]
+
+pub use calls::called;
+pub use conversion::{convert, converted};
+pub use fields::fields_made;
+pub use given::{Given, type_of_place};
+pub use nodes::{boxed, heap_region, null_pointer, number};
+pub use objects::{Made, Placed, array_made, as_unique, by_handle, created, on_heap, plain_made};
+pub use operands::{
+    int_wanted, is_looking, peeked_local, span_inside, span_of, test_wanted, value_wanted,
+};
+pub use operators::{Left, binary, computed, freed, join, number_of_elements};
+pub use passing::push_value;
+pub use places::{
+    Found, Reached, addressed, as_place, assigned, indexed, loaded, pointed, selected, type_of_side,
+};
+pub use variables::{key_freed, looked, place_meant, read};
+
+mod calls;
+mod conversion;
+mod fields;
+mod given;
+mod instance;
+mod nodes;
+mod objects;
+mod operands;
+mod operators;
+mod passing;
+mod places;
+pub mod types;
+mod variables;

@@ -1,0 +1,38 @@
+//! Nodes in boxes. A walk hands on boxes, so that its frames are small however large a node is.
+ghost use Rattle.std.specs.Prelude.{◌≡◌, Ok};
+ghost use Rattle.cyc_types.specs.TypedTrees as nodes;
+ghost use Rattle.cyc_types.specs.TypedTreeView.{view_expression};
+ghost use Rattle.cyc_scope.specs.Code.{Gives};
+ghost use Rattle.cyc_forms.specs.Forms.{view_boxed};
+
+use cyc_scope::Stop;
+use cyc_types::typed;
+use std::alloc::Global;
+
+#[inline(never)]
+pub fn boxed(alloc: Global, expression: typed::Expr) -> Result<Box<typed::Expr>, Stop>
+    ensures { Gives view_boxed result (Ok (view_expression expression)) }
+{
+    Ok(Box::new(alloc, expression)?)
+}
+
+#[inline(never)]
+pub fn number(alloc: Global, value: u32) -> Result<Box<typed::Expr>, Stop>
+    ensures { Gives view_boxed result (Ok (nodes.Number value)) }
+{
+    boxed(alloc, typed::Expr::Number { value })
+}
+
+#[inline(never)]
+pub fn null_pointer(alloc: Global) -> Result<Box<typed::Expr>, Stop>
+    ensures { Gives view_boxed result (Ok nodes.NullPointer) }
+{
+    boxed(alloc, typed::Expr::NullPointer)
+}
+
+#[inline(never)]
+pub fn heap_region(alloc: Global) -> Result<Box<typed::Expr>, Stop>
+    ensures { Gives view_boxed result (Ok nodes.HeapRegion) }
+{
+    boxed(alloc, typed::Expr::HeapRegion)
+}

@@ -1,0 +1,18 @@
+use Rattle.std.proofs.Common.{rules, ◌≡◌, ◌+◌, ◌∷◌, map, drop, get_or, sym, ap, ◌∙◌}
+use Rattle.std.proofs.lemmas.List.{drop_more}
+use Rattle.cyc_syntax.specs.TreeView.{view_declaration}
+use Rattle.cyc_heads.specs.Declaring.{state_of, behind_heads}
+use Rattle.cyc_heads.proofs.DeclaringLemmas.{one_behind}
+use Rattle.cyc_heads.proofs.declared.program_declared.Goals as goal
+
+pub loop-declaration-preserved : goal.loop-declaration-preserved
+loop-declaration-preserved c =
+    let ds = c.args.declarations.now in
+    let i = c.loop-declaration.declaration-index in
+    let d = c.declaration-item.result in
+    let there : get_or ds i d ≡ d = search rules in
+    let is : drop i ds ≡ d ∷ drop (i + 1) ds = drop_more ds i d c.loop-declaration-test.true ∙ ap (λ x. x ∷ drop (i + 1) ds) there in
+    ap (behind_heads (map view_declaration (drop (i + 1) ds))) c.in_ok-declare.ensures.declared
+    ∙ one_behind (view_declaration d) (map view_declaration (drop (i + 1) ds)) (state_of c.loop-declaration.declared)
+    ∙ sym (ap (λ xs. behind_heads (map view_declaration xs) (state_of c.loop-declaration.declared)) is)
+    ∙ c.loop-declaration.invariant

@@ -1,9 +1,0 @@
-use Rattle.std.proofs.lemmas.Result.{on_ok_weaker}
-use Rattle.cyc_lower.proofs.Emitting.{made_discarded}
-use Rattle.cyc_lower.proofs.emitter.Emitter.discarded.Goals as goal
-
-pub returns-in-Call : goal.returns-in-Call
-returns-in-Call c =
-    on_ok_weaker c.discarded_call.result
-    (made_discarded c.args.value.now c.in-Call.callee c.in-Call.arguments c.in-Call.result c.deref.result.now c.args.self.now.code.items c.discarded_call.new.self.code.items c.args.free c.in-Call.is c.deref.ensures.value)
-    c.discarded_call.ensures

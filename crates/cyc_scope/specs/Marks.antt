@@ -1,0 +1,41 @@
+-- What a scope is left to: a mark is made where something is entered, and what came into scope since then is forgotten when it is left.
+use Rattle.std.specs.Prelude.{ℕ, suc, ◌-◌, ◌<◌, ◌≤◌, List, [], ◌∷◌, length, drop}
+use Rattle.cyc_types.specs.declared.region.Region.TheVariants as regions
+use Rattle.cyc_types.specs.declared.scope.ScopeKind.{ScopeKind}
+use Rattle.cyc_types.specs.typing.Scopes.{LocalVariable, Scope, with_scope}
+use Rattle.cyc_scope.specs.declared.scope.Mark.{Mark}
+
+-- the regions of locals never rise from the newest to the oldest, and the newest has at most this one
+abbrev pub Descends : ℕ → List LocalVariable → Type 0
+Descends region [] = Unit {0}
+Descends region (v ∷ vs) = (v.region ≤ region) × Descends v.region vs
+
+-- regions are numbered from the outside to the inside
+pub record IsInOrder (g : Scope) : Type 0 where
+  pub locals : Descends g.region g.locals
+  pub inside : g.region < g.next_region
+
+abbrev pub mark_of : Scope → Mark
+mark_of g = record {
+  locals = length g.locals;
+  names = length g.names;
+  opened = length g.regions.opened;
+  region = g.region;
+  in_loop = g.in_loop;
+  counters = g.counters;
+}
+
+-- What has come into scope since the mark is forgotten. The numbers that are used and the names of regions that are taken stay so.
+abbrev pub left_to : Mark → Scope → Scope
+left_to m g = record g {
+  names = drop (length g.names - m.names) g.names;
+  regions = record g.regions { opened = drop (length g.regions.opened - m.opened) g.regions.opened };
+  locals = drop (length g.locals - m.locals) g.locals;
+  region = m.region;
+  in_loop = m.in_loop;
+  counters = m.counters;
+}
+
+-- where the next region, which has its name already, is declared and opened
+abbrev pub with_next_opened : ScopeKind → Scope → Scope
+with_next_opened k g = record g { next_region = suc g.next_region; regions = with_scope k (regions.Variable g.next_region) g.regions }

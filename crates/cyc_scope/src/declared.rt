@@ -1,0 +1,139 @@
+//! The functions and globals of a program, found by their names in constant time.
+
+use crate::meaning::Meaning;
+use crate::stop::Stop;
+use crate::table::grow;
+use cyc_types::typed::{Callee, Lvalue};
+use cyc_types::{Region, Signature, Ty};
+use std::alloc::Global;
+use std::marker::Model;
+
+#[derive(Drop)]
+pub(crate) enum Entity {
+    Global {
+        number: usize,
+        of_type: Ty,
+    },
+    Function {
+        callee: Callee,
+        signature: Signature,
+    },
+}
+
+/// A function or a global.
+#[derive(Drop)]
+pub(crate) struct Entry {
+    pub(crate) name: usize,
+    pub(crate) entity: Entity,
+}
+
+/// The functions and globals in order. Where a name is declared twice, the first counts.
+#[derive(Drop)]
+pub(crate) struct Declared {
+    entries: Vec<Entry>,
+    /// For each name the place of its first entry.
+    by_name: Vec<Option<usize>>,
+}
+
+impl Model for Declared {
+    ghost use Rattle.std.specs.Prelude.{◌≡◌, ℕ, List, map, get_or, None};
+    ghost use Rattle.std.specs.Coded.{codes};
+    ghost use Rattle.cyc_types.specs.typing.Scopes.{Declared as DeclaredValue};
+    ghost use Rattle.cyc_scope.specs.Codes.{ty_code};
+    ghost use Rattle.cyc_scope.specs.Tables.{first_place, declared_names};
+
+    ghost Value = { List DeclaredValue };
+
+    ghost coded = { Prim.hlevel (codes, ty_code) };
+
+    ghost use Rattle.cyc_scope.specs.Entries.{view_entry};
+
+    ghost view = { λ d. map view_entry d.entries.items };
+
+    ghost invariant = { λ d. (x : ℕ) → get_or d.by_name.items x None ≡ first_place (declared_names (map view_entry d.entries.items)) x };
+}
+
+impl Entry {
+    ghost use Rattle.std.specs.Prelude.{◌≡◌};
+    ghost use Rattle.cyc_scope.specs.Meanings.{view_meaning};
+    ghost use Rattle.cyc_scope.specs.Entries.{view_entity};
+
+    fn meaning(&self) -> Meaning<'_>
+        ensures { view_meaning result ≡ view_entity self.now.entity }
+    {
+        match &self.entity {
+            Entity::Global { number, of_type } => Meaning::Variable {
+                target: Lvalue::Global { number: *number },
+                of_type,
+                home: Region::Heap,
+            },
+            Entity::Function { callee, signature } => Meaning::Routine {
+                callee: *callee,
+                signature,
+            },
+        }
+    }
+}
+
+impl Declared {
+    ghost use Rattle.std.specs.Prelude.{◌≡◌, [], ◌∷◌, ◌++◌, option_map, OnOk, IfErr};
+    ghost use Rattle.cyc_types.specs.typing.Scopes.{meaning_in};
+    ghost use Rattle.cyc_scope.specs.declared.stop.Stop.TheVariants.{Memory};
+    ghost use Rattle.cyc_scope.specs.Tables.{first_place, declared_names, first_declared};
+    ghost use Rattle.cyc_scope.specs.Meanings.{view_meaning};
+    ghost use Rattle.cyc_scope.specs.Entries.{view_entity, view_entry};
+
+    pub(crate) fn new(alloc: Global) -> Declared
+        ensures { result ≡ [] }
+    {
+        Declared {
+            entries: Vec::new(alloc),
+            by_name: Vec::new(alloc),
+        }
+    }
+
+    /// The place of the first of this name.
+    fn place(&self, name: usize) -> Option<usize>
+        ensures { result ≡ first_place (declared_names self.now) name }
+    {
+        match self.by_name.get(name) {
+            Some(place) => *place,
+            None => None,
+        }
+    }
+
+    /// The first of this name.
+    fn find(&self, name: usize) -> Option<&Entry>
+        ensures { option_map (λ e. view_entry e.now) result ≡ first_declared self.now name }
+    {
+        match self.place(name) {
+            Some(place) => self.entries.get(place),
+            None => None,
+        }
+    }
+
+    #[tactic(auto, using(crate::proofs::TableLemmas::meaning_first))]
+    pub(crate) fn meaning(&self, name: usize) -> Meaning<'_>
+        ensures { view_meaning result ≡ meaning_in self.now name }
+    {
+        match self.find(name) {
+            Some(entry) => entry.meaning(),
+            None => Meaning::Unknown,
+        }
+    }
+
+    pub(crate) fn declare(&mut self, name: usize, entity: Entity) -> Result<(), Stop>
+        ensures declared { OnOk result (self.new ≡ self.old ++ record { name = name; meaning = view_entity entity } ∷ []) }
+        ensures memory { IfErr result (λ e. e ≡ Memory) }
+    {
+        grow(&mut self.by_name, name)?;
+        let known = self.place(name);
+        let place = self.entries.len();
+        self.entries.push(Entry { name, entity })?;
+        match known {
+            Some(_) => {}
+            None => self.by_name[name] = Some(place),
+        }
+        Ok(())
+    }
+}

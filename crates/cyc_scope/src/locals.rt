@@ -1,0 +1,198 @@
+//! The locals in scope, found by their names in constant time.
+
+use crate::meaning::Meaning;
+use crate::stop::Stop;
+use crate::table::grow;
+use cyc_syntax::Ident;
+use cyc_types::typed::Lvalue;
+use cyc_types::{Region, Ty};
+use std::alloc::Global;
+use std::marker::Model;
+
+/// What declares a local.
+#[derive(Clone, Copy)]
+pub(crate) enum Sort {
+    Ordinary,
+    /// A `region` item.
+    OfRegion,
+    /// A `for`.
+    OfLoop,
+}
+
+/// A local or a parameter, or the variable of a `for`.
+#[derive(Drop)]
+pub(crate) struct Local {
+    pub(crate) name: usize,
+    /// Its number in its function; the variable of a `for` has its level.
+    pub(crate) number: usize,
+    pub(crate) of_type: Ty,
+    /// The number of the region of the block that declares it.
+    pub(crate) region: usize,
+    pub(crate) sort: Sort,
+}
+
+/// A local in scope, and the place of the one that it hides.
+#[derive(Drop)]
+struct Binding {
+    local: Local,
+    hidden: Option<usize>,
+}
+
+/// The locals in scope. A clause sees them with the newest first.
+#[derive(Drop)]
+pub(crate) struct Locals {
+    /// The oldest first.
+    bindings: Vec<Binding>,
+    /// For each name the place of its newest local.
+    newest: Vec<Option<usize>>,
+}
+
+impl Model for Locals {
+    ghost use Rattle.std.specs.Prelude.{List};
+    ghost use Rattle.std.specs.Coded.{codes};
+    ghost use Rattle.cyc_types.specs.typing.Scopes.{LocalVariable};
+    ghost use Rattle.cyc_scope.specs.Codes.{ty_code};
+
+    ghost Value = { List LocalVariable };
+
+    ghost coded = { Prim.hlevel (codes, ty_code) };
+
+    ghost use Rattle.cyc_scope.specs.Entries.{locals_of, Finds};
+
+    ghost view = { λ l. locals_of l.bindings.items };
+
+    ghost invariant = { λ l. Finds l.newest.items l.bindings.items };
+}
+
+impl Local {
+    ghost use Rattle.std.specs.Prelude.{◌≡◌};
+    ghost use Rattle.cyc_syntax.specs.TreeView.{view_name, place_of_span};
+    ghost use Rattle.cyc_types.specs.typing.Scopes.{local_meaning};
+    ghost use Rattle.cyc_scope.specs.Meanings.{view_meaning};
+    ghost use Rattle.cyc_scope.specs.Entries.{view_sort, view_local};
+
+    /// What a name at this place means that means this local.
+    fn meaning(&self, name: Ident) -> Meaning<'_>
+        ensures { view_meaning result ≡ local_meaning (view_local self.now).sort (view_local self.now) (view_name name).place }
+    {
+        let target = Lvalue::Local {
+            span: name.span,
+            number: self.number,
+        };
+        let of_type = &self.of_type;
+        match self.sort {
+            Sort::Ordinary => Meaning::Variable {
+                target,
+                of_type,
+                home: Region::Variable(self.region),
+            },
+            Sort::OfRegion => Meaning::Fixed { target, of_type },
+            Sort::OfLoop => Meaning::Counter { level: self.number },
+        }
+    }
+}
+
+impl Locals {
+    ghost use Rattle.std.specs.Prelude.{◌≡◌, ℕ, ◌-◌, ◌<◌, List, [], ◌∷◌, length, drop, option_map, get_or, None, OnOk, OnErr, IfErr};
+    ghost use Rattle.cyc_syntax.specs.TreeView.{view_name};
+    ghost use Rattle.cyc_types.specs.typing.Scopes.{Declared, meaning_in, meaning_among, is_declared_in};
+    ghost use Rattle.cyc_scope.specs.declared.stop.Stop.TheVariants.{Memory};
+    ghost use Rattle.cyc_scope.specs.Meanings.{view_meaning};
+    ghost use Rattle.cyc_scope.specs.Marks.{Descends};
+    ghost use Rattle.cyc_scope.specs.Tables.{newest_place};
+    ghost use Rattle.cyc_scope.specs.Entries.{view_local, view_binding, local_names, newest, meaning_or};
+
+    pub(crate) fn new(alloc: Global) -> Locals
+        ensures { result ≡ [] }
+    {
+        Locals {
+            bindings: Vec::new(alloc),
+            newest: Vec::new(alloc),
+        }
+    }
+
+    #[tactic(auto, using(crate::proofs::LocalLemmas::as_many))]
+    pub(crate) fn len(&self) -> usize
+        ensures { result ≡ length self.now }
+    {
+        self.bindings.len()
+    }
+
+    /// The place of the newest local of this name.
+    fn place(&self, name: usize) -> Option<usize>
+        ensures { result ≡ newest_place (local_names self.now) name }
+    {
+        match self.newest.get(name) {
+            Some(place) => *place,
+            None => None,
+        }
+    }
+
+    /// The newest local of this name.
+    fn find(&self, name: usize) -> Option<&Binding>
+        ensures { option_map (λ b. view_binding b.now) result ≡ newest self.now name }
+    {
+        match self.place(name) {
+            Some(place) => self.bindings.get(place),
+            None => None,
+        }
+    }
+
+    /// What a name means as a local.
+    #[tactic(auto, using(crate::proofs::LocalLemmas::meaning_found, crate::proofs::LocalLemmas::meaning_lost))]
+    pub(crate) fn meaning(&self, name: Ident) -> Option<Meaning<'_>>
+        ensures { (ds : List Declared) → meaning_among self.now ds (view_name name) ≡ meaning_or (meaning_in ds name.name.number) (option_map view_meaning result) }
+    {
+        match self.find(name.name.number) {
+            Some(binding) => Some(binding.local.meaning(name)),
+            None => None,
+        }
+    }
+
+    /// Whether the innermost block, which has this region, declares a local of this name.
+    #[tactic(auto, using(crate::proofs::LocalLemmas::declared_lost))]
+    pub(crate) fn is_declared_in(&self, region: usize, name: usize) -> bool
+        requires { Descends region self.now }
+        ensures { result ≡ is_declared_in region self.now name }
+    {
+        match self.find(name) {
+            Some(binding) => binding.local.region == region,
+            None => false,
+        }
+    }
+
+    pub(crate) fn declare(&mut self, local: Local) -> Result<(), Stop>
+        ensures declared { OnOk result (self.new ≡ view_local local ∷ self.old) }
+        ensures unchanged { OnErr result (self.new ≡ self.old) }
+        ensures memory { IfErr result (λ e. e ≡ Memory) }
+    {
+        let name = local.name;
+        grow(&mut self.newest, name)?;
+        let hidden = self.newest[name];
+        let place = self.bindings.len();
+        self.bindings.push(Binding { local, hidden })?;
+        self.newest[name] = Some(place);
+        Ok(())
+    }
+
+    /// Forgets the newest local.
+    #[tactic(auto, using(crate::proofs::LocalLemmas::in_range))]
+    fn undo(&mut self)
+        ensures { self.new ≡ drop 1 self.old }
+    {
+        let Some(binding) = self.bindings.pop() else {
+            return;
+        };
+        self.newest[binding.local.name] = binding.hidden;
+    }
+
+    /// Forgets all locals but this number of the oldest.
+    #[tactic(auto, using(crate::proofs::LocalLemmas::drop_one_more))]
+    pub(crate) fn close(&mut self, count: usize)
+        ensures { self.new ≡ drop (length self.old - count) self.old }
+    {
+        for _ in count..self.len() {
+            self.undo();
+        }
+    }
+}

@@ -1,0 +1,137 @@
+//! What a program declares, found by name in constant time.
+
+use crate::declared::{Declared, Entity};
+use crate::exceptions::{Exceptions, Thrown};
+use crate::meaning::Meaning;
+use crate::stop::Stop;
+use cyc_types::typed::Callee;
+use cyc_types::{Known, Signature, Ty};
+use std::alloc::Global;
+use std::marker::Model;
+
+/// A field of a struct, whose i-th region parameter is the region variable i in its type.
+#[derive(Drop)]
+pub struct Field {
+    pub name: usize,
+    pub of_type: Ty,
+}
+
+/// What the bodies of a program's functions know of it.
+#[derive(Drop)]
+pub struct Program {
+    known: Known,
+    /// The fields of the structs, by their numbers.
+    fields: Vec<Vec<Field>>,
+    exceptions: Exceptions,
+    /// The functions and globals.
+    declared: Declared,
+}
+
+impl Model for Program {
+    ghost use Rattle.std.specs.Prelude.{map};
+    ghost use Rattle.std.specs.Coded.{codes};
+    ghost use Rattle.cyc_types.specs.typing.Programs.{Program as ProgramValue};
+    ghost use Rattle.cyc_scope.specs.Codes.{ty_code};
+
+    ghost Value = { ProgramValue };
+
+    ghost coded = { Prim.hlevel (codes, ty_code) };
+
+    ghost use Rattle.cyc_scope.specs.Entries.{view_fields};
+
+    ghost view = { λ p. record { known = p.known; fields = map view_fields p.fields.items; exceptions = p.exceptions; declared = p.declared } };
+}
+
+impl Program {
+    ghost use Rattle.std.specs.Prelude.{◌≡◌, [], ◌∷◌, ◌++◌, map, slice_get, unwrap_or, option_map, OnOk, IfErr, IfSome};
+    ghost use Rattle.cyc_types.specs.declared.region.Region.TheVariants as regions;
+    ghost use Rattle.cyc_types.specs.TypedTrees as typed;
+    ghost use Rattle.cyc_types.specs.TypeView.{view_ty};
+    ghost use Rattle.cyc_types.specs.SignatureView.{view_signature};
+    ghost use Rattle.cyc_types.specs.typing.Scopes as scopes;
+    ghost use Rattle.cyc_types.specs.typing.Statements.{exception_among, exception_number};
+    ghost use Rattle.cyc_scope.specs.declared.stop.Stop.TheVariants.{Memory};
+    ghost use Rattle.cyc_scope.specs.Meanings.{view_meaning};
+    ghost use Rattle.cyc_scope.specs.Entries.{view_field, view_fields};
+
+    /// A program of which only this is known so far.
+    pub fn new(alloc: Global, known: Known) -> Program
+        ensures { result ≡ record { known = known; fields = []; exceptions = []; declared = [] } }
+    {
+        Program {
+            known,
+            fields: Vec::new(alloc),
+            exceptions: Exceptions::new(alloc),
+            declared: Declared::new(alloc),
+        }
+    }
+
+    /// What is known in its whole text.
+    pub fn known(&self) -> &Known
+        ensures { result.now ≡ self.now.known }
+    {
+        &self.known
+    }
+
+    /// The fields of the struct of this number, of which there are none if there is no such struct.
+    pub fn fields(&self, number: usize) -> &[Field]
+        ensures { map view_field result.now ≡ unwrap_or (slice_get self.now.fields number) [] }
+    {
+        match self.fields.get(number) {
+            Some(fields) => fields,
+            None => &[],
+        }
+    }
+
+    /// The exception of this name.
+    pub fn exception(&self, name: usize) -> Option<Thrown>
+        ensures has_int { exception_among self.now.exceptions name ≡ option_map (λ t. t.has_int) result }
+        ensures number { IfSome result (λ t. t.number ≡ exception_number self.now.exceptions name) }
+    {
+        self.exceptions.find(name)
+    }
+
+    /// What a name means that no local has.
+    pub fn meaning(&self, name: usize) -> Meaning<'_>
+        ensures { view_meaning result ≡ scopes.meaning_in self.now.declared name }
+    {
+        self.declared.meaning(name)
+    }
+
+    /// The fields of the next struct.
+    pub fn add_fields(&mut self, fields: Vec<Field>) -> Result<(), Stop>
+        ensures added { OnOk result (self.new ≡ record self.old { fields = self.old.fields ++ view_fields fields ∷ [] }) }
+        ensures memory { IfErr result (λ e. e ≡ Memory) }
+    {
+        self.fields.push(fields)?;
+        Ok(())
+    }
+
+    pub fn add_exception(&mut self, name: usize, has_int: bool) -> Result<(), Stop>
+        ensures added { OnOk result (self.new ≡ record self.old { exceptions = self.old.exceptions ++ record { name = name; has_int = has_int } ∷ [] }) }
+        ensures memory { IfErr result (λ e. e ≡ Memory) }
+    {
+        self.exceptions.declare(name, has_int)
+    }
+
+    pub fn declare_global(&mut self, name: usize, number: usize, of_type: Ty) -> Result<(), Stop>
+        ensures declared { OnOk result (self.new ≡ record self.old { declared = self.old.declared ++ record { name = name; meaning = scopes.Variable (typed.Global number) (view_ty of_type) regions.Heap } ∷ [] }) }
+        ensures memory { IfErr result (λ e. e ≡ Memory) }
+    {
+        self.declared
+            .declare(name, Entity::Global { number, of_type })
+    }
+
+    pub fn declare_function(
+        &mut self,
+        name: usize,
+        callee: Callee,
+        signature: Signature,
+    ) -> Result<(), Stop>
+        ensures declared { OnOk result (self.new ≡ record self.old { declared = self.old.declared ++ record { name = name; meaning = scopes.Routine callee (view_signature signature) } ∷ [] }) }
+        ensures memory { IfErr result (λ e. e ≡ Memory) }
+    {
+        self.declared
+            .declare(name, Entity::Function { callee, signature })
+    }
+}

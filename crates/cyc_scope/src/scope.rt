@@ -1,0 +1,367 @@
+//! What is known where an expression or a statement stands.
+
+use crate::exceptions::Thrown;
+use crate::locals::{Local, Locals, Sort};
+use crate::meaning::Meaning;
+use crate::program::{Field, Program};
+use crate::stop::Stop;
+use crate::table::after;
+use cyc_syntax::Ident;
+use cyc_types::{NameSet, Outlives, Region, RegionNames, ScopeKind, StructNames, Ty};
+use std::alloc::Global;
+use std::marker::Model;
+
+/// How much is in scope, and where. What came into scope since then is forgotten by `leave`.
+#[derive(Clone, Copy)]
+pub struct Mark {
+    /// How many locals, names of regions and open scopes there are.
+    pub locals: usize,
+    pub names: usize,
+    pub opened: usize,
+    /// The region of the innermost block.
+    pub region: usize,
+    pub in_loop: bool,
+    /// How many `for` stand around.
+    pub counters: usize,
+}
+
+/// What is known where an expression or a statement stands in the body of a function: what the program declares, what names mean, which
+/// regions are live, and the numbers that the next local and the next region get.
+///
+/// Regions are numbered from the outside to the inside, so the newest local of a name tells whether the innermost block declares that
+/// name.
+#[derive(Drop)]
+pub struct Scope<'a> {
+    pub(crate) alloc: Global,
+    pub(crate) program: &'a Program,
+    /// The type of the function's result.
+    pub(crate) result: Option<Ty>,
+    pub(crate) names: RegionNames,
+    /// The names of regions that the function has declared so far, in scope or not.
+    pub(crate) taken: NameSet,
+    pub(crate) regions: Outlives,
+    pub(crate) locals: Locals,
+    pub(crate) next_local: usize,
+    pub(crate) next_region: usize,
+    /// The region of the innermost block.
+    pub(crate) region: usize,
+    pub(crate) in_loop: bool,
+    /// How many `for` stand around.
+    pub(crate) counters: usize,
+}
+
+impl<'a> Model for Scope<'a> {
+    ghost use Rattle.std.specs.Prelude.{◌<◌, option_map};
+    ghost use Rattle.std.specs.Coded.{codes};
+    ghost use Rattle.cyc_types.specs.TypeView.{view_ty};
+    ghost use Rattle.cyc_types.specs.typing.Scopes.{Scope as ScopeValue};
+    ghost use Rattle.cyc_scope.specs.Codes.{ty_code};
+
+    ghost Value = { ScopeValue };
+
+    ghost coded = { Prim.hlevel (codes, ty_code) };
+
+    ghost use Rattle.cyc_scope.specs.Marks.{Descends};
+
+    ghost view = { λ s. record {
+      structs = s.program.now.known.structs;
+      fields = s.program.now.fields;
+      exceptions = s.program.now.exceptions;
+      program = s.program.now.declared;
+      result = option_map view_ty s.result;
+      names = s.names;
+      taken = s.taken;
+      regions = s.regions;
+      locals = s.locals;
+      next_local = s.next_local;
+      next_region = s.next_region;
+      region = s.region;
+      in_loop = s.in_loop;
+      counters = s.counters;
+    } };
+
+    ghost invariant = { λ s. Descends s.region s.locals × (s.region < s.next_region) };
+}
+
+impl<'a> Scope<'a> {
+    ghost use Rattle.std.specs.Prelude.{◌≡◌, [], map, slice_get, unwrap_or, option_map, OnOk, IfErr, IfSome};
+    ghost use Rattle.cyc_syntax.specs.TreeView.{view_name};
+    ghost use Rattle.cyc_types.specs.declared.scope.ScopeKind.TheVariants as kinds;
+    ghost use Rattle.cyc_types.specs.TypeView.{view_ty};
+    ghost use Rattle.cyc_types.specs.Closure.{is_outliving};
+    ghost use Rattle.cyc_types.specs.typing.Scopes as scopes;
+    ghost use Rattle.cyc_types.specs.typing.Scopes.{is_taken, is_live, is_declared, meaning_of, in_block, with_name, in_labelled, in_body, with_local, with_counter, with_opened, with_region, with_key_opened};
+    ghost use Rattle.cyc_types.specs.typing.Statements.{exception_among, exception_number};
+    ghost use Rattle.cyc_scope.specs.declared.stop.Stop.TheVariants.{Memory};
+    ghost use Rattle.cyc_scope.specs.Meanings.{view_meaning};
+    ghost use Rattle.cyc_scope.specs.Entries.{view_field, view_sort};
+    ghost use Rattle.cyc_scope.specs.Marks.{IsInOrder, mark_of, left_to, with_next_opened};
+
+    pub fn alloc(&self) -> Global {
+        self.alloc
+    }
+
+    /// The structs of the program.
+    pub fn structs(&self) -> &StructNames
+        ensures { result.now ≡ self.now.structs }
+    {
+        self.program.known().structs()
+    }
+
+    /// The fields of the struct of this number, of which there are none if there is no such struct.
+    pub fn fields(&self, number: usize) -> &[Field]
+        ensures { map view_field result.now ≡ unwrap_or (slice_get self.now.fields number) [] }
+    {
+        self.program.fields(number)
+    }
+
+    /// The exception of this name.
+    pub fn exception(&self, name: usize) -> Option<Thrown>
+        ensures has_int { exception_among self.now.exceptions name ≡ option_map (λ t. t.has_int) result }
+        ensures number { IfSome result (λ t. t.number ≡ exception_number self.now.exceptions name) }
+    {
+        self.program.exception(name)
+    }
+
+    /// The names of regions that are in scope.
+    pub fn names(&self) -> &RegionNames
+        ensures { result.now ≡ self.now.names }
+    {
+        &self.names
+    }
+
+    /// The type of the function's result.
+    pub fn result_type(&self) -> Option<&Ty>
+        ensures { option_map (λ t. view_ty t.now) result ≡ self.now.result }
+    {
+        match &self.result {
+            Some(of_type) => Some(of_type),
+            None => None,
+        }
+    }
+
+    /// The number that the next local gets.
+    pub fn next_local(&self) -> usize
+        ensures { result ≡ self.now.next_local }
+    {
+        self.next_local
+    }
+
+    /// The number that the next region gets.
+    pub fn next_region(&self) -> usize
+        ensures { result ≡ self.now.next_region }
+    {
+        self.next_region
+    }
+
+    pub fn in_loop(&self) -> bool
+        ensures { result ≡ self.now.in_loop }
+    {
+        self.in_loop
+    }
+
+    /// How many `for` stand around, which is the level of the next.
+    pub fn counters(&self) -> usize
+        ensures { result ≡ self.now.counters }
+    {
+        self.counters
+    }
+
+    /// What a name means here.
+    pub fn meaning(&self, name: Ident) -> Meaning<'_>
+        ensures { view_meaning result ≡ meaning_of self.now (view_name name) }
+    {
+        match self.locals.meaning(name) {
+            Some(meaning) => meaning,
+            None => self.program.meaning(name.name.number),
+        }
+    }
+
+    /// Whether the innermost block declares a local of this name.
+    pub fn is_declared(&self, name: Ident) -> bool
+        ensures { result ≡ is_declared self.now (view_name name) }
+    {
+        self.locals.is_declared_in(self.region, name.name.number)
+    }
+
+    /// Whether the function has declared a region of this name.
+    pub fn is_taken(&self, name: Ident) -> bool
+        ensures { result ≡ is_taken self.now (view_name name) }
+    {
+        self.taken.has(name.name.number)
+    }
+
+    pub fn is_live(&self, region: Region) -> bool
+        ensures { result ≡ is_live self.now region }
+    {
+        self.regions.is_live(region)
+    }
+
+    /// Whether the first region outlives the second.
+    pub fn outlives(&self, a: Region, b: Region) -> bool
+        ensures { result ≡ is_outliving self.now.regions a b }
+    {
+        self.regions.outlives(a, b)
+    }
+
+    /// Inside a block.
+    pub fn enter_block(&mut self) -> Result<(), Stop>
+        ensures entered { OnOk result (self.new ≡ in_block self.old) }
+        ensures memory { IfErr result (λ e. e ≡ Memory) }
+    {
+        let region = self.next_region;
+        let next = after(region)?;
+        self.regions
+            .open_scope(Region::Variable(region), ScopeKind::Block)?;
+        self.region = region;
+        self.next_region = next;
+        Ok(())
+    }
+
+    /// Inside a block with a label.
+    pub fn enter_labelled(&mut self, label: Ident) -> Result<(), Stop>
+        ensures entered { OnOk result (self.new ≡ in_labelled (view_name label) self.old) }
+        ensures memory { IfErr result (λ e. e ≡ Memory) }
+    {
+        self.name_region(label)?;
+        self.enter_block()
+    }
+
+    /// Inside the body of a loop.
+    pub fn enter_loop(&mut self)
+        ensures { self.new ≡ in_body self.old }
+    {
+        self.in_loop = true;
+    }
+
+    fn declare(&mut self, sort: Sort, name: Ident, of_type: Ty) -> Result<(), Stop>
+        ensures declared { OnOk result (self.new ≡ with_local (view_sort sort) (view_name name) (view_ty of_type) self.old) }
+        ensures memory { IfErr result (λ e. e ≡ Memory) }
+    {
+        let number = self.next_local;
+        let next = after(number)?;
+        self.locals.declare(Local {
+            name: name.name.number,
+            number,
+            of_type,
+            region: self.region,
+            sort,
+        })?;
+        self.next_local = next;
+        Ok(())
+    }
+
+    /// Behind the declaration of a local that is a place.
+    pub fn declare_local(&mut self, name: Ident, of_type: Ty) -> Result<(), Stop>
+        ensures declared { OnOk result (self.new ≡ with_local scopes.Ordinary (view_name name) (view_ty of_type) self.old) }
+        ensures memory { IfErr result (λ e. e ≡ Memory) }
+    {
+        self.declare(Sort::Ordinary, name, of_type)
+    }
+
+    /// Behind the declaration of the variable of a `region` item.
+    pub fn declare_fixed(&mut self, name: Ident, of_type: Ty) -> Result<(), Stop>
+        ensures declared { OnOk result (self.new ≡ with_local scopes.OfRegion (view_name name) (view_ty of_type) self.old) }
+        ensures memory { IfErr result (λ e. e ≡ Memory) }
+    {
+        self.declare(Sort::OfRegion, name, of_type)
+    }
+
+    /// Inside the element of a `for` with this variable.
+    pub fn declare_counter(&mut self, name: Ident) -> Result<(), Stop>
+        ensures declared { OnOk result (self.new ≡ with_counter (view_name name) self.old) }
+        ensures memory { IfErr result (λ e. e ≡ Memory) }
+    {
+        let level = self.counters;
+        let next = after(level)?;
+        self.locals.declare(Local {
+            name: name.name.number,
+            number: level,
+            of_type: Ty::Int,
+            region: self.region,
+            sort: Sort::OfLoop,
+        })?;
+        self.counters = next;
+        Ok(())
+    }
+
+    /// Where the next region has a name.
+    pub fn name_region(&mut self, name: Ident) -> Result<(), Stop>
+        ensures named { OnOk result (self.new ≡ with_name (view_name name) self.old) }
+        ensures memory { IfErr result (λ e. e ≡ Memory) }
+    {
+        self.names
+            .declare(name.name.number, Region::Variable(self.next_region))?;
+        self.taken.add(name.name.number)?;
+        Ok(())
+    }
+
+    /// Behind an item that declares and opens the next region, which has its name already.
+    pub fn open_next(&mut self, kind: ScopeKind) -> Result<(), Stop>
+        ensures opened { OnOk result (self.new ≡ with_next_opened kind self.old) }
+        ensures memory { IfErr result (λ e. e ≡ Memory) }
+    {
+        let region = self.next_region;
+        let next = after(region)?;
+        self.regions.open_scope(Region::Variable(region), kind)?;
+        self.next_region = next;
+        Ok(())
+    }
+
+    /// Behind an item that declares a region of this name, and opens a scope of it.
+    pub fn open_region(&mut self, kind: ScopeKind, name: Ident) -> Result<(), Stop>
+        ensures opened { OnOk result (self.new ≡ with_opened kind (view_name name) self.old) }
+        ensures memory { IfErr result (λ e. e ≡ Memory) }
+    {
+        self.name_region(name)?;
+        self.open_next(kind)
+    }
+
+    /// Behind an item that declares a region of this name, which is not opened.
+    pub fn declare_region(&mut self, name: Ident) -> Result<(), Stop>
+        ensures declared { OnOk result (self.new ≡ with_region (view_name name) self.old) }
+        ensures memory { IfErr result (λ e. e ≡ Memory) }
+    {
+        let next = after(self.next_region)?;
+        self.name_region(name)?;
+        self.next_region = next;
+        Ok(())
+    }
+
+    /// Behind an item that opens the region of a key.
+    pub fn open_key(&mut self, region: Region) -> Result<(), Stop>
+        ensures opened { OnOk result (self.new ≡ with_key_opened region self.old) }
+        ensures memory { IfErr result (λ e. e ≡ Memory) }
+    {
+        self.regions.open_scope(region, ScopeKind::Dynamic)?;
+        Ok(())
+    }
+
+    /// How much is in scope here.
+    pub fn mark(&self) -> Mark
+        ensures mark { result ≡ mark_of self.now }
+        ensures order { IsInOrder self.now }
+    {
+        Mark {
+            locals: self.locals.len(),
+            names: self.names.len(),
+            opened: self.regions.len(),
+            region: self.region,
+            in_loop: self.in_loop,
+            counters: self.counters,
+        }
+    }
+
+    /// Forgets what has come into scope since the mark was made. Numbers stay used, and names of regions taken.
+    pub fn leave(&mut self, mark: Mark)
+        requires { IsInOrder (left_to mark self.old) }
+        ensures { self.new ≡ left_to mark self.old }
+    {
+        self.locals.close(mark.locals);
+        self.names.close(mark.names);
+        self.regions.close(mark.opened);
+        self.region = mark.region;
+        self.in_loop = mark.in_loop;
+        self.counters = mark.counters;
+    }
+}

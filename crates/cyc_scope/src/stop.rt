@@ -1,0 +1,54 @@
+//! Why checking stops.
+ghost use Rattle.std.specs.Prelude.{◌≡◌};
+ghost use Rattle.cyc_syntax.specs.TreeView.{place_of_span};
+ghost use Rattle.cyc_types.specs.Rules.{fault_at};
+ghost use Rattle.cyc_scope.specs.declared.stop.Stop.TheVariants.{Memory, Refused};
+ghost use Rattle.cyc_scope.specs.Code.{fault_of};
+
+use cyc_words::{Code, Fault, Span};
+use std::alloc::{AllocError, AllocFailed};
+
+#[derive(Clone, Copy, Debug, PartialEq, Eq)]
+pub enum Stop {
+    /// An allocation was refused, or more is counted than memory holds.
+    Memory,
+    Refused(Fault),
+}
+
+impl From<AllocError> for Stop {
+    ghost from_gives = { λ _ e. e ≡ Memory };
+
+    fn from(_e: AllocError) -> Stop {
+        Stop::Memory
+    }
+}
+
+impl<T: Drop> From<AllocFailed<T>> for Stop {
+    ghost from_gives = { λ _ e. e ≡ Memory };
+
+    fn from(_e: AllocFailed<T>) -> Stop {
+        Stop::Memory
+    }
+}
+
+impl From<Stop> for Fault {
+    ghost from_gives = { λ e f. f ≡ fault_of e };
+
+    fn from(stop: Stop) -> Fault {
+        match stop {
+            Stop::Memory => Fault::memory(),
+            Stop::Refused(fault) => fault,
+        }
+    }
+}
+
+/// The refusal of what stands at this place.
+pub fn refused(code: Code, span: Span) -> Stop
+    ensures { result ≡ Refused (fault_at code (place_of_span span)) }
+{
+    Stop::Refused(Fault {
+        code,
+        line: span.line,
+        column: span.column,
+    })
+}

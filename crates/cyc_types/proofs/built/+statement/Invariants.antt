@@ -1,0 +1,7 @@
+use Rattle.std.proofs.Common.{◌≡◌, drop}
+use Rattle.cyc_types.specs.TypedTreeView.{items_of}
+use Rattle.cyc_types.specs.Built.{are_built_items}
+use Rattle.cyc_types.proofs.built.+statement.Given as goal
+
+abbrev pub invariant-check_items-loop-item : goal.invariant-check_items-loop-item
+invariant-check_items-loop-item l = are_built_items (items_of (drop l.item-index l.items)) ≡ are_built_items (items_of l.items)

@@ -1,5 +1,0 @@
-use Rattle.cyc_types.proofs.typing.ProgramLemmas.{program_well}
-use Rattle.cyc_types.proofs.laws.whole_typed_trees_are_well_typed.Goals as goal
-
-pub returns : goal.returns
-returns c = program_well

@@ -1,0 +1,8 @@
+-- The flow rules of the whole language.
+pub mod States
+pub mod Touched
+pub mod Expressions
+pub mod Statements
+pub mod Programs
+pub mod Readings
+pub mod Examples

@@ -1,0 +1,120 @@
+//! What is known in the whole text of a program.
+ghost use Rattle.std.specs.Prelude.{◌≡◌, map, IfOk};
+ghost use Rattle.cyc_syntax.specs.TreeView.{view_declaration};
+ghost use Rattle.cyc_types.specs.typing.Heads.{structs_of};
+
+use crate::{NameSet, Region, RegionNames, StructNames};
+use cyc_syntax::Declaration;
+use std::alloc::{AllocError, Global};
+use std::marker::Model;
+
+/// What is known in the whole text of a program: the names of the regions that are there already, its structs, and the name `main`.
+#[derive(Drop)]
+pub struct Known {
+    structs: StructNames,
+    /// That of the heap and that of the unique region.
+    regions: RegionNames,
+    heap: usize,
+    unique: usize,
+    main: usize,
+}
+
+impl Model for Known {
+    ghost use Rattle.std.specs.Prelude.{◌≡◌};
+    ghost use Rattle.cyc_types.specs.typing.Heads.{Known as KnownValue};
+    ghost use Rattle.cyc_types.specs.Namings.{first_regions};
+
+    ghost Value = { KnownValue };
+
+    ghost view = { λ k. record { regions = k.regions; structs = k.structs; main = k.main } };
+
+    ghost invariant = { λ k. k.regions ≡ first_regions k.heap k.unique };
+}
+
+/// The structs of a program in order.
+fn structs_of(alloc: Global, declarations: &[Declaration]) -> Result<StructNames, AllocError>
+    ensures { IfOk result (λ structs. structs ≡ structs_of (map view_declaration declarations.now)) }
+{
+    let mut structs = StructNames::new(alloc);
+    for declaration in declarations {
+        if let Declaration::Struct { name, regions, .. } = declaration {
+            structs.declare(name.name.number, regions.len())?;
+        }
+    }
+    Ok(structs)
+}
+
+impl Known {
+    ghost use Rattle.std.specs.Prelude.{◌≡◌, map, IfOk, OnOk};
+    ghost use Rattle.cyc_syntax.specs.TreeView.{view_declaration};
+    ghost use Rattle.cyc_types.specs.typing.Heads.{structs_of, is_among, region_numbers};
+    ghost use Rattle.cyc_types.specs.Namings.{first_regions};
+
+    /// What is known in a program of these declarations, where the heap, the unique region and `main` have these names.
+    pub fn new(
+        alloc: Global,
+        heap: usize,
+        unique: usize,
+        main: usize,
+        declarations: &[Declaration],
+    ) -> Result<Known, AllocError>
+        ensures { IfOk result (λ k. k ≡ record { regions = first_regions heap unique; structs = structs_of (map view_declaration declarations.now); main = main }) }
+    {
+        let mut regions = RegionNames::new(alloc);
+        regions.declare(unique, Region::Unique)?;
+        regions.declare(heap, Region::Heap)?;
+        Ok(Known {
+            structs: structs_of(alloc, declarations)?,
+            regions,
+            heap,
+            unique,
+            main,
+        })
+    }
+
+    pub fn structs(&self) -> &StructNames
+        ensures { result.now ≡ self.now.structs }
+    {
+        &self.structs
+    }
+
+    /// The names of the regions that are there already.
+    pub fn regions(&self) -> &RegionNames
+        ensures { result.now ≡ self.now.regions }
+    {
+        &self.regions
+    }
+
+    /// The name `main`.
+    pub fn main(&self) -> usize
+        ensures { result ≡ self.now.main }
+    {
+        self.main
+    }
+
+    /// Whether a region that is there already has this name.
+    pub fn has_region(&self, name: usize) -> bool
+        ensures { result ≡ is_among name (region_numbers self.now.regions) }
+    {
+        name == self.heap || name == self.unique
+    }
+
+    /// Makes of the names those of the regions that are there already. What was among them is forgotten.
+    #[tactic(auto, using(std::proofs::lemmas::List::drop_all))]
+    pub fn reset(&self, names: &mut RegionNames) -> Result<(), AllocError>
+        ensures { OnOk result (names.new ≡ self.now.regions) }
+    {
+        names.close(0);
+        names.declare(self.unique, Region::Unique)?;
+        names.declare(self.heap, Region::Heap)
+    }
+
+    /// The same of a set of names.
+    pub fn reset_set(&self, names: &mut NameSet) -> Result<(), AllocError>
+        ensures { OnOk result (names.new ≡ region_numbers self.now.regions) }
+    {
+        names.clear();
+        names.add(self.unique)?;
+        names.add(self.heap)
+    }
+}

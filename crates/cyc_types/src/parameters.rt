@@ -1,0 +1,178 @@
+//! The types of parameters: they declare the names of regions that stand in them, and what they leave out is a region of its own.
+ghost use Rattle.std.specs.Prelude.{◌≡◌, suc, map, option_map, IfOk, OnOk};
+ghost use Rattle.std.specs.Rc.{rc_slice_items};
+ghost use Rattle.cyc_syntax.specs.TreeView.{view_name, view_base, view_pointer, view_type, view_member};
+ghost use Rattle.cyc_types.specs.declared.region.Region.TheVariants.{Variable};
+ghost use Rattle.cyc_types.specs.Types as types;
+ghost use Rattle.cyc_types.specs.TypeView.{view_ty};
+ghost use Rattle.cyc_types.specs.typing.Formation.{region_for, after_region, mark_for, after_mark, regions_for, after_regions, arguments_for, base_for, after_base, pointers_for, after_marks, type_for, after_type, types_for, after_members};
+ghost use Rattle.cyc_types.specs.Namings.{naming};
+
+use crate::formation::heaps;
+use crate::names::RegionNames;
+use crate::structs::StructNames;
+use crate::{Region, Ty};
+use cyc_syntax::{BaseType, Ident, Member, Pointer, WrittenType};
+use std::alloc::{AllocError, Global};
+use std::rc::{Rc, RcSlice};
+
+/// The next region, which is a new one.
+fn next_region(next: &mut usize) -> Result<Region, AllocError>
+    ensures region { IfOk result (λ r. r ≡ Variable next.old) }
+    ensures next { OnOk result (next.new ≡ suc next.old) }
+{
+    let number = *next;
+    let Some(behind) = number.checked_add(1) else {
+        return Err(AllocError);
+    };
+    *next = behind;
+    Ok(Region::Variable(number))
+}
+
+/// What the name of a region stands for, which is the next region where the name is not known.
+fn region_for(names: &mut RegionNames, next: &mut usize, name: Ident) -> Result<Region, AllocError>
+    ensures region { IfOk result (λ r. r ≡ region_for (naming names.old next.old) (view_name name)) }
+    ensures naming { OnOk result (naming names.new next.new ≡ after_region (naming names.old next.old) (view_name name)) }
+{
+    if let Some(known) = names.find(name.name.number) {
+        return Ok(known);
+    }
+    let region = next_region(next)?;
+    names.declare(name.name.number, region)?;
+    Ok(region)
+}
+
+/// The region of a mark, which is the next one where it is left out.
+fn mark_for(
+    names: &mut RegionNames,
+    next: &mut usize,
+    written: Option<Ident>,
+) -> Result<Region, AllocError>
+    ensures region { IfOk result (λ r. r ≡ mark_for (naming names.old next.old) (option_map view_name written)) }
+    ensures naming { OnOk result (naming names.new next.new ≡ after_mark (naming names.old next.old) (option_map view_name written)) }
+{
+    match written {
+        Some(name) => region_for(names, next, name),
+        None => next_region(next),
+    }
+}
+
+/// The region arguments of a struct with this number of parameters. Where they are left out, they are the heap.
+fn arguments_for(
+    alloc: Global,
+    names: &mut RegionNames,
+    next: &mut usize,
+    count: usize,
+    written: &[Ident],
+) -> Result<RcSlice<Region>, AllocError>
+    ensures arguments { IfOk result (λ rs. rc_slice_items rs ≡ arguments_for (naming names.old next.old) count (map view_name written.now)) }
+    ensures naming { OnOk result (naming names.new next.new ≡ after_regions (naming names.old next.old) (map view_name written.now)) }
+{
+    if written.is_empty() {
+        return heaps(alloc, count);
+    }
+    let mut all = Vec::with_capacity(alloc, written.len())?;
+    for name in written {
+        all.push(region_for(names, next, *name)?)?;
+    }
+    RcSlice::from_vec(all)
+}
+
+/// The type before the marks.
+fn base_for(
+    alloc: Global,
+    structs: &StructNames,
+    names: &mut RegionNames,
+    next: &mut usize,
+    base: &BaseType,
+) -> Result<Ty, AllocError>
+    ensures base { IfOk result (λ t. view_ty t ≡ base_for structs.now (naming names.old next.old) (view_base base.now)) }
+    ensures naming { OnOk result (naming names.new next.new ≡ after_base (naming names.old next.old) (view_base base.now)) }
+{
+    Ok(match base {
+        BaseType::Int => Ty::Int,
+        BaseType::Struct { name, regions } => {
+            let count = structs.parameters(name.name.number).unwrap_or(0);
+            Ty::Struct {
+                number: structs.number(name.name.number),
+                regions: arguments_for(alloc, names, next, count, regions)?,
+            }
+        }
+        BaseType::Handle { region } => Ty::Handle {
+            region: region_for(names, next, *region)?,
+        },
+        BaseType::Key { region } => Ty::Key {
+            region: region_for(names, next, *region)?,
+        },
+    })
+}
+
+/// A pointer of this mark to a type.
+fn pointer_for(
+    alloc: Global,
+    names: &mut RegionNames,
+    next: &mut usize,
+    target: Ty,
+    mark: Pointer,
+) -> Result<Ty, AllocError>
+    ensures pointer { IfOk result (λ t. view_ty t ≡ types.Pointer mark.kind (view_ty target) (mark_for (naming names.old next.old) (view_pointer mark).region)) }
+    ensures naming { OnOk result (naming names.new next.new ≡ after_mark (naming names.old next.old) (view_pointer mark).region) }
+{
+    Ok(Ty::Pointer {
+        kind: mark.kind,
+        target: Rc::new(alloc, target)?,
+        region: mark_for(names, next, mark.region)?,
+    })
+}
+
+/// The type with its marks, from the innermost on.
+fn pointers_for(
+    alloc: Global,
+    names: &mut RegionNames,
+    next: &mut usize,
+    base: Ty,
+    marks: &[Pointer],
+) -> Result<Ty, AllocError>
+    ensures pointers { IfOk result (λ t. view_ty t ≡ pointers_for (naming names.old next.old) (view_ty base) (map view_pointer marks.now)) }
+    ensures naming { OnOk result (naming names.new next.new ≡ after_marks (naming names.old next.old) (map view_pointer marks.now)) }
+{
+    let mut of_type = base;
+    for mark in marks {
+        of_type = pointer_for(alloc, names, next, of_type, *mark)?;
+    }
+    Ok(of_type)
+}
+
+/// The type of a parameter, where these structs and these names of regions are known.
+fn type_for(
+    alloc: Global,
+    structs: &StructNames,
+    names: &mut RegionNames,
+    next: &mut usize,
+    written: &WrittenType,
+) -> Result<Ty, AllocError>
+    ensures made { IfOk result (λ t. view_ty t ≡ type_for structs.now (naming names.old next.old) (view_type written.now)) }
+    ensures naming { OnOk result (naming names.new next.new ≡ after_type (naming names.old next.old) (view_type written.now)) }
+{
+    let base = base_for(alloc, structs, names, next, &written.base)?;
+    pointers_for(alloc, names, next, base, &written.marks)
+}
+
+/// The types of parameters, where these structs and these names of regions are known, and the next region has this number. What they
+/// declare is known behind them.
+pub fn types_for(
+    alloc: Global,
+    structs: &StructNames,
+    names: &mut RegionNames,
+    next: &mut usize,
+    members: &[Member],
+) -> Result<Vec<Ty>, AllocError>
+    ensures types { IfOk result (λ ts. map view_ty ts.items ≡ types_for structs.now (naming names.old next.old) (map view_member members.now)) }
+    ensures naming { OnOk result (naming names.new next.new ≡ after_members (naming names.old next.old) (map view_member members.now)) }
+{
+    let mut all = Vec::with_capacity(alloc, members.len())?;
+    for member in members {
+        all.push(type_for(alloc, structs, names, next, &member.of_type)?)?;
+    }
+    Ok(all)
+}
