@@ -105,8 +105,9 @@ pub(crate) fn functions_of(
                 parameters,
                 body,
             } => {
-                let checked =
-                    check_function(alloc, program, tables, result, *name, parameters, body)?;
+                let checked = check_function(
+                    alloc, program, tables, result, *name, parameters, body,
+                )?;
                 tables = checked.tables;
                 all.push(checked.function)?;
             }

@@ -24,8 +24,7 @@ ghost use Rattle.cyc_check.specs.Aliases.{alias_asked, alias_of};
 ghost use Rattle.cyc_check.specs.Walks.{view_initialised};
 
 use cyc_expressions::check_expression;
-use cyc_forms::types::{is_key, is_unique, same_type};
-use cyc_forms::types::region_of as region_of_type;
+use cyc_forms::types::{is_key, is_unique, region_of as region_of_type, same_type};
 use cyc_forms::{Given, convert, converted, span_of};
 use cyc_heads::demand_type;
 use cyc_scope::{Meaning, Scope, Settled, Stop, refused};
@@ -174,11 +173,7 @@ fn initialise(
 }
 
 /// A local without an initial value.
-fn uninitialised(
-    scope: &Scope<'_>,
-    written: &WrittenType,
-    name: Ident,
-) -> Result<Initialised, Stop>
+fn uninitialised(scope: &Scope<'_>, written: &WrittenType, name: Ident) -> Result<Initialised, Stop>
     ensures { Gives view_initialised result (run (rule_initial scope.now (view_type written.now) (view_name name) None)) }
 {
     is_local_new(scope, name)?;
@@ -329,12 +324,7 @@ fn local_number(variable: Lvalue) -> usize
 }
 
 /// The region that is opened by what the name of a key means.
-fn opened(
-    scope: &Scope<'_>,
-    region: Ident,
-    handle: Ident,
-    key: Ident,
-) -> Result<typed::Item, Stop>
+fn opened(scope: &Scope<'_>, region: Ident, handle: Ident, key: Ident) -> Result<typed::Item, Stop>
     ensures { Gives typed_view.view_item result (run (opened scope.now (view_name region) (view_name handle) (meaning_of scope.now (view_name key)) (place_of_span key.span))) }
 {
     let number = scope.next_local();
@@ -493,7 +483,13 @@ fn aliased(
                 false,
                 (source.span, of_type),
             )?;
-            Ok(alias_item(scope, own, of_type.share()?, source.span, local_number(target)))
+            Ok(alias_item(
+                scope,
+                own,
+                of_type.share()?,
+                source.span,
+                local_number(target),
+            ))
         }
         Meaning::Counter { .. } => {
             let alias = alias_type(scope, written, &Ty::Int)?;

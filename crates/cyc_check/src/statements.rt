@@ -10,7 +10,10 @@ ghost use Rattle.cyc_types.specs.typing.Statements.{new_name_demanded, behind_it
 ghost use Rattle.cyc_scope.specs.Code.{Gives};
 ghost use Rattle.cyc_check.specs.Walks.{IsBehindItems, behind_block, behind_labelled, behind_clauses, view_boxed_statement, view_clause};
 
-use crate::items::{declare_alias, declare_caught, declare_dynamic, declare_local, is_region_new, open_dynamic, open_lexical};
+use crate::items::{
+    declare_alias, declare_caught, declare_dynamic, declare_local, is_region_new, open_dynamic,
+    open_lexical,
+};
 use crate::statement_forms::{
     caught, check_condition, check_evaluation, check_return, check_swap, check_throw, leaves_loop,
 };
@@ -139,10 +142,7 @@ fn check_labelled(
 
 /// The items of a block, which stays open.
 #[cycle(statement)]
-pub(crate) fn check_items(
-    scope: &mut Scope<'_>,
-    items: &[Item],
-) -> Result<Vec<typed::Item>, Stop>
+pub(crate) fn check_items(scope: &mut Scope<'_>, items: &[Item]) -> Result<Vec<typed::Item>, Stop>
     ensures gives { Gives (λ v. typed_view.items_of v.items) result (run (rule_items scope.old (items_of items.now))) }
     ensures inside { OnOk result (IsBehindItems scope.old (items_of items.now) scope.new) }
 {
@@ -191,10 +191,7 @@ fn check_item(scope: &mut Scope<'_>, item: &Item) -> Result<typed::Item, Stop>
 
 /// The clauses of a catch but for a default one.
 #[cycle(statement)]
-fn check_clauses(
-    scope: &mut Scope<'_>,
-    clauses: &[Clause],
-) -> Result<Vec<typed::Clause>, Stop>
+fn check_clauses(scope: &mut Scope<'_>, clauses: &[Clause]) -> Result<Vec<typed::Clause>, Stop>
     ensures gives { Gives (λ v. typed_view.clauses_of v.items nodes.NoClauses) result (run (rule_clauses scope.old [] (clauses_of clauses.now NoClauses))) }
     ensures behind { OnOk result (scope.new ≡ behind_clauses scope.old (clauses_of clauses.now NoClauses)) }
 {
