@@ -1,0 +1,102 @@
+-- What the source's world and a store have in common while the one is carried out on the other. The store's open regions are the source's
+-- in their order, block for block; live objects stand in live blocks; and nothing is said of what is closed or freed, so that its
+-- addresses and handles may be given out again. (The regions are those of Grossman et al. 2002; the form is this project's own choice.)
+use Rattle.std.specs.Prelude.{◌≡◌, ℕ, ◌<◌, ◌≤◌, Bool, true, false, if◌then◌else◌, List, [], ◌∷◌, length, Option, Some, None, is_some, slice_get}
+use Rattle.cyc_types.specs.declared.typed.Kind.{Kind}
+use Rattle.cyc_store.specs.State as stores
+use Rattle.cyc_store.specs.State.{Memory, Home, sizes_of, StoreState, homes, block_at, room}
+use Rattle.cyc_store.specs.Soundness.{IsSound}
+use Rattle.cyc_store.specs.declared.range.TheConstants.{MOST_PAGES, UNIQUE}
+use Rattle.cyc_meaning.specs.Values.{Cell, kinds_of, block_size}
+use Rattle.cyc_meaning.specs.State.{Sort, Heap, Globals, Stack, Lexical, Dynamic, Region, Owner, InRegion, Unique, Object, World, has_pages}
+use Rattle.cyc_meaning.specs.Objects.{live_in}
+use Rattle.cyc_objects.specs.Tables.{Variable, Placed, Tables}
+use Rattle.cyc_objects.specs.Words.{words_of_kinds, words_from, AreCells}
+
+-- ---- regions
+
+-- what a region is in a store; those of variables are in none
+abbrev pub sort_of : Sort → Option stores.Sort
+sort_of Heap = Some stores.Heap
+sort_of Globals = None
+sort_of Stack = None
+sort_of Lexical = Some stores.Lexical
+sort_of Dynamic = Some stores.Dynamic
+
+-- whether a region is one of the store's now
+abbrev pub has_home : Region → Bool
+has_home r = has_pages r.sort r.is_open
+
+-- a region of the source that is one of the store's
+pub record Matches (handle : ℕ) (r : Region) (home : Home) : Type 0 where
+  pub kept : has_home r ≡ true
+  pub named : home.handle ≡ handle
+  pub sort : sort_of r.sort ≡ Some home.sort
+  pub sizes : sizes_of home.blocks ≡ r.blocks
+
+-- The store has the source's regions in their order, but for those of variables and those that are closed. Each that it has or had has
+-- its handle in the table.
+pub data Regions : List (Option ℕ) → List Region → List Home → Type 0 where
+  no_regions : Regions [] [] []
+  passed : {handle : Option ℕ} {r : Region} {handles : List (Option ℕ)} {regions : List Region} {open_homes : List Home}
+      → has_home r ≡ false → is_some handle ≡ is_some (sort_of r.sort) → Regions handles regions open_homes
+      → Regions (handle ∷ handles) (r ∷ regions) open_homes
+  taken : {handle : ℕ} {r : Region} {home : Home} {handles : List (Option ℕ)} {regions : List Region} {open_homes : List Home}
+      → Matches handle r home → Regions handles regions open_homes
+      → Regions (Some handle ∷ handles) (r ∷ regions) (home ∷ open_homes)
+
+-- ---- where an object lies
+
+abbrev pub stands_there : Option Region → Bool
+stands_there None = false
+stands_there (Some r) = has_home r
+
+abbrev pub entry_of : Option (Option ℕ) → Option ℕ
+entry_of None = None
+entry_of (Some handle) = handle
+
+-- the handle of the region where what has this owner is live; a variable, and what is closed or freed, is in none
+abbrev pub lies_in : (handles : List (Option ℕ)) → List Region → Owner → Option ℕ
+lies_in handles regions (InRegion number) =
+    if stands_there (slice_get regions number) then entry_of (slice_get handles number) else None
+lies_in handles regions (Unique true) = Some UNIQUE
+lies_in handles regions (Unique false) = None
+
+-- the object of this number is live, and lies in the region of this handle
+pub record Alive (t : Tables) (w : World) (number handle : ℕ) (x : Object) : Type 0 where
+  pub at : slice_get w.objects number ≡ Some x
+  pub lies : lies_in t.handles w.regions x.owner ≡ Some handle
+
+-- Cells stand in the block that begins at the address of their row, and the words there are theirs.
+pub record Stands (t : Tables) (rs : List Home) (memory : Memory) (handle number : ℕ) (cells : List Cell) : Type 0 where
+  pub address : ℕ
+  pub row : slice_get t.rows number ≡ Some (Placed address (kinds_of cells))
+  pub found : block_at rs handle address ≡ Some (record { address = address; size = room handle (block_size cells) })
+  pub enough : words_of_kinds (kinds_of cells) ≤ room handle (block_size cells)
+  pub holds : AreCells t cells (words_from memory address) 0
+
+-- ---- the world and the store
+
+-- what a region owns, a region owns that was opened
+abbrev pub Within : (regions : ℕ) → Owner → Type 0
+Within regions (InRegion number) = number < regions
+Within regions (Unique live) = Unit {0}
+
+pub record Related (t : Tables) (w : World) (s : StoreState) : Type 0 where
+  pub sound : IsSound s
+  pub few : s.pages ≤ MOST_PAGES
+  pub rows : length t.rows ≡ length w.objects
+  pub regions : Regions t.handles w.regions s.regions
+  pub classes : s.classes ≡ w.classes
+  pub uniques : (class : ℕ) → stores.live_in class s.unique ≡ live_in class w.objects
+  pub owned : (number : ℕ) (x : Object) → slice_get w.objects number ≡ Some x → Within (length w.regions) x.owner
+  -- rows have the kinds of cells for good, also where the object is no more
+  pub shapes : (number address : ℕ) (kinds : List Kind) (x : Object) → slice_get w.objects number ≡ Some x
+      → slice_get t.rows number ≡ Some (Placed address kinds) → kinds ≡ kinds_of x.cells
+  -- what is in a region of variables is a variable
+  pub variables : (number region : ℕ) (x : Object) → slice_get w.objects number ≡ Some x → x.owner ≡ InRegion region
+      → slice_get t.handles region ≡ Some None → slice_get t.rows number ≡ Some Variable
+  pub objects : (number handle : ℕ) (x : Object) → Alive t w number handle x → Stands t (homes s) s.memory handle number x.cells
+  -- no two live objects begin at one address
+  pub alone : (number other handle beside address : ℕ) (x y : Object) (ks ls : List Kind) → Alive t w number handle x → Alive t w other beside y
+      → slice_get t.rows number ≡ Some (Placed address ks) → slice_get t.rows other ≡ Some (Placed address ls) → number ≡ other
