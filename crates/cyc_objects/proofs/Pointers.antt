@@ -1,0 +1,295 @@
+-- Pointers and their words: conversions, tests for null, and arithmetic. All of it holds of pointers to what is no more, too.
+use Rattle.std.proofs.Common.{◌≡◌, ℕ, zero, suc, ◌+◌, ◌-◌, ◌*◌, ◌^◌, ◌<◌, ◌≤◌, Bool, true, false, not, List, [], ◌∷◌, length, Option, None, Some, refl, sym, ap, subst, ◌∙◌, inl, inr, arith, add-zero}
+use Rattle.std.specs.Prelude.{◌==◌, ◌≢◌, ◌⊎◌, nat_le, if◌then◌else◌, slice_get}
+use Rattle.std.proofs.lemmas.Bool.{cases_eq, cond-true, cond-false}
+use Rattle.cyc_types.specs.declared.typed.Kind.{Kind}
+use Rattle.cyc_types.specs.declared.typed.Kind.TheVariants as kinds
+use Rattle.cyc_store.specs.State.{put}
+use Rattle.cyc_store.specs.declared.range.TheConstants.{STORE_BASE}
+use Rattle.cyc_store.proofs.LookupLemmas.{when_equal, when_other, same_some}
+use Rattle.cyc_meaning.specs.Values.{Value, Int, Null, Thin, Fat, Handle, Key, is_thin, words_of_kind, Cell, blank, kinds_of}
+use Rattle.cyc_meaning.specs.Operators.{Result, Gives, Raises, truth}
+use Rattle.cyc_meaning.specs.Pointers.{moved, element_count, null_test}
+use Rattle.cyc_meaning.specs.Conversion.{conversion}
+use Rattle.cyc_meaning.specs.Allocation.{blanks}
+use Rattle.cyc_objects.specs.Tables.{Row, Placed, Tables}
+use Rattle.cyc_objects.specs.Words.{words_of_kinds, before, InRange, Points, IsPartOf, Is}
+use Rattle.cyc_objects.proofs.NumberLemmas.{slice_get-there}
+use Rattle.cyc_objects.proofs.Values.{kind-some, before-inside, before-all, before-part, Is-same}
+
+pub same-row : {o : Option Row} {a b : ℕ} {ks ls : List Kind} → o ≡ Some (Placed a ks) → o ≡ Some (Placed b ls) → (a ≡ b) × (ks ≡ ls)
+same-row {o} {a} {b} {ks} {ls} p q = let e : Placed a ks ≡ Placed b ls = same_some (sym p ∙ q) in (cc, cc)
+
+module _ {t : Tables} where
+  -- ---- addresses
+
+  -- a pointer to a cell is not 0, whether its object is live or not
+  pub not-null : {o k w : ℕ} → Points t o k w → w ≢ 0
+  not-null p e =
+      let low : 536870912 ≤ p.address = p.range.low in
+      let at : _ ≡ p.address + 4 * before _ p.kinds = p.at in
+      omega (arith, low, at, e)
+
+  pub part-not-null : {o start n w : ℕ} → IsPartOf t o start n w → w ≢ 0
+  part-not-null p e =
+      let low : 536870912 ≤ p.address = p.range.low in
+      let at : _ ≡ p.address + 4 * before _ p.kinds = p.at in
+      omega (arith, low, at, e)
+
+  -- a cell has one address
+  pub one_address : {o k v w : ℕ} → Points t o k v → Points t o k w → v ≡ w
+  one_address {o} {k} p q =
+      let (same, kinds) = same-row p.row q.row in
+      p.at ∙ (ap (λ a. a + 4 * before k p.kinds) same ∙ (ap (λ ks. q.address + 4 * before k ks) kinds ∙ sym q.at))
+
+  -- an address is a word
+  pub pointer-word : {o k w : ℕ} → Points t o k w → w < 2 ^ 32
+  pointer-word {o} {k} {w} p =
+      let high : p.address + 4 * words_of_kinds p.kinds < 4294967296 = p.range.high in
+      let at : w ≡ p.address + 4 * before k p.kinds = p.at in
+      let all : before k p.kinds ≤ words_of_kinds p.kinds = before-all p.kinds k in
+      omega (arith, high, at, all)
+
+  -- ---- from one pointer to another
+
+  -- the cell that a fat pointer stands at, where its index is below its length
+  pub thinned : {o start n w : ℕ} (i : ℕ) (part : IsPartOf t o start n w) → i < n → Points t o (start + i) (w + 4 * (i * words_of_kind part.kind))
+  thinned {o} {start} {n} {w} i part below = record {
+    address = part.address;
+    kinds = part.kinds;
+    row = part.row;
+    range = part.range;
+    inside = let inside : start + n ≤ length part.kinds = part.inside in omega (arith, inside, below);
+    at =
+        let at : w ≡ part.address + 4 * before start part.kinds = part.at in
+        let far : before (start + i) part.kinds ≡ before start part.kinds + i * words_of_kind part.kind =
+        before-part part.kinds part.kind start i (λ j less. part.even j (omega (arith, less, below))) in
+        away w part.address (before start part.kinds) (before (start + i) part.kinds) (i * words_of_kind part.kind) at far;
+  }
+    where
+      away : (w a b c d : ℕ) → w ≡ a + 4 * b → c ≡ b + d → w + 4 * d ≡ a + 4 * c
+      away w a b c d at far = omega (arith, at, far)
+
+  -- a thin pointer as a part of one cell
+  pub part-of-cell : {o k w : ℕ} → Points t o k w → IsPartOf t o k 1 w
+  part-of-cell {o} {k} p =
+      let (kind, there) = slice_get-there p.kinds k p.inside in
+      record {
+        address = p.address;
+        kinds = p.kinds;
+        row = p.row;
+        range = p.range;
+        kind = kind;
+        even = λ i below. ap (slice_get p.kinds) (only k i below) ∙ there;
+        inside = let inside : k < length p.kinds = p.inside in omega (arith, inside);
+        at = p.at;
+      }
+    where
+      only : (k i : ℕ) → i < 1 → k + i ≡ k
+      only k i below = omega (arith, below)
+
+  -- the cells of an object, from the address of its first one
+  pub member-points : {o w : ℕ} (p : Points t o 0 w) (field : ℕ) → field < length p.kinds → Points t o field (w + 4 * before field p.kinds)
+  member-points {o} {w} p field inside = record {
+    address = p.address;
+    kinds = p.kinds;
+    row = p.row;
+    range = p.range;
+    inside = inside;
+    at = ap (λ n. n + 4 * before field p.kinds) (p.at ∙ add-zero p.address);
+  }
+
+  -- ---- pointers to a new object
+
+  -- to its first cell, where it has one
+  pub first-points : (o a : ℕ) (kind : Kind) (ks : List Kind) → slice_get t.rows o ≡ Some (Placed a (kind ∷ ks)) → InRange a (kind ∷ ks) → Points t o 0 a
+  first-points o a kind ks row range = record {
+    address = a;
+    kinds = kind ∷ ks;
+    row = row;
+    range = range;
+    inside = omega arith;
+    at = sym (add-zero a);
+  }
+
+  -- to all the cells of an array
+  pub whole-part : (o a count : ℕ) (kind : Kind) → slice_get t.rows o ≡ Some (Placed a (kinds_of (blanks count kind)))
+      → InRange a (kinds_of (blanks count kind)) → IsPartOf t o 0 count a
+  whole-part o a count kind row range = record {
+    address = a;
+    kinds = kinds_of (blanks count kind);
+    row = row;
+    range = range;
+    kind = kind;
+    even = λ i below. ap (slice_get (kinds_of (blanks count kind))) (from_zero i) ∙ each count i below;
+    inside = all count;
+    at = sym (add-zero a);
+  }
+    where
+      from_zero : (i : ℕ) → 0 + i ≡ i
+      from_zero i = omega arith
+
+      each : (count i : ℕ) → i < count → slice_get (kinds_of (blanks count kind)) i ≡ Some kind
+      each zero i below = absurd (omega (arith, below))
+      each (suc count) zero below = refl
+      each (suc count) (suc i) below = each count i (omega (arith, below))
+
+      all : (count : ℕ) → 0 + count ≤ length (kinds_of (blanks count kind))
+      all zero = omega arith
+      all (suc count) = let rest : 0 + count ≤ length (kinds_of (blanks count kind)) = all count in omega (arith, rest)
+
+-- ---- what the checks say
+
+same_value : {u v : Value} → Gives u ≡ Gives v → u ≡ v
+same_value {u} {v} e = cc
+
+test_zero : (negated : Bool) (w : ℕ) → w ≡ 0 → Gives (Int (truth (not negated))) ≡ Gives (Int (truth (if w == 0 then not negated else negated)))
+test_zero negated w none = ap (λ b. Gives (Int (truth b))) (sym (when_equal w 0 (not negated) negated none))
+
+test_other : (negated : Bool) (w : ℕ) → w ≢ 0 → Gives (Int (truth negated)) ≡ Gives (Int (truth (if w == 0 then not negated else negated)))
+test_other negated w some = ap (λ b. Gives (Int (truth b))) (sym (when_other w 0 (not negated) negated some))
+
+module _ (t : Tables) where
+  -- ---- thin pointers
+
+  pub data ThinIs (kind : Kind) (word : ℕ) : Value → Type 0 where
+    thin_null : kind ≡ kinds.Nullable → word ≡ 0 → ThinIs kind word Null
+    thin_cell : (object offset : ℕ) → Points t object offset word → ThinIs kind word (Thin object offset)
+
+  -- a thin pointer is null and its word 0, or its word is the address of its cell
+  pub thin-is : (kind : Kind) (v : Value) (m : ℕ → ℕ) (p : ℕ) → is_thin kind ≡ true → Is t kind v m p → ThinIs kind (m p) v
+  thin-is kinds.Nullable Null m p thin is = thin_null refl is
+  thin-is kinds.Nullable (Thin o k) m p thin is = thin_cell o k is
+  thin-is kinds.Nullable v m p thin is = absurd is
+  thin-is kinds.NonNull (Thin o k) m p thin is = thin_cell o k is
+  thin-is kinds.NonNull v m p thin is = absurd is
+  thin-is kind v m p thin is = absurd (let e : false ≡ true = thin in cc)
+
+  from_thin : (kind to : Kind) (u v : Value) (n : ℕ → ℕ) (w q : ℕ) → is_thin to ≡ true → ThinIs kind w v → conversion to v ≡ Gives u → n q ≡ w → Is t to u n q
+  from_thin kind kinds.Nullable u v n w q thin (thin_null is none) e same = subst (λ x. Is t kinds.Nullable x n q) (same_value e) (same ∙ none)
+  from_thin kind kinds.Nullable u v n w q thin (thin_cell o k p) e same =
+      subst (λ x. Is t kinds.Nullable x n q) (same_value e) (subst (Points t o k) (sym same) p)
+  from_thin kind kinds.NonNull u v n w q thin (thin_null is none) e same = absurd (let k : Raises 1 ≡ Gives u = e in cc)
+  from_thin kind kinds.NonNull u v n w q thin (thin_cell o k p) e same =
+      subst (λ x. Is t kinds.NonNull x n q) (same_value e) (subst (Points t o k) (sym same) p)
+  from_thin kind to u v n w q thin is e same = absurd (let k : false ≡ true = thin in cc)
+
+  -- a thin pointer to a thin one: its word stays
+  pub thin-to_thin : (from to : Kind) (v u : Value) (m n : ℕ → ℕ) (p q : ℕ) → is_thin from ≡ true → is_thin to ≡ true → Is t from v m p
+      → conversion to v ≡ Gives u → n q ≡ m p → Is t to u n q
+  thin-to_thin from to v u m n p q thin also is e same = from_thin from to u v n (m p) q also (thin-is from v m p thin is) e same
+
+  to_fat : (kind : Kind) (u v : Value) (n : ℕ → ℕ) (w q : ℕ) → ThinIs kind w v → conversion kinds.Fat v ≡ Gives u → n q ≡ w → n (q + 1) ≡ 1 → n (q + 2) ≡ 0
+      → Is t kinds.Fat u n q
+  to_fat kind u v n w q (thin_null is none) e same one last = subst (λ x. Is t kinds.Fat x n q) (same_value e) (same ∙ none)
+  to_fat kind u v n w q (thin_cell o k p) e same one last =
+      subst (λ x. Is t kinds.Fat x n q) (same_value e) (subst (IsPartOf t o k 1) (sym same) (part-of-cell p), one, last)
+
+  -- a thin pointer to a fat one: one cell, and the index 0; what stands behind a null pointer is not asked
+  pub thin-to_fat : (from : Kind) (v u : Value) (m n : ℕ → ℕ) (p q : ℕ) → is_thin from ≡ true → Is t from v m p → conversion kinds.Fat v ≡ Gives u
+      → n q ≡ m p → n (q + 1) ≡ 1 → n (q + 2) ≡ 0 → Is t kinds.Fat u n q
+  thin-to_fat from v u m n p q thin is e same one last = to_fat from u v n (m p) q (thin-is from v m p thin is) e same one last
+
+  -- ---- fat pointers
+
+  pub data FatIs (word count index : ℕ) : Value → Type 0 where
+    fat_null : word ≡ 0 → FatIs word count index Null
+    fat_part : (object start : ℕ) → IsPartOf t object start count word → FatIs word count index (Fat object start count index)
+
+  -- a fat pointer is null and its first word 0, or its words are the address of its part, its length and its index
+  pub fat-is : (v : Value) (m : ℕ → ℕ) (p : ℕ) → Is t kinds.Fat v m p → FatIs (m p) (m (p + 1)) (m (p + 2)) v
+  fat-is Null m p is = fat_null is
+  fat-is (Fat o start n i) m p is =
+      subst (λ c. FatIs (m p) (m (p + 1)) (m (p + 2)) (Fat o start c i)) is.1
+      (subst (λ j. FatIs (m p) (m (p + 1)) (m (p + 2)) (Fat o start (m (p + 1)) j)) is.2
+      (fat_part o start (subst (λ c. IsPartOf t o start c (m p)) (sym is.1) is.0)))
+  fat-is v m p is = absurd is
+
+  pub fat-part_is : {o start count index : ℕ} (n : ℕ → ℕ) (q : ℕ) → IsPartOf t o start count (n q) → n (q + 1) ≡ count → n (q + 2) ≡ index
+      → Is t kinds.Fat (Fat o start count index) n q
+  fat-part_is n q part many at = (part, many, at)
+
+  move_fat : (change : ℕ → ℕ) (v u : Value) (n : ℕ → ℕ) (w count index q : ℕ) → FatIs w count index v → moved change v ≡ Gives u
+      → n q ≡ w → n (q + 1) ≡ count → n (q + 2) ≡ change index → Is t kinds.Fat u n q
+  move_fat change v u n w count index q (fat_null none) e same many at = subst (λ x. Is t kinds.Fat x n q) (same_value e) (same ∙ none)
+  move_fat change v u n w count index q (fat_part o start part) e same many at =
+      subst (λ x. Is t kinds.Fat x n q) (same_value e) (subst (IsPartOf t o start count) (sym same) part, many, at)
+
+  -- arithmetic changes the index alone; that of a null pointer may become anything
+  pub fat-moved : (change : ℕ → ℕ) (v u : Value) (m n : ℕ → ℕ) (p q : ℕ) → Is t kinds.Fat v m p → moved change v ≡ Gives u
+      → n q ≡ m p → n (q + 1) ≡ m (p + 1) → n (q + 2) ≡ change (m (p + 2)) → Is t kinds.Fat u n q
+  fat-moved change v u m n p q is e same many at =
+      move_fat change v u n (m p) (m (p + 1)) (m (p + 2)) q (fat-is v m p is) e same many at
+
+  count_fat : (v : Value) (w count index : ℕ) → FatIs w count index v
+      → element_count v ≡ Gives (Int (if w == 0 then 0 else if nat_le index count then count - index else 0))
+  count_fat v w count index (fat_null none) =
+      ap (λ n. Gives (Int n)) (sym (when_equal w 0 0 (if nat_le index count then count - index else 0) none))
+  count_fat v w count index (fat_part o start part) =
+      ap (λ n. Gives (Int n)) (sym (when_other w 0 0 (if nat_le index count then count - index else 0) (part-not-null part)))
+
+  -- the number of elements by the words
+  pub fat-count : (v : Value) (m : ℕ → ℕ) (p : ℕ) → Is t kinds.Fat v m p
+      → element_count v ≡ Gives (Int (if m p == 0 then 0 else if nat_le (m (p + 2)) (m (p + 1)) then m (p + 1) - m (p + 2) else 0))
+  fat-count v m p is = count_fat v (m p) (m (p + 1)) (m (p + 2)) (fat-is v m p is)
+
+  -- the cell that a fat pointer stands at, by its words, where its index is below its length
+  pub fat-to_thin : {o start count index : ℕ} (kind : Kind) (m n : ℕ → ℕ) (p q : ℕ) (part : IsPartOf t o start count (m p)) → index < count
+      → part.kind ≡ kind → n q ≡ m p + 4 * (index * words_of_kind kind) → Points t o (start + index) (n q)
+  fat-to_thin {o} {start} {count} {index} kind m n p q part below same at =
+      subst (Points t o (start + index)) (ap (λ k. m p + 4 * (index * words_of_kind k)) same ∙ sym at) (thinned index part below)
+
+  -- ---- tests for null
+
+  test_thin : (negated : Bool) (kind : Kind) (v : Value) (w : ℕ) → ThinIs kind w v → null_test negated v ≡ Gives (Int (truth (if w == 0 then not negated else negated)))
+  test_thin negated kind v w (thin_null is none) = test_zero negated w none
+  test_thin negated kind v w (thin_cell o k p) = test_other negated w (not-null p)
+
+  test_fat : (negated : Bool) (v : Value) (w count index : ℕ) → FatIs w count index v
+      → null_test negated v ≡ Gives (Int (truth (if w == 0 then not negated else negated)))
+  test_fat negated v w count index (fat_null none) = test_zero negated w none
+  test_fat negated v w count index (fat_part o start part) = test_other negated w (part-not-null part)
+
+  -- a pointer is null where its first word is 0
+  pub thin-null_test : (negated : Bool) (kind : Kind) (v : Value) (m : ℕ → ℕ) (p : ℕ) → is_thin kind ≡ true → Is t kind v m p
+      → null_test negated v ≡ Gives (Int (truth (if m p == 0 then not negated else negated)))
+  thin-null_test negated kind v m p thin is = test_thin negated kind v (m p) (thin-is kind v m p thin is)
+
+  pub fat-null_test : (negated : Bool) (v : Value) (m : ℕ → ℕ) (p : ℕ) → Is t kinds.Fat v m p
+      → null_test negated v ≡ Gives (Int (truth (if m p == 0 then not negated else negated)))
+  fat-null_test negated v m p is = test_fat negated v (m p) (m (p + 1)) (m (p + 2)) (fat-is v m p is)
+
+-- ---- one word more
+
+-- a word that is put elsewhere changes no value
+pub Is-put_other : (t : Tables) (kind : Kind) (v : Value) (m : ℕ → ℕ) (p x w : ℕ) → ((j : ℕ) → j < words_of_kind kind → p + j ≢ x)
+    → Is t kind v m p → Is t kind v (put m x w) p
+Is-put_other t kind v m p x w other is = Is-same t kind v m (put m x w) p p (λ j below. when_other (p + j) x w (m (p + j)) (other j below)) is
+
+-- a value of one word is put
+pub Is-put : (t : Tables) (kind : Kind) (v : Value) (m : ℕ → ℕ) (p w : ℕ) → words_of_kind kind ≡ 1 → Is t kind v (λ j. w) 0 → Is t kind v (put m p w) p
+Is-put t kind v m p w one is = Is-same t kind v (λ j. w) (put m p w) 0 p (λ j below. when_equal (p + j) p w (m (p + j)) (only p j (subst (λ n. j < n) one below))) is
+  where
+    only : (p j : ℕ) → j < 1 → p + j ≡ p
+    only p j below = omega (arith, below)
+
+-- a fat pointer, whose three words are put one by one
+pub Is-put_three : (t : Tables) (v : Value) (m : ℕ → ℕ) (p a b c : ℕ) → Is t kinds.Fat v (λ j. if j == 0 then a else if j == 1 then b else c) 0
+    → Is t kinds.Fat v (put (put (put m (p + 2) c) (p + 1) b) p a) p
+Is-put_three t v m p a b c is = Is-same t kinds.Fat v (λ j. if j == 0 then a else if j == 1 then b else c) (put (put (put m (p + 2) c) (p + 1) b) p a) 0 p each is
+  where
+    far : (d : ℕ) → 0 < d → p + d ≢ p
+    far d some e = omega (arith, some, e)
+
+    two : p + 2 ≢ p + 1
+    two e = omega (arith, e)
+
+    each : (j : ℕ) → j < 3 → put (put (put m (p + 2) c) (p + 1) b) p a (p + j) ≡ (if 0 + j == 0 then a else if 0 + j == 1 then b else c)
+    each zero below = when_equal (p + 0) p a (put (put m (p + 2) c) (p + 1) b (p + 0)) (add-zero p)
+    each (suc zero) below =
+        when_other (p + 1) p a (put (put m (p + 2) c) (p + 1) b (p + 1)) (far 1 (omega arith))
+        ∙ when_equal (p + 1) (p + 1) b (put m (p + 2) c (p + 1)) refl
+    each (suc (suc zero)) below =
+        when_other (p + 2) p a (put (put m (p + 2) c) (p + 1) b (p + 2)) (far 2 (omega arith))
+        ∙ (when_other (p + 2) (p + 1) b (put m (p + 2) c (p + 2)) two ∙ when_equal (p + 2) (p + 2) c (m (p + 2)) refl)
+    each (suc (suc (suc j))) below = absurd (omega (arith, below))
