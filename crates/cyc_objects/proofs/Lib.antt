@@ -1,3 +1,4 @@
 pub mod NumberLemmas
 pub mod Values
 pub mod Pointers
+pub mod RegionLemmas
