@@ -1,0 +1,310 @@
+-- Cells of live objects: their words can be read and are theirs, and one is written.
+use Rattle.std.proofs.Common.{◌≡◌, ℕ, zero, suc, ◌+◌, ◌*◌, ◌<◌, ◌≤◌, max, Bool, true, false, List, [], ◌∷◌, length, map, set, Option, None, Some, is_some, refl, sym, ap, subst, ◌∙◌, inl, inr, arith, add-zero, length-set}
+use Rattle.std.specs.Prelude.{◌==◌, ◌≢◌, ◌⊎◌, if◌then◌else◌, ◌&&◌, slice_get}
+use Rattle.std.proofs.Math.Nat.{le-max_right}
+use Rattle.std.proofs.lemmas.Bool.{cases_eq, cases_Bool, cond-true, cond-false}
+use Rattle.cyc_types.specs.declared.typed.Kind.{Kind}
+use Rattle.cyc_words.specs.Demand.{class_of}
+use Rattle.cyc_store.specs.State.{Memory, put, AreWords, Block, StoreState, homes, covers, block_at, word_at, has_saved, saved, room}
+use Rattle.cyc_store.specs.Soundness.{IsSound}
+use Rattle.cyc_store.specs.declared.range.TheConstants.{UNIQUE}
+use Rattle.cyc_store.proofs.LookupLemmas.{when_equal, when_other, cases_option, not_both, same_some}
+use Rattle.cyc_store.proofs.HolderLemmas.{covers_from}
+use Rattle.cyc_store.proofs.ServiceLemmas.{word-live, one_block}
+use Rattle.cyc_meaning.specs.Values.{Value, words_of_kind, Cell, kinds_of, words_of_cells, block_size}
+use Rattle.cyc_meaning.specs.State.{Owner, InRegion, Unique, Object, World, Access, Found, Closed, Missing, Located, located, is_open, is_live, cell_in, cell_at, Region, has_pages, written}
+use Rattle.cyc_meaning.specs.Objects.{class_of_cells, is_live_in, live_in}
+use Rattle.cyc_meaning.proofs.ListLemmas.{map-set}
+use Rattle.cyc_meaning.proofs.WorldLaws.{cell_found}
+use Rattle.cyc_objects.specs.Tables.{Row, Variable, Placed, Tables}
+use Rattle.cyc_objects.specs.Words.{words_of_kinds, before, words_from, Points, Is, IsContent, AreCells}
+use Rattle.cyc_objects.specs.Related.{sort_of, has_home, Regions, lies_in, Alive, Stands, Within, Related}
+use Rattle.cyc_objects.proofs.NumberLemmas.{slice_get-below, slice_get-set_same, slice_get-set_cases, slice_get-map}
+use Rattle.cyc_objects.proofs.Values.{words-kinds, before-inside, Is-same, IsContent-same, AreCells-same}
+use Rattle.cyc_objects.proofs.Pointers.{same-row}
+use Rattle.cyc_objects.proofs.RegionLemmas.{sort-some, entry-found, lies-from}
+
+-- ---- what is there is live, or a variable
+
+pub not-placed : {o : Option Row} {a : ℕ} {ks : List Kind} → o ≡ Some Variable → o ≡ Some (Placed a ks) → ⊥
+not-placed {o} {a} {ks} p q = let e : Variable ≡ Placed a ks = same_some (sym p ∙ q) in cc
+
+module _ {t : Tables} {w : World} {s : StoreState} (related : Related t w s) where
+  live-lies : (owner : Owner) → is_live w owner ≡ true
+      → ((h : ℕ) × (lies_in t.handles w.regions owner ≡ Some h)) ⊎ ((n : ℕ) × (owner ≡ InRegion n) × (slice_get t.handles n ≡ Some None))
+  live-lies (InRegion n) live = elim (cases_option (slice_get w.regions n)) [
+    | inl none ↦ absurd (let e : false ≡ true = sym (ap is_open none) ∙ live in cc)
+    | inr (r, there) ↦
+        let (h, entry, same) = entry-found related.regions n r there in
+        by r there (sym (ap is_open there) ∙ live) h entry same
+  ]
+    where
+      by : (r : Region) → slice_get w.regions n ≡ Some r → r.is_open ≡ true → (h : Option ℕ) → slice_get t.handles n ≡ Some h → is_some h ≡ is_some (sort_of r.sort)
+          → ((h : ℕ) × (lies_in t.handles w.regions (InRegion n) ≡ Some h)) ⊎ ((m : ℕ) × (InRegion n ≡ InRegion m) × (slice_get t.handles m ≡ Some None))
+      by r there is None entry same = inr (n, refl, entry)
+      by r there is (Some h) entry same = inl (h, lies-from t.handles w.regions n h r there (subst (λ (b : Bool). has_pages r.sort b ≡ true) (sym is) (sort-some r.sort (sym same))) entry)
+  live-lies (Unique true) live = inl (UNIQUE, refl)
+  live-lies (Unique false) live = absurd (let e : false ≡ true = live in cc)
+
+  is-live-found : (o k : ℕ) (x : Object) (at : Located) → cell_at w o k ≡ Found at → slice_get w.objects o ≡ Some x → is_live w x.owner ≡ true
+  is-live-found o k x at found there = elim (cases_Bool (is_live w x.owner)) [
+    | inl live ↦ live
+    | inr dead ↦ absurd (
+        let e : Closed ≡ Found at =
+        sym (cond-false (is_live w x.owner) (located x (slice_get x.cells k)) Closed dead) ∙ (sym (ap (λ q. cell_in w q k) there) ∙ found) in
+        cc)
+  ]
+
+  -- a cell that is there, and that a pointer leads to, is one of a live object
+  pub found-alive : (o k p : ℕ) (at : Located) → cell_at w o k ≡ Found at → Points t o k p
+      → (h : ℕ) × Alive t w o h at.object × (slice_get at.object.cells k ≡ Some at.cell)
+  found-alive o k p at found points =
+      let (there, cell) = cell_found w o k at found in
+      elim (live-lies at.object.owner (is-live-found o k at.object at found there)) [
+        | inl (h, lies) ↦ (h, record { at = there; lies = lies }, cell)
+        | inr (n, owner, entry) ↦ absurd (not-placed (related.variables o n at.object there owner entry) points.row)
+      ]
+
+  -- a variable is no live object of the store
+  pub variable-alone : (o h : ℕ) (x : Object) → slice_get t.rows o ≡ Some Variable → Alive t w o h x → ⊥
+  variable-alone o h x row alive = let st : Stands t (homes s) s.memory h o x.cells = related.objects o h x alive in not-placed row st.row
+
+-- ---- one of several cells
+
+module _ (t : Tables) where
+  pub cell-among : (cells : List Cell) (m : ℕ → ℕ) (p k : ℕ) (c : Cell) → AreCells t cells m p → slice_get cells k ≡ Some c
+      → IsContent t c.kind c.content m (p + before k (kinds_of cells))
+  cell-among [] m p k c are found = absurd (let e : None ≡ Some c = found in cc)
+  cell-among (a ∷ cells) m p zero c are found =
+      subst (λ n. IsContent t c.kind c.content m n) (sym (add-zero p)) (subst (λ (z : Cell). IsContent t z.kind z.content m p) (same_some found) are.0)
+  cell-among (a ∷ cells) m p (suc k) c are found =
+      subst (λ n. IsContent t c.kind c.content m n) (behind p (words_of_kind a.kind) (before k (kinds_of cells)))
+      (cell-among cells m (p + words_of_kind a.kind) k c are.1 found)
+    where
+      behind : (a b c : ℕ) → a + b + c ≡ a + (b + c)
+      behind a b c = omega arith
+
+  pub cells-set : (cells : List Cell) (m n : ℕ → ℕ) (p k : ℕ) (c : Cell) (v : Value) → AreCells t cells m p → slice_get cells k ≡ Some c
+      → Is t c.kind v n (p + before k (kinds_of cells))
+      → ((j : ℕ) → j < words_of_cells cells → (before k (kinds_of cells) ≤ j → j < before k (kinds_of cells) + words_of_kind c.kind → ⊥) → n (p + j) ≡ m (p + j))
+      → AreCells t (set cells k (record c { content = Some v })) n p
+  cells-set [] m n p k c v are found is same = absurd (let e : None ≡ Some c = found in cc)
+  cells-set (a ∷ cells) m n p zero c v are found is same =
+      let kind : words_of_kind a.kind ≡ words_of_kind c.kind = ap (λ (z : Cell). words_of_kind z.kind) (same_some found) in (
+        subst (λ i. Is t c.kind v n i) (add-zero p) is,
+        subst (λ i. AreCells t cells n (p + i)) kind
+            (AreCells-same t cells m n (p + words_of_kind a.kind) (p + words_of_kind a.kind)
+            (λ j below.
+            ap n (behind p (words_of_kind a.kind) j)
+            ∙ (same (words_of_kind a.kind + j) (omega (arith, below)) (λ low high. absurd (omega (arith, kind, high)))
+            ∙ ap m (sym (behind p (words_of_kind a.kind) j))))
+            are.1),
+      )
+    where
+      behind : (a b j : ℕ) → a + b + j ≡ a + (b + j)
+      behind a b j = omega arith
+  cells-set (a ∷ cells) m n p (suc k) c v are found is same = (
+    IsContent-same t a.kind a.content m n p p (λ j below. same j (omega (arith, below)) (λ low high. absurd (omega (arith, below, low)))) are.0,
+    cells-set cells m n (p + words_of_kind a.kind) k c v are.1 found
+        (subst (λ i. Is t c.kind v n i) (sym (behind p (words_of_kind a.kind) (before k (kinds_of cells)))) is)
+        (λ j below out.
+        ap n (behind p (words_of_kind a.kind) j)
+        ∙ (same (words_of_kind a.kind + j) (omega (arith, below)) (λ low high. out (omega (arith, low)) (omega (arith, high)))
+        ∙ ap m (sym (behind p (words_of_kind a.kind) j)))),
+  )
+    where
+      behind : (a b j : ℕ) → a + b + j ≡ a + (b + j)
+      behind a b j = omega arith
+
+-- ---- how many unique objects of a class are live
+
+-- where an object is replaced by one of its owner and size
+class-same : (class : ℕ) (owner : Owner) (cells others : List Cell) → block_size cells ≡ block_size others
+    → is_live_in class owner cells ≡ is_live_in class owner others
+class-same class (InRegion n) cells others same = refl
+class-same class (Unique live) cells others same = ap (λ n. live && class_of n == class) same
+
+pub live_in-set : (class : ℕ) (xs : List Object) (o : ℕ) (x y : Object) → slice_get xs o ≡ Some x → y.owner ≡ x.owner → block_size y.cells ≡ block_size x.cells
+    → live_in class (set xs o y) ≡ live_in class xs
+live_in-set class [] o x y there owner same = refl
+live_in-set class (a ∷ xs) zero x y there owner same =
+    ap (λ (b : Bool). if b then suc (live_in class xs) else live_in class xs)
+    (ap (λ z. is_live_in class z y.cells) owner
+    ∙ (class-same class x.owner y.cells x.cells same ∙ ap (λ (z : Object). is_live_in class z.owner z.cells) (sym (same_some there))))
+live_in-set class (a ∷ xs) (suc o) x y there owner same =
+    ap (λ n. if is_live_in class a.owner a.cells then suc n else n) (live_in-set class xs o x y there owner same)
+
+-- ---- a cell of a live object
+
+module _ {t : Tables} {w : World} {s : StoreState} (related : Related t w s) {o h k p : ℕ} {x : Object} {c : Cell}
+    (alive : Alive t w o h x) (points : Points t o k p) (at : slice_get x.cells k ≡ Some c) where
+  stands : Stands t (homes s) s.memory h o x.cells
+  stands = related.objects o h x alive
+
+  abbrev block : Block
+  block = record { address = stands.address; size = room h (block_size x.cells) }
+
+  place : p ≡ stands.address + 4 * before k (kinds_of x.cells)
+  place =
+      let (same, kinds) = same-row points.row stands.row in
+      points.at ∙ (ap (λ a. a + 4 * before k points.kinds) same ∙ ap (λ ks. stands.address + 4 * before k ks) kinds)
+
+  inside : before k (kinds_of x.cells) + words_of_kind c.kind ≤ room h (block_size x.cells)
+  inside =
+      let first : before k (kinds_of x.cells) + words_of_kind c.kind ≤ words_of_kinds (kinds_of x.cells) =
+      before-inside (kinds_of x.cells) k c.kind (slice_get-map (λ (z : Cell). z.kind) x.cells k c at) in
+      let enough : words_of_kinds (kinds_of x.cells) ≤ room h (block_size x.cells) = stands.enough in
+      omega (arith, first, enough)
+
+  far : (j : ℕ) → p + 4 * j ≡ stands.address + 4 * (before k (kinds_of x.cells) + j)
+  far j = let e : p ≡ stands.address + 4 * before k (kinds_of x.cells) = place in omega (arith, e)
+
+  -- each of its words can be read
+  pub cell-live : (j : ℕ) → j < words_of_kind c.kind → word_at s (p + 4 * j) ≡ Some (s.memory (p + 4 * j))
+  cell-live j below =
+      subst (λ n. word_at s n ≡ Some (s.memory n)) (sym (far j))
+      (word-live s related.sound h stands.address (before k (kinds_of x.cells) + j) block stands.found
+      (let bound : before k (kinds_of x.cells) + words_of_kind c.kind ≤ room h (block_size x.cells) = inside in omega (arith, below, bound)))
+
+  -- and they are what it holds
+  pub cell-read : IsContent t c.kind c.content (words_from s.memory p) 0
+  cell-read =
+      IsContent-same t c.kind c.content (words_from s.memory stands.address) (words_from s.memory p) (0 + before k (kinds_of x.cells)) 0
+      (λ j below. ap s.memory (from j))
+      (cell-among t x.cells (words_from s.memory stands.address) 0 k c stands.holds at)
+    where
+      from : (j : ℕ) → p + 4 * (0 + j) ≡ stands.address + 4 * (0 + before k (kinds_of x.cells) + j)
+      from j = let e : p ≡ stands.address + 4 * before k (kinds_of x.cells) = place in omega (arith, e)
+
+  -- no word of another live object is one of these
+  apart : (i g j l : ℕ) (y : Object) → Alive t w i g y → (other : Stands t (homes s) s.memory g i y.cells) → i ≢ o
+      → j < room g (block_size y.cells) → l < words_of_kind c.kind → other.address + 4 * j ≢ p + 4 * l
+  apart i g j l y beside other away below short e =
+      let bound : before k (kinds_of x.cells) + words_of_kind c.kind ≤ room h (block_size x.cells) = inside in
+      let at : p + 4 * l ≡ stands.address + 4 * (before k (kinds_of x.cells) + l) = far l in
+      let (same, blocks) = one_block s related.sound g h other.address stands.address (other.address + 4 * j)
+      (record { address = other.address; size = room g (block_size y.cells) }) block other.found stands.found
+      (covers_from (record { address = other.address; size = room g (block_size y.cells) }) (other.address + 4 * j) (omega arith) (omega (arith, below)))
+      (covers_from block (other.address + 4 * j) (omega (arith, e, at)) (omega (arith, e, at, short, bound))) in
+      away (related.alone i o g h other.address y x (kinds_of y.cells) (kinds_of x.cells) beside alive other.row
+      (subst (λ a. slice_get t.rows o ≡ Some (Placed a (kinds_of x.cells))) (sym (ap (λ (b : Block). b.address) blocks)) stands.row))
+
+  module _ (m : Memory) (v : Value) (words : AreWords m)
+      (others : (y : ℕ) → ((j : ℕ) → j < words_of_kind c.kind → y ≢ p + 4 * j) → m y ≡ s.memory y)
+      (value : Is t c.kind v (words_from m p) 0) where
+    abbrev now : Object
+    now = record x { cells = set x.cells k (record c { content = Some v }) }
+
+    kinds-now : kinds_of now.cells ≡ kinds_of x.cells
+    kinds-now = map-set (λ (z : Cell). z.kind) x.cells k c (record c { content = Some v }) at refl
+
+    size-now : block_size now.cells ≡ block_size x.cells
+    size-now = ap (λ n. max 1 n) (sym (words-kinds now.cells) ∙ (ap words_of_kinds kinds-now ∙ words-kinds x.cells))
+
+    after : World
+    after = written w o k (record { object = x; cell = c }) v
+
+    before-written : (i g : ℕ) (y : Object) → Alive t (written w o k (record { object = x; cell = c }) v) i g y
+        → ((i ≡ o) × (y ≡ now)) ⊎ ((i ≢ o) × Alive t w i g y)
+    before-written i g y beside = elim (slice_get-set_cases w.objects o i x now y alive.at beside.at) [
+      | inl here ↦ inl here
+      | inr other ↦ inr (other.0, record { at = other.1; lies = beside.lies })
+    ]
+
+    -- an object of that number was there, with that row
+    was : (i g : ℕ) (y : Object) → Alive t (written w o k (record { object = x; cell = c }) v) i g y → (z : Object) × Alive t w i g z
+    was i g y beside = elim (before-written i g y beside) [
+      | inl here ↦ (x, record {
+          at = subst (λ n. slice_get w.objects n ≡ Some x) (sym here.0) alive.at;
+          lies = sym (ap (λ (z : Object). lies_in t.handles w.regions z.owner) here.1) ∙ beside.lies;
+        })
+      | inr other ↦ (y, other.1)
+    ]
+
+    stands-now : Stands t (homes s) m h o now.cells
+    stands-now = record {
+      address = stands.address;
+      row = stands.row ∙ ap (λ ks. Some (Placed stands.address ks)) (sym kinds-now);
+      found = stands.found ∙ ap (λ n. Some (record { address = stands.address; size = room h n })) (sym size-now);
+      enough = subst (λ ks. words_of_kinds ks ≤ room h (block_size now.cells)) (sym kinds-now)
+          (subst (λ n. words_of_kinds (kinds_of x.cells) ≤ room h n) (sym size-now) stands.enough);
+      holds = cells-set t x.cells (words_from s.memory stands.address) (words_from m stands.address) 0 k c v stands.holds at
+          (Is-same t c.kind v (words_from m p) (words_from m stands.address) 0 (0 + before k (kinds_of x.cells)) (λ j below. ap m (sym (from j))) value)
+          (λ j below out. others (stands.address + 4 * (0 + j)) (λ l short e. out (low j l e) (high j l short e)));
+    }
+      where
+        from : (j : ℕ) → p + 4 * (0 + j) ≡ stands.address + 4 * (0 + before k (kinds_of x.cells) + j)
+        from j = let e : p ≡ stands.address + 4 * before k (kinds_of x.cells) = place in omega (arith, e)
+
+        low : (j l : ℕ) → stands.address + 4 * (0 + j) ≡ p + 4 * l → before k (kinds_of x.cells) ≤ j
+        low j l e = let at : p + 4 * l ≡ stands.address + 4 * (before k (kinds_of x.cells) + l) = far l in omega (arith, e, at)
+
+        high : (j l : ℕ) → l < words_of_kind c.kind → stands.address + 4 * (0 + j) ≡ p + 4 * l → j < before k (kinds_of x.cells) + words_of_kind c.kind
+        high j l short e = let at : p + 4 * l ≡ stands.address + 4 * (before k (kinds_of x.cells) + l) = far l in omega (arith, e, at, short)
+
+    stands-other : (i g : ℕ) (y : Object) → i ≢ o → Alive t w i g y → Stands t (homes s) m g i y.cells
+    stands-other i g y away beside =
+        let st : Stands t (homes s) s.memory g i y.cells = related.objects i g y beside in
+        record {
+          address = st.address;
+          row = st.row;
+          found = st.found;
+          enough = st.enough;
+          holds = AreCells-same t y.cells (words_from s.memory st.address) (words_from m st.address) 0 0
+              (λ j below. others (st.address + 4 * (0 + j)) (λ l short. apart i g (0 + j) l y beside st away (short-of st.enough j below) short))
+              st.holds;
+        }
+      where
+        short-of : {size : ℕ} → words_of_kinds (kinds_of y.cells) ≤ size → (j : ℕ) → j < words_of_cells y.cells → 0 + j < size
+        short-of enough j below = let e : words_of_kinds (kinds_of y.cells) ≡ words_of_cells y.cells = words-kinds y.cells in omega (arith, enough, below, e)
+
+    -- a cell is written, in memory that is the same elsewhere
+    pub related-written : Related t (written w o k (record { object = x; cell = c }) v) (record s { memory = m })
+    related-written = record {
+      sound = record {
+        regions = related.sound.regions;
+        uniques = related.sound.uniques;
+        words = words;
+        classes = related.sound.classes;
+        enough = related.sound.enough;
+        demand = related.sound.demand;
+      };
+      few = related.few;
+      rows = related.rows ∙ sym (length-set w.objects o now);
+      regions = related.regions;
+      classes = related.classes;
+      uniques = λ class. related.uniques class ∙ sym (live_in-set class w.objects o x now alive.at refl size-now);
+      owned = λ i y there. elim (slice_get-set_cases w.objects o i x now y alive.at there) [
+        | inl here ↦ subst (λ (z : Object). Within (length w.regions) z.owner) (sym here.1) (related.owned o x alive.at)
+        | inr other ↦ related.owned i y other.1
+      ];
+      shapes = λ i a ks y there row. elim (slice_get-set_cases w.objects o i x now y alive.at there) [
+        | inl here ↦
+            related.shapes o a ks x alive.at (subst (λ n. slice_get t.rows n ≡ Some (Placed a ks)) here.0 row)
+            ∙ (sym kinds-now ∙ ap (λ (z : Object). kinds_of z.cells) (sym here.1))
+        | inr other ↦ related.shapes i a ks y other.1 row
+      ];
+      variables = λ i n y there owner entry. elim (slice_get-set_cases w.objects o i x now y alive.at there) [
+        | inl here ↦
+            subst (λ q. slice_get t.rows q ≡ Some Variable) (sym here.0)
+            (related.variables o n x alive.at (sym (ap (λ (z : Object). z.owner) here.1) ∙ owner) entry)
+        | inr other ↦ related.variables i n y other.1 owner entry
+      ];
+      objects = λ i g y beside. elim (before-written i g y beside) [
+        | inl here ↦
+            let same : h ≡ g = same_some (sym alive.lies ∙ (sym (ap (λ (z : Object). lies_in t.handles w.regions z.owner) here.1) ∙ beside.lies)) in
+            subst (λ q. Stands t (homes s) m q i y.cells) same
+            (subst (λ q. Stands t (homes s) m h q y.cells) (sym here.0) (subst (λ (z : Object). Stands t (homes s) m h o z.cells) (sym here.1) stands-now))
+        | inr other ↦ stands-other i g y other.0 other.1
+      ];
+      alone = λ i l g f a y z ks ls first second row also.
+          let (old, was_first) = was i g y first in
+          let (older, was_second) = was l f z second in
+          related.alone i l g f a old older ks ls was_first was_second row also;
+    }
+
+-- ---- words that are saved
+
+-- a word of a live block is written
+pub saved-is : (s : StoreState) (x w old : ℕ) → word_at s x ≡ Some old → saved s x w ≡ record s { memory = put s.memory x w }
+saved-is s x w old found = ap (has_saved s x w) found
