@@ -1,6 +1,16 @@
-pub mod NumberLemmas
+-- what the proofs of the compiler cite
 pub mod Values
 pub mod Pointers
 pub mod RegionLemmas
 pub mod Serving
 pub mod Cells
+pub mod Comparing
+pub mod Making
+pub mod Variables
+pub mod Services
+pub mod Closing
+pub mod Start
+-- what stands below
+pub mod NumberLemmas
+-- examples
+pub mod Examples

@@ -90,7 +90,7 @@ home-found (taken {home = o} {open_homes = os} m rest) distinct (suc n) r found 
       matches = is.matches;
     }
 
-same_entry : {o : Option (Option ℕ)} {g h : ℕ} → o ≡ Some (Some g) → o ≡ Some (Some h) → g ≡ h
+pub same_entry : {o : Option (Option ℕ)} {g h : ℕ} → o ≡ Some (Some g) → o ≡ Some (Some h) → g ≡ h
 same_entry first second = same_some (same_some (sym first ∙ second))
 
 -- the first of the store's regions has another handle than any later one

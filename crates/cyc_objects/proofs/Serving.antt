@@ -86,15 +86,19 @@ module _ (s : StoreState) (h a : ℕ) (b : Block) where
 
 -- ---- objects stand where they stood
 
-module _ {t u : Tables} {s r : StoreState} (grows : Grows t u) (sound : IsSound s) (after : IsSound r) (keeps : Keeps s r) where
-  words-kept : (h a : ℕ) (b : Block) → block_at (homes s) h a ≡ Some b → block_at (homes r) h a ≡ Some b → (j : ℕ) → j < b.size
-      → r.memory (b.address + 4 * j) ≡ s.memory (b.address + 4 * j)
-  words-kept h a b here there j below =
-      let inside : covers b (b.address + 4 * j) ≡ true = covers_from b (b.address + 4 * j) (omega arith) (omega (arith, below)) in
-      keeps (b.address + 4 * j) (record { handle = h; block = b })
-      (sound.regions.apart h a (b.address + 4 * j) b here inside)
-      (after.regions.apart h a (b.address + 4 * j) b there inside)
+-- the words of blocks that are live before and after
+abbrev pub WordsStay : StoreState → StoreState → Type 0
+WordsStay s r = (h a : ℕ) (b : Block) → block_at (homes s) h a ≡ Some b → block_at (homes r) h a ≡ Some b → (j : ℕ) → j < b.size
+    → r.memory (b.address + 4 * j) ≡ s.memory (b.address + 4 * j)
 
+pub words-stay : {s r : StoreState} → IsSound s → IsSound r → Keeps s r → WordsStay s r
+words-stay {s} {r} sound after keeps h a b here there j below =
+    let inside : covers b (b.address + 4 * j) ≡ true = covers_from b (b.address + 4 * j) (omega arith) (omega (arith, below)) in
+    keeps (b.address + 4 * j) (record { handle = h; block = b })
+    (sound.regions.apart h a (b.address + 4 * j) b here inside)
+    (after.regions.apart h a (b.address + 4 * j) b there inside)
+
+module _ {t u : Tables} {s r : StoreState} (grows : Grows t u) (stay : WordsStay s r) where
   pub Stands-served : (h o : ℕ) (cells : List Cell) (st : Stands t (homes s) s.memory h o cells)
       → block_at (homes r) h st.address ≡ Some (record { address = st.address; size = room h (block_size cells) })
       → Stands u (homes r) r.memory h o cells
@@ -105,7 +109,7 @@ module _ {t u : Tables} {s r : StoreState} (grows : Grows t u) (sound : IsSound 
     enough = st.enough;
     holds = AreCells-grows grows cells (words_from r.memory st.address) 0
         (AreCells-same t cells (words_from s.memory st.address) (words_from r.memory st.address) 0 0
-        (λ j below. words-kept h st.address (record { address = st.address; size = room h (block_size cells) }) st.found there (0 + j) (within j below))
+        (λ j below. stay h st.address (record { address = st.address; size = room h (block_size cells) }) st.found there (0 + j) (within j below))
         st.holds);
   }
     where
@@ -116,14 +120,14 @@ module _ {t u : Tables} {s r : StoreState} (grows : Grows t u) (sound : IsSound 
           omega (arith, below, e, enough)
 
 -- Where what is alive afterwards was alive before, and its block is found afterwards.
-module _ {t u : Tables} {w v : World} {s r : StoreState} (related : Related t w s) (grows : Grows t u) (after : IsSound r) (keeps : Keeps s r)
+module _ {t u : Tables} {w v : World} {s r : StoreState} (related : Related t w s) (grows : Grows t u) (stay : WordsStay s r)
     (before : (o h : ℕ) (x : Object) → Alive u v o h x → Alive t w o h x)
     (stays : (o h a : ℕ) (ks : List Kind) (x : Object) (b : Block) → Alive u v o h x → slice_get t.rows o ≡ Some (Placed a ks)
     → block_at (homes s) h a ≡ Some b → block_at (homes r) h a ≡ Some b) where
   pub objects-inherited : (o h : ℕ) (x : Object) → Alive u v o h x → Stands u (homes r) r.memory h o x.cells
   objects-inherited o h x alive =
       let st : Stands t (homes s) s.memory h o x.cells = related.objects o h x (before o h x alive) in
-      Stands-served grows related.sound after keeps h o x.cells st
+      Stands-served grows stay h o x.cells st
       (stays o h st.address (kinds_of x.cells) x (record { address = st.address; size = room h (block_size x.cells) }) alive st.row st.found)
 
   -- the row of what is alive is an old one

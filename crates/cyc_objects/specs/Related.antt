@@ -1,10 +1,10 @@
 -- What the source's world and a store have in common while the one is carried out on the other. The store's open regions are the source's
 -- in their order, block for block; live objects stand in live blocks; and nothing is said of what is closed or freed, so that its
 -- addresses and handles may be given out again. (The regions are those of Grossman et al. 2002; the form is this project's own choice.)
-use Rattle.std.specs.Prelude.{◌≡◌, ℕ, ◌<◌, ◌≤◌, Bool, true, false, if◌then◌else◌, List, [], ◌∷◌, length, Option, Some, None, is_some, slice_get}
+use Rattle.std.specs.Prelude.{◌≡◌, ℕ, suc, ◌<◌, ◌≤◌, Bool, true, false, if◌then◌else◌, List, [], ◌∷◌, length, Option, Some, None, is_some, slice_get}
 use Rattle.cyc_types.specs.declared.typed.Kind.{Kind}
 use Rattle.cyc_store.specs.State as stores
-use Rattle.cyc_store.specs.State.{Memory, Home, sizes_of, StoreState, homes, block_at, room}
+use Rattle.cyc_store.specs.State.{Memory, Home, sizes_of, StoreState, homes, block_at, down_to, room}
 use Rattle.cyc_store.specs.Soundness.{IsSound}
 use Rattle.cyc_store.specs.declared.range.TheConstants.{MOST_PAGES, UNIQUE}
 use Rattle.cyc_meaning.specs.Values.{Cell, kinds_of, block_size}
@@ -100,3 +100,23 @@ pub record Related (t : Tables) (w : World) (s : StoreState) : Type 0 where
   -- no two live objects begin at one address
   pub alone : (number other handle beside address : ℕ) (x y : Object) (ks ls : List Kind) → Alive t w number handle x → Alive t w other beside y
       → slice_get t.rows number ≡ Some (Placed address ks) → slice_get t.rows other ≡ Some (Placed address ls) → number ≡ other
+
+-- ---- lexical regions
+
+abbrev pub is_scope : Sort → (flag : Bool) → Bool
+is_scope Lexical flag = flag
+is_scope sort flag = false
+
+-- how many lexical regions are open
+abbrev pub scopes : List Region → ℕ
+scopes [] = 0
+scopes (r ∷ regions) = if is_scope r.sort r.is_open then suc (scopes regions) else scopes regions
+
+-- no lexical region behind this one is open
+abbrev pub IsNewest : List Region → (number : ℕ) → Type 0
+IsNewest regions number = (other : ℕ) (r : Region) → slice_get regions other ≡ Some r → is_scope r.sort r.is_open ≡ true → other ≤ number
+
+-- A store whose lexical regions are closed down to a mark. The source closes one region a step where it leaves several, and the store all
+-- of them at the end: meanwhile the source is related to the store closed so far.
+abbrev pub closed_to : StoreState → (mark : ℕ) → StoreState
+closed_to s mark = record s { regions = down_to mark s.regions }

@@ -1,0 +1,136 @@
+-- Comparing pointers: two words are equal where the pointers are, as long as both objects are live.
+use Rattle.std.proofs.Common.{◌≡◌, ℕ, ◌+◌, ◌*◌, ◌<◌, ◌≤◌, Bool, true, false, length, Option, None, Some, refl, sym, ap, subst, ◌∙◌, inl, inr, arith}
+use Rattle.std.specs.Prelude.{◌==◌, ◌&&◌, ◌≢◌, ◌⊎◌, if◌then◌else◌, slice_get}
+use Rattle.std.proofs.lemmas.Bool.{cases_eq, cases_lt, cases_Bool, cond-true, cond-false, and_from, eq-eqb, ne_eqb}
+use Rattle.cyc_store.specs.State.{Block, StoreState, homes, covers, room}
+use Rattle.cyc_store.proofs.LookupLemmas.{cases_option}
+use Rattle.cyc_store.proofs.HolderLemmas.{covers_from}
+use Rattle.cyc_store.proofs.ServiceLemmas.{one_block}
+use Rattle.cyc_types.specs.declared.typed.Kind.{Kind}
+use Rattle.cyc_meaning.specs.Values.{Value, Null, Thin, words_of_kind, kinds_of, block_size}
+use Rattle.cyc_meaning.specs.State.{Object, World, Access, Found, Closed, Missing, is_live}
+use Rattle.cyc_meaning.specs.Objects.{found_object, object_at, both_found, compared}
+use Rattle.cyc_objects.specs.Tables.{Placed, Tables}
+use Rattle.cyc_objects.specs.Words.{words_of_kinds, before, Points}
+use Rattle.cyc_objects.specs.Related.{Alive, Stands, Related}
+use Rattle.cyc_objects.proofs.NumberLemmas.{slice_get-there}
+use Rattle.cyc_objects.proofs.Values.{kind-some, before-inside, before-more}
+use Rattle.cyc_objects.proofs.Pointers.{same-row, not-null, one_address, ThinIs, thin_null, thin_cell}
+use Rattle.cyc_objects.proofs.Cells.{not-placed, live-lies}
+
+module _ {t : Tables} {w : World} {s : StoreState} (related : Related t w s) where
+  -- a pointer is to a word of its object's block
+  pointer-covered : {o h k p : ℕ} {x : Object} → Alive t w o h x → Points t o k p → (st : Stands t (homes s) s.memory h o x.cells)
+      → covers (record { address = st.address; size = room h (block_size x.cells) }) p ≡ true
+  pointer-covered {o} {h} {k} {p} {x} alive points st =
+      let (same, kinds) = same-row points.row st.row in
+      let (kind, there) = slice_get-there points.kinds k points.inside in
+      let short : before k points.kinds + words_of_kind kind ≤ words_of_kinds points.kinds = before-inside points.kinds k kind there in
+      let some : 0 < words_of_kind kind = kind-some kind in
+      let enough : words_of_kinds points.kinds ≤ room h (block_size x.cells) = subst (λ ks. words_of_kinds ks ≤ room h (block_size x.cells)) (sym kinds) st.enough in
+      let at : p ≡ points.address + 4 * before k points.kinds = points.at in
+      covers_from (record { address = st.address; size = room h (block_size x.cells) }) p
+      (omega (arith, at, same))
+      (omega (arith, at, same, short, some, enough))
+
+  -- equal addresses of live objects are those of one cell
+  pub one_cell : {o i h g k q p : ℕ} {x y : Object} → Alive t w o h x → Alive t w i g y → Points t o k p → Points t i q p → (o ≡ i) × (k ≡ q)
+  one_cell {o} {i} {h} {g} {k} {q} {p} {x} {y} alive beside first second =
+      let st : Stands t (homes s) s.memory h o x.cells = related.objects o h x alive in
+      let also : Stands t (homes s) s.memory g i y.cells = related.objects i g y beside in
+      let (same, blocks) = one_block s related.sound h g st.address also.address p
+      (record { address = st.address; size = room h (block_size x.cells) })
+      (record { address = also.address; size = room g (block_size y.cells) })
+      st.found also.found (pointer-covered alive first st) (pointer-covered beside second also) in
+      let number : o ≡ i =
+      related.alone o i h g st.address x y (kinds_of x.cells) (kinds_of y.cells) alive beside st.row
+      (subst (λ a. slice_get t.rows i ≡ Some (Placed a (kinds_of y.cells))) (sym (ap (λ (b : Block). b.address) blocks)) also.row) in
+      let (address, kinds) = same-row first.row (subst (λ n. slice_get t.rows n ≡ Some (Placed second.address second.kinds)) (sym number) second.row) in
+      (number, one-place first.kinds k q first.inside (subst (λ ks. q < length ks) (sym kinds) second.inside)
+      (same-before p first.address second.address (before k first.kinds) (before q first.kinds) first.at
+      (second.at ∙ ap (λ ks. second.address + 4 * before q ks) (sym kinds)) address))
+    where
+      same-before : (p a b m n : ℕ) → p ≡ a + 4 * m → p ≡ b + 4 * n → a ≡ b → m ≡ n
+      same-before p a b m n first second same = omega (arith, first, second, same)
+
+      one-place : (ks : List Kind) (k q : ℕ) → k < length ks → q < length ks → before k ks ≡ before q ks → k ≡ q
+      one-place ks k q first second same = elim (cases_lt k q) [
+        | inl less ↦ absurd (let e : before k ks < before q ks = before-more ks k q less (omega (arith, second)) in omega (arith, e, same))
+        | inr least ↦ elim (cases_lt q k) [
+          | inl more ↦ absurd (let e : before q ks < before k ks = before-more ks q k more (omega (arith, first)) in omega (arith, e, same))
+          | inr most ↦ omega (arith, least, most)
+        ]
+      ]
+
+  live-found : (o : ℕ) (x : Object) → object_at w o ≡ Found x → (slice_get w.objects o ≡ Some x) × (is_live w x.owner ≡ true)
+  live-found o x found = elim (cases_option (slice_get w.objects o)) [
+    | inl none ↦ absurd (let e : Missing ≡ Found x = sym (ap (found_object w) none) ∙ found in cc)
+    | inr (y, there) ↦
+        let at : (if is_live w y.owner then Found y else Closed) ≡ Found x = sym (ap (found_object w) there) ∙ found in
+        elim (cases_Bool (is_live w y.owner)) [
+          | inl live ↦
+              let e : Found y ≡ Found x = sym (cond-true (is_live w y.owner) (Found y) Closed live) ∙ at in
+              let same : y ≡ x = cc in
+              (there ∙ ap (λ z. Some z) same, subst (λ (z : Object). is_live w z.owner ≡ true) same live)
+          | inr dead ↦ absurd (let e : Closed ≡ Found x = sym (cond-false (is_live w y.owner) (Found y) Closed dead) ∙ at in cc)
+        ]
+  ]
+
+  -- an object that is there, and that a pointer leads to, is one of the store's
+  pub object-alive : (o k p : ℕ) (x : Object) → object_at w o ≡ Found x → Points t o k p → (h : ℕ) × Alive t w o h x
+  object-alive o k p x found points =
+      let (there, live) = live-found o x found in
+      elim (live-lies related x.owner live) [
+        | inl (h, lies) ↦ (h, record { at = there; lies = lies })
+        | inr (n, owner, entry) ↦ absurd (not-placed (related.variables o n x there owner entry) points.row)
+      ]
+
+  -- ---- thin pointers are compared by their words
+
+  both-cells : (o k i q a b : ℕ) (equal : Bool) → Points t o k a → Points t i q b → (first second : Access Object)
+      → object_at w o ≡ first → object_at w i ≡ second → both_found first second (o == i && k == q) ≡ Found equal → equal ≡ (a == b)
+  both-cells o k i q a b equal points also (Found x) (Found y) at beside is =
+      let e : Found (o == i && k == q) ≡ Found equal = is in
+      let same : (o == i && k == q) ≡ equal = cc in
+      let (h, alive) = object-alive o k a x at points in
+      let (g, older) = object-alive i q b y beside also in
+      sym same ∙ elim (cases_eq a b) [
+        | inl one ↦
+            let (number, place) = one_cell alive older points (subst (Points t i q) (sym one) also) in
+            both-true o i k q number place ∙ sym (eq-eqb a b one)
+        | inr two ↦ not-both-true o i k q (λ number place. two (one_address points (same-cell number place also))) ∙ sym (ne_eqb a b two)
+      ]
+    where
+      same-cell : o ≡ i → k ≡ q → Points t i q b → Points t o k b
+      same-cell number place p = subst (λ n. Points t n k b) (sym number) (subst (λ n. Points t i n b) (sym place) p)
+
+      both-true : (o i k q : ℕ) → o ≡ i → k ≡ q → (o == i && k == q) ≡ true
+      both-true o i k q number place = and_from (o == i) (k == q) (eq-eqb o i number) (eq-eqb k q place)
+
+      not-both-true : (o i k q : ℕ) → (o ≡ i → k ≡ q → ⊥) → (o == i && k == q) ≡ false
+      not-both-true o i k q away = elim (cases_eq o i) [
+        | inl number ↦ ap (λ c. c && k == q) (eq-eqb o i number) ∙ ne_eqb k q (away number)
+        | inr other ↦ ap (λ c. c && k == q) (ne_eqb o i other)
+      ]
+  both-cells o k i q a b equal points also (Found x) Closed at beside is = absurd (let e : Closed ≡ Found equal = is in cc)
+  both-cells o k i q a b equal points also (Found x) Missing at beside is = absurd (let e : Missing ≡ Found equal = is in cc)
+  both-cells o k i q a b equal points also Closed Missing at beside is = absurd (let e : Missing ≡ Found equal = is in cc)
+  both-cells o k i q a b equal points also Closed (Found y) at beside is = absurd (let e : Closed ≡ Found equal = is in cc)
+  both-cells o k i q a b equal points also Closed Closed at beside is = absurd (let e : Closed ≡ Found equal = is in cc)
+  both-cells o k i q a b equal points also Missing found at beside is = absurd (let e : Missing ≡ Found equal = is in cc)
+
+  pub thin-compared : (from to : Kind) (u v : Value) (a b : ℕ) (equal : Bool) → ThinIs t from a u → ThinIs t to b v → compared w u v ≡ Found equal → equal ≡ (a == b)
+  thin-compared from to u v a b equal (thin_null one none) (thin_null two zeroed) is =
+      let e : Found true ≡ Found equal = is in
+      let same : true ≡ equal = cc in
+      sym same ∙ sym (eq-eqb a b (none ∙ sym zeroed))
+  thin-compared from to u v a b equal (thin_null one none) (thin_cell i q also) is =
+      let e : Found false ≡ Found equal = is in
+      let same : false ≡ equal = cc in
+      sym same ∙ sym (ne_eqb a b (λ k. not-null also (sym k ∙ none)))
+  thin-compared from to u v a b equal (thin_cell o k points) (thin_null two zeroed) is =
+      let e : Found false ≡ Found equal = is in
+      let same : false ≡ equal = cc in
+      sym same ∙ sym (ne_eqb a b (λ k. not-null points (k ∙ zeroed)))
+  thin-compared from to u v a b equal (thin_cell o k points) (thin_cell i q also) is =
+      both-cells o k i q a b equal points also (object_at w o) (object_at w i) refl refl is

@@ -1,0 +1,188 @@
+-- Worked examples: a stale pointer and a new one may be one word. A block is freed, or its region is closed; the store gives out its address
+-- and its handle again; and the relation holds before and after, by the lemmas on each service.
+use Rattle.std.proofs.Common.{◌≡◌, ℕ, ◌+◌, ◌*◌, ◌^◌, ◌<◌, ◌≤◌, length, true, false, List, [], ◌∷◌, Option, None, Some, refl, ap, sym, ◌∙◌, arith}
+use Rattle.std.specs.Prelude.{slice_get}
+use Rattle.cyc_types.specs.declared.typed.Kind.{Kind}
+use Rattle.cyc_types.specs.declared.typed.Kind.TheVariants as kinds
+use Rattle.cyc_types.specs.TypedTrees.{Program}
+use Rattle.cyc_store.specs.State.{Memory, AreWords, StoreState, start, homes, sizes_in, block_at}
+use Rattle.cyc_store.specs.Services.{OpenLexical, CloseTo, Allocate, Free, Choice, served, refusal, block_of, IsPlaced, IsAllowed}
+use Rattle.cyc_store.specs.declared.range.TheConstants.{HEAP, STORE_BASE, UNIQUE}
+use Rattle.cyc_store.proofs.LookupLemmas.{not_both}
+use Rattle.cyc_store.proofs.ServiceLemmas.{start-sound}
+use Rattle.cyc_meaning.specs.Values.{Null, Thin, Handle, Cell, blank}
+use Rattle.cyc_meaning.specs.State.{Heap, Lexical, Region, InRegion, Unique, Object, World, Found, Closed, cell_at, new_region, opened_as, closed, first_classes, counted}
+use Rattle.cyc_meaning.specs.Objects.{made_in, made_unique, freed}
+use Rattle.cyc_objects.specs.Tables.{Placed, Tables, with_row, with_handle}
+use Rattle.cyc_objects.specs.Words.{InRange, Points, Is}
+use Rattle.cyc_objects.specs.Related.{lies_in, Related, taken, no_regions}
+use Rattle.cyc_objects.proofs.Pointers.{same-row}
+use Rattle.cyc_objects.proofs.Making.{allocated-unique}
+use Rattle.cyc_objects.proofs.Services.{freed-unique}
+
+-- the heap alone, and three pages with nothing in them
+abbrev no_tables : Tables
+no_tables = record { rows = []; handles = Some HEAP ∷ [] }
+
+-- an int
+abbrev cells : List Cell
+cells = blank kinds.Int ∷ []
+
+abbrev empty : World
+empty = record { regions = new_region Heap ∷ []; objects = []; classes = first_classes; output = []; input = [] }
+
+-- each word is 0, and each block is asked for at the store's first address
+abbrev choice : Choice
+choice = record { handle = 3; address = STORE_BASE; memory = λ (x : ℕ). 0 }
+
+abbrev new : StoreState
+new = start 3 (λ (x : ℕ). 0)
+
+-- ---- a unique object is freed, and the next one has its address
+
+abbrev once : StoreState
+once = served new (Allocate UNIQUE 1) choice
+
+abbrev without_it : StoreState
+without_it = served once (Free STORE_BASE) choice
+
+abbrev again : StoreState
+again = served without_it (Allocate UNIQUE 1) choice
+
+abbrev one : World
+one = made_unique empty cells
+
+abbrev none : World
+none = freed one 0 (record { owner = Unique true; cells = cells })
+
+abbrev other : World
+other = made_unique none cells
+
+abbrev both : Tables
+both = with_row (with_row no_tables (Placed STORE_BASE (kinds.Int ∷ []))) (Placed STORE_BASE (kinds.Int ∷ []))
+
+words : (x : ℕ) → 0 < 2 ^ 32
+words x = omega arith
+
+placed : IsPlaced 3 (block_of UNIQUE 1 choice)
+placed = record { aligned = refl; low = omega arith; high = omega arith; some = omega arith }
+
+new-related : Related no_tables empty new
+new-related = record {
+  sound = start-sound 3 (λ (x : ℕ). 0) words (omega arith);
+  few = omega arith;
+  rows = refl;
+  regions = taken (record { kept = refl; named = refl; sort = refl; sizes = refl }) no_regions;
+  classes = refl;
+  uniques = λ class. refl;
+  owned = λ o x at. absurd (not_both refl at);
+  shapes = λ o a ks x at row. absurd (not_both refl at);
+  variables = λ o n x at owner entry. absurd (not_both refl at);
+  objects = λ o h x alive. absurd (not_both refl alive.at);
+  alone = λ o i h g a x y ks ls first second row also. absurd (not_both refl first.at);
+}
+
+-- nothing is live, so any place may be chosen and nothing is to be kept
+may-make : IsAllowed new (Allocate UNIQUE 1) choice
+may-make = record {
+  may = (placed, λ x inside. refl);
+  keeps = λ x h before after. absurd (not_both refl before);
+  words = words;
+}
+
+once-related : Related (with_row no_tables (Placed STORE_BASE (kinds.Int ∷ []))) one once
+once-related = allocated-unique new-related cells choice (refl, tt) (omega arith) refl may-make
+
+may-free : IsAllowed once (Free STORE_BASE) choice
+may-free = record { may = tt; keeps = λ x h before after. refl; words = words }
+
+freed-related : Related (with_row no_tables (Placed STORE_BASE (kinds.Int ∷ []))) none without_it
+freed-related = freed-unique once-related refl refl refl choice may-free
+
+may-make_again : IsAllowed without_it (Allocate UNIQUE 1) choice
+may-make_again = record {
+  may = (placed, λ x inside. refl);
+  keeps = λ x h before after. absurd (not_both refl before);
+  words = words;
+}
+
+again-related : Related both other again
+again-related = allocated-unique freed-related cells choice (refl, tt) (omega arith) refl may-make_again
+
+points-to : (number : ℕ) → slice_get both.rows number ≡ Some (Placed STORE_BASE (kinds.Int ∷ [])) → Points both number 0 STORE_BASE
+points-to number row = record {
+  address = STORE_BASE;
+  kinds = kinds.Int ∷ [];
+  row = row;
+  range = record { low = omega arith; high = omega arith };
+  inside = omega arith;
+  at = refl;
+}
+
+-- one word is the pointer to the object that was freed, and the one to the object that has its address now
+stale-pointer : Is both kinds.NonNull (Thin 0 0) (λ k. STORE_BASE) 0
+stale-pointer = points-to 0 refl
+
+live-pointer : Is both kinds.NonNull (Thin 1 0) (λ k. STORE_BASE) 0
+live-pointer = points-to 1 refl
+
+-- an access by the one is dead, and by the other finds its cell
+stale-is_dead : cell_at other 0 0 ≡ Closed
+stale-is_dead = refl
+
+live-is_there : cell_at other 1 0 ≡ Found (record { object = record { owner = Unique true; cells = cells }; cell = blank kinds.Int })
+live-is_there = refl
+
+freed-lies_nowhere : lies_in both.handles other.regions (Unique false) ≡ None
+freed-lies_nowhere = refl
+
+live-block : block_at (homes again) UNIQUE STORE_BASE ≡ Some (record { address = STORE_BASE; size = 1 })
+live-block = refl
+
+-- ---- a region closes, and the next one has its handle
+
+abbrev opened_once : StoreState
+opened_once = served new OpenLexical choice
+
+abbrev opened_twice : StoreState
+opened_twice = served (served opened_once (CloseTo 0) choice) OpenLexical choice
+
+abbrev region_gone : World
+region_gone = closed (opened_as Lexical empty) 1 (new_region Lexical)
+
+abbrev two_handles : Tables
+two_handles = with_handle (with_handle no_tables (Some 3)) (Some 3)
+
+-- one word is the handle of both
+stale-handle : Is two_handles kinds.Handle (Handle 1) (λ k. 3) 0
+stale-handle = refl
+
+live-handle : Is two_handles kinds.Handle (Handle 2) (λ k. 3) 0
+live-handle = refl
+
+-- what the first one owns is nowhere, and what the second one owns lies in it
+stale-lies_nowhere : lies_in two_handles.handles (opened_as Lexical region_gone).regions (InRegion 1) ≡ None
+stale-lies_nowhere = refl
+
+live-lies_there : lies_in two_handles.handles (opened_as Lexical region_gone).regions (InRegion 2) ≡ Some 3
+live-lies_there = refl
+
+same-demand : counted (opened_as Lexical region_gone).regions ≡ sizes_in opened_twice.regions
+same-demand = refl
+
+-- ---- what the relation refuses
+
+-- an int is no pointer, and a null pointer is of no kind that has none
+no-pointer : Is both kinds.Int (Thin 0 0) (λ k. STORE_BASE) 0 → ⊥
+no-pointer is = is
+
+never-null : Is both kinds.NonNull Null (λ k. 0) 0 → ⊥
+never-null is = is
+
+-- a pointer behind an object is no pointer to it
+not-behind : Points both 0 1 (STORE_BASE + 4) → ⊥
+not-behind points =
+    let (address, ks) = same-row points.row refl in
+    let inside : 1 < length points.kinds = points.inside in
+    let short : length points.kinds ≡ 1 = ap (λ l. length l) ks in
+    omega (arith, inside, short)

@@ -1,0 +1,171 @@
+-- Variables and their regions: what is declared, assigned, opened and closed there leaves the store as it is.
+use Rattle.std.proofs.Common.{◌≡◌, ℕ, suc, ◌<◌, max, Bool, true, false, List, [], ◌∷◌, ◌++◌, length, set, Option, None, Some, refl, sym, ap, subst, ◌∙◌, inl, inr, arith, length-set}
+use Rattle.std.specs.Prelude.{◌≢◌, ◌⊎◌, slice_get}
+use Rattle.cyc_types.specs.declared.typed.Kind.{Kind}
+use Rattle.cyc_store.specs.State.{Block, StoreState, homes, block_at}
+use Rattle.cyc_store.proofs.LookupLemmas.{same_some}
+use Rattle.cyc_meaning.specs.Values.{Value, Cell, kinds_of, block_size}
+use Rattle.cyc_meaning.specs.State.{Sort, Heap, Globals, Stack, Lexical, Dynamic, Region, Owner, InRegion, Unique, Object, World, has_pages, new_region, opened_as, closed, variable, made, written}
+use Rattle.cyc_meaning.proofs.ListLemmas.{slice_get-append, slice_get-end, map-set}
+use Rattle.cyc_objects.specs.Tables.{Row, Variable, Placed, Tables, with_row, with_handle}
+use Rattle.cyc_objects.specs.Words.{words_of_kinds}
+use Rattle.cyc_objects.specs.Related.{sort_of, has_home, lies_in, Alive, Within, Related}
+use Rattle.cyc_objects.proofs.NumberLemmas.{slice_get-below, slice_get-there, slice_get-last, slice_get-set_cases, length-last}
+use Rattle.cyc_objects.proofs.Values.{words-kinds, Grows-same, Grows-row, Grows-handle}
+use Rattle.cyc_objects.proofs.RegionLemmas.{regions-length, Regions-variables, shut, Regions-shut, lies-home, lies-set, lies-last}
+use Rattle.cyc_objects.proofs.Serving.{objects-inherited, alone-inherited}
+use Rattle.cyc_objects.proofs.Cells.{not-placed, variable-alone, live_in-set}
+use Rattle.cyc_objects.proofs.Making.{live-last}
+
+pub shut-home : (sort : Sort) (flag : Bool) → has_pages sort false ≡ true → has_pages sort flag ≡ true
+shut-home Heap flag kept = refl
+shut-home Globals flag kept = absurd (let e : false ≡ true = kept in cc)
+shut-home Stack flag kept = absurd (let e : false ≡ true = kept in cc)
+shut-home Lexical flag kept = absurd (let e : false ≡ true = kept in cc)
+shut-home Dynamic flag kept = absurd (let e : false ≡ true = kept in cc)
+
+-- ---- a region more
+
+pub within-more : (rs : List Region) (q : Region) (owner : Owner) → Within (length rs) owner → Within (length (rs ++ q ∷ [])) owner
+within-more rs q (InRegion n) within = let e : length (rs ++ q ∷ []) ≡ suc (length rs) = length-last rs q in omega (arith, within, e)
+within-more rs q (Unique live) within = tt
+
+-- the region of an object is an old one
+pub entry-older : {t : Tables} {w : World} {s : StoreState} → Related t w s → (e : Option ℕ) (o n : ℕ) (y : Object) → slice_get w.objects o ≡ Some y
+    → y.owner ≡ InRegion n → slice_get (t.handles ++ e ∷ []) n ≡ Some None → slice_get t.handles n ≡ Some None
+entry-older {t} {w} related e o n y at owner entry =
+    let within : n < length w.regions = subst (Within (length w.regions)) owner (related.owned o y at) in
+    let (q, old) = slice_get-there t.handles n (subst (λ m. n < m) (sym (regions-length related.regions)) within) in
+    old ∙ (sym (slice_get-append t.handles (e ∷ []) n q old) ∙ entry)
+
+module _ {t : Tables} {w : World} {s : StoreState} (related : Related t w s) where
+  -- ---- a variable is declared
+
+  pub declared : (n : ℕ) (r : Region) (kind : Kind) (content : Option Value) → slice_get w.regions n ≡ Some r → slice_get t.handles n ≡ Some None
+      → Related (with_row t Variable) (made w (variable n kind content)) s
+  declared n r kind content there entry = record {
+    sound = related.sound;
+    few = related.few;
+    rows = length-last t.rows Variable ∙ (ap suc related.rows ∙ sym (length-last w.objects (variable n kind content)));
+    regions = related.regions;
+    classes = related.classes;
+    uniques = λ class. related.uniques class ∙ sym (live-last class w.objects (variable n kind content));
+    owned = λ o y at. elim (slice_get-last w.objects (variable n kind content) o y at) [
+      | inl old ↦ related.owned o y old
+      | inr new ↦ subst (λ (z : Object). Within (length w.regions) z.owner) (sym new.1) (slice_get-below w.regions n r there)
+    ];
+    shapes = λ o a ks y at row. elim (slice_get-last w.objects (variable n kind content) o y at) [
+      | inl old ↦
+          let (q, is) = slice_get-there t.rows o (subst (λ m. o < m) (sym related.rows) (slice_get-below w.objects o y old)) in
+          related.shapes o a ks y old (is ∙ (sym (slice_get-append t.rows (Variable ∷ []) o q is) ∙ row))
+      | inr new ↦ absurd (not-placed (row-new o new.0) row)
+    ];
+    variables = λ o m y at owner is. elim (slice_get-last w.objects (variable n kind content) o y at) [
+      | inl old ↦ slice_get-append t.rows (Variable ∷ []) o Variable (related.variables o m y old owner is)
+      | inr new ↦ row-new o new.0
+    ];
+    objects = objects-inherited related (Grows-row t Variable) (λ h a b here stays j below. refl) before (λ o h a ks y b alive row at. at);
+    alone = alone-inherited related (Grows-row t Variable) (λ h a b here stays j below. refl) before (λ o h a ks y b alive row at. at);
+  }
+    where
+      row-new : (o : ℕ) → o ≡ length w.objects → slice_get (t.rows ++ Variable ∷ []) o ≡ Some Variable
+      row-new o is = subst (λ m. slice_get (t.rows ++ Variable ∷ []) m ≡ Some Variable) (related.rows ∙ sym is) (slice_get-end t.rows Variable)
+
+      before : (o h : ℕ) (y : Object) → Alive (with_row t Variable) (made w (variable n kind content)) o h y → Alive t w o h y
+      before o h y alive = elim (slice_get-last w.objects (variable n kind content) o y alive.at) [
+        | inl old ↦ record { at = old; lies = alive.lies }
+        | inr new ↦
+            let (z, at, kept, other) = lies-home t.handles w.regions n h (ap (λ (x : Object). lies_in t.handles w.regions x.owner) (sym new.1) ∙ alive.lies) in
+            absurd (let e : None ≡ Some h = same_some (sym entry ∙ other) in cc)
+      ]
+
+  -- ---- a variable is assigned
+
+  pub assigned : (o k : ℕ) (x : Object) (c : Cell) (v : Value) → slice_get w.objects o ≡ Some x → slice_get x.cells k ≡ Some c
+      → slice_get t.rows o ≡ Some Variable → Related t (written w o k (record { object = x; cell = c }) v) s
+  assigned o k x c v there at row = record {
+    sound = related.sound;
+    few = related.few;
+    rows = related.rows ∙ sym (length-set w.objects o (record x { cells = set x.cells k (record c { content = Some v }) }));
+    regions = related.regions;
+    classes = related.classes;
+    uniques = λ class. related.uniques class ∙ sym (live_in-set class w.objects o x (record x { cells = set x.cells k (record c { content = Some v }) }) there refl size);
+    owned = λ i y is. elim (slice_get-set_cases w.objects o i x (record x { cells = set x.cells k (record c { content = Some v }) }) y there is) [
+      | inl here ↦ subst (λ (z : Object). Within (length w.regions) z.owner) (sym here.1) (related.owned o x there)
+      | inr other ↦ related.owned i y other.1
+    ];
+    shapes = λ i a ks y is placed. elim (slice_get-set_cases w.objects o i x (record x { cells = set x.cells k (record c { content = Some v }) }) y there is) [
+      | inl here ↦ absurd (not-placed row (subst (λ m. slice_get t.rows m ≡ Some (Placed a ks)) here.0 placed))
+      | inr other ↦ related.shapes i a ks y other.1 placed
+    ];
+    variables = λ i n y is owner entry. elim (slice_get-set_cases w.objects o i x (record x { cells = set x.cells k (record c { content = Some v }) }) y there is) [
+      | inl here ↦ subst (λ m. slice_get t.rows m ≡ Some Variable) (sym here.0) row
+      | inr other ↦ related.variables i n y other.1 owner entry
+    ];
+    objects = objects-inherited related (Grows-same t) (λ h a b here stays j below. refl) before (λ i h a ks y b alive placed found. found);
+    alone = alone-inherited related (Grows-same t) (λ h a b here stays j below. refl) before (λ i h a ks y b alive placed found. found);
+  }
+    where
+      size : block_size (set x.cells k (record c { content = Some v })) ≡ block_size x.cells
+      size =
+          let kinds : kinds_of (set x.cells k (record c { content = Some v })) ≡ kinds_of x.cells =
+          map-set (λ (z : Cell). z.kind) x.cells k c (record c { content = Some v }) at refl in
+          ap (λ n. max 1 n) (sym (words-kinds (set x.cells k (record c { content = Some v }))) ∙ (ap words_of_kinds kinds ∙ words-kinds x.cells))
+
+      before : (i h : ℕ) (y : Object) → Alive t (written w o k (record { object = x; cell = c }) v) i h y → Alive t w i h y
+      before i h y alive = elim (slice_get-set_cases w.objects o i x (record x { cells = set x.cells k (record c { content = Some v }) }) y there alive.at) [
+        | inl here ↦ absurd (variable-alone related o h x row
+            (record { at = there; lies = sym (ap (λ (z : Object). lies_in t.handles w.regions z.owner) here.1) ∙ alive.lies }))
+        | inr other ↦ record { at = other.1; lies = alive.lies }
+      ]
+
+  -- ---- a region of variables opens and closes
+
+  pub opened-variables : (sort : Sort) → sort_of sort ≡ None → Related (with_handle t None) (opened_as sort w) s
+  opened-variables sort none = record {
+    sound = related.sound;
+    few = related.few;
+    rows = related.rows;
+    regions = Regions-variables sort none related.regions;
+    classes = related.classes;
+    uniques = related.uniques;
+    owned = λ o y at. further y.owner (related.owned o y at);
+    shapes = related.shapes;
+    variables = λ o n y at owner entry. related.variables o n y at owner (older o n y at owner entry);
+    objects = objects-inherited related (Grows-handle t None) (λ h a b here stays j below. refl) before (λ o h a ks y b alive row found. found);
+    alone = alone-inherited related (Grows-handle t None) (λ h a b here stays j below. refl) before (λ o h a ks y b alive row found. found);
+  }
+    where
+      before : (o h : ℕ) (y : Object) → Alive (with_handle t None) (opened_as sort w) o h y → Alive t w o h y
+      before o h y alive = record {
+        at = alive.at;
+        lies = lies-last t.handles w.regions None (new_region sort) h y.owner (regions-length related.regions) (related.owned o y alive.at) alive.lies;
+      }
+
+      further : (owner : Owner) → Within (length w.regions) owner → Within (length (w.regions ++ new_region sort ∷ [])) owner
+      further owner within = within-more w.regions (new_region sort) owner within
+
+      older : (o n : ℕ) (y : Object) → slice_get w.objects o ≡ Some y → y.owner ≡ InRegion n → slice_get (t.handles ++ None ∷ []) n ≡ Some None
+          → slice_get t.handles n ≡ Some None
+      older o n y at owner entry = entry-older related None o n y at owner entry
+
+  pub closed-variables : (n : ℕ) (r : Region) → slice_get w.regions n ≡ Some r → slice_get t.handles n ≡ Some None → Related t (closed w n r) s
+  closed-variables n r there entry = record {
+    sound = related.sound;
+    few = related.few;
+    rows = related.rows;
+    regions = Regions-shut related.regions n r there entry;
+    classes = related.classes;
+    uniques = related.uniques;
+    owned = λ o y at. subst (λ m. Within m y.owner) (sym (length-set w.regions n (shut r))) (related.owned o y at);
+    shapes = related.shapes;
+    variables = related.variables;
+    objects = objects-inherited related (Grows-same t) (λ h a b here stays j below. refl) before (λ o h a ks y b alive row found. found);
+    alone = alone-inherited related (Grows-same t) (λ h a b here stays j below. refl) before (λ o h a ks y b alive row found. found);
+  }
+    where
+      before : (o h : ℕ) (y : Object) → Alive t (closed w n r) o h y → Alive t w o h y
+      before o h y alive = record {
+        at = alive.at;
+        lies = lies-set t.handles w.regions n h (shut r) r y.owner there (shut-home r.sort r.is_open) alive.lies;
+      }
