@@ -1,0 +1,12 @@
+-- Several regions that are left.
+use Rattle.cyc_objects.proofs.Closing.{related-unclosed, closed-behind, closed-at_once}
+use Rattle.cyc_objects.proofs.laws.regions_close_at_once.Goals as goal
+
+pub returns-clause-begins : goal.returns-clause-begins
+returns-clause-begins c = λ t w s related. related-unclosed related
+
+pub returns-clause-behind : goal.returns-clause-behind
+returns-clause-behind c = λ t w s mark number r related count there scope newest. closed-behind mark number r related count there scope newest
+
+pub returns-clause-at_once : goal.returns-clause-at_once
+returns-clause-at_once c = λ t w s mark choice sound related none allowed. closed-at_once mark choice sound related none allowed

@@ -1,0 +1,19 @@
+-- Variables.
+use Rattle.std.proofs.Common.{refl}
+use Rattle.cyc_meaning.specs.State.{Stack}
+use Rattle.cyc_meaning.proofs.WorldLaws.{cell_found}
+use Rattle.cyc_objects.proofs.Variables.{declared, assigned, opened-variables, closed-variables}
+use Rattle.cyc_objects.proofs.laws.variables_leave_the_store.Goals as goal
+
+pub returns-clause-declared : goal.returns-clause-declared
+returns-clause-declared c = λ t w s number r kind content related there entry. declared related number r kind content there entry
+
+pub returns-clause-assigned : goal.returns-clause-assigned
+returns-clause-assigned c = λ t w s object offset at v related found row.
+    let (there, cell) = cell_found w object offset at found in assigned related object offset at.object at.cell v there cell row
+
+pub returns-clause-opened : goal.returns-clause-opened
+returns-clause-opened c = λ t w s related. opened-variables related Stack refl
+
+pub returns-clause-closed : goal.returns-clause-closed
+returns-clause-closed c = λ t w s number r related there entry. closed-variables related number r there entry

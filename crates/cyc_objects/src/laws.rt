@@ -1,0 +1,155 @@
+//! Laws of the definitions in `specs/`. Each function does nothing: its contract is the law, and so it is proved with
+//! the crate. The lemmas behind them stand in `proofs/` for other proofs to cite.
+
+ghost use Rattle.std.specs.Prelude.{◌≡◌, ◌≢◌, ℕ, suc, ◌+◌, ◌*◌, ◌<◌, ◌≤◌, ◌==◌, not, nat_lt, if◌then◌else◌, Bool, true, false, List, Option, Some, None, slice_get};
+ghost use Rattle.cyc_types.specs.declared.typed.Kind.{Kind};
+ghost use Rattle.cyc_types.specs.declared.typed.Kind.TheVariants as kinds;
+ghost use Rattle.cyc_types.specs.TypedTrees.{Program};
+ghost use Rattle.cyc_words.specs.Demand.{page_words};
+ghost use Rattle.cyc_store.specs.State.{Memory, AreWords, StoreState, start, word_at};
+ghost use Rattle.cyc_store.specs.Services.{OpenLexical, CloseTo, OpenDynamic, CloseDynamic, Allocate, Free, Choice, served, full_at, is_size, refusal, IsAllowed};
+ghost use Rattle.cyc_store.specs.Soundness.{IsSound};
+ghost use Rattle.cyc_store.specs.declared.range.TheConstants.{MOST_PAGES, UNIQUE};
+ghost use Rattle.cyc_meaning.specs.Values.{Value, Int, Thin, Fat, is_thin, words_of_kind, Cell, kinds_of, block_size};
+ghost use Rattle.cyc_meaning.specs.Operators.{Gives, truth};
+ghost use Rattle.cyc_meaning.specs.Pointers.{moved, null_test};
+ghost use Rattle.cyc_meaning.specs.Conversion.{conversion};
+ghost use Rattle.cyc_meaning.specs.State.{Lexical, Dynamic, Stack, Region, Unique, Object, World, Found, Located, cell_at, opened_as, closed, variable, made, written, first_world};
+ghost use Rattle.cyc_meaning.specs.Objects.{compared, made_in, made_unique, freed};
+ghost use Rattle.cyc_meaning.specs.Effects.{pages_of};
+ghost use Rattle.cyc_objects.specs.Tables.{Variable, Placed, Tables, with_row, with_handle, Grows, first_tables};
+ghost use Rattle.cyc_objects.specs.Words.{words_from, Points, IsPartOf, Is, IsContent, AreBlank};
+ghost use Rattle.cyc_objects.specs.Related.{has_home, Alive, Related, is_scope, scopes, IsNewest, closed_to};
+
+/// What words are stays said of them when more objects are made and more regions opened, and of equal words elsewhere.
+pub fn words_stay_values()
+    ensures grows { (t u : Tables) (kind : Kind) (v : Value) (words : ℕ → ℕ) (place : ℕ) → Grows t u → Is t kind v words place → Is u kind v words place }
+    ensures same { (t : Tables) (kind : Kind) (v : Value) (words others : ℕ → ℕ) (place other : ℕ)
+        → ((j : ℕ) → j < words_of_kind kind → others (other + j) ≡ words (place + j)) → Is t kind v words place → Is t kind v others other }
+{}
+
+/// A cell has one address, which is not 0, whether its object is live or not.
+pub fn cells_have_addresses()
+    ensures one { (t : Tables) (object offset word other : ℕ) → Points t object offset word → Points t object offset other → word ≡ other }
+    ensures some { (t : Tables) (object offset word : ℕ) → Points t object offset word → word ≢ 0 }
+{}
+
+/// Conversions of pointers: a thin one keeps its word and gets a length and an index as a fat one; a fat one whose index is below its
+/// length stands at the cell of that index.
+pub fn pointers_convert()
+    ensures thin { (t : Tables) (from to : Kind) (v u : Value) (words others : ℕ → ℕ) (place other : ℕ) → is_thin from ≡ true → is_thin to ≡ true
+        → Is t from v words place → conversion to v ≡ Gives u → others other ≡ words place → Is t to u others other }
+    ensures fat { (t : Tables) (from : Kind) (v u : Value) (words others : ℕ → ℕ) (place other : ℕ) → is_thin from ≡ true
+        → Is t from v words place → conversion kinds.Fat v ≡ Gives u
+        → others other ≡ words place → others (other + 1) ≡ 1 → others (other + 2) ≡ 0 → Is t kinds.Fat u others other }
+    ensures thinned { (t : Tables) (object start count word index : ℕ) (part : IsPartOf t object start count word) → index < count
+        → Points t object (start + index) (word + 4 * (index * words_of_kind part.kind)) }
+{}
+
+/// Arithmetic of a fat pointer changes its third word alone, and a pointer is null where its first word is 0.
+pub fn pointers_compute()
+    ensures moved { (t : Tables) (change : ℕ → ℕ) (v u : Value) (words others : ℕ → ℕ) (place other : ℕ) → Is t kinds.Fat v words place
+        → moved change v ≡ Gives u → others other ≡ words place → others (other + 1) ≡ words (place + 1)
+        → others (other + 2) ≡ change (words (place + 2)) → Is t kinds.Fat u others other }
+    ensures thin_null { (t : Tables) (negated : Bool) (kind : Kind) (v : Value) (words : ℕ → ℕ) (place : ℕ) → is_thin kind ≡ true → Is t kind v words place
+        → null_test negated v ≡ Gives (Int (truth (if words place == 0 then not negated else negated))) }
+    ensures fat_null { (t : Tables) (negated : Bool) (v : Value) (words : ℕ → ℕ) (place : ℕ) → Is t kinds.Fat v words place
+        → null_test negated v ≡ Gives (Int (truth (if words place == 0 then not negated else negated))) }
+{}
+
+/// Thin pointers that the source compares are equal exactly where their words are.
+pub fn pointers_compare()
+    ensures { (t : Tables) (w : World) (s : StoreState) (from to : Kind) (u v : Value) (words others : ℕ → ℕ) (place other : ℕ) (equal : Bool)
+        → Related t w s → is_thin from ≡ true → is_thin to ≡ true → Is t from u words place → Is t to v others other
+        → compared w u v ≡ Found equal → equal ≡ (words place == others other) }
+{}
+
+/// At the start the globals are variables, and the store has the heap.
+pub fn starts_related()
+    ensures { (program : Program) (input : List ℕ) (pages : ℕ) (memory : Memory) → AreWords memory → 1 ≤ pages → pages ≤ MOST_PAGES
+        → Related (first_tables program) (first_world program input) (start pages memory) }
+{}
+
+/// A cell that a pointer leads to and that the source finds can be read, word by word, and its words are what it holds. A cell that is
+/// written leaves the relation, if memory is the same but for the cell's words.
+pub fn cells_are_read_and_written()
+    ensures live { (t : Tables) (w : World) (s : StoreState) (object offset word : ℕ) (at : Located) → Related t w s → cell_at w object offset ≡ Found at
+        → Points t object offset word → (j : ℕ) → j < words_of_kind at.cell.kind → word_at s (word + 4 * j) ≡ Some (s.memory (word + 4 * j)) }
+    ensures read { (t : Tables) (w : World) (s : StoreState) (object offset word : ℕ) (at : Located) → Related t w s → cell_at w object offset ≡ Found at
+        → Points t object offset word → IsContent t at.cell.kind at.cell.content (words_from s.memory word) 0 }
+    ensures written { (t : Tables) (w : World) (s : StoreState) (object offset word : ℕ) (at : Located) (m : Memory) (v : Value) → Related t w s
+        → cell_at w object offset ≡ Found at → Points t object offset word → AreWords m
+        → ((y : ℕ) → ((j : ℕ) → j < words_of_kind at.cell.kind → y ≢ word + 4 * j) → m y ≡ s.memory y)
+        → Is t at.cell.kind v (words_from m word) 0 → Related t (written w object offset at v) (record s { memory = m }) }
+{}
+
+/// An object that is made, with blank cells, stands in the block that the store chose, whichever it chose.
+pub fn objects_are_made()
+    ensures region { (t : Tables) (w : World) (s : StoreState) (number handle : ℕ) (r : Region) (cells : List Cell) (c : Choice) → Related t w s
+        → slice_get w.regions number ≡ Some r → has_home r ≡ true → slice_get t.handles number ≡ Some (Some handle) → AreBlank cells
+        → refusal s (Allocate handle (block_size cells)) ≡ None → IsAllowed s (Allocate handle (block_size cells)) c
+        → Related (with_row t (Placed c.address (kinds_of cells))) (made_in w number r cells) (served s (Allocate handle (block_size cells)) c) }
+    ensures unique { (t : Tables) (w : World) (s : StoreState) (cells : List Cell) (c : Choice) → Related t w s → AreBlank cells → block_size cells ≤ page_words
+        → refusal s (Allocate UNIQUE (block_size cells)) ≡ None → IsAllowed s (Allocate UNIQUE (block_size cells)) c
+        → Related (with_row t (Placed c.address (kinds_of cells))) (made_unique w cells) (served s (Allocate UNIQUE (block_size cells)) c) }
+{}
+
+/// The store is full exactly where the source's demand afterwards exceeds the pages, and refuses for no other reason.
+pub fn refusals_go_by_demand()
+    ensures region { (t : Tables) (w : World) (s : StoreState) (number handle : ℕ) (r : Region) (cells : List Cell) → Related t w s
+        → slice_get w.regions number ≡ Some r → has_home r ≡ true → slice_get t.handles number ≡ Some (Some handle) → is_size (block_size cells) ≡ true
+        → refusal s (Allocate handle (block_size cells)) ≡ full_at (nat_lt s.pages (pages_of (made_in w number r cells))) }
+    ensures unique { (t : Tables) (w : World) (s : StoreState) (cells : List Cell) → Related t w s → is_size (block_size cells) ≡ true
+        → refusal s (Allocate UNIQUE (block_size cells)) ≡ full_at (nat_lt s.pages (pages_of (made_unique w cells))) }
+    ensures lexical { (t : Tables) (w : World) (s : StoreState) → Related t w s
+        → refusal s OpenLexical ≡ full_at (nat_lt s.pages (pages_of (opened_as Lexical w))) }
+    ensures dynamic { (t : Tables) (w : World) (s : StoreState) → Related t w s
+        → refusal s OpenDynamic ≡ full_at (nat_lt s.pages (pages_of (opened_as Dynamic w))) }
+{}
+
+/// Variables and their regions leave the store as it is.
+pub fn variables_leave_the_store()
+    ensures declared { (t : Tables) (w : World) (s : StoreState) (number : ℕ) (r : Region) (kind : Kind) (content : Option Value) → Related t w s
+        → slice_get w.regions number ≡ Some r → slice_get t.handles number ≡ Some None
+        → Related (with_row t Variable) (made w (variable number kind content)) s }
+    ensures assigned { (t : Tables) (w : World) (s : StoreState) (object offset : ℕ) (at : Located) (v : Value) → Related t w s
+        → cell_at w object offset ≡ Found at → slice_get t.rows object ≡ Some Variable → Related t (written w object offset at v) s }
+    ensures opened { (t : Tables) (w : World) (s : StoreState) → Related t w s → Related (with_handle t None) (opened_as Stack w) s }
+    ensures closed { (t : Tables) (w : World) (s : StoreState) (number : ℕ) (r : Region) → Related t w s
+        → slice_get w.regions number ≡ Some r → slice_get t.handles number ≡ Some None → Related t (closed w number r) s }
+{}
+
+/// A unique object that is freed gives its block back, which the store knows.
+pub fn unique_objects_are_freed()
+    ensures knows { (t : Tables) (w : World) (s : StoreState) (number address : ℕ) (x : Object) (ks : List Kind) → Related t w s
+        → slice_get w.objects number ≡ Some x → x.owner ≡ Unique true → slice_get t.rows number ≡ Some (Placed address ks)
+        → refusal s (Free address) ≡ None }
+    ensures freed { (t : Tables) (w : World) (s : StoreState) (number address : ℕ) (x : Object) (ks : List Kind) (c : Choice) → Related t w s
+        → slice_get w.objects number ≡ Some x → x.owner ≡ Unique true → slice_get t.rows number ≡ Some (Placed address ks)
+        → IsAllowed s (Free address) c → Related t (freed w number x) (served s (Free address) c) }
+{}
+
+/// Regions of the store open and close as the source's do.
+pub fn regions_open_and_close()
+    ensures lexical { (t : Tables) (w : World) (s : StoreState) (c : Choice) → Related t w s → refusal s OpenLexical ≡ None → IsAllowed s OpenLexical c
+        → Related (with_handle t (Some c.handle)) (opened_as Lexical w) (served s OpenLexical c) }
+    ensures dynamic { (t : Tables) (w : World) (s : StoreState) (c : Choice) → Related t w s → refusal s OpenDynamic ≡ None → IsAllowed s OpenDynamic c
+        → Related (with_handle t (Some c.handle)) (opened_as Dynamic w) (served s OpenDynamic c) }
+    ensures knows { (t : Tables) (w : World) (s : StoreState) (number handle : ℕ) (r : Region) → Related t w s
+        → slice_get w.regions number ≡ Some r → has_home r ≡ true → r.sort ≡ Dynamic → slice_get t.handles number ≡ Some (Some handle)
+        → refusal s (CloseDynamic handle) ≡ None }
+    ensures closed { (t : Tables) (w : World) (s : StoreState) (number handle : ℕ) (r : Region) (c : Choice) → Related t w s
+        → slice_get w.regions number ≡ Some r → has_home r ≡ true → r.sort ≡ Dynamic → slice_get t.handles number ≡ Some (Some handle)
+        → IsAllowed s (CloseDynamic handle) c → Related t (closed w number r) (served s (CloseDynamic handle) c) }
+{}
+
+/// Where several lexical regions are left, the source closes one a step, newest first, and the store all of them at the end, by one
+/// close to a mark.
+pub fn regions_close_at_once()
+    ensures begins { (t : Tables) (w : World) (s : StoreState) → Related t w s → Related t w (closed_to s (scopes w.regions)) }
+    ensures behind { (t : Tables) (w : World) (s : StoreState) (mark number : ℕ) (r : Region) → Related t w (closed_to s (suc mark))
+        → scopes w.regions ≡ suc mark → slice_get w.regions number ≡ Some r → is_scope r.sort r.is_open ≡ true → IsNewest w.regions number
+        → Related t (closed w number r) (closed_to s mark) }
+    ensures at_once { (t : Tables) (w : World) (s : StoreState) (mark : ℕ) (c : Choice) → IsSound s → Related t w (closed_to s mark)
+        → refusal s (CloseTo mark) ≡ None → IsAllowed s (CloseTo mark) c → Related t w (served s (CloseTo mark) c) }
+{}
