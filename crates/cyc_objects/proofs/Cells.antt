@@ -201,9 +201,6 @@ module _ {t : Tables} {w : World} {s : StoreState} (related : Related t w s) {o 
     size-now : block_size now.cells ≡ block_size x.cells
     size-now = ap (λ n. max 1 n) (sym (words-kinds now.cells) ∙ (ap words_of_kinds kinds-now ∙ words-kinds x.cells))
 
-    after : World
-    after = written w o k (record { object = x; cell = c }) v
-
     before-written : (i g : ℕ) (y : Object) → Alive t (written w o k (record { object = x; cell = c }) v) i g y
         → ((i ≡ o) × (y ≡ now)) ⊎ ((i ≢ o) × Alive t w i g y)
     before-written i g y beside = elim (slice_get-set_cases w.objects o i x now y alive.at beside.at) [

@@ -37,28 +37,34 @@ count-lexical r rs lexical = cond-true (is_lexical r.sort) (suc (lexical_count r
 count-other : (r : Home) (rs : List Home) → is_lexical r.sort ≡ false → lexical_count (r ∷ rs) ≡ lexical_count rs
 count-other r rs other = cond-false (is_lexical r.sort) (suc (lexical_count rs)) (lexical_count rs) other
 
+down-both : (m k : ℕ) (r : Home) (rs : List Home) → is_lexical r.sort ≡ false → down_to m (down_to k rs) ≡ down_to m rs
+    → down_to m (down_to k (r ∷ rs)) ≡ down_to m (r ∷ rs)
+down-both m k r rs other rest =
+    ap (down_to m) (down-other k r rs other) ∙ (down-other m r (down_to k rs) other ∙ (ap (λ l. r ∷ l) rest ∙ sym (down-other m r rs other)))
+
 -- a lower mark after a higher one is the lower one
 pub down-less : (m k : ℕ) (rs : List Home) → m ≤ k → down_to m (down_to k rs) ≡ down_to m rs
 down-less zero zero [] less = refl
 down-less zero (suc k) [] less = refl
 down-less (suc m) zero [] less = absurd (omega (arith, less))
 down-less (suc m) (suc k) [] less = refl
-down-less m k (r ∷ rs) less = elim (cases_Bool (is_lexical r.sort)) [
-  | inl lexical ↦ by m k less lexical
-  | inr other ↦
-      ap (down_to m) (down-other k r rs other)
-      ∙ (down-other m r (down_to k rs) other ∙ (ap (λ l. r ∷ l) (down-less m k rs less) ∙ sym (down-other m r rs other)))
+down-less zero zero (r ∷ rs) less = elim (cases_Bool (is_lexical r.sort)) [
+  | inl lexical ↦ ap (down_to 0) (down-lexical r rs lexical) ∙ (down-less 0 0 rs less ∙ sym (down-lexical r rs lexical))
+  | inr other ↦ down-both 0 0 r rs other (down-less 0 0 rs less)
 ]
-  where
-    by : (m k : ℕ) → m ≤ k → is_lexical r.sort ≡ true → down_to m (down_to k (r ∷ rs)) ≡ down_to m (r ∷ rs)
-    by zero zero less lexical = ap (down_to 0) (down-lexical r rs lexical) ∙ (down-less 0 0 rs less ∙ sym (down-lexical r rs lexical))
-    by zero (suc k) less lexical =
-        ap (down_to 0) (down-kept k r rs lexical)
-        ∙ (down-lexical r (down_to k rs) lexical ∙ (down-less 0 k rs (omega arith) ∙ sym (down-lexical r rs lexical)))
-    by (suc m) zero less lexical = absurd (omega (arith, less))
-    by (suc m) (suc k) less lexical =
-        ap (down_to (suc m)) (down-kept k r rs lexical)
-        ∙ (down-kept m r (down_to k rs) lexical ∙ (ap (λ l. r ∷ l) (down-less m k rs (omega (arith, less))) ∙ sym (down-kept m r rs lexical)))
+down-less zero (suc k) (r ∷ rs) less = elim (cases_Bool (is_lexical r.sort)) [
+  | inl lexical ↦
+      ap (down_to 0) (down-kept k r rs lexical)
+      ∙ (down-lexical r (down_to k rs) lexical ∙ (down-less 0 k rs (omega arith) ∙ sym (down-lexical r rs lexical)))
+  | inr other ↦ down-both 0 (suc k) r rs other (down-less 0 (suc k) rs less)
+]
+down-less (suc m) zero (r ∷ rs) less = absurd (omega (arith, less))
+down-less (suc m) (suc k) (r ∷ rs) less = elim (cases_Bool (is_lexical r.sort)) [
+  | inl lexical ↦
+      ap (down_to (suc m)) (down-kept k r rs lexical)
+      ∙ (down-kept m r (down_to k rs) lexical ∙ (ap (λ l. r ∷ l) (down-less m k rs (omega (arith, less))) ∙ sym (down-kept m r rs lexical)))
+  | inr other ↦ down-both (suc m) (suc k) r rs other (down-less (suc m) (suc k) rs less)
+]
 
 -- a mark that all are below
 pub down-all : (rs : List Home) → down_to (lexical_count rs) rs ≡ rs
@@ -151,10 +157,10 @@ down-newest (passed {r = q} out some rest) distinct zero g m r there scope entry
     absurd (not_true (not-scope q out) (ap (λ (z : Region). is_scope z.sort z.is_open) (same_some there) ∙ scope))
 down-newest (passed {r = q} {regions = rs} out some rest) distinct (suc n) g m r there scope entry newest count =
     down-newest rest distinct n g m r there scope entry (newest-rest q rs n newest) count
-down-newest (taken {handle = h} {r = q} {home = o} {regions = rs} {open_homes = os} match rest) distinct zero g m r there scope entry newest count =
-    let same : o.handle ≡ g = match.named ∙ same_some (same_some entry) in
+down-newest (taken {handle = h} {r = q} {home = o} {regions = rs} {open_homes = os} found rest) distinct zero g m r there scope entry newest count =
+    let same : o.handle ≡ g = found.named ∙ same_some (same_some entry) in
     let lexical : is_lexical o.sort ≡ true =
-    scope-sort q.sort q.is_open o.sort match.sort match.kept ∙ (ap (λ (z : Region). is_scope z.sort z.is_open) (same_some there) ∙ scope) in
+    scope-sort q.sort q.is_open o.sort found.sort found.kept ∙ (ap (λ (z : Region). is_scope z.sort z.is_open) (same_some there) ∙ scope) in
     let none : lexical_count os ≡ 0 = scopes-same rest ∙ scopes-none rs (newest-none q rs newest) in
     let last : m ≡ 0 = zero-left m (lexical_count os) (sym count ∙ count-lexical o os lexical) none in
     when_equal o.handle g (without handle_of os g) (o ∷ without handle_of os g) same
@@ -163,7 +169,7 @@ down-newest (taken {handle = h} {r = q} {home = o} {regions = rs} {open_homes = 
   where
     zero-left : (m k : ℕ) → suc m ≡ suc k → k ≡ 0 → m ≡ 0
     zero-left m k same none = omega (arith, same, none)
-down-newest (taken {handle = h} {r = q} {home = o} {regions = rs} {open_homes = os} match rest) distinct (suc n) g m r there scope entry newest count =
+down-newest (taken {handle = h} {r = q} {home = o} {regions = rs} {open_homes = os} found rest) distinct (suc n) g m r there scope entry newest count =
     let other : o.handle ≢ g = first-other o rest distinct n g r there (scope-kept r.sort r.is_open scope) entry in
     when_other o.handle g (without handle_of os g) (o ∷ without handle_of os g) other
     ∙ elim (cases_Bool (is_lexical o.sort)) [
@@ -206,7 +212,7 @@ closed-behind {t} {w} {s} m n r related count there scope newest =
     subst (λ l. Related t (closed w n r) (record s { regions = l })) same
     (region-closed related n is.handle r s.memory there kept (scope-ends r.sort r.is_open scope) is.entry
     (subst (λ l. IsSound (record s { regions = l })) (down-less m (suc m) s.regions (omega arith) ∙ sym same) after)
-    (λ h a b here stays j below. refl))
+    (record { words = λ h a b here stays j below. refl }))
 
 -- the store closes what the source has closed
 pub closed-at_once : {t : Tables} {w : World} {s : StoreState} (mark : ℕ) (c : Choice) → IsSound s → Related t w (closed_to s mark)
@@ -237,11 +243,13 @@ closed-at_once {t} {w} {s} mark c sound related none allowed = record {
         ap (λ o. block_in o a) (lookup-part handle_of part sound.regions.handles h r there) ∙ found
 
     stay : WordsStay (closed_to s mark) (served s (CloseTo mark) c)
-    stay h a b here there j below =
-        let inside : stores.covers b (b.address + 4 * j) ≡ true = covers_from b (b.address + 4 * j) (omega arith) (omega (arith, below)) in
-        allowed.keeps (b.address + 4 * j) (record { handle = h; block = b })
-        (sound.regions.apart h a (b.address + 4 * j) b (whole h a b here) inside)
-        (after.regions.apart h a (b.address + 4 * j) b there inside)
+    stay = record {
+      words = λ h a b here there j below.
+          let inside : stores.covers b (b.address + 4 * j) ≡ true = covers_from b (b.address + 4 * j) (omega arith) (omega (arith, below)) in
+          allowed.keeps (b.address + 4 * j) (record { handle = h; block = b })
+          (sound.regions.apart h a (b.address + 4 * j) b (whole h a b here) inside)
+          (after.regions.apart h a (b.address + 4 * j) b there inside);
+    }
 
 -- the store refuses no mark of a region that is open
 pub refusal-close_to : (s : StoreState) (mark : ℕ) → mark ≤ lexical_count s.regions → refusal s (CloseTo mark) ≡ None

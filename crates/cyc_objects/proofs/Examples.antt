@@ -64,13 +64,19 @@ both = with_row (with_row no_tables (Placed STORE_BASE (kinds.Int ∷ []))) (Pla
 words : (x : ℕ) → 0 < 2 ^ 32
 words x = omega arith
 
+first : 536870912 ≤ 536870912
+first = omega arith
+
+short : 1 ≤ 1024
+short = omega arith
+
 placed : IsPlaced 3 (block_of UNIQUE 1 choice)
-placed = record { aligned = refl; low = omega arith; high = omega arith; some = omega arith }
+placed = record { aligned = refl; low = first; high = let fits : 536870916 ≤ 536883200 = omega arith in fits; some = let one : 0 < 1 = omega arith in one }
 
 new-related : Related no_tables empty new
 new-related = record {
   sound = start-sound 3 (λ (x : ℕ). 0) words (omega arith);
-  few = omega arith;
+  few = let few : 3 ≤ 65536 = omega arith in few;
   rows = refl;
   regions = taken (record { kept = refl; named = refl; sort = refl; sizes = refl }) no_regions;
   classes = refl;
@@ -91,13 +97,13 @@ may-make = record {
 }
 
 once-related : Related (with_row no_tables (Placed STORE_BASE (kinds.Int ∷ []))) one once
-once-related = allocated-unique new-related cells choice (refl, tt) (omega arith) refl may-make
+once-related = allocated-unique new-related cells choice (refl, tt) short refl may-make
 
 may-free : IsAllowed once (Free STORE_BASE) choice
 may-free = record { may = tt; keeps = λ x h before after. refl; words = words }
 
 freed-related : Related (with_row no_tables (Placed STORE_BASE (kinds.Int ∷ []))) none without_it
-freed-related = freed-unique once-related refl refl refl choice may-free
+freed-related = freed-unique {o = 0} {a = STORE_BASE} {x = record { owner = Unique true; cells = cells }} {ks = kinds.Int ∷ []} once-related refl refl refl choice may-free
 
 may-make_again : IsAllowed without_it (Allocate UNIQUE 1) choice
 may-make_again = record {
@@ -107,15 +113,15 @@ may-make_again = record {
 }
 
 again-related : Related both other again
-again-related = allocated-unique freed-related cells choice (refl, tt) (omega arith) refl may-make_again
+again-related = allocated-unique freed-related cells choice (refl, tt) short refl may-make_again
 
 points-to : (number : ℕ) → slice_get both.rows number ≡ Some (Placed STORE_BASE (kinds.Int ∷ [])) → Points both number 0 STORE_BASE
 points-to number row = record {
   address = STORE_BASE;
   kinds = kinds.Int ∷ [];
   row = row;
-  range = record { low = omega arith; high = omega arith };
-  inside = omega arith;
+  range = record { low = first; high = let fits : 536870916 < 4294967296 = omega arith in fits };
+  inside = let one : 0 < 1 = omega arith in one;
   at = refl;
 }
 

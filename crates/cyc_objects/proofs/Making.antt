@@ -94,12 +94,6 @@ module _ {t : Tables} {w : World} {s r : StoreState} (related : Related t w s) (
     (stays : (h f : ℕ) (b : Block) → block_at (homes s) h f ≡ Some b → block_at (homes r) h f ≡ Some b)
     (found : block_at (homes r) g a ≡ Some (record { address = a; size = room g (block_size x.cells) }))
     (apart : IsApart (homes s) (record { address = a; size = room g (block_size x.cells) })) where
-  abbrev more : Tables
-  more = with_row t (Placed a (kinds_of x.cells))
-
-  abbrev now : World
-  now = record w { objects = w.objects ++ x ∷ []; regions = rs; classes = cs }
-
   before-made : (o h : ℕ) (y : Object) → Alive (with_row t (Placed a (kinds_of x.cells))) (record w { objects = w.objects ++ x ∷ []; regions = rs; classes = cs }) o h y
       → Alive t w o h y ⊎ ((o ≡ length w.objects) × (y ≡ x))
   before-made o h y alive = elim (slice_get-last w.objects x o y alive.at) [
@@ -258,9 +252,6 @@ module _ {t : Tables} {w : World} {s : StoreState} (related : Related t w s) (n 
 -- ---- a unique object
 
 module _ {t : Tables} {w : World} {s : StoreState} (related : Related t w s) (cells : List Cell) where
-  abbrev size : ℕ
-  size = block_size cells
-
   served-unique : (c : Choice) → served s (Allocate UNIQUE (block_size cells)) c ≡ record (made_unique s (block_of UNIQUE (block_size cells) c)) { memory = c.memory }
   served-unique c = ap (λ (z : StoreState). record z { memory = c.memory }) (made-unique s UNIQUE (block_of UNIQUE (block_size cells) c) refl)
 

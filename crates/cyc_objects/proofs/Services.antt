@@ -198,9 +198,6 @@ module _ {t : Tables} {w : World} {s : StoreState} (related : Related t w s) {o 
   pub refusal-free : refusal s (Free a) ≡ None
   refusal-free = cond-true (is_some (lookup address_of s.unique a)) None (Some NotABlock) (ap (λ q. is_some q) unique-found)
 
-  abbrev gone : Object
-  gone = record x { owner = Unique false }
-
   uniques-less : (class : ℕ) → stores.live_in class (without address_of s.unique a) ≡ live_in class (set w.objects o (record x { owner = Unique false }))
   uniques-less class =
       same-rest (class_of_cells x.cells == class) (stores.live_in class (without address_of s.unique a)) (live_in class (set w.objects o (record x { owner = Unique false })))

@@ -86,17 +86,22 @@ module _ (s : StoreState) (h a : ℕ) (b : Block) where
 
 -- ---- objects stand where they stood
 
--- the words of blocks that are live before and after
-abbrev pub WordsStay : StoreState → StoreState → Type 0
-WordsStay s r = (h a : ℕ) (b : Block) → block_at (homes s) h a ≡ Some b → block_at (homes r) h a ≡ Some b → (j : ℕ) → j < b.size
-    → r.memory (b.address + 4 * j) ≡ s.memory (b.address + 4 * j)
+-- the words of blocks that are live before and after stay
+pub record WordsStay (s r : StoreState) : Type 0 where
+  pub words : (h a : ℕ) (b : Block) → block_at (homes s) h a ≡ Some b → block_at (homes r) h a ≡ Some b → (j : ℕ) → j < b.size
+      → r.memory (b.address + 4 * j) ≡ s.memory (b.address + 4 * j)
+
+pub words-same : (s : StoreState) → WordsStay s s
+words-same s = record { words = λ h a b here there j below. refl }
 
 pub words-stay : {s r : StoreState} → IsSound s → IsSound r → Keeps s r → WordsStay s r
-words-stay {s} {r} sound after keeps h a b here there j below =
-    let inside : covers b (b.address + 4 * j) ≡ true = covers_from b (b.address + 4 * j) (omega arith) (omega (arith, below)) in
-    keeps (b.address + 4 * j) (record { handle = h; block = b })
-    (sound.regions.apart h a (b.address + 4 * j) b here inside)
-    (after.regions.apart h a (b.address + 4 * j) b there inside)
+words-stay {s} {r} sound after keeps = record {
+  words = λ h a b here there j below.
+      let inside : covers b (b.address + 4 * j) ≡ true = covers_from b (b.address + 4 * j) (omega arith) (omega (arith, below)) in
+      keeps (b.address + 4 * j) (record { handle = h; block = b })
+      (sound.regions.apart h a (b.address + 4 * j) b here inside)
+      (after.regions.apart h a (b.address + 4 * j) b there inside);
+}
 
 module _ {t u : Tables} {s r : StoreState} (grows : Grows t u) (stay : WordsStay s r) where
   pub Stands-served : (h o : ℕ) (cells : List Cell) (st : Stands t (homes s) s.memory h o cells)
@@ -109,7 +114,7 @@ module _ {t u : Tables} {s r : StoreState} (grows : Grows t u) (stay : WordsStay
     enough = st.enough;
     holds = AreCells-grows grows cells (words_from r.memory st.address) 0
         (AreCells-same t cells (words_from s.memory st.address) (words_from r.memory st.address) 0 0
-        (λ j below. stay h st.address (record { address = st.address; size = room h (block_size cells) }) st.found there (0 + j) (within j below))
+        (λ j below. stay.words h st.address (record { address = st.address; size = room h (block_size cells) }) st.found there (0 + j) (within j below))
         st.holds);
   }
     where

@@ -13,7 +13,7 @@ use Rattle.cyc_objects.specs.Related.{sort_of, has_home, lies_in, Alive, Within,
 use Rattle.cyc_objects.proofs.NumberLemmas.{slice_get-below, slice_get-there, slice_get-last, slice_get-set_cases, length-last}
 use Rattle.cyc_objects.proofs.Values.{words-kinds, Grows-same, Grows-row, Grows-handle}
 use Rattle.cyc_objects.proofs.RegionLemmas.{regions-length, Regions-variables, shut, Regions-shut, lies-home, lies-set, lies-last}
-use Rattle.cyc_objects.proofs.Serving.{objects-inherited, alone-inherited}
+use Rattle.cyc_objects.proofs.Serving.{words-same, objects-inherited, alone-inherited}
 use Rattle.cyc_objects.proofs.Cells.{not-placed, variable-alone, live_in-set}
 use Rattle.cyc_objects.proofs.Making.{live-last}
 
@@ -64,8 +64,8 @@ module _ {t : Tables} {w : World} {s : StoreState} (related : Related t w s) whe
       | inl old ↦ slice_get-append t.rows (Variable ∷ []) o Variable (related.variables o m y old owner is)
       | inr new ↦ row-new o new.0
     ];
-    objects = objects-inherited related (Grows-row t Variable) (λ h a b here stays j below. refl) before (λ o h a ks y b alive row at. at);
-    alone = alone-inherited related (Grows-row t Variable) (λ h a b here stays j below. refl) before (λ o h a ks y b alive row at. at);
+    objects = objects-inherited related (Grows-row t Variable) (words-same s) before (λ o h a ks y b alive row at. at);
+    alone = alone-inherited related (Grows-row t Variable) (words-same s) before (λ o h a ks y b alive row at. at);
   }
     where
       row-new : (o : ℕ) → o ≡ length w.objects → slice_get (t.rows ++ Variable ∷ []) o ≡ Some Variable
@@ -102,8 +102,8 @@ module _ {t : Tables} {w : World} {s : StoreState} (related : Related t w s) whe
       | inl here ↦ subst (λ m. slice_get t.rows m ≡ Some Variable) (sym here.0) row
       | inr other ↦ related.variables i n y other.1 owner entry
     ];
-    objects = objects-inherited related (Grows-same t) (λ h a b here stays j below. refl) before (λ i h a ks y b alive placed found. found);
-    alone = alone-inherited related (Grows-same t) (λ h a b here stays j below. refl) before (λ i h a ks y b alive placed found. found);
+    objects = objects-inherited related (Grows-same t) (words-same s) before (λ i h a ks y b alive placed found. found);
+    alone = alone-inherited related (Grows-same t) (words-same s) before (λ i h a ks y b alive placed found. found);
   }
     where
       size : block_size (set x.cells k (record c { content = Some v })) ≡ block_size x.cells
@@ -132,8 +132,8 @@ module _ {t : Tables} {w : World} {s : StoreState} (related : Related t w s) whe
     owned = λ o y at. further y.owner (related.owned o y at);
     shapes = related.shapes;
     variables = λ o n y at owner entry. related.variables o n y at owner (older o n y at owner entry);
-    objects = objects-inherited related (Grows-handle t None) (λ h a b here stays j below. refl) before (λ o h a ks y b alive row found. found);
-    alone = alone-inherited related (Grows-handle t None) (λ h a b here stays j below. refl) before (λ o h a ks y b alive row found. found);
+    objects = objects-inherited related (Grows-handle t None) (words-same s) before (λ o h a ks y b alive row found. found);
+    alone = alone-inherited related (Grows-handle t None) (words-same s) before (λ o h a ks y b alive row found. found);
   }
     where
       before : (o h : ℕ) (y : Object) → Alive (with_handle t None) (opened_as sort w) o h y → Alive t w o h y
@@ -160,8 +160,8 @@ module _ {t : Tables} {w : World} {s : StoreState} (related : Related t w s) whe
     owned = λ o y at. subst (λ m. Within m y.owner) (sym (length-set w.regions n (shut r))) (related.owned o y at);
     shapes = related.shapes;
     variables = related.variables;
-    objects = objects-inherited related (Grows-same t) (λ h a b here stays j below. refl) before (λ o h a ks y b alive row found. found);
-    alone = alone-inherited related (Grows-same t) (λ h a b here stays j below. refl) before (λ o h a ks y b alive row found. found);
+    objects = objects-inherited related (Grows-same t) (words-same s) before (λ o h a ks y b alive row found. found);
+    alone = alone-inherited related (Grows-same t) (words-same s) before (λ o h a ks y b alive row found. found);
   }
     where
       before : (o h : ℕ) (y : Object) → Alive t (closed w n r) o h y → Alive t w o h y

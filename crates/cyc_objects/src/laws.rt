@@ -10,7 +10,7 @@ ghost use Rattle.cyc_store.specs.State.{Memory, AreWords, StoreState, start, wor
 ghost use Rattle.cyc_store.specs.Services.{OpenLexical, CloseTo, OpenDynamic, CloseDynamic, Allocate, Free, Choice, served, full_at, is_size, refusal, IsAllowed};
 ghost use Rattle.cyc_store.specs.Soundness.{IsSound};
 ghost use Rattle.cyc_store.specs.declared.range.TheConstants.{MOST_PAGES, UNIQUE};
-ghost use Rattle.cyc_meaning.specs.Values.{Value, Int, Thin, Fat, is_thin, words_of_kind, Cell, kinds_of, block_size};
+ghost use Rattle.cyc_meaning.specs.Values.{Value, Int, is_thin, words_of_kind, Cell, kinds_of, block_size};
 ghost use Rattle.cyc_meaning.specs.Operators.{Gives, truth};
 ghost use Rattle.cyc_meaning.specs.Pointers.{moved, null_test};
 ghost use Rattle.cyc_meaning.specs.Conversion.{conversion};
