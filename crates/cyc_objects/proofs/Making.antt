@@ -17,18 +17,19 @@ use Rattle.cyc_store.proofs.HolderLemmas.{covers_first}
 use Rattle.cyc_store.proofs.CountLemmas.{class_of-bound, class_of-holds, live_in-append_same, live_in-append_other}
 use Rattle.cyc_store.proofs.ServiceLemmas.{made-unique, made-in, served-sound}
 use Rattle.cyc_store.proofs.BlockLemmas.{serves-made}
-use Rattle.cyc_meaning.specs.Values.{Cell, kinds_of, words_of_cells, block_size}
+use Rattle.cyc_meaning.specs.Values.{Operand, Cell, kinds_of, words_of_cells, block_size}
 use Rattle.cyc_meaning.specs.State.{Region, Owner, InRegion, Unique, Object, World, counted}
 use Rattle.cyc_meaning.specs.Objects as source
 use Rattle.cyc_meaning.specs.Objects.{class_of_cells, is_live_in, live_in, raised}
+use Rattle.cyc_meaning.specs.Allocation.{blanks, blanks_of}
 use Rattle.cyc_meaning.specs.Effects.{pages_of}
 use Rattle.cyc_meaning.proofs.ListLemmas.{slice_get-append, slice_get-end}
 use Rattle.cyc_objects.specs.Tables.{Row, Variable, Placed, Tables, with_row}
-use Rattle.cyc_objects.specs.Words.{words_of_kinds, words_from, InRange, AreBlank}
+use Rattle.cyc_objects.specs.Words.{words_of_kinds, words_from, InRange, Points, IsPartOf, AreBlank}
 use Rattle.cyc_objects.specs.Related.{has_home, Regions, lies_in, Alive, Stands, Within, Related}
 use Rattle.cyc_objects.proofs.NumberLemmas.{slice_get-below, slice_get-there, slice_get-last, slice_get-set_same, length-last}
 use Rattle.cyc_objects.proofs.Values.{words-kinds, Grows-row, AreCells-blank}
-use Rattle.cyc_objects.proofs.Pointers.{same-row}
+use Rattle.cyc_objects.proofs.Pointers.{same-row, first-points, whole-part}
 use Rattle.cyc_objects.proofs.RegionLemmas.{counted-same, HasHome, home-found, with_size, Regions-made, lies-from, lies-home, lies-set, same_entry}
 use Rattle.cyc_objects.proofs.Serving.{block-made_in, block-made_unique, words-stay, Stands-served}
 
@@ -67,6 +68,19 @@ room-in g words other = when_other g UNIQUE (2 ^ class_of words) words other
 
 fits-block : (cells : List Cell) → words_of_kinds (kinds_of cells) ≤ block_size cells
 fits-block cells = subst (λ n. n ≤ block_size cells) (sym (words-kinds cells)) (le-max_right 1 (words_of_cells cells))
+
+-- a block has room for what was asked for
+pub room-fits : (g : ℕ) (cells : List Cell) → block_size cells ≤ page_words → words_of_kinds (kinds_of cells) ≤ room g (block_size cells)
+room-fits g cells short = elim (cases_eq g UNIQUE) [
+  | inl same ↦
+      subst (λ h. words_of_kinds (kinds_of cells) ≤ room h (block_size cells)) (sym same)
+      (subst (λ m. words_of_kinds (kinds_of cells) ≤ m) (sym (room-unique (block_size cells)))
+      (both (words_of_kinds (kinds_of cells)) (block_size cells) (2 ^ class_of (block_size cells)) (fits-block cells) (class_of-holds (block_size cells) short)))
+  | inr other ↦ subst (λ m. words_of_kinds (kinds_of cells) ≤ m) (sym (room-in g (block_size cells) other)) (fits-block cells)
+]
+  where
+    both : (k m n : ℕ) → k ≤ m → m ≤ n → k ≤ n
+    both k m n first second = omega (arith, first, second)
 
 -- ---- how many unique objects of a class are live
 
@@ -284,8 +298,7 @@ module _ {t : Tables} {w : World} {s : StoreState} (related : Related t w s) (ce
   allocated-unique c blank short none allowed =
       subst (Related (with_row t (Placed c.address (kinds_of cells))) (source.made_unique w cells)) (sym (served-unique c))
       (related-more related (record { owner = Unique true; cells = cells }) c.address UNIQUE w.regions (source.made_unique w cells).classes blank
-      (subst (λ m. words_of_kinds (kinds_of cells) ≤ m) (sym (room-unique (block_size cells)))
-      (more (words_of_kinds (kinds_of cells)) (block_size cells) (2 ^ class_of (block_size cells)) (fits-block cells) (class_of-holds (block_size cells) short)))
+      (room-fits UNIQUE cells short)
       refl
       (λ owner h lies. lies)
       (subst IsSound (served-unique c) (served-sound s (Allocate UNIQUE (block_size cells)) c related.sound none allowed))
@@ -300,9 +313,6 @@ module _ {t : Tables} {w : World} {s : StoreState} (related : Related t w s) (ce
       related.regions
       (classes-more c)
       (uniques-more c))
-    where
-      more : (k m n : ℕ) → k ≤ m → m ≤ n → k ≤ n
-      more k m n first second = omega (arith, first, second)
 
   pub refusal-unique : is_size (block_size cells) ≡ true
       → refusal s (Allocate UNIQUE (block_size cells)) ≡ full_at (nat_lt s.pages (pages_of (source.made_unique w cells)))
@@ -314,3 +324,34 @@ module _ {t : Tables} {w : World} {s : StoreState} (related : Related t w s) (ce
       (ap demand (served-unique (any_choice s))
       ∙ (ap (demand_of (sizes_in s.regions)) (classes-more (any_choice s))
       ∙ ap (λ l. demand_of l (source.made_unique w cells).classes) (sym (counted-same related.regions)))))
+
+-- ---- what is made is blank, and there are pointers to it
+
+pub blanks-blank : (count : ℕ) (kind : Kind) → AreBlank (blanks count kind)
+blanks-blank zero kind = tt
+blanks-blank (suc count) kind = (refl, blanks-blank count kind)
+
+pub operands-blank : (values : List Operand) → AreBlank (blanks_of values)
+operands-blank [] = tt
+operands-blank (v ∷ values) = (refl, operands-blank values)
+
+module _ {t : Tables} {w : World} {s : StoreState} (related : Related t w s) where
+  pub row-made : (row : Row) → slice_get (with_row t row).rows (length w.objects) ≡ Some row
+  row-made row = subst (λ n. slice_get (t.rows ++ row ∷ []) n ≡ Some row) related.rows (slice_get-end t.rows row)
+
+  range-made : (g : ℕ) (cells : List Cell) (c : Choice) → block_size cells ≤ page_words → IsAllowed s (Allocate g (block_size cells)) c → InRange c.address (kinds_of cells)
+  range-made g cells c short allowed =
+      placed-range s.pages (block_of g (block_size cells) c) (kinds_of cells) allowed.may.0 related.few (room-fits g cells short)
+
+  -- to the first cell of a new object, and to all those of a new array
+  pub points-made : (g : ℕ) (first : Cell) (cells : List Cell) (c : Choice) → block_size (first ∷ cells) ≤ page_words → IsAllowed s (Allocate g (block_size (first ∷ cells))) c
+      → Points (with_row t (Placed c.address (kinds_of (first ∷ cells)))) (length w.objects) 0 c.address
+  points-made g first cells c short allowed =
+      first-points (length w.objects) c.address first.kind (kinds_of cells) (row-made (Placed c.address (kinds_of (first ∷ cells))))
+      (range-made g (first ∷ cells) c short allowed)
+
+  pub part-made : (g count : ℕ) (kind : Kind) (c : Choice) → block_size (blanks count kind) ≤ page_words → IsAllowed s (Allocate g (block_size (blanks count kind))) c
+      → IsPartOf (with_row t (Placed c.address (kinds_of (blanks count kind)))) (length w.objects) 0 count c.address
+  part-made g count kind c short allowed =
+      whole-part (length w.objects) c.address count kind (row-made (Placed c.address (kinds_of (blanks count kind))))
+      (range-made g (blanks count kind) c short allowed)

@@ -99,6 +99,15 @@ module _ {t : Tables} where
     at = ap (λ n. n + 4 * before field p.kinds) (p.at ∙ add-zero p.address);
   }
 
+  -- ---- pointers to a whole object
+
+  -- the address of the first cell is that of the object
+  pub first-row : {o w : ℕ} (p : Points t o 0 w) → slice_get t.rows o ≡ Some (Placed w p.kinds)
+  first-row p = p.row ∙ ap (λ a. Some (Placed a p.kinds)) (sym (p.at ∙ add-zero p.address))
+
+  pub part-row : {o n w : ℕ} (p : IsPartOf t o 0 n w) → slice_get t.rows o ≡ Some (Placed w p.kinds)
+  part-row p = p.row ∙ ap (λ a. Some (Placed a p.kinds)) (sym (p.at ∙ add-zero p.address))
+
   -- ---- pointers to a new object
 
   -- to its first cell, where it has one

@@ -1,7 +1,7 @@
 //! Laws of the definitions in `specs/`. Each function does nothing: its contract is the law, and so it is proved with
 //! the crate. The lemmas behind them stand in `proofs/` for other proofs to cite.
 
-ghost use Rattle.std.specs.Prelude.{◌≡◌, ◌≢◌, ℕ, suc, ◌+◌, ◌*◌, ◌<◌, ◌≤◌, ◌==◌, not, nat_lt, if◌then◌else◌, Bool, true, false, List, Option, Some, None, slice_get};
+ghost use Rattle.std.specs.Prelude.{◌≡◌, ◌≢◌, ℕ, suc, ◌+◌, ◌*◌, ◌<◌, ◌≤◌, ◌==◌, not, nat_lt, if◌then◌else◌, Bool, true, false, List, ◌∷◌, length, Option, Some, None, slice_get};
 ghost use Rattle.cyc_types.specs.declared.typed.Kind.{Kind};
 ghost use Rattle.cyc_types.specs.declared.typed.Kind.TheVariants as kinds;
 ghost use Rattle.cyc_types.specs.TypedTrees.{Program};
@@ -16,6 +16,7 @@ ghost use Rattle.cyc_meaning.specs.Pointers.{moved, null_test};
 ghost use Rattle.cyc_meaning.specs.Conversion.{conversion};
 ghost use Rattle.cyc_meaning.specs.State.{Lexical, Dynamic, Stack, Region, Unique, Object, World, Found, Located, cell_at, opened_as, closed, variable, made, written, first_world};
 ghost use Rattle.cyc_meaning.specs.Objects.{compared, made_in, made_unique, freed};
+ghost use Rattle.cyc_meaning.specs.Allocation.{blanks};
 ghost use Rattle.cyc_meaning.specs.Effects.{pages_of};
 ghost use Rattle.cyc_objects.specs.Tables.{Variable, Placed, Tables, with_row, with_handle, Grows, first_tables};
 ghost use Rattle.cyc_objects.specs.Words.{words_from, Points, IsPartOf, Is, IsContent, AreBlank};
@@ -83,7 +84,8 @@ pub fn cells_are_read_and_written()
         → Is t at.cell.kind v (words_from m word) 0 → Related t (written w object offset at v) (record s { memory = m }) }
 {}
 
-/// An object that is made, with blank cells, stands in the block that the store chose, whichever it chose.
+/// An object that is made, with blank cells, stands in the block that the store chose, whichever it chose, and the address of the block is
+/// the pointer to it.
 pub fn objects_are_made()
     ensures region { (t : Tables) (w : World) (s : StoreState) (number handle : ℕ) (r : Region) (cells : List Cell) (c : Choice) → Related t w s
         → slice_get w.regions number ≡ Some r → has_home r ≡ true → slice_get t.handles number ≡ Some (Some handle) → AreBlank cells
@@ -92,6 +94,12 @@ pub fn objects_are_made()
     ensures unique { (t : Tables) (w : World) (s : StoreState) (cells : List Cell) (c : Choice) → Related t w s → AreBlank cells → block_size cells ≤ page_words
         → refusal s (Allocate UNIQUE (block_size cells)) ≡ None → IsAllowed s (Allocate UNIQUE (block_size cells)) c
         → Related (with_row t (Placed c.address (kinds_of cells))) (made_unique w cells) (served s (Allocate UNIQUE (block_size cells)) c) }
+    ensures points { (t : Tables) (w : World) (s : StoreState) (handle : ℕ) (first : Cell) (cells : List Cell) (c : Choice) → Related t w s
+        → block_size (first ∷ cells) ≤ page_words → IsAllowed s (Allocate handle (block_size (first ∷ cells))) c
+        → Points (with_row t (Placed c.address (kinds_of (first ∷ cells)))) (length w.objects) 0 c.address }
+    ensures array { (t : Tables) (w : World) (s : StoreState) (handle count : ℕ) (kind : Kind) (c : Choice) → Related t w s
+        → block_size (blanks count kind) ≤ page_words → IsAllowed s (Allocate handle (block_size (blanks count kind))) c
+        → IsPartOf (with_row t (Placed c.address (kinds_of (blanks count kind)))) (length w.objects) 0 count c.address }
 {}
 
 /// The store is full exactly where the source's demand afterwards exceeds the pages, and refuses for no other reason.

@@ -1,5 +1,5 @@
 -- Objects that are made.
-use Rattle.cyc_objects.proofs.Making.{allocated, allocated-unique}
+use Rattle.cyc_objects.proofs.Making.{allocated, allocated-unique, points-made, part-made}
 use Rattle.cyc_objects.proofs.laws.objects_are_made.Goals as goal
 
 pub returns-clause-region : goal.returns-clause-region
@@ -8,3 +8,9 @@ returns-clause-region c = λ t w s number handle r cells choice related there ke
 
 pub returns-clause-unique : goal.returns-clause-unique
 returns-clause-unique c = λ t w s cells choice related blank short none allowed. allocated-unique related cells choice blank short none allowed
+
+pub returns-clause-points : goal.returns-clause-points
+returns-clause-points c = λ t w s handle first cells choice related short allowed. points-made related handle first cells choice short allowed
+
+pub returns-clause-array : goal.returns-clause-array
+returns-clause-array c = λ t w s handle count kind choice related short allowed. part-made related handle count kind choice short allowed
