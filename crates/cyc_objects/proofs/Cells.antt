@@ -17,11 +17,11 @@ use Rattle.cyc_meaning.specs.Objects.{class_of_cells, is_live_in, live_in}
 use Rattle.cyc_meaning.proofs.ListLemmas.{map-set}
 use Rattle.cyc_meaning.proofs.WorldLaws.{cell_found}
 use Rattle.cyc_objects.specs.Tables.{Row, Variable, Placed, Tables}
-use Rattle.cyc_objects.specs.Words.{words_of_kinds, before, words_from, Points, Is, IsContent, AreCells}
+use Rattle.cyc_objects.specs.Words.{words_of_kinds, before, words_from, Points, IsPartOf, Is, IsContent, AreCells}
 use Rattle.cyc_objects.specs.Related.{sort_of, has_home, Regions, lies_in, Alive, Stands, Within, Related}
 use Rattle.cyc_objects.proofs.NumberLemmas.{slice_get-below, slice_get-set_same, slice_get-set_cases, slice_get-map}
 use Rattle.cyc_objects.proofs.Values.{words-kinds, before-inside, Is-same, IsContent-same, AreCells-same}
-use Rattle.cyc_objects.proofs.Pointers.{same-row}
+use Rattle.cyc_objects.proofs.Pointers.{same-row, fat-to_cell}
 use Rattle.cyc_objects.proofs.RegionLemmas.{sort-some, entry-found, lies-from}
 
 -- ---- what is there is live, or a variable
@@ -64,6 +64,15 @@ module _ {t : Tables} {w : World} {s : StoreState} (related : Related t w s) whe
         | inl (h, lies) ↦ (h, record { at = there; lies = lies }, cell)
         | inr (n, owner, entry) ↦ absurd (not-placed (related.variables o n at.object there owner entry) points.row)
       ]
+
+  -- an element of a part that is there, by the kind of its cell
+  pub element-found : {o start n p : ℕ} (i : ℕ) (at : Located) (part : IsPartOf t o start n p) → i < n → cell_at w o (start + i) ≡ Found at
+      → Points t o (start + i) (p + 4 * (i * words_of_kind at.cell.kind))
+  element-found {o} {start} i at part below found =
+      let (there, cell) = cell_found w o (start + i) at found in
+      fat-to_cell i at.cell.kind part below
+      (ap (λ ks. slice_get ks (start + i)) (related.shapes o part.address part.kinds at.object there part.row)
+      ∙ slice_get-map (λ (z : Cell). z.kind) at.object.cells (start + i) at.cell cell)
 
   -- a variable is no live object of the store
   pub variable-alone : (o h : ℕ) (x : Object) → slice_get t.rows o ≡ Some Variable → Alive t w o h x → ⊥

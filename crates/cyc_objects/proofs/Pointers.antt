@@ -70,6 +70,12 @@ module _ {t : Tables} where
       away : (w a b c d : ℕ) → w ≡ a + 4 * b → c ≡ b + d → w + 4 * d ≡ a + 4 * c
       away w a b c d at far = omega (arith, at, far)
 
+  -- the same by the kind of that cell
+  pub fat-to_cell : {o start n w : ℕ} (i : ℕ) (kind : Kind) (part : IsPartOf t o start n w) → i < n → slice_get part.kinds (start + i) ≡ Some kind
+      → Points t o (start + i) (w + 4 * (i * words_of_kind kind))
+  fat-to_cell {o} {start} {n} {w} i kind part below there =
+      subst (λ k. Points t o (start + i) (w + 4 * (i * words_of_kind k))) (same_some (sym (part.even i below) ∙ there)) (thinned i part below)
+
   -- a thin pointer as a part of one cell
   pub part-of-cell : {o k w : ℕ} → Points t o k w → IsPartOf t o k 1 w
   part-of-cell {o} {k} p =
@@ -241,12 +247,6 @@ module _ (t : Tables) where
   pub fat-count : (v : Value) (m : ℕ → ℕ) (p : ℕ) → Is t kinds.Fat v m p
       → element_count v ≡ Gives (Int (if m p == 0 then 0 else if nat_le (m (p + 2)) (m (p + 1)) then m (p + 1) - m (p + 2) else 0))
   fat-count v m p is = count_fat v (m p) (m (p + 1)) (m (p + 2)) (fat-is v m p is)
-
-  -- the cell that a fat pointer stands at, by its words, where its index is below its length
-  pub fat-to_thin : {o start count index : ℕ} (kind : Kind) (m n : ℕ → ℕ) (p q : ℕ) (part : IsPartOf t o start count (m p)) → index < count
-      → part.kind ≡ kind → n q ≡ m p + 4 * (index * words_of_kind kind) → Points t o (start + index) (n q)
-  fat-to_thin {o} {start} {count} {index} kind m n p q part below same at =
-      subst (Points t o (start + index)) (ap (λ k. m p + 4 * (index * words_of_kind k)) same ∙ sym at) (thinned index part below)
 
   -- ---- tests for null
 

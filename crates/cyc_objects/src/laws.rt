@@ -71,13 +71,16 @@ pub fn starts_related()
         → Related (first_tables program) (first_world program input) (start pages memory) }
 {}
 
-/// A cell that a pointer leads to and that the source finds can be read, word by word, and its words are what it holds. A cell that is
-/// written leaves the relation, if memory is the same but for the cell's words.
+/// A cell that a pointer leads to and that the source finds can be read, word by word, and its words are what it holds; that of a fat
+/// pointer is found by the words of such a cell. A cell that is written leaves the relation, if memory is the same but for its words.
 pub fn cells_are_read_and_written()
     ensures live { (t : Tables) (w : World) (s : StoreState) (object offset word : ℕ) (at : Located) → Related t w s → cell_at w object offset ≡ Found at
         → Points t object offset word → (j : ℕ) → j < words_of_kind at.cell.kind → word_at s (word + 4 * j) ≡ Some (s.memory (word + 4 * j)) }
     ensures read { (t : Tables) (w : World) (s : StoreState) (object offset word : ℕ) (at : Located) → Related t w s → cell_at w object offset ≡ Found at
         → Points t object offset word → IsContent t at.cell.kind at.cell.content (words_from s.memory word) 0 }
+    ensures element { (t : Tables) (w : World) (s : StoreState) (object start count word index : ℕ) (at : Located) → Related t w s
+        → IsPartOf t object start count word → index < count → cell_at w object (start + index) ≡ Found at
+        → Points t object (start + index) (word + 4 * (index * words_of_kind at.cell.kind)) }
     ensures written { (t : Tables) (w : World) (s : StoreState) (object offset word : ℕ) (at : Located) (m : Memory) (v : Value) → Related t w s
         → cell_at w object offset ≡ Found at → Points t object offset word → AreWords m
         → ((y : ℕ) → ((j : ℕ) → j < words_of_kind at.cell.kind → y ≢ word + 4 * j) → m y ≡ s.memory y)
