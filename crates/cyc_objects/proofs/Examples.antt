@@ -103,7 +103,7 @@ may-free : IsAllowed once (Free STORE_BASE) choice
 may-free = record { may = tt; keeps = λ x h before after. refl; words = words }
 
 freed-related : Related (with_row no_tables (Placed STORE_BASE (kinds.Int ∷ []))) none without_it
-freed-related = freed-unique {o = 0} {a = STORE_BASE} {x = record { owner = Unique true; cells = cells }} {ks = kinds.Int ∷ []} once-related refl refl refl choice may-free
+freed-related = freed-unique once-related 0 STORE_BASE (record { owner = Unique true; cells = cells }) (kinds.Int ∷ []) refl refl refl choice may-free
 
 may-make_again : IsAllowed without_it (Allocate UNIQUE 1) choice
 may-make_again = record {

@@ -94,7 +94,7 @@ pub same_entry : {o : Option (Option ℕ)} {g h : ℕ} → o ≡ Some (Some g) �
 same_entry first second = same_some (same_some (sym first ∙ second))
 
 -- the first of the store's regions has another handle than any later one
-first-other : {hs : List (Option ℕ)} {rs : List Region} {os : List Home} (o : Home) → Regions hs rs os → AreDistinct handle_of (o ∷ os) → (n g : ℕ) (r : Region)
+pub first-other : {hs : List (Option ℕ)} {rs : List Region} {os : List Home} (o : Home) → Regions hs rs os → AreDistinct handle_of (o ∷ os) → (n g : ℕ) (r : Region)
     → slice_get rs n ≡ Some r → has_home r ≡ true → slice_get hs n ≡ Some (Some g) → o.handle ≢ g
 first-other {os = os} o regions distinct n g r found kept entry e =
     let is : HasHome _ os n r = home-found regions distinct.1 n r found kept in

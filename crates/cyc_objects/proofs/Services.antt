@@ -182,7 +182,7 @@ same-rest : (b : Bool) (m n : ℕ) → (if b then suc m else m) ≡ (if b then s
 same-rest true m n e = let k : suc m ≡ suc n = e in cc
 same-rest false m n e = e
 
-module _ {t : Tables} {w : World} {s : StoreState} (related : Related t w s) {o a : ℕ} {x : Object} {ks : List Kind}
+module _ {t : Tables} {w : World} {s : StoreState} (related : Related t w s) (o a : ℕ) (x : Object) (ks : List Kind)
     (there : slice_get w.objects o ≡ Some x) (owner : x.owner ≡ Unique true) (row : slice_get t.rows o ≡ Some (Placed a ks)) where
   is-alive : Alive t w o UNIQUE x
   is-alive = record { at = there; lies = ap (lies_in t.handles w.regions) owner }
