@@ -30,7 +30,7 @@ pub not-placed : {o : Option Row} {a : ℕ} {ks : List Kind} → o ≡ Some Vari
 not-placed {o} {a} {ks} p q = let e : Variable ≡ Placed a ks = same_some (sym p ∙ q) in cc
 
 module _ {t : Tables} {w : World} {s : StoreState} (related : Related t w s) where
-  live-lies : (owner : Owner) → is_live w owner ≡ true
+  pub live-lies : (owner : Owner) → is_live w owner ≡ true
       → ((h : ℕ) × (lies_in t.handles w.regions owner ≡ Some h)) ⊎ ((n : ℕ) × (owner ≡ InRegion n) × (slice_get t.handles n ≡ Some None))
   live-lies (InRegion n) live = elim (cases_option (slice_get w.regions n)) [
     | inl none ↦ absurd (let e : false ≡ true = sym (ap is_open none) ∙ live in cc)

@@ -195,9 +195,9 @@ related-unclosed {t} {w} {s} related =
     subst (λ l. Related t w (record s { regions = l })) (sym (ap (λ n. down_to n s.regions) (sym (scopes-same related.regions)) ∙ down-all s.regions)) related
 
 -- the source closes its newest lexical region, and the store does nothing yet
-pub closed-behind : {t : Tables} {w : World} {s : StoreState} (m n : ℕ) (r : Region) → Related t w (closed_to s (suc m)) → scopes w.regions ≡ suc m
+pub closed-behind : {t : Tables} {w : World} (s : StoreState) (m n : ℕ) (r : Region) → Related t w (closed_to s (suc m)) → scopes w.regions ≡ suc m
     → slice_get w.regions n ≡ Some r → is_scope r.sort r.is_open ≡ true → IsNewest w.regions n → Related t (closed w n r) (closed_to s m)
-closed-behind {t} {w} {s} m n r related count there scope newest =
+closed-behind {t} {w} s m n r related count there scope newest =
     let kept : has_home r ≡ true = scope-kept r.sort r.is_open scope in
     let is : HasHome t.handles (down_to (suc m) s.regions) n r = home-found related.regions related.sound.regions.handles.1 n r there kept in
     let lexicals : lexical_count (down_to (suc m) s.regions) ≡ suc m = scopes-same related.regions ∙ count in

@@ -6,7 +6,7 @@ pub returns-clause-begins : goal.returns-clause-begins
 returns-clause-begins c = λ t w s related. related-unclosed related
 
 pub returns-clause-behind : goal.returns-clause-behind
-returns-clause-behind c = λ t w s mark number r related count there scope newest. closed-behind mark number r related count there scope newest
+returns-clause-behind c = λ t w s mark number r related count there scope newest. closed-behind s mark number r related count there scope newest
 
 pub returns-clause-at_once : goal.returns-clause-at_once
 returns-clause-at_once c = λ t w s mark choice sound related none allowed. closed-at_once mark choice sound related none allowed
