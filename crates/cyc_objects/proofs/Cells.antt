@@ -1,25 +1,23 @@
 -- Cells of live objects: their words can be read and are theirs, and one is written.
-use Rattle.std.proofs.Common.{◌≡◌, ℕ, zero, suc, ◌+◌, ◌*◌, ◌<◌, ◌≤◌, max, Bool, true, false, List, [], ◌∷◌, length, map, set, Option, None, Some, is_some, refl, sym, ap, subst, ◌∙◌, inl, inr, arith, add-zero, length-set}
+use Rattle.std.proofs.Common.{◌≡◌, ℕ, zero, suc, ◌+◌, ◌*◌, ◌<◌, ◌≤◌, max, Bool, true, false, List, [], ◌∷◌, length, set, Option, None, Some, is_some, refl, sym, ap, subst, ◌∙◌, inl, inr, arith, add-zero, length-set}
 use Rattle.std.specs.Prelude.{◌==◌, ◌≢◌, ◌⊎◌, if◌then◌else◌, ◌&&◌, slice_get}
-use Rattle.std.proofs.Math.Nat.{le-max_right}
-use Rattle.std.proofs.lemmas.Bool.{cases_eq, cases_Bool, cond-true, cond-false}
+use Rattle.std.proofs.lemmas.Bool.{cases_Bool, cond-false}
 use Rattle.cyc_types.specs.declared.typed.Kind.{Kind}
 use Rattle.cyc_words.specs.Demand.{class_of}
-use Rattle.cyc_store.specs.State.{Memory, put, AreWords, Block, StoreState, homes, covers, block_at, word_at, has_saved, saved, room}
-use Rattle.cyc_store.specs.Soundness.{IsSound}
+use Rattle.cyc_store.specs.State.{Memory, put, AreWords, Block, StoreState, homes, word_at, has_saved, saved, room}
 use Rattle.cyc_store.specs.declared.range.TheConstants.{UNIQUE}
-use Rattle.cyc_store.proofs.LookupLemmas.{when_equal, when_other, cases_option, not_both, same_some}
+use Rattle.cyc_store.proofs.LookupLemmas.{cases_option, same_some}
 use Rattle.cyc_store.proofs.HolderLemmas.{covers_from}
 use Rattle.cyc_store.proofs.ServiceLemmas.{word-live, one_block}
 use Rattle.cyc_meaning.specs.Values.{Value, words_of_kind, Cell, kinds_of, words_of_cells, block_size}
-use Rattle.cyc_meaning.specs.State.{Owner, InRegion, Unique, Object, World, Access, Found, Closed, Missing, Located, located, is_open, is_live, cell_in, cell_at, Region, has_pages, written}
-use Rattle.cyc_meaning.specs.Objects.{class_of_cells, is_live_in, live_in}
+use Rattle.cyc_meaning.specs.State.{Owner, InRegion, Unique, Object, World, Found, Closed, Located, located, is_open, is_live, cell_in, cell_at, Region, has_pages, written}
+use Rattle.cyc_meaning.specs.Objects.{is_live_in, live_in}
 use Rattle.cyc_meaning.proofs.ListLemmas.{map-set}
 use Rattle.cyc_meaning.proofs.WorldLaws.{cell_found}
 use Rattle.cyc_objects.specs.Tables.{Row, Variable, Placed, Tables}
 use Rattle.cyc_objects.specs.Words.{words_of_kinds, before, words_from, Points, IsPartOf, Is, IsContent, AreCells}
-use Rattle.cyc_objects.specs.Related.{sort_of, has_home, Regions, lies_in, Alive, Stands, Within, Related}
-use Rattle.cyc_objects.proofs.NumberLemmas.{slice_get-below, slice_get-set_same, slice_get-set_cases, slice_get-map}
+use Rattle.cyc_objects.specs.Related.{sort_of, lies_in, Alive, Stands, Within, Related}
+use Rattle.cyc_objects.proofs.NumberLemmas.{slice_get-set_cases, slice_get-map}
 use Rattle.cyc_objects.proofs.Values.{words-kinds, before-inside, Is-same, IsContent-same, AreCells-same}
 use Rattle.cyc_objects.proofs.Pointers.{same-row, fat-to_cell}
 use Rattle.cyc_objects.proofs.RegionLemmas.{sort-some, entry-found, lies-from}

@@ -1,8 +1,7 @@
 -- Several lexical regions that are left: the source closes them one by one, newest first, and the store all at once, down to a mark.
-use Rattle.std.proofs.Common.{◌≡◌, ℕ, zero, suc, ◌+◌, ◌*◌, ◌<◌, ◌≤◌, Bool, true, false, List, [], ◌∷◌, set, Option, None, Some, refl, sym, ap, subst, ◌∙◌, inl, inr, arith}
-use Rattle.std.specs.Prelude.{◌≢◌, ◌⊎◌, nat_le, if◌then◌else◌, slice_get}
+use Rattle.std.proofs.Common.{◌≡◌, ℕ, zero, suc, ◌+◌, ◌*◌, ◌≤◌, Bool, true, false, List, [], ◌∷◌, set, Option, None, Some, refl, sym, ap, subst, ◌∙◌, inl, inr, arith}
+use Rattle.std.specs.Prelude.{◌≢◌, nat_le, if◌then◌else◌, slice_get}
 use Rattle.std.proofs.lemmas.Bool.{cases_Bool, cond-true, cond-false, le-leb}
-use Rattle.cyc_types.specs.declared.typed.Kind.{Kind}
 use Rattle.cyc_store.specs.Lookup.{lookup, without, AreDistinct}
 use Rattle.cyc_store.specs.State as stores
 use Rattle.cyc_store.specs.State.{Block, address_of, Home, handle_of, StoreState, homes, block_in, block_at, is_lexical, lexical_count, down_to}
@@ -13,10 +12,10 @@ use Rattle.cyc_store.proofs.HolderLemmas.{covers_from, IsPart-down_to}
 use Rattle.cyc_store.proofs.ServiceLemmas.{served-sound}
 use Rattle.cyc_meaning.specs.State.{Sort, Heap, Globals, Stack, Lexical, Dynamic, Region, World, has_pages, closed}
 use Rattle.cyc_objects.specs.Tables.{Tables}
-use Rattle.cyc_objects.specs.Related.{sort_of, has_home, Matches, Regions, no_regions, passed, taken, Alive, Related, is_scope, scopes, IsNewest, closed_to}
+use Rattle.cyc_objects.specs.Related.{sort_of, has_home, Regions, no_regions, passed, taken, Related, is_scope, scopes, IsNewest, closed_to}
 use Rattle.cyc_objects.proofs.Values.{Grows-same}
-use Rattle.cyc_objects.proofs.RegionLemmas.{not_true, entry-found, HasHome, home-found, same_entry, first-other, shut, without-none}
-use Rattle.cyc_objects.proofs.Serving.{WordsStay, block-home, objects-inherited, alone-inherited}
+use Rattle.cyc_objects.proofs.RegionLemmas.{not_true, HasHome, home-found, first-other, shut, without-none}
+use Rattle.cyc_objects.proofs.Serving.{WordsStay, block-home, objects-inherited}
 use Rattle.cyc_objects.proofs.Services.{region-closed}
 
 -- ---- down to a mark

@@ -1,13 +1,13 @@
 -- Comparing pointers: two words are equal where the pointers are, as long as both objects are live.
-use Rattle.std.proofs.Common.{◌≡◌, ℕ, ◌+◌, ◌*◌, ◌<◌, ◌≤◌, Bool, true, false, List, length, Option, None, Some, refl, sym, ap, subst, ◌∙◌, inl, inr, arith}
-use Rattle.std.specs.Prelude.{◌==◌, ◌&&◌, ◌≢◌, ◌⊎◌, if◌then◌else◌, slice_get}
+use Rattle.std.proofs.Common.{◌≡◌, ℕ, ◌+◌, ◌*◌, ◌<◌, ◌≤◌, Bool, true, false, List, length, Some, refl, sym, ap, subst, ◌∙◌, inl, inr, arith}
+use Rattle.std.specs.Prelude.{◌==◌, ◌&&◌, if◌then◌else◌, slice_get}
 use Rattle.std.proofs.lemmas.Bool.{cases_eq, cases_lt, cases_Bool, cond-true, cond-false, and_from, eq-eqb, ne_eqb}
 use Rattle.cyc_store.specs.State.{Block, StoreState, homes, covers, room}
 use Rattle.cyc_store.proofs.LookupLemmas.{cases_option}
 use Rattle.cyc_store.proofs.HolderLemmas.{covers_from}
 use Rattle.cyc_store.proofs.ServiceLemmas.{one_block}
 use Rattle.cyc_types.specs.declared.typed.Kind.{Kind}
-use Rattle.cyc_meaning.specs.Values.{Value, Null, Thin, words_of_kind, kinds_of, block_size}
+use Rattle.cyc_meaning.specs.Values.{Value, words_of_kind, kinds_of, block_size}
 use Rattle.cyc_meaning.specs.State.{Object, World, Access, Found, Closed, Missing, is_live}
 use Rattle.cyc_meaning.specs.Objects.{found_object, object_at, both_found, compared}
 use Rattle.cyc_objects.specs.Tables.{Placed, Tables}

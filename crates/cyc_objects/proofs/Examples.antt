@@ -1,20 +1,18 @@
 -- Worked examples: a stale pointer and a new one may be one word. A block is freed, or its region is closed; the store gives out its address
 -- and its handle again; and the relation holds before and after, by the lemmas on each service.
-use Rattle.std.proofs.Common.{◌≡◌, ℕ, ◌+◌, ◌*◌, ◌^◌, ◌<◌, ◌≤◌, length, true, false, List, [], ◌∷◌, Option, None, Some, refl, ap, sym, ◌∙◌, arith}
+use Rattle.std.proofs.Common.{◌≡◌, ℕ, ◌+◌, ◌^◌, ◌<◌, ◌≤◌, length, true, false, List, [], ◌∷◌, None, Some, refl, ap, arith}
 use Rattle.std.specs.Prelude.{slice_get}
-use Rattle.cyc_types.specs.declared.typed.Kind.{Kind}
 use Rattle.cyc_types.specs.declared.typed.Kind.TheVariants as kinds
-use Rattle.cyc_types.specs.TypedTrees.{Program}
-use Rattle.cyc_store.specs.State.{Memory, AreWords, StoreState, start, homes, sizes_in, block_at}
-use Rattle.cyc_store.specs.Services.{OpenLexical, CloseTo, Allocate, Free, Choice, served, refusal, block_of, IsPlaced, IsAllowed}
+use Rattle.cyc_store.specs.State.{StoreState, start, homes, sizes_in, block_at}
+use Rattle.cyc_store.specs.Services.{OpenLexical, CloseTo, Allocate, Free, Choice, served, block_of, IsPlaced, IsAllowed}
 use Rattle.cyc_store.specs.declared.range.TheConstants.{HEAP, STORE_BASE, UNIQUE}
 use Rattle.cyc_store.proofs.LookupLemmas.{not_both}
 use Rattle.cyc_store.proofs.ServiceLemmas.{start-sound}
 use Rattle.cyc_meaning.specs.Values.{Null, Thin, Handle, Cell, blank}
-use Rattle.cyc_meaning.specs.State.{Heap, Lexical, Region, InRegion, Unique, Object, World, Found, Closed, cell_at, new_region, opened_as, closed, first_classes, counted}
-use Rattle.cyc_meaning.specs.Objects.{made_in, made_unique, freed}
+use Rattle.cyc_meaning.specs.State.{Heap, Lexical, InRegion, Unique, World, Found, Closed, cell_at, new_region, opened_as, closed, first_classes, counted}
+use Rattle.cyc_meaning.specs.Objects.{made_unique, freed}
 use Rattle.cyc_objects.specs.Tables.{Placed, Tables, with_row, with_handle}
-use Rattle.cyc_objects.specs.Words.{InRange, Points, Is}
+use Rattle.cyc_objects.specs.Words.{Points, Is}
 use Rattle.cyc_objects.specs.Related.{lies_in, Related, taken, no_regions}
 use Rattle.cyc_objects.proofs.Pointers.{same-row}
 use Rattle.cyc_objects.proofs.Making.{allocated-unique}

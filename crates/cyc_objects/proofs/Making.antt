@@ -1,20 +1,21 @@
 -- Objects that are made, in a region or as unique ones: their cells are blank, and they stand in the block that the store chose. Whether the
 -- store is full is said by the source's demand.
-use Rattle.std.proofs.Common.{◌≡◌, ℕ, zero, suc, ◌+◌, ◌*◌, ◌^◌, ◌<◌, ◌≤◌, max, Bool, true, false, List, [], ◌∷◌, ◌++◌, length, set, Option, None, Some, is_some, refl, sym, ap, subst, ◌∙◌, inl, inr, arith, length-set}
-use Rattle.std.specs.Prelude.{◌==◌, ◌≢◌, ◌⊎◌, nat_lt, if◌then◌else◌, slice_get}
+use Rattle.std.proofs.Common.{◌≡◌, ℕ, zero, suc, ◌+◌, ◌*◌, ◌^◌, ◌<◌, ◌≤◌, Bool, true, false, List, [], ◌∷◌, ◌++◌, length, set, None, Some, is_some, refl, sym, ap, subst, ◌∙◌, inl, inr, arith, length-set}
+use Rattle.std.specs.Prelude.{◌≢◌, ◌⊎◌, nat_lt, if◌then◌else◌, slice_get}
 use Rattle.std.proofs.Math.Nat.{le-max_right}
-use Rattle.std.proofs.lemmas.Bool.{cases_eq, cond-true, cond-false}
+use Rattle.std.proofs.lemmas.Bool.{cases_eq, cond-true}
 use Rattle.cyc_types.specs.declared.typed.Kind.{Kind}
 use Rattle.cyc_words.specs.Demand.{page_words, class_of, demand_of}
-use Rattle.cyc_store.specs.Lookup.{lookup, changed, AreDistinct}
+use Rattle.cyc_store.specs.Lookup.{lookup, changed}
 use Rattle.cyc_store.specs.State as stores
 use Rattle.cyc_store.specs.State.{Block, Home, handle_of, StoreState, homes, covers, block_at, sizes_in, with_block, made_in, made_unique, room, demand}
-use Rattle.cyc_store.specs.Services.{Allocate, BadHandle, BadSize, Refusal, Allocated, Choice, block_of, made, served, any_choice, is_full, full_at, is_size, refusal, IsPlaced, IsApart, Keeps, IsAllowed, ServesBy, Serves}
+use Rattle.cyc_store.specs.Services.{Allocate, BadHandle, BadSize, Allocated, Choice, block_of, served, any_choice, is_full, full_at, is_size, refusal, IsPlaced, IsApart, Keeps, IsAllowed, ServesBy, Serves}
 use Rattle.cyc_store.specs.Soundness.{IsSound}
-use Rattle.cyc_store.specs.declared.range.TheConstants.{STORE_BASE, PAGE_WORDS, MOST_PAGES, UNIQUE}
+use Rattle.cyc_store.specs.declared.range.TheConstants.{MOST_PAGES, UNIQUE}
 use Rattle.cyc_store.proofs.LookupLemmas.{when_equal, when_other, not_both, same_some, lookup-here, lookup-there}
 use Rattle.cyc_store.proofs.HolderLemmas.{covers_first}
 use Rattle.cyc_store.proofs.CountLemmas.{class_of-bound, class_of-holds, live_in-append_same, live_in-append_other}
+use Rattle.cyc_store.proofs.SlotCounts.{class-power}
 use Rattle.cyc_store.proofs.ServiceLemmas.{made-unique, made-in, served-sound}
 use Rattle.cyc_store.proofs.BlockLemmas.{serves-made}
 use Rattle.cyc_meaning.specs.Values.{Operand, Cell, kinds_of, words_of_cells, block_size}
@@ -45,21 +46,6 @@ placed-range pages b ks placed few fits = record {
       omega (arith, high, most, fits);
 }
 
--- the class of the words that a class has
-pub class-power : (class : ℕ) → class ≤ 10 → class_of (2 ^ class) ≡ class
-class-power zero bound = refl
-class-power (suc zero) bound = refl
-class-power (suc (suc zero)) bound = refl
-class-power (suc (suc (suc zero))) bound = refl
-class-power (suc (suc (suc (suc zero)))) bound = refl
-class-power (suc (suc (suc (suc (suc zero))))) bound = refl
-class-power (suc (suc (suc (suc (suc (suc zero)))))) bound = refl
-class-power (suc (suc (suc (suc (suc (suc (suc zero))))))) bound = refl
-class-power (suc (suc (suc (suc (suc (suc (suc (suc zero)))))))) bound = refl
-class-power (suc (suc (suc (suc (suc (suc (suc (suc (suc zero))))))))) bound = refl
-class-power (suc (suc (suc (suc (suc (suc (suc (suc (suc (suc zero)))))))))) bound = refl
-class-power (suc (suc (suc (suc (suc (suc (suc (suc (suc (suc (suc n))))))))))) bound = absurd (omega (arith, bound))
-
 room-unique : (words : ℕ) → room UNIQUE words ≡ 2 ^ class_of words
 room-unique words = when_equal UNIQUE UNIQUE (2 ^ class_of words) words refl
 
@@ -84,19 +70,21 @@ room-fits g cells short = elim (cases_eq g UNIQUE) [
 
 -- ---- how many unique objects of a class are live
 
+-- two that are counted one after the other
+pub either-order : (b c : Bool) (n : ℕ)
+    → (if b then suc (if c then suc n else n) else (if c then suc n else n)) ≡ (if c then suc (if b then suc n else n) else (if b then suc n else n))
+either-order true true n = refl
+either-order true false n = refl
+either-order false true n = refl
+either-order false false n = refl
+
 -- with an object more at the end
 pub live-last : (class : ℕ) (xs : List Object) (x : Object)
     → live_in class (xs ++ x ∷ []) ≡ (if is_live_in class x.owner x.cells then suc (live_in class xs) else live_in class xs)
 live-last class [] x = refl
 live-last class (a ∷ xs) x =
     ap (λ n. if is_live_in class a.owner a.cells then suc n else n) (live-last class xs x)
-    ∙ either (is_live_in class a.owner a.cells) (is_live_in class x.owner x.cells) (live_in class xs)
-  where
-    either : (b c : Bool) (n : ℕ) → (if b then suc (if c then suc n else n) else (if c then suc n else n)) ≡ (if c then suc (if b then suc n else n) else (if b then suc n else n))
-    either true true n = refl
-    either true false n = refl
-    either false true n = refl
-    either false false n = refl
+    ∙ either-order (is_live_in class a.owner a.cells) (is_live_in class x.owner x.cells) (live_in class xs)
 
 -- ---- an object more, wherever it is made
 

@@ -1,8 +1,7 @@
 -- Numbered lists: what is found at a number, in lists of one length, after an element was added at the end or replaced.
-use Rattle.std.proofs.Common.{◌≡◌, ℕ, zero, suc, ◌+◌, ◌<◌, ◌≤◌, List, [], ◌∷◌, ◌++◌, length, map, set, take, Option, Some, None, refl, sym, ap, subst, ◌∙◌, inl, inr, arith, length-append, length-set}
+use Rattle.std.proofs.Common.{◌≡◌, ℕ, zero, suc, ◌<◌, List, [], ◌∷◌, ◌++◌, length, map, set, Some, None, refl, sym, ap, inl, inr, arith}
 use Rattle.std.specs.Prelude.{◌≢◌, ◌⊎◌, slice_get}
 use Rattle.cyc_store.proofs.LookupLemmas.{same_some}
-use Rattle.cyc_meaning.proofs.ListLemmas.{slice_get-append, slice_get-end, slice_get-set_other}
 
 module _ {A : Type 0} where
   pub slice_get-below : (xs : List A) (i : ℕ) (x : A) → slice_get xs i ≡ Some x → i < length xs

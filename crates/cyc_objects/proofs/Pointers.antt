@@ -1,21 +1,19 @@
 -- Pointers and their words: conversions, tests for null, and arithmetic. All of it holds of pointers to what is no more, too.
-use Rattle.std.proofs.Common.{◌≡◌, ℕ, zero, suc, ◌+◌, ◌-◌, ◌*◌, ◌^◌, ◌<◌, ◌≤◌, Bool, true, false, not, List, [], ◌∷◌, length, Option, None, Some, refl, sym, ap, subst, ◌∙◌, inl, inr, arith, add-zero}
-use Rattle.std.specs.Prelude.{◌==◌, ◌≢◌, ◌⊎◌, nat_le, if◌then◌else◌, slice_get}
-use Rattle.std.proofs.lemmas.Bool.{cases_eq, cond-true, cond-false}
+use Rattle.std.proofs.Common.{◌≡◌, ℕ, zero, suc, ◌+◌, ◌-◌, ◌*◌, ◌^◌, ◌<◌, ◌≤◌, Bool, true, false, not, List, ◌∷◌, length, Option, Some, refl, sym, ap, subst, ◌∙◌, arith, add-zero}
+use Rattle.std.specs.Prelude.{◌==◌, ◌≢◌, nat_le, if◌then◌else◌, slice_get}
 use Rattle.cyc_types.specs.declared.typed.Kind.{Kind}
 use Rattle.cyc_types.specs.declared.typed.Kind.TheVariants as kinds
 use Rattle.cyc_store.specs.State.{put}
-use Rattle.cyc_store.specs.declared.range.TheConstants.{STORE_BASE}
 use Rattle.cyc_store.proofs.LookupLemmas.{when_equal, when_other, same_some}
-use Rattle.cyc_meaning.specs.Values.{Value, Int, Null, Thin, Fat, Handle, Key, is_thin, words_of_kind, Cell, blank, kinds_of}
-use Rattle.cyc_meaning.specs.Operators.{Result, Gives, Raises, truth}
+use Rattle.cyc_meaning.specs.Values.{Value, Int, Null, Thin, Fat, is_thin, words_of_kind, kinds_of}
+use Rattle.cyc_meaning.specs.Operators.{Gives, Raises, truth}
 use Rattle.cyc_meaning.specs.Pointers.{moved, element_count, null_test}
 use Rattle.cyc_meaning.specs.Conversion.{conversion}
 use Rattle.cyc_meaning.specs.Allocation.{blanks}
 use Rattle.cyc_objects.specs.Tables.{Row, Placed, Tables}
 use Rattle.cyc_objects.specs.Words.{words_of_kinds, before, InRange, Points, IsPartOf, Is}
 use Rattle.cyc_objects.proofs.NumberLemmas.{slice_get-there}
-use Rattle.cyc_objects.proofs.Values.{kind-some, before-inside, before-all, before-part, Is-same}
+use Rattle.cyc_objects.proofs.Values.{before-all, before-part, Is-same}
 
 pub same-row : {o : Option Row} {a b : ℕ} {ks ls : List Kind} → o ≡ Some (Placed a ks) → o ≡ Some (Placed b ls) → (a ≡ b) × (ks ≡ ls)
 same-row {o} {a} {b} {ks} {ls} p q = let e : Placed a ks ≡ Placed b ls = same_some (sym p ∙ q) in (cc, cc)

@@ -1,6 +1,6 @@
 -- The source's regions and the store's: which is which, and what stays when one opens, closes or gets a block.
-use Rattle.std.proofs.Common.{◌≡◌, ℕ, zero, suc, ◌<◌, ◌≤◌, Bool, true, false, List, [], ◌∷◌, ◌++◌, length, map, set, Option, None, Some, is_some, refl, sym, ap, subst, ◌∙◌, inl, inr, arith}
-use Rattle.std.specs.Prelude.{◌≢◌, ◌⊎◌, if◌then◌else◌, slice_get}
+use Rattle.std.proofs.Common.{◌≡◌, ℕ, zero, suc, ◌<◌, Bool, true, false, List, [], ◌∷◌, ◌++◌, length, set, Option, None, Some, is_some, refl, sym, ap, subst, ◌∙◌, inl, inr}
+use Rattle.std.specs.Prelude.{◌≢◌, if◌then◌else◌, slice_get}
 use Rattle.std.proofs.lemmas.Bool.{cases_Bool, cond-true, cond-false}
 use Rattle.cyc_store.specs.Lookup.{lookup, without, changed, AreDistinct}
 use Rattle.cyc_store.specs.State as stores
@@ -9,7 +9,7 @@ use Rattle.cyc_store.proofs.LookupLemmas.{when_equal, when_other, cases_option, 
 use Rattle.cyc_meaning.specs.State.{Sort, Heap, Globals, Stack, Lexical, Dynamic, Region, Owner, InRegion, Unique, new_region, has_pages, counted}
 use Rattle.cyc_meaning.proofs.ListLemmas.{slice_get-append}
 use Rattle.cyc_objects.specs.Related.{sort_of, has_home, Matches, Regions, no_regions, passed, taken, stands_there, entry_of, lies_in, Within}
-use Rattle.cyc_objects.proofs.NumberLemmas.{slice_get-below, slice_get-there, slice_get-set_cases}
+use Rattle.cyc_objects.proofs.NumberLemmas.{slice_get-there, slice_get-set_cases}
 
 -- ---- sorts
 

@@ -1,7 +1,7 @@
 -- Regions of the store that open and close, and unique objects that are freed. What is not live afterwards is never asked for again, so its
 -- block and its handle may be given out again.
-use Rattle.std.proofs.Common.{◌≡◌, ℕ, zero, suc, Bool, true, false, List, [], ◌∷◌, ◌++◌, length, set, Option, None, Some, is_some, refl, sym, ap, subst, ◌∙◌, inl, inr, length-set}
-use Rattle.std.specs.Prelude.{◌==◌, ◌&&◌, ◌≢◌, ◌⊎◌, nat_lt, if◌then◌else◌, slice_get}
+use Rattle.std.proofs.Common.{◌≡◌, ℕ, zero, suc, Bool, true, false, List, [], ◌∷◌, ◌++◌, length, set, None, Some, is_some, refl, sym, ap, subst, ◌∙◌, inl, inr, length-set}
+use Rattle.std.specs.Prelude.{◌==◌, ◌≢◌, nat_lt, if◌then◌else◌, slice_get}
 use Rattle.std.proofs.lemmas.Bool.{cases_eq, cond-true}
 use Rattle.cyc_types.specs.declared.typed.Kind.{Kind}
 use Rattle.cyc_words.specs.Demand.{class_of, demand_of}
@@ -11,22 +11,21 @@ use Rattle.cyc_store.specs.State.{Memory, Block, address_of, Home, handle_of, em
 use Rattle.cyc_store.specs.Services.{OpenLexical, OpenDynamic, CloseDynamic, Free, Choice, served, names_dynamic, full_at, refusal, BadHandle, NotABlock, IsAllowed}
 use Rattle.cyc_store.specs.Services as services
 use Rattle.cyc_store.specs.Soundness.{IsSound}
-use Rattle.cyc_store.specs.declared.range.TheConstants.{MOST_PAGES, UNIQUE}
+use Rattle.cyc_store.specs.declared.range.TheConstants.{UNIQUE}
 use Rattle.cyc_store.proofs.LookupLemmas.{when_equal, when_other, not_both, same_some, lookup-here, lookup-there}
-use Rattle.cyc_store.proofs.CountLemmas.{live-here, live-there}
 use Rattle.cyc_store.proofs.ServiceLemmas.{served-sound}
-use Rattle.cyc_meaning.specs.Values.{Cell, kinds_of, block_size}
-use Rattle.cyc_meaning.specs.State.{Sort, Heap, Lexical, Dynamic, Region, Owner, InRegion, Unique, Object, World, has_pages, new_region, opened_as, closed, counted}
+use Rattle.cyc_meaning.specs.Values.{kinds_of, block_size}
+use Rattle.cyc_meaning.specs.State.{Sort, Lexical, Dynamic, Region, Owner, InRegion, Unique, Object, World, has_pages, new_region, opened_as, closed, counted}
 use Rattle.cyc_meaning.specs.Objects.{class_of_cells, is_live_in, live_in, freed}
 use Rattle.cyc_meaning.specs.Effects.{pages_of}
-use Rattle.cyc_objects.specs.Tables.{Row, Variable, Placed, Tables, with_handle}
-use Rattle.cyc_objects.specs.Related.{sort_of, has_home, Regions, lies_in, Alive, Stands, Within, Related}
+use Rattle.cyc_objects.specs.Tables.{Placed, Tables, with_handle}
+use Rattle.cyc_objects.specs.Related.{sort_of, has_home, lies_in, Alive, Stands, Within, Related}
 use Rattle.cyc_objects.proofs.NumberLemmas.{slice_get-set_cases}
 use Rattle.cyc_objects.proofs.Values.{Grows-same, Grows-handle}
 use Rattle.cyc_objects.proofs.Pointers.{same-row}
 use Rattle.cyc_objects.proofs.RegionLemmas.{not_true, regions-length, counted-same, HasHome, home-found, same_entry, handle-names, Regions-opened, shut, without-none, Regions-closed, lies-home, lies-set, lies-last}
 use Rattle.cyc_objects.proofs.Serving.{WordsStay, words-stay, block-opened, block-freed, block-closed, objects-inherited, alone-inherited}
-use Rattle.cyc_objects.proofs.Making.{class-room, handle-other}
+use Rattle.cyc_objects.proofs.Making.{either-order, class-room, handle-other}
 use Rattle.cyc_objects.proofs.Variables.{within-more, entry-older}
 
 -- ---- a region opens
@@ -140,12 +139,6 @@ module _ {t : Tables} {w : World} {s : StoreState} (related : Related t w s) whe
 
 -- ---- a unique object is freed
 
-either : (b c : Bool) (n : ℕ) → (if b then suc (if c then suc n else n) else (if c then suc n else n)) ≡ (if c then suc (if b then suc n else n) else (if b then suc n else n))
-either true true n = refl
-either true false n = refl
-either false true n = refl
-either false false n = refl
-
 -- one block of its class less
 live-without : (class : ℕ) (bs : List Block) (a : ℕ) (b : Block) → AreDistinct address_of bs → lookup address_of bs a ≡ Some b
     → stores.live_in class bs ≡ (if class_of b.size == class then suc (stores.live_in class (without address_of bs a)) else stores.live_in class (without address_of bs a))
@@ -161,7 +154,7 @@ live-without class (d ∷ bs) a b distinct found = elim (cases_eq d.address a) [
   | inr other ↦
       let there : lookup address_of bs a ≡ Some b = sym (lookup-there address_of d bs a other) ∙ found in
       ap (λ n. if class_of d.size == class then suc n else n) (live-without class bs a b distinct.1 there)
-      ∙ (either (class_of d.size == class) (class_of b.size == class) (stores.live_in class (without address_of bs a))
+      ∙ (either-order (class_of d.size == class) (class_of b.size == class) (stores.live_in class (without address_of bs a))
       ∙ ap (λ l. if class_of b.size == class then suc (stores.live_in class l) else stores.live_in class l)
       (sym (when_other d.address a (without address_of bs a) (d ∷ without address_of bs a) other)))
 ]
@@ -175,7 +168,7 @@ live-freed class (a ∷ xs) zero x y there gone =
     ∙ ap (λ n. if is_live_in class x.owner x.cells then suc n else n) (ap (λ b. if b then suc (live_in class xs) else live_in class xs) (sym gone))
 live-freed class (a ∷ xs) (suc o) x y there gone =
     ap (λ n. if is_live_in class a.owner a.cells then suc n else n) (live-freed class xs o x y there gone)
-    ∙ either (is_live_in class a.owner a.cells) (is_live_in class x.owner x.cells) (live_in class (set xs o y))
+    ∙ either-order (is_live_in class a.owner a.cells) (is_live_in class x.owner x.cells) (live_in class (set xs o y))
 
 -- what is left of two equal counts
 same-rest : (b : Bool) (m n : ℕ) → (if b then suc m else m) ≡ (if b then suc n else n) → m ≡ n

@@ -4,7 +4,7 @@ use Rattle.std.specs.Prelude.{◌≢◌, slice_get}
 use Rattle.std.proofs.lemmas.Bool.{cases_eq}
 use Rattle.cyc_types.specs.declared.typed.Kind.{Kind}
 use Rattle.cyc_store.specs.Lookup.{lookup, without, changed}
-use Rattle.cyc_store.specs.State.{Block, address_of, Sort, Uniques, Home, handle_of, empty_home, StoreState, homes, covers, block_in, block_at, opened, with_block, made_in, made_unique, room}
+use Rattle.cyc_store.specs.State.{Block, address_of, Uniques, Home, handle_of, StoreState, homes, covers, block_in, block_at, with_block, made_in, made_unique, room}
 use Rattle.cyc_store.specs.Services.{Keeps}
 use Rattle.cyc_store.specs.Soundness.{IsSound}
 use Rattle.cyc_store.specs.declared.range.TheConstants.{UNIQUE}
@@ -12,11 +12,10 @@ use Rattle.cyc_store.proofs.LookupLemmas.{lookup-here, lookup-there, lookup-appe
 use Rattle.cyc_store.proofs.HolderLemmas.{covers_from}
 use Rattle.cyc_meaning.specs.Values.{Cell, kinds_of, words_of_cells, block_size}
 use Rattle.cyc_meaning.specs.State.{Object, World}
-use Rattle.cyc_objects.specs.Tables.{Row, Placed, Tables, Grows}
+use Rattle.cyc_objects.specs.Tables.{Placed, Tables, Grows}
 use Rattle.cyc_objects.specs.Words.{words_of_kinds, words_from}
 use Rattle.cyc_objects.specs.Related.{Alive, Stands, Related}
 use Rattle.cyc_objects.proofs.Values.{words-kinds, AreCells-grows, AreCells-same}
-use Rattle.cyc_objects.proofs.Pointers.{same-row}
 
 -- ---- live blocks are found as before
 

@@ -1,21 +1,18 @@
 -- The start: a program's globals are variables, and a new store has the heap.
-use Rattle.std.proofs.Common.{◌≡◌, ℕ, zero, suc, ◌<◌, ◌≤◌, List, [], ◌∷◌, length, map, Option, None, Some, refl, sym, ap, subst, ◌∙◌, arith}
+use Rattle.std.proofs.Common.{◌≡◌, ℕ, zero, suc, ◌≤◌, List, [], ◌∷◌, map, None, Some, refl, sym, ap, subst, ◌∙◌, arith}
 use Rattle.std.specs.Prelude.{slice_get}
+use Rattle.std.proofs.lemmas.List.{length-map}
 use Rattle.cyc_types.specs.TypedTrees.{GlobalVariable, Program}
 use Rattle.cyc_store.specs.State.{Memory, AreWords, start}
-use Rattle.cyc_store.specs.declared.range.TheConstants.{HEAP, MOST_PAGES}
+use Rattle.cyc_store.specs.declared.range.TheConstants.{MOST_PAGES}
 use Rattle.cyc_store.proofs.LookupLemmas.{not_both, same_some}
 use Rattle.cyc_store.proofs.ServiceLemmas.{start-sound}
 use Rattle.cyc_meaning.specs.State.{Object, InRegion, globals_number, global_object, first_regions, first_world}
 use Rattle.cyc_meaning.specs.Objects.{live_in}
-use Rattle.cyc_objects.specs.Tables.{Row, Variable, Placed, first_tables}
+use Rattle.cyc_objects.specs.Tables.{Variable, first_tables}
 use Rattle.cyc_objects.specs.Related.{lies_in, Alive, Within, Related, passed, taken, no_regions}
 use Rattle.cyc_objects.proofs.NumberLemmas.{slice_get-map}
 use Rattle.cyc_objects.proofs.Cells.{not-placed}
-
-length-map : {A B : Type 0} (f : A → B) (xs : List A) → length (map f xs) ≡ length xs
-length-map f [] = refl
-length-map f (x ∷ xs) = ap suc (length-map f xs)
 
 -- what is found among images is the image of what is found
 slice_get-image : {A B : Type 0} (f : A → B) (xs : List A) (i : ℕ) (y : B) → slice_get (map f xs) i ≡ Some y → (x : A) × (slice_get xs i ≡ Some x) × (y ≡ f x)
@@ -44,7 +41,7 @@ module _ (program : Program) (input : List ℕ) (pages : ℕ) (memory : Memory) 
   start-related words some few = record {
     sound = start-sound pages memory words some;
     few = few;
-    rows = length-map (λ (g : GlobalVariable). Variable) program.globals ∙ sym (length-map global_object program.globals);
+    rows = length-map program.globals (λ (g : GlobalVariable). Variable) ∙ sym (length-map program.globals global_object);
     regions = taken (record { kept = refl; named = refl; sort = refl; sizes = refl }) (passed refl refl no_regions);
     classes = refl;
     uniques = λ class. sym (none-unique class program.globals);

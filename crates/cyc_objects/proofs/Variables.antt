@@ -1,15 +1,15 @@
 -- Variables and their regions: what is declared, assigned, opened and closed there leaves the store as it is.
 use Rattle.std.proofs.Common.{◌≡◌, ℕ, suc, ◌<◌, max, Bool, true, false, List, [], ◌∷◌, ◌++◌, length, set, Option, None, Some, refl, sym, ap, subst, ◌∙◌, inl, inr, arith, length-set}
-use Rattle.std.specs.Prelude.{◌≢◌, ◌⊎◌, slice_get}
+use Rattle.std.specs.Prelude.{slice_get}
 use Rattle.cyc_types.specs.declared.typed.Kind.{Kind}
-use Rattle.cyc_store.specs.State.{Block, StoreState, homes, block_at}
+use Rattle.cyc_store.specs.State.{StoreState}
 use Rattle.cyc_store.proofs.LookupLemmas.{same_some}
 use Rattle.cyc_meaning.specs.Values.{Value, Cell, kinds_of, block_size}
 use Rattle.cyc_meaning.specs.State.{Sort, Heap, Globals, Stack, Lexical, Dynamic, Region, Owner, InRegion, Unique, Object, World, has_pages, new_region, opened_as, closed, variable, made, written}
 use Rattle.cyc_meaning.proofs.ListLemmas.{slice_get-append, slice_get-end, map-set}
-use Rattle.cyc_objects.specs.Tables.{Row, Variable, Placed, Tables, with_row, with_handle}
+use Rattle.cyc_objects.specs.Tables.{Variable, Placed, Tables, with_row, with_handle}
 use Rattle.cyc_objects.specs.Words.{words_of_kinds}
-use Rattle.cyc_objects.specs.Related.{sort_of, has_home, lies_in, Alive, Within, Related}
+use Rattle.cyc_objects.specs.Related.{sort_of, lies_in, Alive, Within, Related}
 use Rattle.cyc_objects.proofs.NumberLemmas.{slice_get-below, slice_get-there, slice_get-last, slice_get-set_cases, length-last}
 use Rattle.cyc_objects.proofs.Values.{words-kinds, Grows-same, Grows-row, Grows-handle}
 use Rattle.cyc_objects.proofs.RegionLemmas.{regions-length, Regions-variables, shut, Regions-shut, lies-home, lies-set, lies-last}

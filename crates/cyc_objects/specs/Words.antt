@@ -6,7 +6,7 @@ use Rattle.cyc_types.specs.declared.typed.Kind.TheVariants as kinds
 use Rattle.cyc_store.specs.State.{Memory}
 use Rattle.cyc_store.specs.declared.range.TheConstants.{STORE_BASE}
 use Rattle.cyc_meaning.specs.Values.{Value, Int, Null, Thin, Fat, Handle, Key, words_of_kind, Cell}
-use Rattle.cyc_objects.specs.Tables.{Row, Placed, Tables}
+use Rattle.cyc_objects.specs.Tables.{Placed, Tables}
 
 -- ---- cells one behind the other
 
