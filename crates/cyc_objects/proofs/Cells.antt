@@ -218,10 +218,13 @@ module _ {t : Tables} {w : World} {s : StoreState} (related : Related t w s) {o 
     -- an object of that number was there, with that row
     was : (i g : ℕ) (y : Object) → Alive t (written w o k (record { object = x; cell = c }) v) i g y → (z : Object) × Alive t w i g z
     was i g y beside = elim (before-written i g y beside) [
-      | inl here ↦ (x, record {
+      | inl here ↦ (
+        x,
+        record {
           at = subst (λ n. slice_get w.objects n ≡ Some x) (sym here.0) alive.at;
           lies = sym (ap (λ (z : Object). lies_in t.handles w.regions z.owner) here.1) ∙ beside.lies;
-        })
+        },
+      )
       | inr other ↦ (y, other.1)
     ]
 

@@ -45,10 +45,12 @@ module _ {t : Tables} {w : World} {s : StoreState} (related : Related t w s) whe
       let number : o ≡ i =
       related.alone o i h g st.address x y (kinds_of x.cells) (kinds_of y.cells) alive beside st.row
       (subst (λ a. slice_get t.rows i ≡ Some (Placed a (kinds_of y.cells))) (sym (ap (λ (b : Block). b.address) blocks)) also.row) in
-      let (address, kinds) = same-row first.row (subst (λ n. slice_get t.rows n ≡ Some (Placed second.address second.kinds)) (sym number) second.row) in
-      (number, one-place first.kinds k q first.inside (subst (λ ks. q < length ks) (sym kinds) second.inside)
-      (same-before p first.address second.address (before k first.kinds) (before q first.kinds) first.at
-      (second.at ∙ ap (λ ks. second.address + 4 * before q ks) (sym kinds)) address))
+      let (address, kinds) = same-row first.row (subst (λ n. slice_get t.rows n ≡ Some (Placed second.address second.kinds)) (sym number) second.row) in (
+        number,
+        one-place first.kinds k q first.inside (subst (λ ks. q < length ks) (sym kinds) second.inside)
+            (same-before p first.address second.address (before k first.kinds) (before q first.kinds) first.at
+            (second.at ∙ ap (λ ks. second.address + 4 * before q ks) (sym kinds)) address),
+      )
     where
       same-before : (p a b m n : ℕ) → p ≡ a + 4 * m → p ≡ b + 4 * n → a ≡ b → m ≡ n
       same-before p a b m n first second same = omega (arith, first, second, same)

@@ -3,6 +3,7 @@
 use Rattle.std.proofs.Common.{◌≡◌, ℕ, zero, suc, ◌+◌, ◌*◌, ◌^◌, ◌<◌, ◌≤◌, Bool, true, false, List, [], ◌∷◌, ◌++◌, length, set, None, Some, is_some, refl, sym, ap, subst, ◌∙◌, inl, inr, arith, length-set}
 use Rattle.std.specs.Prelude.{◌≢◌, ◌⊎◌, nat_lt, if◌then◌else◌, slice_get}
 use Rattle.std.proofs.Math.Nat.{le-max_right}
+use Rattle.std.proofs.lemmas.List.{length_push}
 use Rattle.std.proofs.lemmas.Bool.{cases_eq, cond-true}
 use Rattle.cyc_types.specs.declared.typed.Kind.{Kind}
 use Rattle.cyc_words.specs.Demand.{page_words, class_of, demand_of}
@@ -28,7 +29,7 @@ use Rattle.cyc_meaning.proofs.ListLemmas.{slice_get-append, slice_get-end}
 use Rattle.cyc_objects.specs.Tables.{Row, Variable, Placed, Tables, with_row}
 use Rattle.cyc_objects.specs.Words.{words_of_kinds, words_from, InRange, Points, IsPartOf, AreBlank}
 use Rattle.cyc_objects.specs.Related.{has_home, Regions, lies_in, Alive, Stands, Within, Related}
-use Rattle.cyc_objects.proofs.NumberLemmas.{slice_get-below, slice_get-there, slice_get-last, slice_get-set_same, length-last}
+use Rattle.cyc_objects.proofs.NumberLemmas.{slice_get-below, slice_get-there, slice_get-last, slice_get-set_same}
 use Rattle.cyc_objects.proofs.Values.{words-kinds, Grows-row, AreCells-blank}
 use Rattle.cyc_objects.proofs.Pointers.{same-row, first-points, whole-part}
 use Rattle.cyc_objects.proofs.RegionLemmas.{counted-same, HasHome, home-found, with_size, Regions-made, lies-from, lies-home, lies-set, same_entry}
@@ -133,7 +134,7 @@ module _ {t : Tables} {w : World} {s r : StoreState} (related : Related t w s) (
   related-more pages equal owned regions classes uniques = record {
     sound = after;
     few = subst (λ n. n ≤ MOST_PAGES) pages related.few;
-    rows = length-last t.rows (Placed a (kinds_of x.cells)) ∙ (ap suc related.rows ∙ sym (length-last w.objects x));
+    rows = length_push t.rows (Placed a (kinds_of x.cells)) ∙ (ap (λ n. n + 1) related.rows ∙ sym (length_push w.objects x));
     regions = regions;
     classes = classes;
     uniques = uniques;

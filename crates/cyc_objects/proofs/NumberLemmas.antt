@@ -25,10 +25,6 @@ module _ {A : Type 0} where
     | inr new ↦ inr (ap suc new.0, new.1)
   ]
 
-  pub length-last : (xs : List A) (y : A) → length (xs ++ y ∷ []) ≡ suc (length xs)
-  length-last [] y = refl
-  length-last (a ∷ xs) y = ap suc (length-last xs y)
-
   pub slice_get-set_same : (xs : List A) (i : ℕ) (x y : A) → slice_get xs i ≡ Some x → slice_get (set xs i y) i ≡ Some y
   slice_get-set_same [] i x y found = absurd (let e : None ≡ Some x = found in cc)
   slice_get-set_same (a ∷ xs) zero x y found = refl

@@ -1,6 +1,7 @@
 -- The source's regions and the store's: which is which, and what stays when one opens, closes or gets a block.
 use Rattle.std.proofs.Common.{◌≡◌, ℕ, zero, suc, ◌<◌, Bool, true, false, List, [], ◌∷◌, ◌++◌, length, set, Option, None, Some, is_some, refl, sym, ap, subst, ◌∙◌, inl, inr}
 use Rattle.std.specs.Prelude.{◌≢◌, if◌then◌else◌, slice_get}
+use Rattle.std.proofs.lemmas.List.{map-append}
 use Rattle.std.proofs.lemmas.Bool.{cases_Bool, cond-true, cond-false}
 use Rattle.cyc_store.specs.Lookup.{lookup, without, changed, AreDistinct}
 use Rattle.cyc_store.specs.State as stores
@@ -175,10 +176,6 @@ Regions-closed (taken {handle = h} {r = q} {home = o} {handles = hs} {regions = 
 
 -- ---- a region that gets a block
 
-sizes-append : (bs : List Block) (b : Block) → sizes_of (bs ++ b ∷ []) ≡ sizes_of bs ++ b.size ∷ []
-sizes-append [] b = refl
-sizes-append (a ∷ bs) b = ap (λ l. a.size ∷ l) (sizes-append bs b)
-
 abbrev pub with_size : ℕ → Region → Region
 with_size size r = record r { blocks = r.blocks ++ size ∷ [] }
 
@@ -193,7 +190,7 @@ Regions-made (taken {handle = h} {r = q} {home = o} {handles = hs} {regions = rs
     let is : Matches h r o = subst (λ (z : Region). Matches h z o) (same_some found) m in
     subst (Regions (Some h ∷ hs) (with_size b.size r ∷ rs))
     (sym (when_equal o.handle g (with_block b o ∷ os) (o ∷ changed handle_of (with_block b) os g) same))
-    (taken (record { kept = is.kept; named = is.named; sort = is.sort; sizes = sizes-append o.blocks b ∙ ap (λ l. l ++ b.size ∷ []) is.sizes }) rest)
+    (taken (record { kept = is.kept; named = is.named; sort = is.sort; sizes = map-append (λ (z : Block). z.size) o.blocks (b ∷ []) ∙ ap (λ l. l ++ b.size ∷ []) is.sizes }) rest)
 Regions-made (taken {handle = h} {r = q} {home = o} {handles = hs} {regions = rs} {open_homes = os} m rest) distinct (suc n) g r b found kept entry =
     subst (Regions (Some h ∷ hs) (q ∷ set rs n (with_size b.size r)))
     (sym (when_other o.handle g (with_block b o ∷ os) (o ∷ changed handle_of (with_block b) os g) (first-other o rest distinct n g r found kept entry)))

@@ -1,6 +1,7 @@
 -- Variables and their regions: what is declared, assigned, opened and closed there leaves the store as it is.
-use Rattle.std.proofs.Common.{◌≡◌, ℕ, suc, ◌<◌, max, Bool, true, false, List, [], ◌∷◌, ◌++◌, length, set, Option, None, Some, refl, sym, ap, subst, ◌∙◌, inl, inr, arith, length-set}
+use Rattle.std.proofs.Common.{◌≡◌, ℕ, ◌+◌, ◌<◌, max, Bool, true, false, List, [], ◌∷◌, ◌++◌, length, set, Option, None, Some, refl, sym, ap, subst, ◌∙◌, inl, inr, arith, length-set}
 use Rattle.std.specs.Prelude.{slice_get}
+use Rattle.std.proofs.lemmas.List.{length_push}
 use Rattle.cyc_types.specs.declared.typed.Kind.{Kind}
 use Rattle.cyc_store.specs.State.{StoreState}
 use Rattle.cyc_store.proofs.LookupLemmas.{same_some}
@@ -10,7 +11,7 @@ use Rattle.cyc_meaning.proofs.ListLemmas.{slice_get-append, slice_get-end, map-s
 use Rattle.cyc_objects.specs.Tables.{Variable, Placed, Tables, with_row, with_handle}
 use Rattle.cyc_objects.specs.Words.{words_of_kinds}
 use Rattle.cyc_objects.specs.Related.{sort_of, lies_in, Alive, Within, Related}
-use Rattle.cyc_objects.proofs.NumberLemmas.{slice_get-below, slice_get-there, slice_get-last, slice_get-set_cases, length-last}
+use Rattle.cyc_objects.proofs.NumberLemmas.{slice_get-below, slice_get-there, slice_get-last, slice_get-set_cases}
 use Rattle.cyc_objects.proofs.Values.{words-kinds, Grows-same, Grows-row, Grows-handle}
 use Rattle.cyc_objects.proofs.RegionLemmas.{regions-length, Regions-variables, shut, Regions-shut, lies-home, lies-set, lies-last}
 use Rattle.cyc_objects.proofs.Serving.{words-same, objects-inherited, alone-inherited}
@@ -27,7 +28,7 @@ shut-home Dynamic flag kept = absurd (let e : false ≡ true = kept in cc)
 -- ---- a region more
 
 pub within-more : (rs : List Region) (q : Region) (owner : Owner) → Within (length rs) owner → Within (length (rs ++ q ∷ [])) owner
-within-more rs q (InRegion n) within = let e : length (rs ++ q ∷ []) ≡ suc (length rs) = length-last rs q in omega (arith, within, e)
+within-more rs q (InRegion n) within = let e : length (rs ++ q ∷ []) ≡ length rs + 1 = length_push rs q in omega (arith, within, e)
 within-more rs q (Unique live) within = tt
 
 -- the region of an object is an old one
@@ -46,7 +47,7 @@ module _ {t : Tables} {w : World} {s : StoreState} (related : Related t w s) whe
   declared n r kind content there entry = record {
     sound = related.sound;
     few = related.few;
-    rows = length-last t.rows Variable ∙ (ap suc related.rows ∙ sym (length-last w.objects (variable n kind content)));
+    rows = length_push t.rows Variable ∙ (ap (λ n. n + 1) related.rows ∙ sym (length_push w.objects (variable n kind content)));
     regions = related.regions;
     classes = related.classes;
     uniques = λ class. related.uniques class ∙ sym (live-last class w.objects (variable n kind content));
