@@ -277,6 +277,7 @@ module _ {t : Tables} {w : World} {s : StoreState} (related : Related t w s) {o 
         demand = related.sound.demand;
       };
       few = related.few;
+      heap = related.heap;
       rows = related.rows ∙ sym (length-set w.objects o now);
       regions = related.regions;
       classes = related.classes;

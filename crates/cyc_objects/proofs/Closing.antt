@@ -219,6 +219,7 @@ pub closed-at_once : {t : Tables} {w : World} {s : StoreState} (mark : ℕ) (c :
 closed-at_once {t} {w} {s} mark c sound related none allowed = record {
   sound = after;
   few = related.few;
+  heap = related.heap;
   rows = related.rows;
   regions = related.regions;
   classes = related.classes;

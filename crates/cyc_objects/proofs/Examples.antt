@@ -75,6 +75,7 @@ new-related : Related no_tables empty new
 new-related = record {
   sound = start-sound 3 (λ (x : ℕ). 0) words (omega arith);
   few = let few : 3 ≤ 65536 = omega arith in few;
+  heap = refl;
   rows = refl;
   regions = taken (record { kept = refl; named = refl; sort = refl; sizes = refl }) no_regions;
   classes = refl;

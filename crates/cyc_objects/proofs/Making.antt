@@ -4,7 +4,7 @@ use Rattle.std.proofs.Common.{◌≡◌, ℕ, zero, suc, ◌+◌, ◌*◌, ◌^�
 use Rattle.std.specs.Prelude.{◌≢◌, ◌⊎◌, nat_lt, if◌then◌else◌, slice_get}
 use Rattle.std.proofs.Math.Nat.{le-max_right}
 use Rattle.std.proofs.lemmas.List.{length_push}
-use Rattle.std.proofs.lemmas.Bool.{cases_eq, cond-true}
+use Rattle.std.proofs.lemmas.Bool.{cases_eq, cases_Bool, cond-true, cond-false}
 use Rattle.cyc_types.specs.declared.typed.Kind.{Kind}
 use Rattle.cyc_words.specs.Demand.{page_words, class_of, demand_of}
 use Rattle.cyc_store.specs.Lookup.{lookup, changed}
@@ -20,11 +20,12 @@ use Rattle.cyc_store.proofs.SlotCounts.{class-power}
 use Rattle.cyc_store.proofs.ServiceLemmas.{made-unique, made-in, served-sound}
 use Rattle.cyc_store.proofs.BlockLemmas.{serves-made}
 use Rattle.cyc_meaning.specs.Values.{Operand, Cell, kinds_of, words_of_cells, block_size}
-use Rattle.cyc_meaning.specs.State.{Region, Owner, InRegion, Unique, Object, World, counted}
+use Rattle.cyc_meaning.specs.State.{Region, Owner, InRegion, Unique, Object, World, Found, Closed, found_region, region_at, has_pages, counted}
 use Rattle.cyc_meaning.specs.Objects as source
 use Rattle.cyc_meaning.specs.Objects.{class_of_cells, is_live_in, live_in, raised}
 use Rattle.cyc_meaning.specs.Allocation.{blanks, blanks_of}
 use Rattle.cyc_meaning.specs.Effects.{pages_of}
+use Rattle.cyc_meaning.proofs.NestingLemmas.{region_found}
 use Rattle.cyc_meaning.proofs.ListLemmas.{slice_get-append, slice_get-end}
 use Rattle.cyc_objects.specs.Tables.{Row, Variable, Placed, Tables, with_row}
 use Rattle.cyc_objects.specs.Words.{words_of_kinds, words_from, InRange, Points, IsPartOf, AreBlank}
@@ -32,7 +33,7 @@ use Rattle.cyc_objects.specs.Related.{has_home, Regions, lies_in, Alive, Stands,
 use Rattle.cyc_objects.proofs.NumberLemmas.{slice_get-below, slice_get-there, slice_get-last, slice_get-set_same}
 use Rattle.cyc_objects.proofs.Values.{words-kinds, Grows-row, AreCells-blank}
 use Rattle.cyc_objects.proofs.Pointers.{same-row, first-points, whole-part}
-use Rattle.cyc_objects.proofs.RegionLemmas.{counted-same, HasHome, home-found, with_size, Regions-made, lies-from, lies-home, lies-set, same_entry}
+use Rattle.cyc_objects.proofs.RegionLemmas.{sort-some, entry-found, counted-same, HasHome, home-found, with_size, Regions-made, lies-from, lies-home, lies-set, same_entry}
 use Rattle.cyc_objects.proofs.Serving.{block-made_in, block-made_unique, words-stay, Stands-served}
 
 -- ---- sizes
@@ -134,6 +135,7 @@ module _ {t : Tables} {w : World} {s r : StoreState} (related : Related t w s) (
   related-more pages equal owned regions classes uniques = record {
     sound = after;
     few = subst (λ n. n ≤ MOST_PAGES) pages related.few;
+    heap = related.heap;
     rows = length_push t.rows (Placed a (kinds_of x.cells)) ∙ (ap (λ n. n + 1) related.rows ∙ sym (length_push w.objects x));
     regions = regions;
     classes = classes;
@@ -195,6 +197,13 @@ serves s g n c none allowed =
 
 -- ---- in a region
 
+-- a region that is found is open
+region-open : (w : World) (n : ℕ) (r : Region) → region_at w n ≡ Found r → slice_get w.regions n ≡ Some r → r.is_open ≡ true
+region-open w n r found there = elim (cases_Bool r.is_open) [
+  | inl is ↦ is
+  | inr not ↦ absurd (let e : Closed ≡ Found r = sym (ap found_region there ∙ cond-false r.is_open (Found r) Closed not) ∙ found in cc)
+]
+
 -- the handle of a region is not that of the unique blocks
 pub handle-other : {t : Tables} {w : World} {s : StoreState} → Related t w s → (n g : ℕ) (r : Region) → slice_get w.regions n ≡ Some r → has_home r ≡ true
     → slice_get t.handles n ≡ Some (Some g) → (g ≢ UNIQUE) × ((o : Home) × (lookup handle_of s.regions g ≡ Some o))
@@ -202,6 +211,17 @@ handle-other {t} {w} {s} related n g r there kept entry =
     let is : HasHome t.handles s.regions n r = home-found related.regions related.sound.regions.handles.1 n r there kept in
     let found : lookup handle_of s.regions g ≡ Some is.home = subst (λ h. lookup handle_of s.regions h ≡ Some is.home) (same_entry is.entry entry) is.there in
     (λ e. not_both (subst (λ h. lookup handle_of s.regions h ≡ None) (sym e) related.sound.regions.handles.0) found, (is.home, found))
+
+-- an open region that has a handle is one of the store's
+pub open-home : {t : Tables} {w : World} {s : StoreState} → Related t w s → (n g : ℕ) (r : Region) → region_at w n ≡ Found r
+    → slice_get t.handles n ≡ Some (Some g) → (slice_get w.regions n ≡ Some r) × (has_home r ≡ true)
+open-home {t} {w} related n g r found entry =
+    let there : slice_get w.regions n ≡ Some r = region_found w n r found in
+    let (h, is, same) = entry-found related.regions n r there in (
+      there,
+      subst (λ (b : Bool). has_pages r.sort b ≡ true) (sym (region-open w n r found there))
+          (sort-some r.sort (sym same ∙ ap (λ o. is_some o) (same_some (sym is ∙ entry)))),
+    )
 
 module _ {t : Tables} {w : World} {s : StoreState} (related : Related t w s) (n g : ℕ) (r : Region) (cells : List Cell)
     (there : slice_get w.regions n ≡ Some r) (kept : has_home r ≡ true) (entry : slice_get t.handles n ≡ Some (Some g)) where

@@ -11,13 +11,14 @@ use Rattle.cyc_store.specs.State.{Memory, Block, address_of, Home, handle_of, em
 use Rattle.cyc_store.specs.Services.{OpenLexical, OpenDynamic, CloseDynamic, Free, Choice, served, names_dynamic, full_at, refusal, BadHandle, NotABlock, IsAllowed}
 use Rattle.cyc_store.specs.Services as services
 use Rattle.cyc_store.specs.Soundness.{IsSound}
-use Rattle.cyc_store.specs.declared.range.TheConstants.{UNIQUE}
+use Rattle.cyc_store.specs.declared.range.TheConstants.{HEAP, UNIQUE}
 use Rattle.cyc_store.proofs.LookupLemmas.{when_equal, when_other, not_both, same_some, lookup-here, lookup-there}
 use Rattle.cyc_store.proofs.ServiceLemmas.{served-sound}
 use Rattle.cyc_meaning.specs.Values.{kinds_of, block_size}
-use Rattle.cyc_meaning.specs.State.{Sort, Lexical, Dynamic, Region, Owner, InRegion, Unique, Object, World, has_pages, new_region, opened_as, closed, counted}
+use Rattle.cyc_meaning.specs.State.{Sort, Lexical, Dynamic, Region, Owner, InRegion, Unique, Object, World, heap_number, has_pages, new_region, opened_as, closed, counted}
 use Rattle.cyc_meaning.specs.Objects.{class_of_cells, is_live_in, live_in, freed}
 use Rattle.cyc_meaning.specs.Effects.{pages_of}
+use Rattle.cyc_meaning.proofs.ListLemmas.{slice_get-append}
 use Rattle.cyc_objects.specs.Tables.{Placed, Tables, with_handle}
 use Rattle.cyc_objects.specs.Related.{sort_of, has_home, lies_in, Alive, Stands, Within, Related}
 use Rattle.cyc_objects.proofs.NumberLemmas.{slice_get-set_cases}
@@ -37,6 +38,7 @@ module _ {t : Tables} {w : World} {s : StoreState} (related : Related t w s) whe
   region-opened sort is same h m after stay = record {
     sound = after;
     few = related.few;
+    heap = slice_get-append t.handles (Some h ∷ []) heap_number (Some HEAP) related.heap;
     rows = related.rows;
     regions = Regions-opened h sort is same related.regions;
     classes = related.classes;
@@ -101,6 +103,7 @@ module _ {t : Tables} {w : World} {s : StoreState} (related : Related t w s) whe
   region-closed n g r m there kept ends entry after stay = record {
     sound = after;
     few = related.few;
+    heap = related.heap;
     rows = related.rows;
     regions = Regions-closed related.regions related.sound.regions.handles.1 n g r there kept ends entry;
     classes = related.classes;
@@ -221,6 +224,7 @@ module _ {t : Tables} {w : World} {s : StoreState} (related : Related t w s) (o 
       record {
         sound = after;
         few = related.few;
+        heap = related.heap;
         rows = related.rows ∙ sym (length-set w.objects o (record x { owner = Unique false }));
         regions = related.regions;
         classes = related.classes;

@@ -41,6 +41,7 @@ module _ (program : Program) (input : List ℕ) (pages : ℕ) (memory : Memory) 
   start-related words some few = record {
     sound = start-sound pages memory words some;
     few = few;
+    heap = refl;
     rows = length-map program.globals (λ (g : GlobalVariable). Variable) ∙ sym (length-map program.globals global_object);
     regions = taken (record { kept = refl; named = refl; sort = refl; sizes = refl }) (passed refl refl no_regions);
     classes = refl;

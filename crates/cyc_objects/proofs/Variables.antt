@@ -4,9 +4,10 @@ use Rattle.std.specs.Prelude.{slice_get}
 use Rattle.std.proofs.lemmas.List.{length_push}
 use Rattle.cyc_types.specs.declared.typed.Kind.{Kind}
 use Rattle.cyc_store.specs.State.{StoreState}
+use Rattle.cyc_store.specs.declared.range.TheConstants.{HEAP}
 use Rattle.cyc_store.proofs.LookupLemmas.{same_some}
 use Rattle.cyc_meaning.specs.Values.{Value, Cell, kinds_of, block_size}
-use Rattle.cyc_meaning.specs.State.{Sort, Heap, Globals, Stack, Lexical, Dynamic, Region, Owner, InRegion, Unique, Object, World, has_pages, new_region, opened_as, closed, variable, made, written}
+use Rattle.cyc_meaning.specs.State.{Sort, Heap, Globals, Stack, Lexical, Dynamic, Region, Owner, InRegion, Unique, Object, World, heap_number, has_pages, new_region, opened_as, closed, variable, made, written}
 use Rattle.cyc_meaning.proofs.ListLemmas.{slice_get-append, slice_get-end, map-set}
 use Rattle.cyc_objects.specs.Tables.{Variable, Placed, Tables, with_row, with_handle}
 use Rattle.cyc_objects.specs.Words.{words_of_kinds}
@@ -31,6 +32,10 @@ pub within-more : (rs : List Region) (q : Region) (owner : Owner) → Within (le
 within-more rs q (InRegion n) within = let e : length (rs ++ q ∷ []) ≡ length rs + 1 = length_push rs q in omega (arith, within, e)
 within-more rs q (Unique live) within = tt
 
+-- the number of the region that opens next, and its entry
+pub handle-made : {t : Tables} {w : World} {s : StoreState} → Related t w s → (h : Option ℕ) → slice_get (with_handle t h).handles (length w.regions) ≡ Some h
+handle-made {t} related h = subst (λ n. slice_get (t.handles ++ h ∷ []) n ≡ Some h) (regions-length related.regions) (slice_get-end t.handles h)
+
 -- the region of an object is an old one
 pub entry-older : {t : Tables} {w : World} {s : StoreState} → Related t w s → (e : Option ℕ) (o n : ℕ) (y : Object) → slice_get w.objects o ≡ Some y
     → y.owner ≡ InRegion n → slice_get (t.handles ++ e ∷ []) n ≡ Some None → slice_get t.handles n ≡ Some None
@@ -47,6 +52,7 @@ module _ {t : Tables} {w : World} {s : StoreState} (related : Related t w s) whe
   declared n r kind content there entry = record {
     sound = related.sound;
     few = related.few;
+    heap = related.heap;
     rows = length_push t.rows Variable ∙ (ap (λ n. n + 1) related.rows ∙ sym (length_push w.objects (variable n kind content)));
     regions = related.regions;
     classes = related.classes;
@@ -87,6 +93,7 @@ module _ {t : Tables} {w : World} {s : StoreState} (related : Related t w s) whe
   assigned o k x c v there at row = record {
     sound = related.sound;
     few = related.few;
+    heap = related.heap;
     rows = related.rows ∙ sym (length-set w.objects o (record x { cells = set x.cells k (record c { content = Some v }) }));
     regions = related.regions;
     classes = related.classes;
@@ -126,6 +133,7 @@ module _ {t : Tables} {w : World} {s : StoreState} (related : Related t w s) whe
   opened-variables sort none = record {
     sound = related.sound;
     few = related.few;
+    heap = slice_get-append t.handles (None ∷ []) heap_number (Some HEAP) related.heap;
     rows = related.rows;
     regions = Regions-variables sort none related.regions;
     classes = related.classes;
@@ -154,6 +162,7 @@ module _ {t : Tables} {w : World} {s : StoreState} (related : Related t w s) whe
   closed-variables n r there entry = record {
     sound = related.sound;
     few = related.few;
+    heap = related.heap;
     rows = related.rows;
     regions = Regions-shut related.regions n r there entry;
     classes = related.classes;

@@ -6,9 +6,9 @@ use Rattle.cyc_types.specs.declared.typed.Kind.{Kind}
 use Rattle.cyc_store.specs.State as stores
 use Rattle.cyc_store.specs.State.{Memory, Home, sizes_of, StoreState, homes, block_at, down_to, room}
 use Rattle.cyc_store.specs.Soundness.{IsSound}
-use Rattle.cyc_store.specs.declared.range.TheConstants.{MOST_PAGES, UNIQUE}
+use Rattle.cyc_store.specs.declared.range.TheConstants.{MOST_PAGES, HEAP, UNIQUE}
 use Rattle.cyc_meaning.specs.Values.{Cell, kinds_of, block_size}
-use Rattle.cyc_meaning.specs.State.{Sort, Heap, Globals, Stack, Lexical, Dynamic, Region, Owner, InRegion, Unique, Object, World, has_pages}
+use Rattle.cyc_meaning.specs.State.{Sort, Heap, Globals, Stack, Lexical, Dynamic, Region, Owner, InRegion, Unique, Object, World, heap_number, has_pages}
 use Rattle.cyc_meaning.specs.Objects.{live_in}
 use Rattle.cyc_objects.specs.Tables.{Variable, Placed, Tables}
 use Rattle.cyc_objects.specs.Words.{words_of_kinds, words_from, AreCells}
@@ -85,6 +85,8 @@ Within regions (Unique live) = Unit {0}
 pub record Related (t : Tables) (w : World) (s : StoreState) : Type 0 where
   pub sound : IsSound s
   pub few : s.pages ≤ MOST_PAGES
+  -- the heap's handle is the same for good
+  pub heap : slice_get t.handles heap_number ≡ Some (Some HEAP)
   pub rows : length t.rows ≡ length w.objects
   pub regions : Regions t.handles w.regions s.regions
   pub classes : s.classes ≡ w.classes

@@ -14,7 +14,7 @@ ghost use Rattle.cyc_meaning.specs.Values.{Value, Int, is_thin, words_of_kind, C
 ghost use Rattle.cyc_meaning.specs.Operators.{Gives, truth};
 ghost use Rattle.cyc_meaning.specs.Pointers.{moved, null_test};
 ghost use Rattle.cyc_meaning.specs.Conversion.{conversion};
-ghost use Rattle.cyc_meaning.specs.State.{Lexical, Dynamic, Stack, Region, Unique, Object, World, Found, Located, cell_at, opened_as, closed, variable, made, written, first_world};
+ghost use Rattle.cyc_meaning.specs.State.{Lexical, Dynamic, Stack, Region, Unique, Object, World, Found, Located, region_at, cell_at, opened_as, closed, variable, made, written, first_world};
 ghost use Rattle.cyc_meaning.specs.Objects.{compared, made_in, made_unique, freed};
 ghost use Rattle.cyc_meaning.specs.Allocation.{blanks};
 ghost use Rattle.cyc_meaning.specs.Effects.{pages_of};
@@ -90,6 +90,8 @@ pub fn cells_are_read_and_written()
 /// An object that is made, with blank cells, stands in the block that the store chose, whichever it chose, and the address of the block is
 /// the pointer to it.
 pub fn objects_are_made()
+    ensures home { (t : Tables) (w : World) (s : StoreState) (number handle : ℕ) (r : Region) → Related t w s → region_at w number ≡ Found r
+        → slice_get t.handles number ≡ Some (Some handle) → (slice_get w.regions number ≡ Some r) × (has_home r ≡ true) }
     ensures region { (t : Tables) (w : World) (s : StoreState) (number handle : ℕ) (r : Region) (cells : List Cell) (c : Choice) → Related t w s
         → slice_get w.regions number ≡ Some r → has_home r ≡ true → slice_get t.handles number ≡ Some (Some handle) → AreBlank cells
         → refusal s (Allocate handle (block_size cells)) ≡ None → IsAllowed s (Allocate handle (block_size cells)) c

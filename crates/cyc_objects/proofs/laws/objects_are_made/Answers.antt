@@ -1,6 +1,9 @@
 -- Objects that are made.
-use Rattle.cyc_objects.proofs.Making.{allocated, allocated-unique, points-made, part-made}
+use Rattle.cyc_objects.proofs.Making.{open-home, allocated, allocated-unique, points-made, part-made}
 use Rattle.cyc_objects.proofs.laws.objects_are_made.Goals as goal
+
+pub returns-clause-home : goal.returns-clause-home
+returns-clause-home c = λ t w s number handle r related found entry. open-home related number handle r found entry
 
 pub returns-clause-region : goal.returns-clause-region
 returns-clause-region c = λ t w s number handle r cells choice related there kept entry blank none allowed.
