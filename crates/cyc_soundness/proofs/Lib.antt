@@ -1,0 +1,5 @@
+-- the lemmas behind the laws
+mod Numbers
+mod TypeLemmas
+mod FlowLemmas
+mod WorldLemmas

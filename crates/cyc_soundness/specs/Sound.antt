@@ -1,0 +1,9 @@
+-- NO DEAD ACCESS: what is promised of a program that the typing rules and the flow rules accept.
+use Rattle.std.specs.Prelude.{◌≢◌, ℕ, List}
+use Rattle.cyc_types.specs.TypedTrees.{Program}
+use Rattle.cyc_meaning.specs.State.{status_of, IsDead, IsWrong}
+use Rattle.cyc_meaning.specs.Run.{run}
+
+-- no state of any run is dead or wrong
+abbrev pub IsSound : Program → Type 0
+IsSound p = (input : List ℕ) (count : ℕ) → (status_of (run p input count) ≢ IsDead) × (status_of (run p input count) ≢ IsWrong)
