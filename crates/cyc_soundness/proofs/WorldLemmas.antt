@@ -72,8 +72,8 @@ module _ (g h : Typing) (grows : Grows g h) where
 
 -- ---- an object more
 
-pub with_object : Typing → ObjectType → (full : Bool) → Typing
-abbrev with_object g t full = record { objects = g.objects ++ t ∷ []; full = g.full ++ full ∷ [] }
+abbrev pub with_object : Typing → ObjectType → (full : Bool) → Typing
+with_object g t full = record { objects = g.objects ++ t ∷ []; full = g.full ++ full ∷ [] }
 
 pub object_grows : (g : Typing) (t : ObjectType) (full : Bool) → Grows g (with_object g t full)
 object_grows g t full = record {
@@ -162,13 +162,32 @@ cell_written g w number t x v typed at cells c has = record {
   each = each;
 }
   where
-    new : Object
-    abbrev new = record c.object { cells = set c.object.cells 0 (record c.cell { content = Some v }) }
+    abbrev new : Object
+    new = record c.object { cells = set c.object.cells 0 (record c.cell { content = Some v }) }
+
+    written_one : (other : ℕ) (u : ObjectType) → slice_get g.objects other ≡ Some u → other ≡ number
+        → (y : Object) × (b : Bool) × (slice_get (set w.objects number new) other ≡ Some y) × (slice_get (set g.full number true) other ≡ Some b) × IsObject (with_full g number) b u y
+    written_one other u there same =
+        let (y, b, stands, flag, was) = typed.each other u there in
+        let y_is : y ≡ c.object = some_same y c.object (sym stands ∙ ap (λ n. slice_get w.objects n) same ∙ c.there) in
+        let u_is : u ≡ x = some_same u x (sym there ∙ ap (λ n. slice_get g.objects n) same ∙ at) in
+        let owner : IsOwner u.life c.object.owner = subst (λ (z : Object). IsOwner u.life z.owner) y_is was.owner in
+        let one : IsCell (with_full g number) true t (record c.cell { content = Some v }) = (c.is.0, type_grown g (with_full g number) (full_grows g number) t v has) in
+        let all : AreCells (with_full g number) true (t ∷ []) (record c.cell { content = Some v } ∷ []) = (one, tt) in
+        let those : AreCells (with_full g number) true u.cells new.cells =
+            subst (λ ts. AreCells (with_full g number) true ts new.cells) (sym cells ∙ ap (λ (z : ObjectType). z.cells) (sym u_is))
+              (subst (λ cs. AreCells (with_full g number) true (t ∷ []) (set cs 0 (record c.cell { content = Some v }))) (sym c.only) all) in
+        let is : IsObject (with_full g number) true u new = record { owner = owner; cells = those } in (
+          new, true,
+          subst (λ n. slice_get (set w.objects number new) n ≡ Some new) (sym same) (slice_get-set_same w.objects number c.object new c.there),
+          subst (λ n. slice_get (set g.full number true) n ≡ Some true) (sym same) (slice_get-set_same g.full number c.full true c.flag),
+          is,
+        )
 
     each : (other : ℕ) (u : ObjectType) → slice_get g.objects other ≡ Some u
         → (y : Object) × (b : Bool) × (slice_get (set w.objects number new) other ≡ Some y) × (slice_get (set g.full number true) other ≡ Some b) × IsObject (with_full g number) b u y
     each other u there = elim (same_or_other other number) [
-      inl same ↦ ?a
+      inl same ↦ written_one other u there same
       | inr apart ↦ (let (y, b, stands, flag, was) = typed.each other u there in
         (y, b, slice_get-set_other w.objects number other new apart ∙ stands, slice_get-set_other g.full number other true apart ∙ flag, object_grown g (with_full g number) (full_grows g number) b u y was))
     ]
