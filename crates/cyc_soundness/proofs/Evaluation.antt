@@ -44,7 +44,7 @@ use Rattle.cyc_soundness.proofs.StackLemmas.{AreAccepted, stack_grown, bound_of,
 use Rattle.cyc_soundness.proofs.ValueLemmas.{Fits, negated, complemented, combined, zero_is, converted, kind_given}
 
 -- a typed state, by its parts
-pub running : (p : Program) (g : Typing) (x : Exits) (bs : List Bound) (e : Environment) (w : World) → IsTyped g w.objects → AreGlobals g p → IsBound e bs → AreVariables g bs
+pub running : (p : Program) (g : Typing) (x : Exits) (bs : List Bound) (e : Environment) (w : World) → IsTyped g w.objects → AreGlobals g p → IsBound e.locals bs → AreVariables g bs
     → (focus : Focus) (k : List Entry) → LiveIn (ends_of k) bs → IsFocus p g x bs focus k → IsWell p (Running focus k e w)
 running p g x bs e w typed globals bound variables focus k live stands =
     record { typing = g; exits = x; locals = bs; objects = typed; globals = globals; bound = bound; variables = variables; live = live; stands = stands }
@@ -83,7 +83,7 @@ module _ (p : Program) where
           let (h, at, same) = of_map signature_of p.functions n s (ap (λ ss. slice_get ss n) (sym functions) ∙ is) in
           subst (λ (z : Signature). IsCalled p (callees.Function n) (map lives.read z.parameters) (read_value (result_type z.result))) same (h, at, refl, refl)
 
-  module _ (g : Typing) (x : Exits) (bs : List Bound) (e : Environment) (w : World) (typed : IsTyped g w.objects) (globals : AreGlobals g p) (bound : IsBound e bs) (variables : AreVariables g bs) where
+  module _ (g : Typing) (x : Exits) (bs : List Bound) (e : Environment) (w : World) (typed : IsTyped g w.objects) (globals : AreGlobals g p) (bound : IsBound e.locals bs) (variables : AreVariables g bs) where
     on : (focus : Focus) (k : List Entry) → LiveIn (ends_of k) bs → IsFocus p g x bs focus k → IsWell p (Running focus k e w)
     on focus k live stands = running p g x bs e w typed globals bound variables focus k live stands
 
@@ -118,7 +118,7 @@ module _ (p : Program) where
         → (r : ℕ) × HasLocal c.locals n u r → IsSet f n → Implies f h → t ≡ types.Value u → IsStack p g x bs (Val (read_value t) h) k
         → IsWell p (loaded_from (values.kind_of u) (e.locals n) k e w)
     from_local k c n u t f h opens live stands holds (r, has) is_set implies same stack =
-        let (b, among, number, of_type) = bound_of g c.locals bs n u r stands.scope has in
+        let (b, among, number, of_type) = bound_of c.locals bs n u r stands.scope has in
         let full : IsFull g b.object = among_set g f among holds.1 (subst (λ m. IsSet f m) (sym number) is_set) in
         let there : e.locals n ≡ Some b.object = ap e.locals (sym number) ∙ among_bound e among bound in
         subst (λ o. IsWell p (loaded_from (values.kind_of u) o k e w)) (sym there)
@@ -145,8 +145,8 @@ module _ (p : Program) where
     pass_on k callee before done (MoreArguments (Convert from to a) as') (t ∷ ts) c r f h q live stands holds ((v, well, conv, from_is, to_is), passed) (f1, d, ds) (one, kept) operands called stack =
         on (Evaluating a) (Needs (ConvertTo from to) ∷ Needs (Pass callee before as') ∷ k) live (
           c, v, f, f1, stands, holds, record { waiting = q; typed = inl well; flows = d; kept = one },
-          ([], Val (Value (lives.read t)) f1, stacks.converts c v t f1 conv from_is to_is, tt,
-            (done, Val (read_value r) h, stacks.passes c done t ts r f1 h stands (record { waiting = q; typed = passed; flows = ds; kept = kept }) called, operands, stack)),
+          ([], bs, Val (Value (lives.read t)) f1, stacks.converts c v t f1 conv from_is to_is, tt,
+            (done, bs, Val (read_value r) h, stacks.passes c done t ts r f1 h stands (record { waiting = q; typed = passed; flows = ds; kept = kept }) called, operands, stack)),
         )
 
     -- ---- expressions
@@ -173,40 +173,40 @@ module _ (p : Program) where
     evaluate (Unary unary.Not a) k c t f h q opens live stands holds (inl (v, (well, is_tested'), same)) flows kept stack =
         on (Evaluating a) (Needs (Operate unary.Not) ∷ k) live (
           c, v, f, h, stands, holds, record { waiting = q; typed = well; flows = flows; kept = kept },
-          ([], Val (Value lives.Int) h, stacks.denies v h is_tested', tt, subst (λ z. IsStack p g x bs (Val (read_value z) h) k) same stack),
+          ([], bs, Val (Value lives.Int) h, stacks.denies v h is_tested', tt, subst (λ z. IsStack p g x bs (Val (read_value z) h) k) same stack),
         )
     evaluate (Unary unary.Negate a) k c t f h q opens live stands holds (inl (v, (well, int), same)) flows kept stack =
         on (Evaluating a) (Needs (Operate unary.Negate) ∷ k) live (
           c, types.Value types.Int, f, h, stands, holds, record { waiting = q; typed = inl (subst (λ z. WellTyped c a z) int well); flows = flows; kept = kept },
-          ([], Val (Value lives.Int) h, stacks.negates h, tt, subst (λ z. IsStack p g x bs (Val (read_value z) h) k) same stack),
+          ([], bs, Val (Value lives.Int) h, stacks.negates h, tt, subst (λ z. IsStack p g x bs (Val (read_value z) h) k) same stack),
         )
     evaluate (Unary unary.Complement a) k c t f h q opens live stands holds (inl (v, (well, int), same)) flows kept stack =
         on (Evaluating a) (Needs (Operate unary.Complement) ∷ k) live (
           c, types.Value types.Int, f, h, stands, holds, record { waiting = q; typed = inl (subst (λ z. WellTyped c a z) int well); flows = flows; kept = kept },
-          ([], Val (Value lives.Int) h, stacks.complements h, tt, subst (λ z. IsStack p g x bs (Val (read_value z) h) k) same stack),
+          ([], bs, Val (Value lives.Int) h, stacks.complements h, tt, subst (λ z. IsStack p g x bs (Val (read_value z) h) k) same stack),
         )
     evaluate (Binary a os u) k c t f h q opens live stands holds (inl (v, left, chain, same)) (f1, d, ds) (one, kept) stack =
         on (Evaluating a) (Needs (Chain os) ∷ k) live (
           c, v, f, f1, stands, holds, record { waiting = q; typed = left_typed (WellTyped c a v) c a v os kept left; flows = d; kept = one },
-          ([], Val (Value (lives.read u)) h, stacks.chains c v u f1 h stands (record { waiting = q; typed = chain; flows = ds; kept = kept }), tt,
+          ([], bs, Val (Value (lives.read u)) h, stacks.chains c v u f1 h stands (record { waiting = q; typed = chain; flows = ds; kept = kept }), tt,
             subst (λ z. IsStack p g x bs (Val (read_value z) h) k) same stack),
         )
     evaluate (Assign (Local place n) (Convert from to a) u) k c t f h q opens live stands holds (inl (v, r, (m, has, region, there), (s, well, conv, from_is, to_is), gives_u, same)) (f1, d, (demands, known)) kept stack =
-        let (b, among, number, of_type) = bound_of g c.locals bs n v m stands.scope (place_local c.locals n v m has) in
+        let (b, among, number, of_type) = bound_of c.locals bs n v m stands.scope (place_local c.locals n v m has) in
         let at : e.locals n ≡ Some b.object = ap e.locals (sym number) ∙ among_bound e among bound in
         let known_is : h ≡ with_fullness Full f1 b.number = known ∙ ap (λ i. with_fullness Full f1 i) (sym number) in
         subst (λ o. IsWell p (assigned o (Convert from to a) k e w)) (sym at) (
           on (Evaluating a) (Needs (ConvertTo from to) ∷ Needs (Store (values.Thin b.object 0)) ∷ k) live (
             c, s, f, f1, stands, holds, record { waiting = q; typed = inl well; flows = d; kept = kept },
-            ([], Val (Value (lives.read v)) f1, stacks.converts c s v f1 conv from_is to_is, tt,
-              ([], Val (read_value (assigned_type v)) (with_fullness Full f1 b.number), stacks.stores_local b v f1 among of_type, tt,
+            ([], bs, Val (Value (lives.read v)) f1, stacks.converts c s v f1 conv from_is to_is, tt,
+              ([], bs, Val (read_value (assigned_type v)) (with_fullness Full f1 b.number), stacks.stores_local b v f1 among of_type, tt,
                 subst (λ z. IsStack p g x bs (Val (read_value (assigned_type v)) z) k) known_is (subst (λ z. IsStack p g x bs (Val (read_value z) h) k) (same ∙ gives_u) stack))),
           ))
     evaluate (Assign (Global n) (Convert from to a) u) k c t f h q opens live stands holds (inl (v, r, (region, there), (s, well, conv, from_is, to_is), gives_u, same)) (f1, d, (demands, known)) kept stack =
         on (Evaluating a) (Needs (ConvertTo from to) ∷ Needs (Store (values.Thin n 0)) ∷ k) live (
           c, s, f, f1, stands, holds, record { waiting = q; typed = inl well; flows = d; kept = kept },
-          ([], Val (Value (lives.read v)) f1, stacks.converts c s v f1 conv from_is to_is, tt,
-            ([], Val (read_value (assigned_type v)) f1, stacks.stores_global n v f1 (ap (λ ts. slice_get ts n) (sym stands.globals) ∙ there), tt,
+          ([], bs, Val (Value (lives.read v)) f1, stacks.converts c s v f1 conv from_is to_is, tt,
+            ([], bs, Val (read_value (assigned_type v)) f1, stacks.stores_global n v f1 (ap (λ ts. slice_get ts n) (sym stands.globals) ∙ there), tt,
               subst (λ z. IsStack p g x bs (Val (read_value (assigned_type v)) z) k) known (subst (λ z. IsStack p g x bs (Val (read_value z) h) k) (same ∙ gives_u) stack))),
         )
     evaluate (Peek place n u) k c t f h q opens live stands holds (inl is) flows kept stack = absurd is
@@ -225,13 +225,13 @@ module _ (p : Program) where
         subst (λ z. IsWell p (awaits_right z (Apply o v) b os k e w)) (sym (is_kind_same v.kind kinds.Int is_int.0)) (
           on (Evaluating b) (Needs (Apply o v) ∷ Needs (Chain os) ∷ k) live (
             c, types.Value types.Int, f, f1, stands, holds, record { waiting = q; typed = inl well; flows = d; kept = one },
-            (lives.Int ∷ [], Val (Value lives.Int) f1, stacks.applies f1, (is_int, tt),
-              ([], Val (Value (lives.read u)) h, stacks.chains c (types.Value types.Int) u f1 h stands (record { waiting = q; typed = chain; flows = ds; kept = kept }), tt, stack)),
+            (lives.Int ∷ [], bs, Val (Value lives.Int) f1, stacks.applies f1, (is_int, tt),
+              ([], bs, Val (Value (lives.read u)) h, stacks.chains c (types.Value types.Int) u f1 h stands (record { waiting = q; typed = chain; flows = ds; kept = kept }), tt, stack)),
           ))
     chain_on (ThenTest o b os) v k c s u f h q live stands holds is (is_tested', (s2, well, tested2), chain) (f1, d, ds) (one, kept) stack =
         let (fails, zero) = zero_is g s v is_tested' is in
         let waits : IsStack p g x bs (Val (Value lives.Int) (meet f f1)) (Needs (Chain os) ∷ k) =
-          ([], Val (Value (lives.read u)) h, stacks.chains c (types.Value types.Int) u (meet f f1) h stands (record { waiting = q; typed = chain; flows = ds; kept = kept }), tt, stack) in
+          ([], bs, Val (Value (lives.read u)) h, stacks.chains c (types.Value types.Int) u (meet f f1) h stands (record { waiting = q; typed = chain; flows = ds; kept = kept }), tt, stack) in
         subst (λ z. IsWell p (tested z o b os k e w)) (sym zero) (go fails waits (decides o fails))
       where
         go : (fails : Bool) → IsStack p g x bs (Val (Value lives.Int) (meet f f1)) (Needs (Chain os) ∷ k) → (b' : Bool) → IsWell p (decided b' fails b os k e w)
@@ -239,7 +239,7 @@ module _ (p : Program) where
             (Value lives.Int, meet f f1, holds_implied g f (meet f f1) bs (meet_first f f1) holds, (refl, tt), waits)
         go fails waits false = on (Evaluating b) (Needs Decide ∷ Needs (Chain os) ∷ k) live (
           c, s2, f, f1, stands, holds, record { waiting = q; typed = well; flows = d; kept = one },
-          ([], Val (Value lives.Int) (meet f f1), stacks.decides s2 f1 (meet f f1) tested2 (meet_second f f1), tt, waits),
+          ([], bs, Val (Value lives.Int) (meet f f1), stacks.decides s2 f1 (meet f f1) tested2 (meet_second f f1), tt, waits),
         )
     chain_on (ThenPointer o b os) v k c s u f h q live stands holds is chain flows kept stack = absurd kept
     chain_on (ThenPointerPeek n o b os) v k c s u f h q live stands holds is chain flows kept stack = absurd kept

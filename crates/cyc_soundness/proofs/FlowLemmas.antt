@@ -104,3 +104,13 @@ are_set_implied g f h (b ∷ bs) i (first, s) = (λ e. first (i.set b.number e),
 
 pub holds_implied : (g : Typing) (f h : State) (bs : List Bound) → Implies f h → Holds g f bs → Holds g h bs
 holds_implied g f h bs i (reached, s) = (i.reached reached, are_set_implied g f h bs i s)
+
+-- a local that was just declared without a value is known to hold nothing
+now_vacant : (as' : List Fullness) (n : ℕ) → is_vacant (get_or (slice_set as' n Vacant) n Vacant) ≡ true
+now_vacant [] n = refl
+now_vacant (a ∷ as') zero = refl
+now_vacant (a ∷ as') (suc n) = now_vacant as' n
+
+pub vacant_now : (f : State) (n : ℕ) → is_reached f ≡ true → IsSet (with_fullness Vacant f n) n → ⊥
+vacant_now Unreached n reached s = let k : false ≡ true = reached in absurd (cc)
+vacant_now (Reached as') n reached s = let k : true ≡ false = sym (now_vacant as' n) ∙ s in absurd (cc)

@@ -10,7 +10,7 @@ use Rattle.cyc_types.specs.typing.WellTyped.{LocalInScope, Context, HasLocal, Ha
 use Rattle.cyc_types.specs.flow.States as flow
 use Rattle.cyc_types.specs.flow.States.{Full, with_fullness}
 use Rattle.cyc_meaning.specs.Values.{Operand}
-use Rattle.cyc_meaning.specs.State.{Sort, Region, World, Access, Found, Closed, Missing, found_region, is_open, globals_number, Environment, with_local, Entry, Needs, NeedsPlace, Discard, Rest, Join, Loop, CloseRegion, CloseLexical, EndLoan, Handler, Caller, Main}
+use Rattle.cyc_meaning.specs.State.{Sort, Region, World, Access, Found, Closed, Missing, found_region, is_open, globals_number, Environment, with_local, Awaiting, Entry, Needs, NeedsPlace, Discard, Rest, Join, Loop, CloseRegion, CloseLexical, EndLoan, Handler, Caller, Main}
 use Rattle.cyc_meaning.specs.Nesting.{ends_of, IsScoped, IsFound, AreOpen, IsHome}
 use Rattle.cyc_soundness.specs.Lives.{RunTy, RunValue, Void, Null, Value, read, read_value}
 use Rattle.cyc_soundness.specs.Lives as lives
@@ -32,13 +32,13 @@ AreAccepted p = (number : ℕ) (h : Function) → slice_get p.functions number �
 module _ (p : Program) (g h : Typing) (grows : Grows g h) where
   pub stack_grown : (x : Exits) (bs : List Bound) (w : Want) (k : List Entry) → IsStack p g x bs w k → IsStack p h x bs w k
   stack_grown x bs Nothing [] is = tt
-  stack_grown x bs (Val r f) (Needs a ∷ k) (ts, next, waits, are, rest) = (ts, next, waits, operands_grown g h grows ts (held a) are, stack_grown x bs next k rest)
+  stack_grown x bs (Val r f) (Needs a ∷ k) (ts, cs, next, waits, are, rest) = (ts, cs, next, waits, operands_grown g h grows ts (held a) are, stack_grown x cs next k rest)
   stack_grown x bs (Val r f) (Discard ∷ k) is = stack_grown x bs (Go f) k is
   stack_grown x bs (Go f) (Discard ∷ k) is = stack_grown x bs (Go f) k is
   stack_grown x bs (Go f) (Rest js ∷ k) (cs, c, end, within, stands, continues, rest) = (cs, c, end, within, stands, continues, stack_grown x cs (Go end) k rest)
   stack_grown x bs (Go f) (Join ∷ k) (end, i, rest) = (end, i, stack_grown x bs (Go end) k rest)
   stack_grown x bs (Go f) (Loop condition body ∷ k) (y, l, v, u, end, same, loop, i, rest) = (y, l, v, u, end, same, loop, i, stack_grown y bs (Go end) k rest)
-  stack_grown x bs (Go f) (CloseRegion region home ∷ k) (live, rest) = (live, stack_grown x bs (Go f) k rest)
+  stack_grown x bs (Go f) (CloseRegion region home ∷ k) (end, i, live, rest) = (end, i, live, stack_grown x bs (Go end) k rest)
   stack_grown x bs (Go f) (Handler cs ∷ k) (c, start, end, stands, holds, catches, i, rest) =
       (c, start, end, stands, holds_grown g h grows start bs holds, catches, i, stack_grown x bs (Go end) k rest)
   stack_grown x bs (Go f) (Caller e ∷ k) (y, cs, end, loop, blocked, bound, variables, live, holds, rest) = (
@@ -75,7 +75,7 @@ void_tested v e tested = let k : false ≡ true = subst (λ z. is_tested z ≡ t
 value_void : (t : RunTy) → Value t ≡ Void → ⊥
 value_void t e = let k : Value t ≡ Void = e in absurd (cc)
 
-void_waits : {p : Program} {x : Exits} {bs : List Bound} {a : _} {ts : List RunTy} {r : RunValue} {f : flow.State} {next : Want} → Waits p x bs a ts r f next → r ≡ Void → ⊥
+void_waits : {p : Program} {x : Exits} {bs cs : List Bound} {a : Awaiting} {ts : List RunTy} {r : RunValue} {f : flow.State} {next : Want} → Waits p x bs a ts r f cs next → r ≡ Void → ⊥
 void_waits (stacks.converts c v t f conv from to) e = void_converts c t (subst (λ z. Converts c z t) (void_read v e) conv)
 void_waits (stacks.negates f) e = value_void lives.Int e
 void_waits (stacks.complements f) e = value_void lives.Int e
@@ -86,32 +86,31 @@ void_waits (stacks.decides v f h tested i) e = void_tested v e tested
 void_waits (stacks.stores_local b t f among same) e = value_void (read t) e
 void_waits (stacks.stores_global number t f there) e = value_void (read t) e
 void_waits (stacks.passes c done t ts r f h stands passes called) e = value_void (read t) e
-void_waits (stacks.initialises c t f h stands number kind continues) e = value_void (read t) e
+void_waits (stacks.initialises cs c t f h within stands number kind continues) e = value_void (read t) e
 void_waits (stacks.chooses c d v f g h i tested first_stands second_stands one two j k) e = void_tested v e tested
 void_waits (stacks.tests l v f h loop) e = void_tested v e loop.tested
 void_waits (stacks.returns t f h result) e = value_void (read t) e
 void_waits (stacks.throws f h) e = value_void lives.Int e
 
 pub void_goes : (p : Program) (g : Typing) (x : Exits) (bs : List Bound) (f : flow.State) (r : RunValue) (k : List Entry) → r ≡ Void → IsStack p g x bs (Val r f) k → IsStack p g x bs (Go f) k
-void_goes p g x bs f r (Needs a ∷ k) e (ts, next, waits, are, rest) = absurd (void_waits waits e)
+void_goes p g x bs f r (Needs a ∷ k) e (ts, cs, next, waits, are, rest) = absurd (void_waits waits e)
 void_goes p g x bs f r (Discard ∷ k) e is = is
 void_goes p g x bs f r k e is = absurd is
 
 -- ---- locals
 
-module _ (g : Typing) where
-  pub bound_of : (vs : List LocalInScope) (bs : List Bound) (n : ℕ) (t : Ty) (r : ℕ) → IsScope vs bs → HasLocal vs n t r → (b : Bound) × IsAmong b bs × (b.number ≡ n) × (b.of_type ≡ read t)
-  bound_of [] bs n t r is has = absurd has
-  bound_of (v ∷ vs) [] n t r is has = absurd is
-  bound_of (v ∷ vs) (b ∷ bs) n t r ((number, of_type), is) (inl (same, is_type, region)) = (b, first bs, sym number ∙ same, sym of_type ∙ ap read is_type)
-  bound_of (v ∷ vs) (b ∷ bs) n t r (one, is) (inr has) = let (c, among, same, of_type) = bound_of vs bs n t r is has in (c, later b bs among, same, of_type)
+pub bound_of : (vs : List LocalInScope) (bs : List Bound) (n : ℕ) (t : Ty) (r : ℕ) → IsScope vs bs → HasLocal vs n t r → (b : Bound) × IsAmong b bs × (b.number ≡ n) × (b.of_type ≡ read t)
+bound_of [] bs n t r is has = absurd has
+bound_of (v ∷ vs) [] n t r is has = absurd is
+bound_of (v ∷ vs) (b ∷ bs) n t r ((number, of_type), is) (inl (same, is_type, region)) = (b, first bs, sym number ∙ same, sym of_type ∙ ap read is_type)
+bound_of (v ∷ vs) (b ∷ bs) n t r (one, is) (inr has) = let (c, among, same, of_type) = bound_of vs bs n t r is has in (c, later b bs among, same, of_type)
 
 pub place_local : (vs : List LocalInScope) (n : ℕ) (t : Ty) (r : ℕ) → HasPlace vs n t r → HasLocal vs n t r
 place_local [] n t r has = absurd has
 place_local (v ∷ vs) n t r (inl (same, of_type, region, place)) = inl (same, of_type, region)
 place_local (v ∷ vs) n t r (inr has) = inr (place_local vs n t r has)
 
-pub among_bound : {b : Bound} {bs : List Bound} (e : Environment) → IsAmong b bs → IsBound e bs → e.locals b.number ≡ Some b.object
+pub among_bound : {b : Bound} {bs : List Bound} (e : Environment) → IsAmong b bs → IsBound e.locals bs → e.locals b.number ≡ Some b.object
 among_bound e (first cs) (is, are) = is
 among_bound e (later c cs among) (is, are) = among_bound e among are
 
@@ -128,7 +127,7 @@ among_set g f (first cs) (is, are) s = is s
 among_set g f (later c cs among) (is, are) s = among_set g f among are s
 
 -- an outer scope knows no more
-pub within_bound : (e : Environment) (cs bs : List Bound) → Within cs bs → IsBound e bs → IsBound e cs
+pub within_bound : (e : Environment) (cs bs : List Bound) → Within cs bs → IsBound e.locals bs → IsBound e.locals cs
 within_bound e cs bs (itself _) are = are
 within_bound e cs bs (older b _ ds within) (is, are) = within_bound e cs ds within are
 
@@ -164,7 +163,7 @@ local_other : (e : Environment) (number other object : ℕ) → other ≢ number
 local_other e number other object apart =
     ap (λ (b : Bool). if b then Some object else e.locals other) (false_from_ne_true (eqb other number) (λ h. apart (eqb-true other number h)))
 
-pub bound_more : (e : Environment) (number object : ℕ) (bs : List Bound) → AreBelow number bs → IsBound e bs → IsBound (with_local e number object) bs
+pub bound_more : (e : Environment) (number object : ℕ) (bs : List Bound) → AreBelow number bs → IsBound e.locals bs → IsBound (with_local e number object).locals bs
 bound_more e number object [] below are = tt
 bound_more e number object (b ∷ bs) (less, below) (is, are) =
     (local_other e number b.number object (λ e. (let k : b.number ≡ number = e in absurd (omega (arith, less, k)))) ∙ is, bound_more e number object bs below are)
@@ -175,7 +174,7 @@ set_more g a f number (b ∷ bs) (less, below) (is, are) =
     (λ s. is (other_set a f number b.number (λ e. (let k : b.number ≡ number = e in absurd (omega (arith, less, k)))) s), set_more g a f number bs below are)
 
 -- two numbers that are one lead to one object
-pub set_stored : (g : Typing) (e : Environment) (f : flow.State) (number object : ℕ) (bs : List Bound) → IsBound e bs → e.locals number ≡ Some object → IsFull g object → AreSet g f bs → AreSet g (with_fullness Full f number) bs
+pub set_stored : (g : Typing) (e : Environment) (f : flow.State) (number object : ℕ) (bs : List Bound) → IsBound e.locals bs → e.locals number ≡ Some object → IsFull g object → AreSet g f bs → AreSet g (with_fullness Full f number) bs
 set_stored g e f number object [] bound there full are = tt
 set_stored g e f number object (b ∷ bs) (here, bound) there full (is, are) = (go, set_stored g e f number object bs bound there full are)
   where
@@ -216,3 +215,20 @@ pub found_is : (a : Access Region) → IsFound a → (r : Region) × (a ≡ Foun
 found_is (Found r) h = (r, refl)
 found_is Closed h = absurd h
 found_is Missing h = absurd h
+
+pub waits_within : {p : Program} {x : Exits} {bs cs : List Bound} {a : Awaiting} {ts : List RunTy} {r : RunValue} {f : flow.State} {next : Want} → Waits p x bs a ts r f cs next → Within cs bs
+waits_within {bs = bs} (stacks.converts c v t f conv from to) = itself bs
+waits_within {bs = bs} (stacks.negates f) = itself bs
+waits_within {bs = bs} (stacks.complements f) = itself bs
+waits_within {bs = bs} (stacks.denies v f tested) = itself bs
+waits_within {bs = bs} (stacks.chains c v t f h stands computes) = itself bs
+waits_within {bs = bs} (stacks.applies f) = itself bs
+waits_within {bs = bs} (stacks.decides v f h tested i) = itself bs
+waits_within {bs = bs} (stacks.stores_local b t f among same) = itself bs
+waits_within {bs = bs} (stacks.stores_global number t f there) = itself bs
+waits_within {bs = bs} (stacks.passes c done t ts r f h stands passes called) = itself bs
+waits_within (stacks.initialises cs c t f h within stands number kind continues) = within
+waits_within {bs = bs} (stacks.chooses c d v f g h i tested first_stands second_stands one two j k) = itself bs
+waits_within {bs = bs} (stacks.tests l v f h loop) = itself bs
+waits_within {bs = bs} (stacks.returns t f h result) = itself bs
+waits_within {bs = bs} (stacks.throws f h) = itself bs

@@ -43,7 +43,7 @@ module _ (g h : Typing) (grows : Grows g h) where
   operands_grown (t ∷ ts) [] are = absurd are
   operands_grown (t ∷ ts) (v ∷ vs) (is, are) = (result_grown (Value t) v is, operands_grown ts vs are)
 
-  content_grown : (full : Bool) (t : RunTy) (o : Option values.Value) → IsContent g full t o → IsContent h full t o
+  pub content_grown : (full : Bool) (t : RunTy) (o : Option values.Value) → IsContent g full t o → IsContent h full t o
   content_grown full t None is = is
   content_grown full t (Some v) is = type_grown t v is
 
@@ -60,7 +60,7 @@ module _ (g h : Typing) (grows : Grows g h) where
   variables_grown [] are = tt
   variables_grown (b ∷ bs) (is, are) = (grows.objects b.object _ is, variables_grown bs are)
 
-  set_grown : (f : flow.State) (bs : List Bound) → AreSet g f bs → AreSet h f bs
+  pub set_grown : (f : flow.State) (bs : List Bound) → AreSet g f bs → AreSet h f bs
   set_grown f [] are = tt
   set_grown f (b ∷ bs) (is, are) = (λ s. grows.full b.object (is s), set_grown f bs are)
 

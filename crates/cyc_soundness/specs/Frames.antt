@@ -7,7 +7,6 @@ use Rattle.cyc_types.specs.typing.WellTyped.{LocalInScope, Context, signature_of
 use Rattle.cyc_types.specs.flow.States as flow
 use Rattle.cyc_types.specs.flow.States.{fullness, is_vacant, is_reached}
 use Rattle.cyc_types.specs.flow.Statements.{Loop, Around}
-use Rattle.cyc_meaning.specs.State.{Environment}
 use Rattle.cyc_soundness.specs.Lives.{RunTy, read}
 use Rattle.cyc_soundness.specs.Worlds.{Typing, IsFull, variable_type, global_type}
 
@@ -35,9 +34,9 @@ AreBelow n [] = Unit {0}
 AreBelow n (b ∷ bs) = (b.number < n) × AreBelow n bs
 
 -- the locals lead to their objects
-abbrev pub IsBound : Environment → List Bound → Type 0
-IsBound e [] = Unit {0}
-IsBound e (b ∷ bs) = (e.locals b.number ≡ Some b.object) × IsBound e bs
+abbrev pub IsBound : (locals : ℕ → Option ℕ) → List Bound → Type 0
+IsBound locals [] = Unit {0}
+IsBound locals (b ∷ bs) = (locals b.number ≡ Some b.object) × IsBound locals bs
 
 -- which are variables of their types
 abbrev pub AreVariables : Typing → List Bound → Type 0

@@ -128,32 +128,32 @@ pub record IsLoop (p : Program) (x : Exits) (bs : List Bound) (l : LoopExit) (co
   pub fails : Implies f exit
   pub left : Implies l.breaks exit
 
--- What waits for a value: with the types of the operands that wait in it, what it awaits, and what its value then is handed on as.
-pub data Waits (p : Program) (x : Exits) (bs : List Bound) : Awaiting → List RunTy → RunValue → flow.State → Want → Type 0 where
+-- What waits for a value: with the types of the operands that wait in it, what it awaits, and what goes on then, in which scope.
+pub data Waits (p : Program) (x : Exits) (bs : List Bound) : Awaiting → List RunTy → RunValue → flow.State → List Bound → Want → Type 0 where
   converts : {from to : Kind} (c : Context) (v : ValueType) (t : Ty) (f : flow.State) → Converts c v t → from ≡ kind_of_value v → to ≡ kind_of t
-      → Waits p x bs (ConvertTo from to) [] (read_value v) f (Val (Value (read t)) f)
-  negates : (f : flow.State) → Waits p x bs (Operate unary.Negate) [] (Value lives.Int) f (Val (Value lives.Int) f)
-  complements : (f : flow.State) → Waits p x bs (Operate unary.Complement) [] (Value lives.Int) f (Val (Value lives.Int) f)
-  denies : (v : ValueType) (f : flow.State) → is_tested v ≡ true → Waits p x bs (Operate unary.Not) [] (read_value v) f (Val (Value lives.Int) f)
+      → Waits p x bs (ConvertTo from to) [] (read_value v) f bs (Val (Value (read t)) f)
+  negates : (f : flow.State) → Waits p x bs (Operate unary.Negate) [] (Value lives.Int) f bs (Val (Value lives.Int) f)
+  complements : (f : flow.State) → Waits p x bs (Operate unary.Complement) [] (Value lives.Int) f bs (Val (Value lives.Int) f)
+  denies : (v : ValueType) (f : flow.State) → is_tested v ≡ true → Waits p x bs (Operate unary.Not) [] (read_value v) f bs (Val (Value lives.Int) f)
   chains : {os : Operations} (c : Context) (v : ValueType) (t : Ty) (f h : flow.State) → IsContext p x bs c → Computes c v os f t h
-      → Waits p x bs (Chain os) [] (read_value v) f (Val (Value (read t)) h)
-  applies : {o : Operator} {left : Operand} (f : flow.State) → Waits p x bs (Apply o left) (lives.Int ∷ []) (Value lives.Int) f (Val (Value lives.Int) f)
-  decides : (v : ValueType) (f h : flow.State) → is_tested v ≡ true → Implies f h → Waits p x bs Decide [] (read_value v) f (Val (Value lives.Int) h)
+      → Waits p x bs (Chain os) [] (read_value v) f bs (Val (Value (read t)) h)
+  applies : {o : Operator} {left : Operand} (f : flow.State) → Waits p x bs (Apply o left) (lives.Int ∷ []) (Value lives.Int) f bs (Val (Value lives.Int) f)
+  decides : (v : ValueType) (f h : flow.State) → is_tested v ≡ true → Implies f h → Waits p x bs Decide [] (read_value v) f bs (Val (Value lives.Int) h)
   stores_local : (b : Bound) (t : Ty) (f : flow.State) → IsAmong b bs → b.of_type ≡ read t
-      → Waits p x bs (Store (values.Thin b.object 0)) [] (Value (read t)) f (Val (read_value (assigned_type t)) (with_fullness Full f b.number))
+      → Waits p x bs (Store (values.Thin b.object 0)) [] (Value (read t)) f bs (Val (read_value (assigned_type t)) (with_fullness Full f b.number))
   stores_global : (number : ℕ) (t : Ty) (f : flow.State) → slice_get (map (λ g. g.of_type) p.globals) number ≡ Some t
-      → Waits p x bs (Store (values.Thin number 0)) [] (Value (read t)) f (Val (read_value (assigned_type t)) f)
+      → Waits p x bs (Store (values.Thin number 0)) [] (Value (read t)) f bs (Val (read_value (assigned_type t)) f)
   passes : {callee : Callee} {before : List Operand} {rest : Arguments} (c : Context) (done : List RunTy) (t : Ty) (ts : List Ty) (r : ValueType) (f h : flow.State)
       → IsContext p x bs c → Passes c ts rest f h → IsCalled p callee (turned (read t ∷ done) (map read ts)) (read_value r)
-      → Waits p x bs (Pass callee before rest) done (Value (read t)) f (Val (read_value r) h)
-  initialises : {number : ℕ} {kind : Kind} {js : Items} (c : Context) (t : Ty) (f h : flow.State) → IsContext p x bs c
-      → number ≡ c.next_local → kind ≡ kind_of t → Continues x (with_local true t c) js (with_fullness Full f number) h → Waits p x bs (Initialise number kind js) [] (Value (read t)) f (Go h)
+      → Waits p x bs (Pass callee before rest) done (Value (read t)) f bs (Val (read_value r) h)
+  initialises : {number : ℕ} {kind : Kind} {js : Items} (cs : List Bound) (c : Context) (t : Ty) (f h : flow.State) → Within cs bs → IsContext p x bs c
+      → number ≡ c.next_local → kind ≡ kind_of t → Continues x (with_local true t c) js (with_fullness Full f number) h → Waits p x bs (Initialise number kind js) [] (Value (read t)) f cs (Go h)
   chooses : {first second : Statement} (c d : Context) (v : ValueType) (f g h i : flow.State) → is_tested v ≡ true → IsContext p x bs c → IsContext p x bs d
-      → Executes x c first f g → Executes x d second f h → Implies g i → Implies h i → Waits p x bs (Choose first second) [] (read_value v) f (Go i)
+      → Executes x c first f g → Executes x d second f h → Implies g i → Implies h i → Waits p x bs (Choose first second) [] (read_value v) f bs (Go i)
   tests : {condition : Expression} {body : Statement} (l : LoopExit) (v : ValueType) (f h : flow.State) → IsLoop p x bs l condition body v f h
-      → Waits p x bs (Test condition body) [] (read_value v) f (Go h)
-  returns : (t : Ty) (f h : flow.State) → x.result ≡ Some t → Waits p x bs Return [] (Value (read t)) f (Go h)
-  throws : {tag : ℕ} (f h : flow.State) → Waits p x bs (ThrowWith tag) [] (Value lives.Int) f (Go h)
+      → Waits p x bs (Test condition body) [] (read_value v) f bs (Go h)
+  returns : (t : Ty) (f h : flow.State) → x.result ≡ Some t → Waits p x bs Return [] (Value (read t)) f bs (Go h)
+  throws : {tag : ℕ} (f h : flow.State) → Waits p x bs (ThrowWith tag) [] (Value lives.Int) f bs (Go h)
 
 -- ---- the control stack
 
@@ -165,7 +165,7 @@ IsBlocked (Some t) f = is_reached f ≡ false
 abbrev pub IsStack : Program → Typing → Exits → List Bound → Want → List Entry → Type 0
 IsStack p g x bs Nothing [] = Unit {0}
 IsStack p g x bs (Val r f) (Needs a ∷ k) =
-    (ts : List RunTy) × (next : Want) × Waits p x bs a ts r f next × AreOperands g ts (held a) × IsStack p g x bs next k
+    (ts : List RunTy) × (cs : List Bound) × (next : Want) × Waits p x bs a ts r f cs next × AreOperands g ts (held a) × IsStack p g x cs next k
 IsStack p g x bs (Val r f) (Discard ∷ k) = IsStack p g x bs (Go f) k
 IsStack p g x bs (Go f) (Discard ∷ k) = IsStack p g x bs (Go f) k
 -- the locals that a block declares are out of scope behind its items
@@ -174,12 +174,12 @@ IsStack p g x bs (Go f) (Rest js ∷ k) =
 IsStack p g x bs (Go f) (Join ∷ k) = (h : flow.State) × Implies f h × IsStack p g x bs (Go h) k
 IsStack p g x bs (Go f) (Loop condition body ∷ k) =
     (y : Exits) × (l : LoopExit) × (v : ValueType) × (u h : flow.State) × (x ≡ inside y l) × IsLoop p y bs l condition body v u h × Implies f l.head × IsStack p g y bs (Go h) k
-IsStack p g x bs (Go f) (CloseRegion region home ∷ k) = LiveIn (ends_of k) bs × IsStack p g x bs (Go f) k
+IsStack p g x bs (Go f) (CloseRegion region home ∷ k) = (h : flow.State) × Implies f h × LiveIn (ends_of k) bs × IsStack p g x bs (Go h) k
 IsStack p g x bs (Go f) (Handler cs ∷ k) =
     (c : Context) × (start h : flow.State) × IsContext p x bs c × Holds g start bs × Catches x c start cs f h × Implies f h × IsStack p g x bs (Go h) k
 -- the caller's locals are as they were, and hold what they held
 IsStack p g x bs (Go f) (Caller e ∷ k) =
-    (y : Exits) × (cs : List Bound) × (h : flow.State) × (is_loop x.loop ≡ false) × IsBlocked x.result f × IsBound e cs × AreVariables g cs × LiveIn (ends_of k) cs × Holds g h cs
+    (y : Exits) × (cs : List Bound) × (h : flow.State) × (is_loop x.loop ≡ false) × IsBlocked x.result f × IsBound e.locals cs × AreVariables g cs × LiveIn (ends_of k) cs × Holds g h cs
     × IsStack p g y cs (Val (read_value (result_type x.result)) h) k
 IsStack p g x bs (Go f) (Main ∷ k) = (is_loop x.loop ≡ false) × (x.result ≡ Some types.Int) × (is_reached f ≡ false) × IsStack p g x bs Nothing k
 IsStack p g x bs w k = ⊥
@@ -198,7 +198,7 @@ AreFull g (b ∷ bs) = IsFull g b.object × AreFull g bs
 
 -- in a function's body, outside of loops
 abbrev pub IsBody : Exits → Function → Type 0
-IsBody x h = x ≡ record { loop = None; result = h.result }
+IsBody x h = (x.loop ≡ None) × (x.result ≡ h.result)
 
 abbrev pub IsFocus : Program → Typing → Exits → List Bound → Focus → List Entry → Type 0
 IsFocus p g x bs (Evaluating a) k =
@@ -212,8 +212,8 @@ IsFocus p g x bs (Calling callee arguments) k =
 IsFocus p g x bs (Entering h arguments) k =
     (end : flow.State) × IsAccepted p h end × IsBody x h × (bs ≡ []) × AreOperands g (map read h.parameters) arguments × IsStack p g x bs (Go end) k
 IsFocus p g x bs (Binding number types arguments body) k =
-    (h : Function) × (end : flow.State) × (vs : List LocalInScope) × IsAccepted p h end × IsBody x h × (body ≡ h.body) × (parameters_in_scope types number vs ≡ parameters_in_scope h.parameters 0 [])
-    × (number + length types ≡ length h.parameters) × AreOperands g (map read types) arguments × IsScope vs bs × AreBelow number bs × AreFull g bs × IsStack p g x bs (Go end) k
+    (h : Function) × (end : flow.State) × (vs : List LocalInScope) × (cs : List Bound) × Within cs bs × IsAccepted p h end × IsBody x h × (body ≡ h.body) × (parameters_in_scope types number vs ≡ parameters_in_scope h.parameters 0 [])
+    × (number + length types ≡ length h.parameters) × AreOperands g (map read types) arguments × IsScope vs bs × AreBelow number bs × AreFull g bs × IsStack p g x cs (Go end) k
 IsFocus p g x bs (Naming number v js) k =
     (c : Context) × (t : Ty) × (f h : flow.State) × IsContext p x bs c × Holds g f bs × (number ≡ c.next_local) × IsResult g (Value (read t)) v
     × Continues x (with_local true t c) js (with_fullness Full f number) h × IsStack p g x bs (Go h) k
@@ -231,7 +231,7 @@ pub record IsRunning (p : Program) (focus : Focus) (k : List Entry) (e : Environ
   pub locals : List Bound
   pub objects : IsTyped typing w.objects
   pub globals : AreGlobals typing p
-  pub bound : IsBound e locals
+  pub bound : IsBound e.locals locals
   pub variables : AreVariables typing locals
   pub live : LiveIn (ends_of k) locals
   pub stands : IsFocus p typing exits locals focus k
