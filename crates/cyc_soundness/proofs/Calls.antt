@@ -42,8 +42,11 @@ use Rattle.cyc_soundness.proofs.Execution.{context_inside, breaks_before}
 -- ---- lists of operands
 
 turned_length : {A : Type 0} (as' bs : List A) → length (turned as' bs) ≡ length as' + length bs
-turned_length [] bs = omega arith
-turned_length (a ∷ as') bs = let e = turned_length as' (a ∷ bs) in omega (arith, e)
+turned_length [] bs = let e : 0 + length bs ≡ length bs = omega arith in sym e
+turned_length (a ∷ as') bs =
+    let e : length (turned as' (a ∷ bs)) ≡ length as' + suc (length bs) = turned_length as' (a ∷ bs) in
+    let r : length (turned as' (a ∷ bs)) ≡ suc (length as') + length bs = omega (arith, e) in
+    r
 
 operands_turned : (g : Typing) (ts us : List RunTy) (vs ws : List Operand) → AreOperands g ts vs → AreOperands g us ws → AreOperands g (turned ts us) (reverse_aux vs ws)
 operands_turned g [] us [] ws are more = more
@@ -82,7 +85,7 @@ module _ (p : Program) (accepted : AreAccepted p) where
     printed_on (t ∷ []) [] k f live holds same are stack = absurd are
     printed_on (t ∷ []) (v ∷ v2 ∷ vs) k f live holds same are stack = absurd are.1
     printed_on (t ∷ u ∷ ts) vs k f live holds same are stack =
-        let e1 = turned_length ts (u ∷ t ∷ []) in let e2 : length (turned ts (u ∷ t ∷ [])) ≡ 1 = ap length same in absurd (omega (arith, e1, e2))
+        let e1 : length (turned ts (u ∷ t ∷ [])) ≡ length ts + 2 = turned_length ts (u ∷ t ∷ []) in let e2 : length (turned ts (u ∷ t ∷ [])) ≡ 1 = ap length same in absurd (omega (arith, e1, e2))
     printed_on (t ∷ []) (v ∷ []) k f live holds same (is, unit) stack = go v.value (subst (λ z. HasType g z v.value) (let z : t ∷ [] ≡ lives.Int ∷ [] = same in cc) is.1)
       where
         go : (value : values.Value) → HasType g lives.Int value → IsWell p (prints (value ∷ []) k e w)
@@ -96,7 +99,7 @@ module _ (p : Program) (accepted : AreAccepted p) where
         running p g x bs e _ typed globals bound variables (Given _) k live (Value lives.Int, f, holds, (refl, tt), stack)
     read_on [] (v ∷ vs) k f live holds same are stack = absurd are
     read_on (t ∷ ts) vs k f live holds same are stack =
-        let e1 = turned_length ts (t ∷ []) in let e2 : length (turned ts (t ∷ [])) ≡ 0 = ap length same in absurd (omega (arith, e1, e2))
+        let e1 : length (turned ts (t ∷ [])) ≡ length ts + 1 = turned_length ts (t ∷ []) in let e2 : length (turned ts (t ∷ [])) ≡ 0 = ap length same in absurd (omega (arith, e1, e2))
 
     pub call : (callee : Callee) (vs : List Operand) (k : List Entry) (ts : List RunTy) (r : RunValue) (f : flow.State) → LiveIn (ends_of k) bs → Holds g f bs → IsCalled p callee (turned ts []) r → AreOperands g ts vs
         → IsStack p g x bs (Val r f) k → IsWell p (step_calling p callee vs k e w)
@@ -196,7 +199,8 @@ module _ (p : Program) (accepted : AreAccepted p) where
         behind_stands : IsContext p x bs (behind_clause c v js)
         behind_stands = record {
           globals = stands.globals; functions = stands.functions; result = stands.result; loop = stands.loop; scope = stands.scope;
-          below = below_more c.next_local (behind_clause c v js).next_local bs (omega arith) stands.below;
+          below = below_more c.next_local (c.next_local + (length (caught_types v) + length (item_types js))) bs
+            (let le : c.next_local ≤ c.next_local + (length (caught_types v) + length (item_types js)) = omega arith in le) stands.below;
         }
 
         next : Catches x (behind_clause c v js) start ds (or_clause f js l).now h

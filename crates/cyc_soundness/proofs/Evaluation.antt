@@ -1,6 +1,6 @@
 -- EVALUATION of a typed expression, and what waits for its value: each step leads to a typed state.
-use Rattle.std.proofs.Common.{◌≡◌, ◌⊎◌, inl, inr, ℕ, zero, suc, ◌+◌, Bool, true, false, not, List, [], ◌∷◌, ◌++◌, length, map, option_map, Option, Some, None, slice_get, refl, sym, ap, subst, ◌∙◌}
-use Rattle.std.specs.Prelude.{if◌then◌else◌}
+use Rattle.std.proofs.Common.{◌≡◌, ◌⊎◌, inl, inr, ℕ, zero, suc, ◌+◌, Bool, true, false, not, List, [], ◌∷◌, ◌++◌, length, map, Option, Some, None, slice_get, refl, sym, ap, subst, ◌∙◌}
+use Rattle.std.specs.Prelude.{if◌then◌else◌, option_map}
 use Rattle.cyc_types.specs.declared.typed.Kind.{Kind}
 use Rattle.cyc_types.specs.declared.typed.Kind.TheVariants as kinds
 use Rattle.cyc_types.specs.declared.typed.Callee.{Callee}
@@ -31,7 +31,7 @@ use Rattle.cyc_meaning.specs.Nesting.{ends_of, AreOpen}
 use Rattle.cyc_meaning.specs.Step.{step_evaluating, passes, assigned, decided, tested, awaits_right, chained, converts}
 use Rattle.cyc_soundness.specs.Lives.{RunTy, RunValue, Value, kind_at, read_value, OfRegion}
 use Rattle.cyc_soundness.specs.Lives as lives
-use Rattle.cyc_soundness.specs.Worlds.{ObjectType, Typing, IsFull, variable_type, HasType, IsResult, AreOperands, IsContent, IsTyped}
+use Rattle.cyc_soundness.specs.Worlds.{ObjectType, Typing, IsFull, variable_type, HasType, IsResult, Fits, AreOperands, IsContent, IsTyped}
 use Rattle.cyc_soundness.specs.Frames.{IsAmong, Bound, IsBound, AreVariables, LiveIn, IsSet, AreSet, Holds, Implies, Exits, IsContext, AreGlobals}
 use Rattle.cyc_soundness.specs.Classes.{KeepsToVariables, InConverted, InArguments, InOperations}
 use Rattle.cyc_soundness.specs.Stacks.{Evaluates, Computes, Passes, Val, Go, turned, IsCalled, IsStack, IsFocus, IsRunning, IsWell}
@@ -41,7 +41,7 @@ use Rattle.cyc_soundness.proofs.TypeLemmas.{is_kind_same, kind_read, kind_meant,
 use Rattle.cyc_soundness.proofs.FlowLemmas.{implies_self, meet_first, meet_second, vacant_implied, holds_implied, reached_with}
 use Rattle.cyc_soundness.proofs.WorldLemmas.{HasCell, cell_there, with_full, full_grows, cell_written, result_grown, globals_grown, variables_grown, holds_grown}
 use Rattle.cyc_soundness.proofs.StackLemmas.{AreAccepted, stack_grown, bound_of, place_local, among_bound, among_variable, among_live, among_set, set_stored, open_of, globals_among}
-use Rattle.cyc_soundness.proofs.ValueLemmas.{Fits, negated, complemented, combined, zero_is, converted, kind_given}
+use Rattle.cyc_soundness.proofs.ValueLemmas.{zero_is, converted, kind_given}
 
 -- a typed state, by its parts
 pub running : (p : Program) (g : Typing) (x : Exits) (bs : List Bound) (e : Environment) (w : World) → IsTyped g w.objects → AreGlobals g p → IsBound e.locals bs → AreVariables g bs

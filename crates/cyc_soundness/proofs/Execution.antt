@@ -1,5 +1,6 @@
 -- STATEMENTS and the items of blocks: each step leads to a typed state.
 use Rattle.std.proofs.Common.{◌≡◌, ◌⊎◌, inl, inr, ℕ, zero, suc, ◌+◌, ◌<◌, ◌≤◌, Bool, true, false, List, [], ◌∷◌, ◌++◌, length, Option, Some, None, refl, sym, ap, subst, ◌∙◌, arith}
+use Rattle.cyc_types.specs.declared.typed.Kind.{Kind}
 use Rattle.cyc_types.specs.Types.{Ty, ValueType}
 use Rattle.cyc_types.specs.Types as types
 use Rattle.cyc_types.specs.TypedTrees.{Expression, Converted, Convert, Statement, Block, Empty, Evaluate, If, While, Break, Continue, Throw, Try, Items, NoItems, MoreItems, Execute, Declare, DeclareRegion, OpenRegion, DeclareAlias, DeclareKey, Clauses, Program}
@@ -37,7 +38,7 @@ use Rattle.cyc_types.specs.flow.Touched.{touched_statement}
 pub context_after : (p : Program) (x : Exits) (bs : List Bound) (c : Context) (s : Statement) → IsContext p x bs c → IsContext p x bs (behind c s)
 context_after p x bs c s stands = record {
   globals = stands.globals; functions = stands.functions; result = stands.result; loop = stands.loop; scope = stands.scope;
-  below = below_more c.next_local (c.next_local + length (declared_types s)) bs (omega arith) stands.below;
+  below = below_more c.next_local (c.next_local + length (declared_types s)) bs (let le : c.next_local ≤ c.next_local + length (declared_types s) = omega arith in le) stands.below;
 }
 
 pub context_inside : (p : Program) (x : Exits) (bs : List Bound) (c : Context) → IsContext p x bs c → IsContext p x bs (in_block c)
@@ -58,7 +59,7 @@ module _ (p : Program) (g : Typing) (x : Exits) (bs : List Bound) (e : Environme
   return_none None c is = tt
   return_none (Some t) c is = absurd is
 
-  return_on : (a : Expression) (from to : _) (k : List Entry) (c : Context) (f h : flow.State) (o : Option Ty) → LiveIn (ends_of k) bs → IsContext p x bs c → Holds g f bs → o ≡ x.result
+  return_on : (a : Expression) (from to : Kind) (k : List Entry) (c : Context) (f h : flow.State) (o : Option Ty) → LiveIn (ends_of k) bs → IsContext p x bs c → Holds g f bs → o ≡ x.result
       → IsReturned c o (Some (Convert from to a)) → Derives (statements.rule_value (Some (Convert from to a)) f) h → InValue (Some (Convert from to a)) → IsStack p g x bs (Go Unreached) k
       → IsWell p (returns (Some (Convert from to a)) k e w)
   return_on a from to k c f h None live stands holds result is flows kept stack = absurd is

@@ -88,13 +88,15 @@ pub vacant_implied : (f : State) (n : ℕ) → Implies f (with_fullness Vacant f
 vacant_implied Unreached n = unreached_implies Unreached
 vacant_implied (Reached as') n = record { reached = λ h. refl; set = λ m s. vacated as' n m s }
 
+either_implied : (b : Bool) (f : State) (n : ℕ) → Implies f (if b then f else with_fullness Vacant f n)
+either_implied true f n = implies_self f
+either_implied false f n = vacant_implied f n
+
 pub emptied_implied : (ns : List ℕ) (f : State) → Implies f (emptied ns f)
 emptied_implied [] f = implies_self f
-emptied_implied (n ∷ ns) f = go (is_locked (fullness f n))
-  where
-    go : (b : Bool) → Implies f (emptied ns (if b then f else with_fullness Vacant f n))
-    go true = emptied_implied ns f
-    go false = implies_after f (with_fullness Vacant f n) (emptied ns (with_fullness Vacant f n)) (vacant_implied f n) (emptied_implied ns (with_fullness Vacant f n))
+emptied_implied (n ∷ ns) f =
+    implies_after f (if is_locked (fullness f n) then f else with_fullness Vacant f n) (emptied (n ∷ ns) f)
+      (either_implied (is_locked (fullness f n)) f n) (emptied_implied ns (if is_locked (fullness f n) then f else with_fullness Vacant f n))
 
 -- ---- what holds
 

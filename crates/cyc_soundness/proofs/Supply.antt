@@ -5,7 +5,7 @@ use Rattle.cyc_types.specs.declared.typed.Kind.{Kind}
 use Rattle.cyc_types.specs.declared.typed.Kind.TheVariants as kinds
 use Rattle.cyc_types.specs.Types.{Ty, ValueType}
 use Rattle.cyc_types.specs.Types as types
-use Rattle.cyc_types.specs.TypedTrees.{Statement, Items, Program}
+use Rattle.cyc_types.specs.TypedTrees.{Expression, Statement, Items, Program}
 use Rattle.cyc_types.specs.typing.Tests as tests
 use Rattle.cyc_types.specs.typing.WellTyped.{Context, with_local, in_body}
 use Rattle.cyc_types.specs.flow.States as flow
@@ -43,7 +43,7 @@ context_more p x bs c t b stands number of_type = record {
   result = stands.result;
   loop = stands.loop;
   scope = ((sym number, sym of_type), stands.scope);
-  below = (let less : b.number < suc c.next_local = omega (arith, number) in less, below_more c.next_local (suc c.next_local) bs (let le : c.next_local ≤ suc c.next_local = omega arith in le) stands.below);
+  below = ((let less : b.number < suc c.next_local = omega (arith, number) in less), below_more c.next_local (suc c.next_local) bs (let le : c.next_local ≤ suc c.next_local = omega arith in le) stands.below);
 }
 
 module _ (p : Program) (g : Typing) (x : Exits) (bs : List Bound) (e : Environment) (w : World) (typed : IsTyped g w.objects) (globals : AreGlobals g p) (bound : IsBound e.locals bs) (variables : AreVariables g bs) where
@@ -112,7 +112,7 @@ module _ (p : Program) (g : Typing) (x : Exits) (bs : List Bound) (e : Environme
   chosen_on true first second k c d f i j l live holds stands others one two m n stack = on (Executing second) (Join ∷ k) live (d, f, j, others, holds, two, (l, n, stack))
   chosen_on false first second k c d f i j l live holds stands others one two m n stack = on (Executing first) (Join ∷ k) live (c, f, i, stands, holds, one, (l, m, stack))
 
-  looped_on : (b : Bool) (condition : _) (body : Statement) (k : List Entry) (l : LoopExit) (v : ValueType) (f h : flow.State) → LiveIn (ends_of k) bs → Holds g f bs → IsLoop p x bs l condition body v f h
+  looped_on : (b : Bool) (condition : Expression) (body : Statement) (k : List Entry) (l : LoopExit) (v : ValueType) (f h : flow.State) → LiveIn (ends_of k) bs → Holds g f bs → IsLoop p x bs l condition body v f h
       → IsStack p g x bs (Go h) k → IsWell p (looped (Some b) condition body k e w)
   looped_on true condition body k l v f h live holds loop stack = on Proceeding k live (h, holds_implied g f h bs loop.fails holds, stack)
   looped_on false condition body k l v f h live holds loop stack =

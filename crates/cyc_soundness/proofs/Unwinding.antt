@@ -1,8 +1,8 @@
 -- THE CONTROL STACK is left entry by entry: normally, by `break`, `continue` and `return`, and by an exception.
 use Rattle.std.proofs.Common.{◌≡◌, ℕ, Bool, true, false, List, [], ◌∷◌, Option, Some, None, refl, sym, ap, subst, ◌∙◌}
-use Rattle.cyc_types.specs.Types.{Ty, result_type}
+use Rattle.cyc_types.specs.Types.{Ty, ValueType, result_type}
 use Rattle.cyc_types.specs.Types as types
-use Rattle.cyc_types.specs.TypedTrees.{Program}
+use Rattle.cyc_types.specs.TypedTrees.{Expression, Statement, Program}
 use Rattle.cyc_types.specs.flow.States as flow
 use Rattle.cyc_types.specs.flow.States.{is_reached}
 use Rattle.cyc_meaning.specs.Values.{Operand}
@@ -39,7 +39,7 @@ module _ (p : Program) (g : Typing) (e : Environment) (w : World) (typed : IsTyp
           (running p g x bs (record e { home = home }) (closed w region r) typed globals bound variables focus k live stands)
 
     -- a loop's condition is evaluated again
-    tests_again : (condition : _) (body : _) (k : List Entry) (y : Exits) (l : LoopExit) (v : _) (u h : flow.State) → LiveIn (ends_of k) bs → IsLoop p y bs l condition body v u h → Holds g l.head bs → IsStack p g y bs (Go h) k
+    tests_again : (condition : Expression) (body : Statement) (k : List Entry) (y : Exits) (l : LoopExit) (v : ValueType) (u h : flow.State) → LiveIn (ends_of k) bs → IsLoop p y bs l condition body v u h → Holds g l.head bs → IsStack p g y bs (Go h) k
         → IsWell p (Running (Evaluating condition) (Needs (Test condition body) ∷ k) e w)
     tests_again condition body k y l v u h live loop holds stack =
         running p g y bs e w typed globals bound variables (Evaluating condition) (Needs (Test condition body) ∷ k) live
@@ -77,7 +77,7 @@ module _ (p : Program) (g : Typing) (e : Environment) (w : World) (typed : IsTyp
         running p g y bs e w typed globals bound variables Proceeding k live (h, holds_implied g m.breaks h bs loop.left (subst (λ (z : LoopExit). Holds g z.breaks bs) (sym one) holds), stack)
     breaks (CloseRegion region home ∷ k) l f nests live same holds (h, i, outer, stack) = closes Breaking region home k nests outer (l, h, same, holds, stack)
     breaks (Handler cs ∷ k) l f nests live same holds (c, start, h, stands, known, catches, i, stack) = on Breaking k live (l, h, same, holds, stack)
-    breaks (Caller outer ∷ k) l f nests live same holds (y, cs, h, loop, more) = absurd (never_loop x.loop l loop same)
+    breaks (Caller outer ∷ k) l f nests live same holds (y, cs, h, loop, blocked, bound', variables', live', holds', stack) = absurd (never_loop x.loop l loop same)
     breaks (Main ∷ k) l f nests live same holds (loop, int, blocked, stack) = absurd (never_loop x.loop l loop same)
     breaks k l f nests live same holds stack = absurd stack
 
@@ -92,7 +92,7 @@ module _ (p : Program) (g : Typing) (e : Environment) (w : World) (typed : IsTyp
         tests_again condition body k y m v u h live loop (subst (λ (z : LoopExit). Holds g z.head bs) (sym one) holds) stack
     continues (CloseRegion region home ∷ k) l f nests live same holds (h, i, outer, stack) = closes Continuing region home k nests outer (l, h, same, holds, stack)
     continues (Handler cs ∷ k) l f nests live same holds (c, start, h, stands, known, catches, i, stack) = on Continuing k live (l, h, same, holds, stack)
-    continues (Caller outer ∷ k) l f nests live same holds (y, cs, h, loop, more) = absurd (never_loop x.loop l loop same)
+    continues (Caller outer ∷ k) l f nests live same holds (y, cs, h, loop, blocked, bound', variables', live', holds', stack) = absurd (never_loop x.loop l loop same)
     continues (Main ∷ k) l f nests live same holds (loop, int, blocked, stack) = absurd (never_loop x.loop l loop same)
     continues k l f nests live same holds stack = absurd stack
 
@@ -146,4 +146,6 @@ module _ (p : Program) (g : Typing) (e : Environment) (w : World) (typed : IsTyp
     throws_on (Caller outer ∷ k) tag value (Go f) nests live (y, cs, h, loop, blocked, bound', variables', live', holds', stack) =
         running p g y cs outer w typed globals bound' variables' (Throwing tag value) k live' (Val (read_value (result_type x.result)) h, stack)
     throws_on (Main ∷ k) tag value (Go f) nests live (loop, int, blocked, stack) = on (Throwing tag value) k live (Nothing, stack)
-    throws_on k tag value want nests live stack = absurd stack
+    throws_on k tag value Nothing nests live stack = absurd stack
+    throws_on k tag value (Val r f) nests live stack = absurd stack
+    throws_on k tag value (Go f) nests live stack = absurd stack

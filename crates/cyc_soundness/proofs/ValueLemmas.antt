@@ -18,14 +18,8 @@ use Rattle.cyc_meaning.specs.Operators.{Result, Gives, Raises, Misfits, is_zero,
 use Rattle.cyc_meaning.specs.Conversion.{conversion, thinned}
 use Rattle.cyc_soundness.specs.Lives.{Life, RunTy, Int, Pointer, Handle, Key, read, read_value}
 use Rattle.cyc_soundness.specs.Lives as lives
-use Rattle.cyc_soundness.specs.Worlds.{Typing, IsTarget, HasType, IsResult}
+use Rattle.cyc_soundness.specs.Worlds.{Typing, IsTarget, HasType, IsResult, Fits}
 use Rattle.cyc_soundness.proofs.TypeLemmas.{kind_read}
-
--- a value of this type, or an exception
-abbrev pub Fits : Typing → RunTy → Result → Type 0
-Fits g t (Gives v) = HasType g t v
-Fits g t (Raises tag) = Unit {0}
-Fits g t Misfits = ⊥
 
 module _ (g : Typing) where
   -- ---- ints

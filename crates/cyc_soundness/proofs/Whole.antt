@@ -3,6 +3,7 @@ use Rattle.std.proofs.Common.{◌≡◌, ◌≢◌, ◌⊎◌, inl, inr, ℕ, ze
 use Rattle.std.specs.Prelude.{if◌then◌else◌}
 use Rattle.std.proofs.lemmas.Bool.{eq-eqb}
 use Rattle.cyc_syntax.specs.declared.tree.PointerKind.TheVariants as marks
+use Rattle.cyc_syntax.specs.Symbols.{Place}
 use Rattle.cyc_types.specs.Types.{Ty}
 use Rattle.cyc_types.specs.Types as types
 use Rattle.cyc_types.specs.TypedTrees.{GlobalVariable, Constant, Word, Signature, Function, Program}
@@ -39,7 +40,7 @@ use Rattle.cyc_soundness.proofs.Unwinding.{proceed, breaks, continues, returns_o
 -- ---- a step
 
 module _ (p : Program) (accepted : AreAccepted p) (e : Environment) (w : World) (g : Typing) (x : Exits) (bs : List Bound) (objects : IsTyped g w.objects) (globals : AreGlobals g p) (bound : IsBound e.locals bs) (variables : AreVariables g bs) where
-  given_on : (v : _) (k : List Entry) (r : RunValue) (f : flow.State) → IsNested k e w → LiveIn (ends_of k) bs → Holds g f bs → IsResult g r v → IsStack p g x bs (Val r f) k → IsWell p (step_given v k e w)
+  given_on : (v : values.Operand) (k : List Entry) (r : RunValue) (f : flow.State) → IsNested k e w → LiveIn (ends_of k) bs → Holds g f bs → IsResult g r v → IsStack p g x bs (Val r f) k → IsWell p (step_given v k e w)
   given_on v (Needs a ∷ k) r f nests live holds is (ts, cs, next, waits, are, stack) = given p g x bs e w objects globals bound variables v k nests live holds is waits are stack
   given_on v (Discard ∷ k) r f nests live holds is stack = running p g x bs e w objects globals bound variables Proceeding k live (f, holds, stack)
   given_on v k r f nests live holds is stack = absurd stack
@@ -84,7 +85,7 @@ well_alive p (Wrong output input) well = absurd well
 
 -- ---- accepted functions
 
-ends_are : (o : Option Ty) (place : _) (f : flow.State) → AllKept (end_demanded o place f) → (t : Ty) → o ≡ Some t → is_reached f ≡ false
+ends_are : (o : Option Ty) (place : Place) (f : flow.State) → AllKept (end_demanded o place f) → (t : Ty) → o ≡ Some t → is_reached f ≡ false
 ends_are o place f kept t same = let demands = subst (λ z. AllKept (end_demanded z place f)) same kept in not_true (is_reached f) demands.0
 
 accepted_among : (p : Program) (hs : List Function) → AreWellTypedFunctions p hs → Derives (rule_functions hs) tt → InFunctions hs → (n : ℕ) (h : Function) → slice_get hs n ≡ Some h → (end : flow.State) × IsAccepted p h end

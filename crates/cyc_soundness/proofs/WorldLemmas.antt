@@ -1,6 +1,6 @@
 -- The typing of a world grows: an object is made, a cell of a variable is written, and what was typed stays so.
-use Rattle.std.proofs.Common.{◌≡◌, ℕ, zero, suc, ◌+◌, ◌<◌, Bool, true, false, List, [], ◌∷◌, ◌++◌, length, set, Option, Some, None, refl, sym, ap, subst, ◌∙◌, arith, length-append}
-use Rattle.std.specs.Prelude.{◌≢◌, ◌⊎◌, inl, inr, if◌then◌else◌, slice_get}
+use Rattle.std.proofs.Common.{◌≡◌, ℕ, zero, suc, ◌+◌, ◌<◌, Bool, true, false, List, [], ◌∷◌, ◌++◌, length, set, Option, Some, None, refl, sym, ap, subst, ◌∙◌, inl, inr, arith, length-append}
+use Rattle.std.specs.Prelude.{◌≢◌, ◌⊎◌, if◌then◌else◌, slice_get}
 use Rattle.std.proofs.lemmas.List.{length-set}
 use Rattle.cyc_syntax.specs.declared.tree.PointerKind.TheVariants as marks
 use Rattle.cyc_types.specs.declared.typed.Kind.{Kind}
@@ -113,8 +113,8 @@ one_cell g full t (c ∷ []) are = (c, refl, are.0)
 one_cell g full t (c ∷ d ∷ cs) are = absurd are.1
 
 live_owner : (w : World) (region : ℕ) (o : Owner) → IsOwner (OfRegion region) o → is_open (slice_get w.regions region) ≡ true → is_live w o ≡ true
-live_owner w region (InRegion number) same open = subst (λ n. is_open (slice_get w.regions n) ≡ true) same open
-live_owner w region (Unique live) same open = absurd same
+live_owner w region (InRegion number) same opens = subst (λ n. is_open (slice_get w.regions n) ≡ true) same opens
+live_owner w region (Unique live) same opens = absurd same
 
 -- what stands at a number that is a variable's, or a global's
 pub record HasCell (g : Typing) (w : World) (number : ℕ) (t : RunTy) : Type 0 where
@@ -129,10 +129,10 @@ pub record HasCell (g : Typing) (w : World) (number : ℕ) (t : RunTy) : Type 0 
 
 pub cell_there : (g : Typing) (w : World) (number region : ℕ) (t : RunTy) (x : ObjectType) → IsTyped g w.objects → slice_get g.objects number ≡ Some x → x.cells ≡ t ∷ [] → x.life ≡ OfRegion region
     → is_open (slice_get w.regions region) ≡ true → HasCell g w number t
-cell_there g w number region t x typed at cells life open =
+cell_there g w number region t x typed at cells life opens =
     let (y, full, there, flag, is) = typed.each number x at in
     let (c, only, fits) = one_cell g full t y.cells (subst (λ ts. AreCells g full ts y.cells) cells is.cells) in
-    let live : is_live w y.owner ≡ true = live_owner w region y.owner (subst (λ l. IsOwner l y.owner) life is.owner) open in
+    let live : is_live w y.owner ≡ true = live_owner w region y.owner (subst (λ l. IsOwner l y.owner) life is.owner) opens in
     record {
       object = y; cell = c; full = full; there = there; flag = flag; only = only; is = fits;
       found = ap (λ o. cell_in w o 0) there
@@ -154,19 +154,20 @@ full_grows g number = record {
   ];
 }
 
+-- an object of one cell that holds this
+abbrev with_content : Object → Cell → values.Value → Object
+with_content x c v = record x { cells = set x.cells 0 (record c { content = Some v }) }
+
 pub cell_written : (g : Typing) (w : World) (number : ℕ) (t : RunTy) (x : ObjectType) (v : values.Value) → IsTyped g w.objects → slice_get g.objects number ≡ Some x → x.cells ≡ t ∷ [] → (c : HasCell g w number t) → HasType g t v
     → IsTyped (with_full g number) (written w number 0 (record { object = c.object; cell = c.cell }) v).objects
 cell_written g w number t x v typed at cells c has = record {
-  count = length-set w.objects number new ∙ typed.count;
-  flags = length-set w.objects number new ∙ typed.flags ∙ sym (length-set g.full number true);
+  count = length-set w.objects number (with_content c.object c.cell v) ∙ typed.count;
+  flags = length-set w.objects number (with_content c.object c.cell v) ∙ typed.flags ∙ sym (length-set g.full number true);
   each = each;
 }
   where
-    abbrev new : Object
-    new = record c.object { cells = set c.object.cells 0 (record c.cell { content = Some v }) }
-
     written_one : (other : ℕ) (u : ObjectType) → slice_get g.objects other ≡ Some u → other ≡ number
-        → (y : Object) × (b : Bool) × (slice_get (set w.objects number new) other ≡ Some y) × (slice_get (set g.full number true) other ≡ Some b) × IsObject (with_full g number) b u y
+        → (y : Object) × (b : Bool) × (slice_get (set w.objects number (with_content c.object c.cell v)) other ≡ Some y) × (slice_get (set g.full number true) other ≡ Some b) × IsObject (with_full g number) b u y
     written_one other u there same =
         let (y, b, stands, flag, was) = typed.each other u there in
         let y_is : y ≡ c.object = some_same y c.object (sym stands ∙ ap (λ n. slice_get w.objects n) same ∙ c.there) in
@@ -174,20 +175,20 @@ cell_written g w number t x v typed at cells c has = record {
         let owner : IsOwner u.life c.object.owner = subst (λ (z : Object). IsOwner u.life z.owner) y_is was.owner in
         let one : IsCell (with_full g number) true t (record c.cell { content = Some v }) = (c.is.0, type_grown g (with_full g number) (full_grows g number) t v has) in
         let all : AreCells (with_full g number) true (t ∷ []) (record c.cell { content = Some v } ∷ []) = (one, tt) in
-        let those : AreCells (with_full g number) true u.cells new.cells =
-            subst (λ ts. AreCells (with_full g number) true ts new.cells) (sym cells ∙ ap (λ (z : ObjectType). z.cells) (sym u_is))
+        let those : AreCells (with_full g number) true u.cells (with_content c.object c.cell v).cells =
+            subst (λ ts. AreCells (with_full g number) true ts (with_content c.object c.cell v).cells) (sym cells ∙ ap (λ (z : ObjectType). z.cells) (sym u_is))
               (subst (λ cs. AreCells (with_full g number) true (t ∷ []) (set cs 0 (record c.cell { content = Some v }))) (sym c.only) all) in
-        let is : IsObject (with_full g number) true u new = record { owner = owner; cells = those } in (
-          new, true,
-          subst (λ n. slice_get (set w.objects number new) n ≡ Some new) (sym same) (slice_get-set_same w.objects number c.object new c.there),
+        let is : IsObject (with_full g number) true u (with_content c.object c.cell v) = record { owner = owner; cells = those } in (
+          (with_content c.object c.cell v), true,
+          subst (λ n. slice_get (set w.objects number (with_content c.object c.cell v)) n ≡ Some (with_content c.object c.cell v)) (sym same) (slice_get-set_same w.objects number c.object (with_content c.object c.cell v) c.there),
           subst (λ n. slice_get (set g.full number true) n ≡ Some true) (sym same) (slice_get-set_same g.full number c.full true c.flag),
           is,
         )
 
     each : (other : ℕ) (u : ObjectType) → slice_get g.objects other ≡ Some u
-        → (y : Object) × (b : Bool) × (slice_get (set w.objects number new) other ≡ Some y) × (slice_get (set g.full number true) other ≡ Some b) × IsObject (with_full g number) b u y
+        → (y : Object) × (b : Bool) × (slice_get (set w.objects number (with_content c.object c.cell v)) other ≡ Some y) × (slice_get (set g.full number true) other ≡ Some b) × IsObject (with_full g number) b u y
     each other u there = elim (same_or_other other number) [
       inl same ↦ written_one other u there same
       | inr apart ↦ (let (y, b, stands, flag, was) = typed.each other u there in
-        (y, b, slice_get-set_other w.objects number other new apart ∙ stands, slice_get-set_other g.full number other true apart ∙ flag, object_grown g (with_full g number) (full_grows g number) b u y was))
+        (y, b, slice_get-set_other w.objects number other (with_content c.object c.cell v) apart ∙ stands, slice_get-set_other g.full number other true apart ∙ flag, object_grown g (with_full g number) (full_grows g number) b u y was))
     ]

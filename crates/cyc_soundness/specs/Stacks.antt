@@ -1,6 +1,6 @@
 -- THE TYPING OF STATES. Each entry of the control stack is typed from what it awaits to what it hands on. Typed trees on it keep their
 -- judgements, types and flow in one; the locals in scope are an index, of which an entry may forget the newest.
-use Rattle.std.specs.Prelude.{◌≡◌, ℕ, suc, ◌+◌, Bool, true, false, List, [], ◌∷◌, ◌++◌, length, map, Option, Some, None, slice_get}
+use Rattle.std.specs.Prelude.{◌≡◌, ◌⊎◌, ℕ, suc, ◌+◌, Bool, true, false, List, [], ◌∷◌, ◌++◌, length, map, Option, Some, None, slice_get}
 use Rattle.cyc_types.specs.declared.typed.Kind.{Kind}
 use Rattle.cyc_types.specs.declared.typed.Callee.{Callee}
 use Rattle.cyc_types.specs.declared.typed.Callee.TheVariants as callees
@@ -9,7 +9,7 @@ use Rattle.cyc_types.specs.declared.typed.UnaryOperator.{UnaryOperator}
 use Rattle.cyc_types.specs.declared.typed.UnaryOperator.TheVariants as unary
 use Rattle.cyc_types.specs.Types.{Ty, ValueType, result_type}
 use Rattle.cyc_types.specs.Types as types
-use Rattle.cyc_types.specs.TypedTrees.{Local, Global, Expression, Converted, Arguments, Operations, Statement, Items, Clauses, Function, Program}
+use Rattle.cyc_types.specs.TypedTrees.{Local, Global, Expression, Converted, Arguments, Operations, Statement, Items, Clauses, GlobalVariable, Function, Program}
 use Rattle.cyc_types.specs.Rules.{Derives}
 use Rattle.cyc_types.specs.typing.Tests.{is_tested, kind_of, kind_of_value}
 use Rattle.cyc_types.specs.typing.Expressions.{assigned_type, instantiated}
@@ -97,7 +97,7 @@ pub data Want : Type 0 where
 -- the operands that wait in an entry
 abbrev pub held : Awaiting → List Operand
 held (Apply operator left) = left ∷ []
-held (Pass callee before arguments) = before
+held (Pass callee before rest) = before
 held a = []
 
 -- these operands, the newest first, and then those of the second list
@@ -141,7 +141,7 @@ pub data Waits (p : Program) (x : Exits) (bs : List Bound) : Awaiting → List R
   decides : (v : ValueType) (f h : flow.State) → is_tested v ≡ true → Implies f h → Waits p x bs Decide [] (read_value v) f bs (Val (Value lives.Int) h)
   stores_local : (b : Bound) (t : Ty) (f : flow.State) → IsAmong b bs → b.of_type ≡ read t
       → Waits p x bs (Store (values.Thin b.object 0)) [] (Value (read t)) f bs (Val (read_value (assigned_type t)) (with_fullness Full f b.number))
-  stores_global : (number : ℕ) (t : Ty) (f : flow.State) → slice_get (map (λ g. g.of_type) p.globals) number ≡ Some t
+  stores_global : (number : ℕ) (t : Ty) (f : flow.State) → slice_get (map (λ (v : GlobalVariable). v.of_type) p.globals) number ≡ Some t
       → Waits p x bs (Store (values.Thin number 0)) [] (Value (read t)) f bs (Val (read_value (assigned_type t)) f)
   passes : {callee : Callee} {before : List Operand} {rest : Arguments} (c : Context) (done : List RunTy) (t : Ty) (ts : List Ty) (r : ValueType) (f h : flow.State)
       → IsContext p x bs c → Passes c ts rest f h → IsCalled p callee (turned (read t ∷ done) (map read ts)) (read_value r)
@@ -211,9 +211,9 @@ IsFocus p g x bs (Calling callee arguments) k =
     (ts : List RunTy) × (r : RunValue) × (f : flow.State) × Holds g f bs × IsCalled p callee (turned ts []) r × AreOperands g ts arguments × IsStack p g x bs (Val r f) k
 IsFocus p g x bs (Entering h arguments) k =
     (end : flow.State) × IsAccepted p h end × IsBody x h × (bs ≡ []) × AreOperands g (map read h.parameters) arguments × IsStack p g x bs (Go end) k
-IsFocus p g x bs (Binding number types arguments body) k =
-    (h : Function) × (end : flow.State) × (vs : List LocalInScope) × (cs : List Bound) × Within cs bs × IsAccepted p h end × IsBody x h × (body ≡ h.body) × (parameters_in_scope types number vs ≡ parameters_in_scope h.parameters 0 [])
-    × (number + length types ≡ length h.parameters) × AreOperands g (map read types) arguments × IsScope vs bs × AreBelow number bs × AreFull g bs × IsStack p g x cs (Go end) k
+IsFocus p g x bs (Binding number ts arguments body) k =
+    (h : Function) × (end : flow.State) × (vs : List LocalInScope) × (cs : List Bound) × Within cs bs × IsAccepted p h end × IsBody x h × (body ≡ h.body) × (parameters_in_scope ts number vs ≡ parameters_in_scope h.parameters 0 [])
+    × (number + length ts ≡ length h.parameters) × AreOperands g (map read ts) arguments × IsScope vs bs × AreBelow number bs × AreFull g bs × IsStack p g x cs (Go end) k
 IsFocus p g x bs (Naming number v js) k =
     (c : Context) × (t : Ty) × (f h : flow.State) × IsContext p x bs c × Holds g f bs × (number ≡ c.next_local) × IsResult g (Value (read t)) v
     × Continues x (with_local true t c) js (with_fullness Full f number) h × IsStack p g x bs (Go h) k

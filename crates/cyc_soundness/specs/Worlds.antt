@@ -5,6 +5,7 @@ use Rattle.cyc_syntax.specs.declared.tree.PointerKind.TheVariants as marks
 use Rattle.cyc_types.specs.declared.typed.Kind.TheVariants as kinds
 use Rattle.cyc_meaning.specs.Values.{Operand, Cell}
 use Rattle.cyc_meaning.specs.Values as values
+use Rattle.cyc_meaning.specs.Operators.{Result, Gives, Raises, Misfits}
 use Rattle.cyc_meaning.specs.State.{Owner, InRegion, Unique, Object, World, globals_number}
 use Rattle.cyc_soundness.specs.Lives.{Life, OfRegion, OfObject, RunTy, Int, Pointer, Handle, Key, Struct, RunValue, Void, Null, Value, kind_at}
 
@@ -67,6 +68,12 @@ abbrev pub IsResult : Typing → RunValue → Operand → Type 0
 IsResult g Void v = Unit {0}
 IsResult g Null v = (v.kind ≡ kinds.Nullable) × (v.value ≡ values.Null)
 IsResult g (Value t) v = (v.kind ≡ kind_at t) × HasType g t v.value
+
+-- what was computed: a value of this type, or an exception
+abbrev pub Fits : Typing → RunTy → Result → Type 0
+Fits g t (Gives v) = HasType g t v
+Fits g t (Raises tag) = Unit {0}
+Fits g t Misfits = ⊥
 
 -- operands that wait, each of its type
 abbrev pub AreOperands : Typing → List RunTy → List Operand → Type 0
