@@ -86,7 +86,9 @@ module _ (p : Program) (accepted : AreAccepted p) where
     printed_on (t ∷ []) (v ∷ v2 ∷ vs) k f live holds same are stack = absurd are.1
     printed_on (t ∷ u ∷ ts) vs k f live holds same are stack =
         let e1 : length (turned ts (u ∷ t ∷ [])) ≡ length ts + 2 = turned_length ts (u ∷ t ∷ []) in let e2 : length (turned ts (u ∷ t ∷ [])) ≡ 1 = ap length same in absurd (omega (arith, e1, e2))
-    printed_on (t ∷ []) (v ∷ []) k f live holds same (is, unit) stack = go v.value (subst (λ z. HasType g z v.value) (let z : t ∷ [] ≡ lives.Int ∷ [] = same in cc) is.1)
+    printed_on (t ∷ []) (v ∷ []) k f live holds same (is, unit) stack =
+        let int : t ≡ lives.Int = (let z : t ∷ [] ≡ lives.Int ∷ [] = same in cc) in
+        go v.value (subst (λ z. HasType g z v.value) int is.1)
       where
         go : (value : values.Value) → HasType g lives.Int value → IsWell p (prints (value ∷ []) k e w)
         go (values.Int word) has = running p g x bs e (record w { output = w.output ++ word % 256 ∷ [] }) typed globals bound variables

@@ -229,10 +229,10 @@ module _ (p : Program) where
               ([], bs, Val (Value (lives.read u)) h, stacks.chains c (types.Value types.Int) u f1 h stands (record { waiting = q; typed = chain; flows = ds; kept = kept }), tt, stack)),
           ))
     chain_on (ThenTest o b os) v k c s u f h q live stands holds is (is_tested', (s2, well, tested2), chain) (f1, d, ds) (one, kept) stack =
-        let (fails, zero) = zero_is g s v is_tested' is in
+        let (fails, at_zero) = zero_is g s v is_tested' is in
         let waits : IsStack p g x bs (Val (Value lives.Int) (meet f f1)) (Needs (Chain os) ∷ k) =
           ([], bs, Val (Value (lives.read u)) h, stacks.chains c (types.Value types.Int) u (meet f f1) h stands (record { waiting = q; typed = chain; flows = ds; kept = kept }), tt, stack) in
-        subst (λ z. IsWell p (tested z o b os k e w)) (sym zero) (go fails waits (decides o fails))
+        subst (λ z. IsWell p (tested z o b os k e w)) (sym at_zero) (go fails waits (decides o fails))
       where
         go : (fails : Bool) → IsStack p g x bs (Val (Value lives.Int) (meet f f1)) (Needs (Chain os) ∷ k) → (b' : Bool) → IsWell p (decided b' fails b os k e w)
         go fails waits true = on (Given (record { kind = kinds.Int; value = values.Int (if fails then 0 else 1) })) (Needs (Chain os) ∷ k) live
@@ -254,14 +254,14 @@ module _ (p : Program) where
     pub denied_on : (v : Operand) (k : List Entry) (s : ValueType) (f : flow.State) → LiveIn (ends_of k) bs → Holds g f bs → is_tested s ≡ true → IsResult g (read_value s) v
         → IsStack p g x bs (Val (Value lives.Int) f) k → IsWell p (computed kinds.Int (truth_result (is_zero v.value)) k e w)
     denied_on v k s f live holds is_tested' is stack =
-        let (b, zero) = zero_is g s v is_tested' is in
-        subst (λ z. IsWell p (computed kinds.Int (truth_result z) k e w)) (sym zero) (gives k kinds.Int lives.Int f (Gives (values.Int (truth b))) live holds refl tt stack)
+        let (b, at_zero) = zero_is g s v is_tested' is in
+        subst (λ z. IsWell p (computed kinds.Int (truth_result z) k e w)) (sym at_zero) (gives k kinds.Int lives.Int f (Gives (values.Int (truth b))) live holds refl tt stack)
 
     pub decided_on : (v : Operand) (k : List Entry) (s : ValueType) (f h : flow.State) → LiveIn (ends_of k) bs → Holds g f bs → is_tested s ≡ true → Implies f h → IsResult g (read_value s) v
         → IsStack p g x bs (Val (Value lives.Int) h) k → IsWell p (computed kinds.Int (truth_of (is_zero v.value)) k e w)
     decided_on v k s f h live holds is_tested' implies is stack =
-        let (b, zero) = zero_is g s v is_tested' is in
-        subst (λ z. IsWell p (computed kinds.Int (truth_of z) k e w)) (sym zero) (gives k kinds.Int lives.Int h (Gives (values.Int (truth (not b)))) live (holds_implied g f h bs implies holds) refl tt stack)
+        let (b, at_zero) = zero_is g s v is_tested' is in
+        subst (λ z. IsWell p (computed kinds.Int (truth_of z) k e w)) (sym at_zero) (gives k kinds.Int lives.Int h (Gives (values.Int (truth (not b)))) live (holds_implied g f h bs implies holds) refl tt stack)
 
     -- a variable is written, and then its value is handed on
     writes : (v : Operand) (k : List Entry) (number region : ℕ) (t : Ty) (y : ObjectType) (f : flow.State) → AreOpen w.regions (ends_of k) → LiveIn (ends_of k) bs

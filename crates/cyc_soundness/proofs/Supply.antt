@@ -155,11 +155,11 @@ module _ (p : Program) (g : Typing) (x : Exits) (bs : List Bound) (e : Environme
       subst (λ (b : Bool). IsWell p (if b then declared (region_at w e.home) Proceeding number kind (Some v.value) (Rest js ∷ k) e w else wrong w)) (sym (is_kind_same v.kind kind same))
         (declares_full number kind v.value t js cs c f h k nests live within stands holds number_is (kind_is ∙ sym (kind_read t)) is.1 continues stack)
   given v k nests live holds is (stacks.chooses {first} {second} c d s f i j l tested stands others one two m n) are stack =
-      let (b, zero) = zero_is g s v tested is in
-      subst (λ z. IsWell p (chosen z first second k e w)) (sym zero) (chosen_on b first second k c d f i j l live holds stands others one two m n stack)
+      let (b, at_zero) = zero_is g s v tested is in
+      subst (λ z. IsWell p (chosen z first second k e w)) (sym at_zero) (chosen_on b first second k c d f i j l live holds stands others one two m n stack)
   given v k nests live holds is (stacks.tests {condition} {body} l s f h loop) are stack =
-      let (b, zero) = zero_is g s v loop.tested is in
-      subst (λ z. IsWell p (looped z condition body k e w)) (sym zero) (looped_on b condition body k l s f h live holds loop stack)
+      let (b, at_zero) = zero_is g s v loop.tested is in
+      subst (λ z. IsWell p (looped z condition body k e w)) (sym at_zero) (looped_on b condition body k l s f h live holds loop stack)
   given v k nests live holds is (stacks.returns t f h result) are stack =
       on (Returning (Some v)) k live (h, subst (λ z. IsReturn g z (Some v)) (sym result) is, stack)
   given v k nests live holds is (stacks.throws {tag} f h) are stack = thrown_on tag v.value k h live is.1 stack
