@@ -112,17 +112,22 @@ module _ (p : Program) (accepted : AreAccepted p) where
         let arguments : AreOperands g (map read h.parameters) (reverse vs) = subst (λ us. AreOperands g us (reverse vs)) types_is (operands_reversed g ts vs are) in
         let y : Exits = record { loop = None; result = h.result } in
         subst (λ o. IsWell p (called o (reverse vs) (Caller e ∷ k) w)) (sym at)
-          (subst (λ (b : Bool). IsWell p (if b then Running (Entering h (reverse vs)) (Caller e ∷ k) no_locals w else wrong w)) (sym (eq-eqb (length (reverse vs)) (length h.parameters) (operands_count g h.parameters (reverse vs) arguments)))
-            (running p g y [] no_locals w typed globals tt tt (Entering h (reverse vs)) (Caller e ∷ k) tt
-              (end, ok, (refl, refl), refl, arguments,
-                (x, bs, f, refl, blocked_of h.result end ok.ends, bound, variables, live, holds, subst (λ z. IsStack p g x bs (Val z f) k) result_is stack))))
+        (subst (λ (b : Bool). IsWell p (if b then Running (Entering h (reverse vs)) (Caller e ∷ k) no_locals w else wrong w)) (sym (eq-eqb (length (reverse vs)) (length h.parameters) (operands_count g h.parameters (reverse vs) arguments)))
+        (running p g y [] no_locals w typed globals tt tt (Entering h (reverse vs)) (Caller e ∷ k) tt (
+          end,
+          ok,
+          (refl, refl),
+          refl,
+          arguments,
+          (x, bs, f, refl, blocked_of h.result end ok.ends, bound, variables, live, holds, subst (λ z. IsStack p g x bs (Val z f) k) result_is stack),
+        )))
 
     pub enter : (h : Function) (vs : List Operand) (k : List Entry) (end : flow.State) → IsAccepted p h end → IsBody x h → bs ≡ [] → AreOperands g (map read h.parameters) vs → IsStack p g x bs (Go end) k
         → IsWell p (step_entering h vs k e w)
     enter h vs k end ok body none are stack =
         let count : 0 + length h.parameters ≡ length h.parameters = omega arith in
         running p g x [] (inside e w) (opened w) typed globals tt tt (Binding 0 h.parameters vs h.body) (region_end e w ∷ k) tt
-          (h, end, [], [], itself [], ok, body, refl, refl, count, are, tt, tt, tt, (end, implies_self end, tt, subst (λ cs. IsStack p g x cs (Go end) k) none stack))
+        (h, end, [], [], itself [], ok, body, refl, refl, count, are, tt, tt, tt, (end, implies_self end, tt, subst (λ cs. IsStack p g x cs (Go end) k) none stack))
 
     begin : (h : Function) (number : ℕ) (js : Items) (k : List Entry) (end : flow.State) (vs : List LocalInScope) (cs : List Bound) → LiveIn (ends_of k) bs → Within cs bs → IsAccepted p h end → IsBody x h → js ≡ h.body
         → vs ≡ parameters_in_scope h.parameters 0 [] → number + 0 ≡ length h.parameters → IsScope vs bs → AreBelow number bs → AreFull g bs → IsStack p g x cs (Go end) k
@@ -130,15 +135,19 @@ module _ (p : Program) (accepted : AreAccepted p) where
     begin h number js k end vs cs live within ok (loop, result) body scope_is count scope below full stack =
         let flows = subst (λ o. Derives (rule_items (record { loop = loop_of o; locks = [] }) h.body (record { now = start_of h; breaks = Unreached })) (record { now = end; breaks = ok.breaks })) (sym loop) ok.flows in
         let rest : Continues x (body_context p h) h.body (start_of h) end =
-          record { before = Unreached; behind = ok.breaks; typed = ok.typed.body; flows = flows; breaks = subst (λ o. AreBreaks o ok.breaks) (sym loop) tt; kept = ok.kept } in
+        record { before = Unreached; behind = ok.breaks; typed = ok.typed.body; flows = flows; breaks = subst (λ o. AreBreaks o ok.breaks) (sym loop) tt; kept = ok.kept } in
         let last : number ≤ length h.parameters = omega (arith, count) in
         let stands : IsContext p x bs (body_context p h) = record {
-          globals = refl; functions = refl; result = sym result; loop = λ no. (let z : false ≡ true = no in absurd (cc));
-          scope = subst (λ z. IsScope z bs) scope_is scope; below = below_more number (length h.parameters) bs last below;
+          globals = refl;
+          functions = refl;
+          result = sym result;
+          loop = λ no. (let z : false ≡ true = no in absurd (cc));
+          scope = subst (λ z. IsScope z bs) scope_is scope;
+          below = below_more number (length h.parameters) bs last below;
         } in
         subst (λ z. IsWell p (Running Proceeding (Rest z ∷ k) e w)) (sym body)
-          (running p g x bs e w typed globals bound variables Proceeding (Rest h.body ∷ k) live
-            (start_of h, (refl, all_set g (start_of h) bs full), (cs, body_context p h, end, within, stands, rest, stack)))
+        (running p g x bs e w typed globals bound variables Proceeding (Rest h.body ∷ k) live
+        (start_of h, (refl, all_set g (start_of h) bs full), (cs, body_context p h, end, within, stands, rest, stack)))
 
     pub bind : (number : ℕ) (ts : List Ty) (arguments : List Operand) (js : Items) (k : List Entry) (h : Function) (end : flow.State) (vs : List LocalInScope) (cs : List Bound) → IsNested k e w → LiveIn (ends_of k) bs
         → Within cs bs → IsAccepted p h end → IsBody x h → js ≡ h.body → parameters_in_scope ts number vs ≡ parameters_in_scope h.parameters 0 [] → number + length ts ≡ length h.parameters
@@ -149,13 +158,25 @@ module _ (p : Program) (accepted : AreAccepted p) where
     bind number (t ∷ ts) (v ∷ arguments) js k h end vs cs nests live within ok body body_is scope_is count (is, are) scope below full stack =
         let more : suc number + length ts ≡ length h.parameters = omega (arith, count) in
         subst (λ (b : Bool). IsWell p (if b then declared (region_at w e.home) (Binding (suc number) ts arguments js) number (values.kind_of t) (Some v.value) k e w else wrong w))
-          (sym (is_kind_same v.kind (values.kind_of t) (is.0 ∙ kind_meant t)))
-          (declares p g x bs e w typed globals bound variables number (values.kind_of t) t (Some v.value) true (Binding (suc number) ts arguments js) k nests live below (sym (kind_meant t)) is.1
-            (λ grows filled. (
-              h, end, record { number = number; of_type = t; region = 0; is_place = true } ∷ vs, cs, older _ cs bs within, ok, body, body_is, scope_is, more,
-              operands_grown g _ grows (map read ts) arguments are, ((refl, refl), scope),
-              ((let less : number < suc number = omega arith in less), below_more number (suc number) bs (let le : number ≤ suc number = omega arith in le) below),
-              (filled refl, full_grown g _ grows bs full), stack_grown p g _ grows x cs (Go end) k stack)))
+        (sym (is_kind_same v.kind (values.kind_of t) (is.0 ∙ kind_meant t)))
+        (declares p g x bs e w typed globals bound variables number (values.kind_of t) t (Some v.value) true (Binding (suc number) ts arguments js) k nests live below (sym (kind_meant t)) is.1
+        (λ grows filled. (
+          h,
+          end,
+          record { number = number; of_type = t; region = 0; is_place = true } ∷ vs,
+          cs,
+          older _ cs bs within,
+          ok,
+          body,
+          body_is,
+          scope_is,
+          more,
+          operands_grown g _ grows (map read ts) arguments are,
+          ((refl, refl), scope),
+          ((let less : number < suc number = omega arith in less), below_more number (suc number) bs (let le : number ≤ suc number = omega arith in le) below),
+          (filled refl, full_grown g _ grows bs full),
+          stack_grown p g _ grows x cs (Go end) k stack,
+        )))
 
     -- ---- clauses
 
@@ -165,7 +186,7 @@ module _ (p : Program) (accepted : AreAccepted p) where
     begin_clause js k c start h before l live stands holds well flows are kept implies stack =
         let rest : Continues x (in_block c) js start l.now = record { before = before; behind = l.breaks; typed = well; flows = flows; breaks = are; kept = kept } in
         running p g x bs (inside e w) (opened w) typed globals bound variables Proceeding (Rest js ∷ region_end e w ∷ k) (live_more _ (ends_of k) bs live)
-          (start, holds, (bs, in_block c, l.now, itself bs, context_inside p x bs c stands, rest, (h, implies, live, stack)))
+        (start, holds, (bs, in_block c, l.now, itself bs, context_inside p x bs c stands, rest, (h, implies, live, stack)))
 
     caught : (value : ℕ) (v : Option ℕ) (js : Items) (k : List Entry) (c : Context) (start h before : flow.State) (has : Bool) (l : Known) → LiveIn (ends_of k) bs → IsContext p x bs c → Holds g start bs → IsCaught c has v
         → WellTypedItems (with_caught v (in_block c)) js → Derives (rule_items (around x) js (record { now = statements.with_caught v start; breaks = before })) l → AreBreaks x.loop l.breaks → InItems js → Implies l.now h
@@ -175,7 +196,7 @@ module _ (p : Program) (accepted : AreAccepted p) where
     caught value (Some n) js k c start h before true l live stands holds (number, there) well flows are kept implies stack =
         let rest : Continues x (with_local true types.Int (in_block c)) js (with_fullness Full start n) l.now = record { before = before; behind = l.breaks; typed = well; flows = flows; breaks = are; kept = kept } in
         running p g x bs (inside e w) (opened w) typed globals bound variables (Naming n (record { kind = kinds.Int; value = values.Int value }) js) (region_end e w ∷ k) (live_more _ (ends_of k) bs live)
-          (in_block c, types.Int, start, l.now, context_inside p x bs c stands, holds, number, (refl, tt), rest, (h, implies, live, stack))
+        (in_block c, types.Int, start, l.now, context_inside p x bs c stands, holds, number, (refl, tt), rest, (h, implies, live, stack))
 
     pub catch : (tag value : ℕ) (ds : Clauses) (k : List Entry) (c : Context) (start f h before behind : flow.State) → LiveIn (ends_of k) bs → IsContext p x bs c → Holds g start bs → WellTypedClauses c ds
         → Derives (rule_clauses (around x) start ds (record { now = f; breaks = before })) (record { now = h; breaks = behind }) → AreBreaks x.loop behind → InClauses ds → IsStack p g x bs (Go h) k
@@ -200,9 +221,13 @@ module _ (p : Program) (accepted : AreAccepted p) where
 
         behind_stands : IsContext p x bs (behind_clause c v js)
         behind_stands = record {
-          globals = stands.globals; functions = stands.functions; result = stands.result; loop = stands.loop; scope = stands.scope;
+          globals = stands.globals;
+          functions = stands.functions;
+          result = stands.result;
+          loop = stands.loop;
+          scope = stands.scope;
           below = below_more c.next_local (c.next_local + (length (caught_types v) + length (item_types js))) bs
-            (let le : c.next_local ≤ c.next_local + (length (caught_types v) + length (item_types js)) = omega arith in le) stands.below;
+              (let le : c.next_local ≤ c.next_local + (length (caught_types v) + length (item_types js)) = omega arith in le) stands.below;
         }
 
         next : Catches x (behind_clause c v js) start ds (or_clause f js l).now h

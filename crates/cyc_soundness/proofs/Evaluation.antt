@@ -74,7 +74,7 @@ module _ (p : Program) where
       → IsCalled p callee (map lives.read (map (substituted_ty m) s.parameters)) (read_value (result_type (option_map (substituted_ty m) s.result)))
   called_is c callee s m functions is =
       subst (λ ts. IsCalled p callee ts (read_value (result_type (option_map (substituted_ty m) s.result)))) (sym (instances_read m s.parameters))
-        (subst (λ r. IsCalled p callee (map lives.read s.parameters) r) (sym (result_read m s.result)) (plain callee is))
+      (subst (λ r. IsCalled p callee (map lives.read s.parameters) r) (sym (result_read m s.result)) (plain callee is))
     where
       plain : (callee : Callee) → IsCallee c callee s → IsCalled p callee (map lives.read s.parameters) (read_value (result_type s.result))
       plain callees.Putchar is = subst (λ (z : Signature). IsCalled p callees.Putchar (map lives.read z.parameters) (read_value (result_type z.result))) (sym is) (refl, refl)
@@ -110,9 +110,9 @@ module _ (p : Program) where
         let is_full : c.full ≡ true = some_same c.full true (sym c.flag ∙ full) in
         let (v, content, has) = content_there g c.full t c.cell.content is_full c.is.1 in
         subst (λ a. IsWell p (loaded kind a k e w)) (sym c.found)
-          (subst (λ (b : Bool). IsWell p (if b then read kind c.cell.content k e w else wrong w)) (sym (is_kind_same c.cell.kind kind (c.is.0 ∙ same)))
-            (subst (λ o. IsWell p (read kind o k e w)) (sym content)
-              (on (Given (record { kind = kind; value = v })) k live (Value t, f, holds, (sym same, has), stack))))
+        (subst (λ (b : Bool). IsWell p (if b then read kind c.cell.content k e w else wrong w)) (sym (is_kind_same c.cell.kind kind (c.is.0 ∙ same)))
+        (subst (λ o. IsWell p (read kind o k e w)) (sym content)
+        (on (Given (record { kind = kind; value = v })) k live (Value t, f, holds, (sym same, has), stack))))
 
     from_local : (k : List Entry) (c : Context) (n : ℕ) (u : Ty) (t : ValueType) (f h : flow.State) → AreOpen w.regions (ends_of k) → LiveIn (ends_of k) bs → IsContext p x bs c → Holds g f bs
         → (r : ℕ) × HasLocal c.locals n u r → IsSet f n → Implies f h → t ≡ types.Value u → IsStack p g x bs (Val (read_value t) h) k
@@ -122,9 +122,9 @@ module _ (p : Program) where
         let full : IsFull g b.object = among_set g f among holds.1 (subst (λ m. IsSet f m) (sym number) is_set) in
         let there : e.locals n ≡ Some b.object = ap e.locals (sym number) ∙ among_bound e among bound in
         subst (λ o. IsWell p (loaded_from (values.kind_of u) o k e w)) (sym there)
-          (reads k (values.kind_of u) b.object b.region b.of_type (variable_type b.of_type b.region) h opens live (holds_implied g f h bs implies holds)
-            (among_variable g among variables) refl refl (among_live (ends_of k) among live) full (ap kind_at of_type ∙ kind_meant u)
-            (subst (λ z. IsStack p g x bs (Val z h) k) (ap read_value same ∙ ap Value (sym of_type)) stack))
+        (reads k (values.kind_of u) b.object b.region b.of_type (variable_type b.of_type b.region) h opens live (holds_implied g f h bs implies holds)
+        (among_variable g among variables) refl refl (among_live (ends_of k) among live) full (ap kind_at of_type ∙ kind_meant u)
+        (subst (λ z. IsStack p g x bs (Val z h) k) (ap read_value same ∙ ap Value (sym of_type)) stack))
 
     from_global : (k : List Entry) (n : ℕ) (u : Ty) (t : ValueType) (f : flow.State) → AreOpen w.regions (ends_of k) → LiveIn (ends_of k) bs → Holds g f bs
         → slice_get (map (λ (v : GlobalVariable). v.of_type) p.globals) n ≡ Some u → t ≡ types.Value u → IsStack p g x bs (Val (read_value t) f) k
@@ -144,9 +144,21 @@ module _ (p : Program) where
     pass_on k callee before done (MoreArguments d as') [] c r f h q live stands holds passed flows kept operands called stack = absurd passed
     pass_on k callee before done (MoreArguments (Convert from to a) as') (t ∷ ts) c r f h q live stands holds ((v, well, conv, from_is, to_is), passed) (f1, d, ds) (one, kept) operands called stack =
         on (Evaluating a) (Needs (ConvertTo from to) ∷ Needs (Pass callee before as') ∷ k) live (
-          c, v, f, f1, stands, holds, record { waiting = q; typed = inl well; flows = d; kept = one },
-          ([], bs, Val (Value (lives.read t)) f1, stacks.converts c v t f1 conv from_is to_is, tt,
-            (done, bs, Val (read_value r) h, stacks.passes c done t ts r f1 h stands (record { waiting = q; typed = passed; flows = ds; kept = kept }) called, operands, stack)),
+          c,
+          v,
+          f,
+          f1,
+          stands,
+          holds,
+          record { waiting = q; typed = inl well; flows = d; kept = one },
+          (
+            [],
+            bs,
+            Val (Value (lives.read t)) f1,
+            stacks.converts c v t f1 conv from_is to_is,
+            tt,
+            (done, bs, Val (read_value r) h, stacks.passes c done t ts r f1 h stands (record { waiting = q; typed = passed; flows = ds; kept = kept }) called, operands, stack),
+          ),
         )
 
     -- ---- expressions
@@ -169,45 +181,111 @@ module _ (p : Program) where
         from_local k c n u t f h opens live stands holds has (not_true (is_vacant (fullness f n)) demands.0) (subst (λ z. Implies f z) (sym known) (implies_self f)) same stack
     evaluate (Call callee as' u) k c t f h q opens live stands holds (inl (s, m, is, count, apart, passed, alive, outlive, gives_u, same)) flows kept stack =
         pass_on k callee [] [] as' (map (substituted_ty m) s.parameters) c (result_type (option_map (substituted_ty m) s.result)) f h q live stands holds passed flows kept tt
-          (called_is c callee s m stands.functions is) (subst (λ z. IsStack p g x bs (Val (read_value z) h) k) (same ∙ gives_u) stack)
+        (called_is c callee s m stands.functions is) (subst (λ z. IsStack p g x bs (Val (read_value z) h) k) (same ∙ gives_u) stack)
     evaluate (Unary unary.Not a) k c t f h q opens live stands holds (inl (v, (well, is_tested'), same)) flows kept stack =
         on (Evaluating a) (Needs (Operate unary.Not) ∷ k) live (
-          c, v, f, h, stands, holds, record { waiting = q; typed = well; flows = flows; kept = kept },
+          c,
+          v,
+          f,
+          h,
+          stands,
+          holds,
+          record { waiting = q; typed = well; flows = flows; kept = kept },
           ([], bs, Val (Value lives.Int) h, stacks.denies v h is_tested', tt, subst (λ z. IsStack p g x bs (Val (read_value z) h) k) same stack),
         )
     evaluate (Unary unary.Negate a) k c t f h q opens live stands holds (inl (v, (well, int), same)) flows kept stack =
         on (Evaluating a) (Needs (Operate unary.Negate) ∷ k) live (
-          c, types.Value types.Int, f, h, stands, holds, record { waiting = q; typed = inl (subst (λ z. WellTyped c a z) int well); flows = flows; kept = kept },
+          c,
+          types.Value types.Int,
+          f,
+          h,
+          stands,
+          holds,
+          record { waiting = q; typed = inl (subst (λ z. WellTyped c a z) int well); flows = flows; kept = kept },
           ([], bs, Val (Value lives.Int) h, stacks.negates h, tt, subst (λ z. IsStack p g x bs (Val (read_value z) h) k) same stack),
         )
     evaluate (Unary unary.Complement a) k c t f h q opens live stands holds (inl (v, (well, int), same)) flows kept stack =
         on (Evaluating a) (Needs (Operate unary.Complement) ∷ k) live (
-          c, types.Value types.Int, f, h, stands, holds, record { waiting = q; typed = inl (subst (λ z. WellTyped c a z) int well); flows = flows; kept = kept },
+          c,
+          types.Value types.Int,
+          f,
+          h,
+          stands,
+          holds,
+          record { waiting = q; typed = inl (subst (λ z. WellTyped c a z) int well); flows = flows; kept = kept },
           ([], bs, Val (Value lives.Int) h, stacks.complements h, tt, subst (λ z. IsStack p g x bs (Val (read_value z) h) k) same stack),
         )
     evaluate (Binary a os u) k c t f h q opens live stands holds (inl (v, left, chain, same)) (f1, d, ds) (one, kept) stack =
         on (Evaluating a) (Needs (Chain os) ∷ k) live (
-          c, v, f, f1, stands, holds, record { waiting = q; typed = left_typed (WellTyped c a v) c a v os kept left; flows = d; kept = one },
-          ([], bs, Val (Value (lives.read u)) h, stacks.chains c v u f1 h stands (record { waiting = q; typed = chain; flows = ds; kept = kept }), tt,
-            subst (λ z. IsStack p g x bs (Val (read_value z) h) k) same stack),
+          c,
+          v,
+          f,
+          f1,
+          stands,
+          holds,
+          record { waiting = q; typed = left_typed (WellTyped c a v) c a v os kept left; flows = d; kept = one },
+          (
+            [],
+            bs,
+            Val (Value (lives.read u)) h,
+            stacks.chains c v u f1 h stands (record { waiting = q; typed = chain; flows = ds; kept = kept }),
+            tt,
+            subst (λ z. IsStack p g x bs (Val (read_value z) h) k) same stack,
+          ),
         )
     evaluate (Assign (Local place n) (Convert from to a) u) k c t f h q opens live stands holds (inl (v, r, (m, has, region, there), (s, well, conv, from_is, to_is), gives_u, same)) (f1, d, (demands, known)) kept stack =
         let (b, among, number, of_type) = bound_of c.locals bs n v m stands.scope (place_local c.locals n v m has) in
         let at : e.locals n ≡ Some b.object = ap e.locals (sym number) ∙ among_bound e among bound in
         let known_is : h ≡ with_fullness Full f1 b.number = known ∙ ap (λ i. with_fullness Full f1 i) (sym number) in
         subst (λ o. IsWell p (assigned o (Convert from to a) k e w)) (sym at) (
-          on (Evaluating a) (Needs (ConvertTo from to) ∷ Needs (Store (values.Thin b.object 0)) ∷ k) live (
-            c, s, f, f1, stands, holds, record { waiting = q; typed = inl well; flows = d; kept = kept },
-            ([], bs, Val (Value (lives.read v)) f1, stacks.converts c s v f1 conv from_is to_is, tt,
-              ([], bs, Val (read_value (assigned_type v)) (with_fullness Full f1 b.number), stacks.stores_local b v f1 among of_type, tt,
-                subst (λ z. IsStack p g x bs (Val (read_value (assigned_type v)) z) k) known_is (subst (λ z. IsStack p g x bs (Val (read_value z) h) k) (same ∙ gives_u) stack))),
-          ))
+        on (Evaluating a) (Needs (ConvertTo from to) ∷ Needs (Store (values.Thin b.object 0)) ∷ k) live (
+          c,
+          s,
+          f,
+          f1,
+          stands,
+          holds,
+          record { waiting = q; typed = inl well; flows = d; kept = kept },
+          (
+            [],
+            bs,
+            Val (Value (lives.read v)) f1,
+            stacks.converts c s v f1 conv from_is to_is,
+            tt,
+            (
+              [],
+              bs,
+              Val (read_value (assigned_type v)) (with_fullness Full f1 b.number),
+              stacks.stores_local b v f1 among of_type,
+              tt,
+              subst (λ z. IsStack p g x bs (Val (read_value (assigned_type v)) z) k) known_is (subst (λ z. IsStack p g x bs (Val (read_value z) h) k) (same ∙ gives_u) stack),
+            ),
+          ),
+        ))
     evaluate (Assign (Global n) (Convert from to a) u) k c t f h q opens live stands holds (inl (v, r, (region, there), (s, well, conv, from_is, to_is), gives_u, same)) (f1, d, (demands, known)) kept stack =
         on (Evaluating a) (Needs (ConvertTo from to) ∷ Needs (Store (values.Thin n 0)) ∷ k) live (
-          c, s, f, f1, stands, holds, record { waiting = q; typed = inl well; flows = d; kept = kept },
-          ([], bs, Val (Value (lives.read v)) f1, stacks.converts c s v f1 conv from_is to_is, tt,
-            ([], bs, Val (read_value (assigned_type v)) f1, stacks.stores_global n v f1 (ap (λ ts. slice_get ts n) (sym stands.globals) ∙ there), tt,
-              subst (λ z. IsStack p g x bs (Val (read_value (assigned_type v)) z) k) known (subst (λ z. IsStack p g x bs (Val (read_value z) h) k) (same ∙ gives_u) stack))),
+          c,
+          s,
+          f,
+          f1,
+          stands,
+          holds,
+          record { waiting = q; typed = inl well; flows = d; kept = kept },
+          (
+            [],
+            bs,
+            Val (Value (lives.read v)) f1,
+            stacks.converts c s v f1 conv from_is to_is,
+            tt,
+            (
+              [],
+              bs,
+              Val (read_value (assigned_type v)) f1,
+              stacks.stores_global n v f1 (ap (λ ts. slice_get ts n) (sym stands.globals) ∙ there),
+              tt,
+              subst (λ z. IsStack p g x bs (Val (read_value (assigned_type v)) z) k) known (subst (λ z. IsStack p g x bs (Val (read_value z) h) k) (same ∙ gives_u) stack),
+            ),
+          ),
         )
     evaluate (Peek place n u) k c t f h q opens live stands holds (inl is) flows kept stack = absurd is
     evaluate a k c t f h q opens live stands holds (inr is) flows kept stack = absurd is
@@ -223,22 +301,40 @@ module _ (p : Program) where
     chain_on (ThenCompute o b os) v k c s u f h q live stands holds is (int, well, chain) (f1, d, ds) (one, kept) stack =
         let is_int : IsResult g (Value lives.Int) v = subst (λ z. IsResult g (read_value z) v) int is in
         subst (λ z. IsWell p (awaits_right z (Apply o v) b os k e w)) (sym (is_kind_same v.kind kinds.Int is_int.0)) (
-          on (Evaluating b) (Needs (Apply o v) ∷ Needs (Chain os) ∷ k) live (
-            c, types.Value types.Int, f, f1, stands, holds, record { waiting = q; typed = inl well; flows = d; kept = one },
-            (lives.Int ∷ [], bs, Val (Value lives.Int) f1, stacks.applies f1, (is_int, tt),
-              ([], bs, Val (Value (lives.read u)) h, stacks.chains c (types.Value types.Int) u f1 h stands (record { waiting = q; typed = chain; flows = ds; kept = kept }), tt, stack)),
-          ))
+        on (Evaluating b) (Needs (Apply o v) ∷ Needs (Chain os) ∷ k) live (
+          c,
+          types.Value types.Int,
+          f,
+          f1,
+          stands,
+          holds,
+          record { waiting = q; typed = inl well; flows = d; kept = one },
+          (
+            lives.Int ∷ [],
+            bs,
+            Val (Value lives.Int) f1,
+            stacks.applies f1,
+            (is_int, tt),
+            ([], bs, Val (Value (lives.read u)) h, stacks.chains c (types.Value types.Int) u f1 h stands (record { waiting = q; typed = chain; flows = ds; kept = kept }), tt, stack),
+          ),
+        ))
     chain_on (ThenTest o b os) v k c s u f h q live stands holds is (is_tested', (s2, well, tested2), chain) (f1, d, ds) (one, kept) stack =
         let (fails, at_zero) = zero_is g s v is_tested' is in
         let waits : IsStack p g x bs (Val (Value lives.Int) (meet f f1)) (Needs (Chain os) ∷ k) =
-          ([], bs, Val (Value (lives.read u)) h, stacks.chains c (types.Value types.Int) u (meet f f1) h stands (record { waiting = q; typed = chain; flows = ds; kept = kept }), tt, stack) in
+        ([], bs, Val (Value (lives.read u)) h, stacks.chains c (types.Value types.Int) u (meet f f1) h stands (record { waiting = q; typed = chain; flows = ds; kept = kept }), tt, stack) in
         subst (λ z. IsWell p (tested z o b os k e w)) (sym at_zero) (go fails waits (decides o fails))
       where
         go : (fails : Bool) → IsStack p g x bs (Val (Value lives.Int) (meet f f1)) (Needs (Chain os) ∷ k) → (b' : Bool) → IsWell p (decided b' fails b os k e w)
         go fails waits true = on (Given (record { kind = kinds.Int; value = values.Int (if fails then 0 else 1) })) (Needs (Chain os) ∷ k) live
             (Value lives.Int, meet f f1, holds_implied g f (meet f f1) bs (meet_first f f1) holds, (refl, tt), waits)
         go fails waits false = on (Evaluating b) (Needs Decide ∷ Needs (Chain os) ∷ k) live (
-          c, s2, f, f1, stands, holds, record { waiting = q; typed = well; flows = d; kept = one },
+          c,
+          s2,
+          f,
+          f1,
+          stands,
+          holds,
+          record { waiting = q; typed = well; flows = d; kept = one },
           ([], bs, Val (Value lives.Int) (meet f f1), stacks.decides s2 f1 (meet f f1) tested2 (meet_second f f1), tt, waits),
         )
     chain_on (ThenPointer o b os) v k c s u f h q live stands holds is chain flows kept stack = absurd kept
@@ -248,8 +344,8 @@ module _ (p : Program) where
         → from ≡ tests.kind_of_value s → to ≡ tests.kind_of t → IsStack p g x bs (Val (Value (lives.read t)) f) k → IsWell p (converts from to v k e w)
     converted_on from to v k c s t f live holds is conv from_is to_is stack =
         subst (λ (b : Bool). IsWell p (if b then computed to (conversion to v.value) k e w else wrong w)) (sym (is_kind_same v.kind from (kind_given g c s t v conv is ∙ sym from_is)))
-          (subst (λ z. IsWell p (computed z (conversion z v.value) k e w)) (sym to_is)
-            (gives k (tests.kind_of t) (lives.read t) f (conversion (tests.kind_of t) v.value) live holds (sym (kind_read t)) (converted g c s t v conv is) stack))
+        (subst (λ z. IsWell p (computed z (conversion z v.value) k e w)) (sym to_is)
+        (gives k (tests.kind_of t) (lives.read t) f (conversion (tests.kind_of t) v.value) live holds (sym (kind_read t)) (converted g c s t v conv is) stack))
 
     pub denied_on : (v : Operand) (k : List Entry) (s : ValueType) (f : flow.State) → LiveIn (ends_of k) bs → Holds g f bs → is_tested s ≡ true → IsResult g (read_value s) v
         → IsStack p g x bs (Val (Value lives.Int) f) k → IsWell p (computed kinds.Int (truth_result (is_zero v.value)) k e w)
@@ -273,12 +369,12 @@ module _ (p : Program) where
         let new = with_full g number in
         let grows = full_grows g number in
         subst (λ a. IsWell p (stored a number 0 v (Given v) k e w)) (sym c.found)
-          (subst (λ (b : Bool). IsWell p (if b then Running (Given v) k e (written w number 0 (record { object = c.object; cell = c.cell }) v.value) else wrong w))
-            (sym (is_kind_same c.cell.kind v.kind (c.is.0 ∙ sym is.0)))
-            (running p new x bs e (written w number 0 (record { object = c.object; cell = c.cell }) v.value)
-              (cell_written g w number (lives.read t) y v.value typed at cells c is.1) (globals_grown g new grows p globals) bound (variables_grown g new grows bs variables)
-              (Given v) k live
-              (read_value (assigned_type t), f, holds, handed (is_moved t) (result_grown g new grows (Value (lives.read t)) v is), stack_grown p g new grows x bs (Val (read_value (assigned_type t)) f) k stack)))
+        (subst (λ (b : Bool). IsWell p (if b then Running (Given v) k e (written w number 0 (record { object = c.object; cell = c.cell }) v.value) else wrong w))
+        (sym (is_kind_same c.cell.kind v.kind (c.is.0 ∙ sym is.0)))
+        (running p new x bs e (written w number 0 (record { object = c.object; cell = c.cell }) v.value)
+        (cell_written g w number (lives.read t) y v.value typed at cells c is.1) (globals_grown g new grows p globals) bound (variables_grown g new grows bs variables)
+        (Given v) k live
+        (read_value (assigned_type t), f, holds, handed (is_moved t) (result_grown g new grows (Value (lives.read t)) v is), stack_grown p g new grows x bs (Val (read_value (assigned_type t)) f) k stack)))
       where
         handed : (b : Bool) → IsResult (with_full g number) (Value (lives.read t)) v → IsResult (with_full g number) (read_value (if b then types.Void else types.Value t)) v
         handed true h = tt
@@ -293,7 +389,7 @@ module _ (p : Program) where
         let c = cell_there g w b.object b.region b.of_type (variable_type b.of_type b.region) typed (among_variable g among variables) refl refl (open_of w.regions (among_live (ends_of k) among live) opens) in
         let full : IsFull new b.object = slice_get-set_same g.full b.object c.full true c.flag in
         writes v k b.object b.region t (variable_type b.of_type b.region) (with_fullness Full f b.number) opens live (among_variable g among variables) (ap (λ u. u ∷ []) of_type) refl (among_live (ends_of k) among live) is
-          (reached_with Full f b.number reached, set_stored new e f b.number b.object bs bound (among_bound e among bound) full (holds_grown g new grows f bs (reached, are)).1) stack
+        (reached_with Full f b.number reached, set_stored new e f b.number b.object bs bound (among_bound e among bound) full (holds_grown g new grows f bs (reached, are)).1) stack
 
     pub writes_global : (v : Operand) (k : List Entry) (n : ℕ) (t : Ty) (f : flow.State) → AreOpen w.regions (ends_of k) → LiveIn (ends_of k) bs
         → slice_get (map (λ (v : GlobalVariable). v.of_type) p.globals) n ≡ Some t → Holds g f bs → IsResult g (Value (lives.read t)) v → IsStack p g x bs (Val (read_value (assigned_type t)) f) k

@@ -37,13 +37,22 @@ use Rattle.cyc_types.specs.flow.Touched.{touched_statement}
 -- the same scope further on, where more numbers are given out
 pub context_after : (p : Program) (x : Exits) (bs : List Bound) (c : Context) (s : Statement) → IsContext p x bs c → IsContext p x bs (behind c s)
 context_after p x bs c s stands = record {
-  globals = stands.globals; functions = stands.functions; result = stands.result; loop = stands.loop; scope = stands.scope;
+  globals = stands.globals;
+  functions = stands.functions;
+  result = stands.result;
+  loop = stands.loop;
+  scope = stands.scope;
   below = below_more c.next_local (c.next_local + length (declared_types s)) bs (let le : c.next_local ≤ c.next_local + length (declared_types s) = omega arith in le) stands.below;
 }
 
 pub context_inside : (p : Program) (x : Exits) (bs : List Bound) (c : Context) → IsContext p x bs c → IsContext p x bs (in_block c)
 context_inside p x bs c stands = record {
-  globals = stands.globals; functions = stands.functions; result = stands.result; loop = stands.loop; scope = stands.scope; below = stands.below;
+  globals = stands.globals;
+  functions = stands.functions;
+  result = stands.result;
+  loop = stands.loop;
+  scope = stands.scope;
+  below = stands.below;
 }
 
 -- fewer breaks are known before
@@ -65,7 +74,13 @@ module _ (p : Program) (g : Typing) (x : Exits) (bs : List Bound) (e : Environme
   return_on a from to k c f h None live stands holds result is flows kept stack = absurd is
   return_on a from to k c f h (Some t) live stands holds result (s, well, conv, from_is, to_is) flows kept stack =
       on (Evaluating a) (Needs (ConvertTo from to) ∷ Needs state.Return ∷ k) live (
-        c, s, f, h, stands, holds, record { waiting = []; typed = inl well; flows = flows; kept = kept },
+        c,
+        s,
+        f,
+        h,
+        stands,
+        holds,
+        record { waiting = []; typed = inl well; flows = flows; kept = kept },
         ([], bs, Val (Value (read t)) h, stacks.converts c s t h conv from_is to_is, tt, ([], bs, Go Unreached, stacks.returns t h Unreached (sym result), tt, stack)),
       )
 
@@ -84,7 +99,14 @@ module _ (p : Program) (g : Typing) (x : Exits) (bs : List Bound) (e : Environme
       → Derives (statements.rule_thrown (Some a) f) h → InThrown (Some a) → IsStack p g x bs (Go i) k → IsWell p (throws tag (Some a) k e w)
   thrown true tag a k c f h i live stands holds well flows kept stack =
       on (Evaluating a) (Needs (ThrowWith tag) ∷ k) live (
-        c, types.Value types.Int, f, h, stands, holds, record { waiting = []; typed = inl well; flows = flows; kept = kept }, ([], bs, Go i, stacks.throws h i, tt, stack),
+        c,
+        types.Value types.Int,
+        f,
+        h,
+        stands,
+        holds,
+        record { waiting = []; typed = inl well; flows = flows; kept = kept },
+        ([], bs, Go i, stacks.throws h i, tt, stack),
       )
   thrown false tag a k c f h i live stands holds well flows kept stack = absurd well
 
@@ -97,14 +119,20 @@ module _ (p : Program) (g : Typing) (x : Exits) (bs : List Bound) (e : Environme
       let now : h ≡ l.now = ap (λ (z : Known). z.now) known ∙ ap (λ ns. with_each Full ns l.now) (no_locks js kept) in
       let breaks : behind' ≡ l.breaks = ap (λ (z : Known). z.breaks) known in
       let continues : Continues x (in_block c) js f l.now =
-        record { before = before; behind = l.breaks; typed = well; flows = d; breaks = subst (λ z. AreBreaks x.loop z) breaks are; kept = kept } in
+      record { before = before; behind = l.breaks; typed = well; flows = d; breaks = subst (λ z. AreBreaks x.loop z) breaks are; kept = kept } in
       running p g x bs (inside e w) (opened w) typed' globals bound variables Proceeding (Rest js ∷ region_end e w ∷ k) (live_more (length w.regions) (ends_of k) bs live)
-        (f, holds, (bs, in_block c, l.now, itself bs, context_inside p x bs c stands, continues, (h, subst (λ z. Implies l.now z) (sym now) (implies_self l.now), live, stack)))
+      (f, holds, (bs, in_block c, l.now, itself bs, context_inside p x bs c stands, continues, (h, subst (λ z. Implies l.now z) (sym now) (implies_self l.now), live, stack)))
   execute Empty k c f h before behind' live stands holds well (u, known) are kept stack =
       on Proceeding k live (h, subst (λ z. Holds g z bs) (sym (ap (λ (z : Known). z.now) known)) holds, stack)
   execute (Evaluate a) k c f h before behind' live stands holds (t, well) (f1, d, (u, known)) are kept stack =
       on (Evaluating a) (Discard ∷ k) live (
-        c, t, f, f1, stands, holds, record { waiting = []; typed = inl well; flows = d; kept = kept },
+        c,
+        t,
+        f,
+        f1,
+        stands,
+        holds,
+        record { waiting = []; typed = inl well; flows = d; kept = kept },
         subst (λ z. IsStack p g x bs (Go z) k) (ap (λ (z : Known). z.now) known) stack,
       )
   execute (If a s t) k c f h before behind' live stands holds ((v, well, tested), ws, wt) (f1, d, (l, ds, (m, dt, (u, known)))) are (ka, ks, kt) stack =
@@ -115,16 +143,33 @@ module _ (p : Program) (g : Typing) (x : Exits) (bs : List Bound) (e : Environme
       let one : Executes x c s f1 l.now = record { before = before; behind = l.breaks; typed = ws; flows = ds; breaks = sooner; kept = ks } in
       let two : Executes x (behind c s) t f1 m.now = record { before = l.breaks; behind = m.breaks; typed = wt; flows = dt; breaks = later; kept = kt } in
       on (Evaluating a) (Needs (Choose s t) ∷ k) live (
-        c, v, f, f1, stands, holds, record { waiting = []; typed = well; flows = d; kept = ka },
-        ([], bs, Go h, stacks.chooses c (behind c s) v f1 l.now m.now h tested stands (context_after p x bs c s stands) one two
-          (subst (λ z. Implies l.now z) (sym now) (meet_first l.now m.now)) (subst (λ z. Implies m.now z) (sym now) (meet_second l.now m.now)), tt, stack),
+        c,
+        v,
+        f,
+        f1,
+        stands,
+        holds,
+        record { waiting = []; typed = well; flows = d; kept = ka },
+        (
+          [],
+          bs,
+          Go h,
+          stacks.chooses c (behind c s) v f1 l.now m.now h tested stands (context_after p x bs c s stands) one two
+              (subst (λ z. Implies l.now z) (sym now) (meet_first l.now m.now)) (subst (λ z. Implies m.now z) (sym now) (meet_second l.now m.now)),
+          tt,
+          stack,
+        ),
       )
   execute (While place a s) k c f h before behind' live stands holds ((v, well, tested), ws) (f1, d, (l, ds, (demands, known))) are (ka, ks) stack =
       let now : h ≡ meet f1 l.breaks = ap (λ (z : Known). z.now) known in
       let exit : LoopExit = record { place = place; head = f; breaks = l.breaks } in
       let first : Evaluates c a f v f1 = record { waiting = []; typed = well; flows = d; kept = ka } in
       let loop : IsLoop p x bs exit a s v f1 h = record {
-        context = c; now = l.now; stands = stands; tested = tested; first = first;
+        context = c;
+        now = l.now;
+        stands = stands;
+        tested = tested;
+        first = first;
         again = record { before = Unreached; behind = l.breaks; typed = ws; flows = ds; breaks = implies_self l.breaks; kept = ks };
         back = at_least_implies l.now f demands.0;
         fails = subst (λ z. Implies f1 z) (sym now) (meet_first f1 l.breaks);
@@ -145,9 +190,22 @@ module _ (p : Program) (g : Typing) (x : Exits) (bs : List Bound) (e : Environme
       let one : Executes x c s f l.now = record { before = before; behind = l.breaks; typed = ws; flows = ds; breaks = sooner; kept = ks } in
       let catches : Catches x (behind c s) (caught f s) cs l.now h = record { before = l.breaks; behind = behind'; typed = wcs; flows = dcs; breaks = are; kept = kcs } in
       on (Executing s) (Handler cs ∷ k) live (
-        c, f, l.now, stands, holds, one,
-        (behind c s, caught f s, h, context_after p x bs c s stands, holds_implied g f (caught f s) bs (emptied_implied (touched_statement s []) f) holds, catches,
-          clauses_implied (around x) (caught f s) cs l (record { now = h; breaks = behind' }) dcs, stack),
+        c,
+        f,
+        l.now,
+        stands,
+        holds,
+        one,
+        (
+          behind c s,
+          caught f s,
+          h,
+          context_after p x bs c s stands,
+          holds_implied g f (caught f s) bs (emptied_implied (touched_statement s []) f) holds,
+          catches,
+          clauses_implied (around x) (caught f s) cs l (record { now = h; breaks = behind' }) dcs,
+          stack,
+        ),
       )
   execute s k c f h before behind' live stands holds well flows are kept stack = absurd kept
 
@@ -159,7 +217,7 @@ module _ (p : Program) (g : Typing) (x : Exits) (bs : List Bound) (e : Environme
   continue_with NoItems k cs c f h before behind' nests live within stands holds well (u, known) are kept stack =
       let now : h ≡ f = ap (λ (z : Known). z.now) known in
       running p g x cs e w typed' globals (within_bound e cs bs within bound) (within_variables g cs bs within variables) Proceeding k (within_live (ends_of k) cs bs within live)
-        (h, subst (λ z. Holds g z cs) (sym now) (within_holds g f cs bs within holds), stack)
+      (h, subst (λ z. Holds g z cs) (sym now) (within_holds g f cs bs within holds), stack)
   continue_with (MoreItems (Execute s) js) k cs c f h before behind' nests live within stands holds (ws, wjs) (l, ds, djs) are (ks, kjs) stack =
       let sooner : AreBreaks x.loop l.breaks = breaks_before x.loop l.breaks behind' (breaks_items (around x) js l (record { now = h; breaks = behind' }) djs) are in
       let one : Executes x c s f l.now = record { before = before; behind = l.breaks; typed = ws; flows = ds; breaks = sooner; kept = ks } in
@@ -169,15 +227,27 @@ module _ (p : Program) (g : Typing) (x : Exits) (bs : List Bound) (e : Environme
       let l_is : l ≡ record { now = with_fullness Vacant f n; breaks = before } = known2 ∙ ap (λ z. record { now = z; breaks = before }) known1 in
       let flows = subst (λ (z : Known). Derives (rule_items (around x) js z) (record { now = h; breaks = behind' })) l_is djs in
       declares_blank p g x bs e w typed' globals bound variables n (values.kind_of t) t js cs c f h k nests live within stands holds number (sym (kind_meant t))
-        (record { before = before; behind = behind'; typed = wjs; flows = flows; breaks = are; kept = kjs }) stack
+      (record { before = before; behind = behind'; typed = wjs; flows = flows; breaks = are; kept = kjs }) stack
   continue_with (MoreItems (Declare n t (Some (Convert from to a))) js) k cs c f h before behind' nests live within stands holds ((number, has, alive), (s, well, conv, from_is, to_is), wjs) (l, (f2, (f1, d, (u1, known1)), (u2, known2)), djs) are (kv, kjs) stack =
       let l_is : l ≡ record { now = with_fullness Full f1 n; breaks = before } = known2 ∙ ap (λ z. record { now = z; breaks = before }) known1 in
       let flows = subst (λ (z : Known). Derives (rule_items (around x) js z) (record { now = h; breaks = behind' })) l_is djs in
       let rest : Continues x (with_local true t c) js (with_fullness Full f1 n) h = record { before = before; behind = behind'; typed = wjs; flows = flows; breaks = are; kept = kjs } in
       on (Evaluating a) (Needs (ConvertTo from to) ∷ Needs (Initialise n (values.kind_of t) js) ∷ k) live (
-        c, s, f, f1, stands, holds, record { waiting = []; typed = inl well; flows = d; kept = kv },
-        ([], bs, Val (Value (read t)) f1, stacks.converts c s t f1 conv from_is to_is, tt,
-          ([], cs, Go h, stacks.initialises cs c t f1 h within stands number (sym (kind_meant t) ∙ kind_read t) rest, tt, stack)),
+        c,
+        s,
+        f,
+        f1,
+        stands,
+        holds,
+        record { waiting = []; typed = inl well; flows = d; kept = kv },
+        (
+          [],
+          bs,
+          Val (Value (read t)) f1,
+          stacks.converts c s t f1 conv from_is to_is,
+          tt,
+          ([], cs, Go h, stacks.initialises cs c t f1 h within stands number (sym (kind_meant t) ∙ kind_read t) rest, tt, stack),
+        ),
       )
   continue_with (MoreItems (DeclareRegion r n) js) k cs c f h before behind' nests live within stands holds well flows are kept stack = absurd kept
   continue_with (MoreItems (OpenRegion r n place key) js) k cs c f h before behind' nests live within stands holds well flows are kept stack = absurd kept

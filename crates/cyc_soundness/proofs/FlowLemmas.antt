@@ -96,7 +96,7 @@ pub emptied_implied : (ns : List ℕ) (f : State) → Implies f (emptied ns f)
 emptied_implied [] f = implies_self f
 emptied_implied (n ∷ ns) f =
     implies_after f (if is_locked (fullness f n) then f else with_fullness Vacant f n) (emptied (n ∷ ns) f)
-      (either_implied (is_locked (fullness f n)) f n) (emptied_implied ns (if is_locked (fullness f n) then f else with_fullness Vacant f n))
+    (either_implied (is_locked (fullness f n)) f n) (emptied_implied ns (if is_locked (fullness f n) then f else with_fullness Vacant f n))
 
 -- ---- what holds
 

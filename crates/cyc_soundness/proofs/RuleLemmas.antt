@@ -53,7 +53,7 @@ clauses_implied c start (Default r js) k m (l, d, (u, e)) =
     subst (λ (z : Known). Implies k.now z.now) (sym e) (meet_first k.now (with_each Full (locks_of js) l.now))
 clauses_implied c start (Case x n r js cs) k m (l, d, later) =
     implies_after k.now (meet k.now (with_each Full (locks_of js) l.now)) m.now (meet_first k.now (with_each Full (locks_of js) l.now))
-      (clauses_implied c start cs (or_clause k.now js l) m later)
+    (clauses_implied c start cs (or_clause k.now js l) m later)
 
 -- items of these programs lock nothing
 pub no_locks : (js : Items) → InItems js → locks_of js ≡ []

@@ -42,7 +42,15 @@ module _ (p : Program) (g h : Typing) (grows : Grows g h) where
   stack_grown x bs (Go f) (Handler cs ∷ k) (c, start, end, stands, holds, catches, i, rest) =
       (c, start, end, stands, holds_grown g h grows start bs holds, catches, i, stack_grown x bs (Go end) k rest)
   stack_grown x bs (Go f) (Caller e ∷ k) (y, cs, end, loop, blocked, bound, variables, live, holds, rest) = (
-    y, cs, end, loop, blocked, bound, variables_grown g h grows cs variables, live, holds_grown g h grows end cs holds,
+    y,
+    cs,
+    end,
+    loop,
+    blocked,
+    bound,
+    variables_grown g h grows cs variables,
+    live,
+    holds_grown g h grows end cs holds,
     stack_grown y cs (Val (read_value (result_type x.result)) end) k rest,
   )
   stack_grown x bs (Go f) (Main ∷ k) (loop, int, blocked, rest) = (loop, int, blocked, stack_grown x bs Nothing k rest)
@@ -180,7 +188,7 @@ set_stored g e f number object (b ∷ bs) (here, bound) there full (is, are) = (
   where
     go : IsSet (with_fullness Full f number) b.number → IsFull g b.object
     go s = elim (same_or_other b.number number) [
-      inl same ↦ (let k : Some object ≡ Some b.object = sym there ∙ ap e.locals (sym same) ∙ here in let one : object ≡ b.object = cc in subst (λ o. IsFull g o) one full)
+      | inl same ↦ (let k : Some object ≡ Some b.object = sym there ∙ ap e.locals (sym same) ∙ here in let one : object ≡ b.object = cc in subst (λ o. IsFull g o) one full)
       | inr apart ↦ is (other_set Full f number b.number apart s)
     ]
 

@@ -71,11 +71,11 @@ module _ (p : Program) (g : Typing) (x : Exits) (bs : List Bound) (e : Environme
       let there = subst (λ n. slice_get h.objects n ≡ Some (variable_type (read t) e.home)) (sym typed.count) (slice_get-end g.objects (variable_type (read t) e.home)) in
       let flag = subst (λ n. slice_get h.full n ≡ Some full) (sym typed.flags) (slice_get-end g.full full) in
       subst (λ a. IsWell p (declared a focus number kind content stack e w)) (sym found)
-        (running p h x (new_local number t ∷ bs) (state.with_local e number (length w.objects)) (made w (variable e.home kind content))
-          (object_typed g w.objects (variable_type (read t) e.home) full (variable e.home kind content) typed is) (globals_grown g h grows p globals)
-          (local_new e number (length w.objects), bound_more e number (length w.objects) bs below bound) (there, variables_grown g h grows bs variables)
-          focus stack (home_among e.home stack nests.2, live)
-          (goes grows (λ is_full. flag ∙ ap (λ (b : Bool). Some b) is_full)))
+      (running p h x (new_local number t ∷ bs) (state.with_local e number (length w.objects)) (made w (variable e.home kind content))
+      (object_typed g w.objects (variable_type (read t) e.home) full (variable e.home kind content) typed is) (globals_grown g h grows p globals)
+      (local_new e number (length w.objects), bound_more e number (length w.objects) bs below bound) (there, variables_grown g h grows bs variables)
+      focus stack (home_among e.home stack nests.2, live)
+      (goes grows (λ is_full. flag ∙ ap (λ (b : Bool). Some b) is_full)))
 
   -- with a value, and the rest of its block goes on
   pub declares_full : (number : ℕ) (kind : Kind) (v : values.Value) (t : Ty) (js : Items) (cs : List Bound) (c : Context) (f h : flow.State) (k : List Entry) → IsNested k e w → LiveIn (ends_of k) bs
@@ -84,12 +84,19 @@ module _ (p : Program) (g : Typing) (x : Exits) (bs : List Bound) (e : Environme
   declares_full number kind v t js cs c f h k nests live within stands (reached, are) number_is kind_is has continues stack =
       let below : AreBelow number bs = subst (λ n. AreBelow n bs) (sym number_is) stands.below in
       declares number kind t (Some v) true Proceeding (Rest js ∷ k) nests live below kind_is has
-        (λ grows full. (
-          with_fullness Full f number,
-          (reached_with Full f number reached, (λ s. full refl, set_more (new_typing t true) Full f number bs below (set_grown g (new_typing t true) grows f bs are))),
-          (cs, with_local true t c, h, older (new_local number t) cs bs within, context_more p x bs c t (new_local number t) stands number_is refl, continues,
-            stack_grown p g (new_typing t true) grows x cs (Go h) k stack),
-        ))
+      (λ grows full. (
+        with_fullness Full f number,
+        (reached_with Full f number reached, (λ s. full refl, set_more (new_typing t true) Full f number bs below (set_grown g (new_typing t true) grows f bs are))),
+        (
+          cs,
+          with_local true t c,
+          h,
+          older (new_local number t) cs bs within,
+          context_more p x bs c t (new_local number t) stands number_is refl,
+          continues,
+          stack_grown p g (new_typing t true) grows x cs (Go h) k stack,
+        ),
+      ))
 
   -- without one
   pub declares_blank : (number : ℕ) (kind : Kind) (t : Ty) (js : Items) (cs : List Bound) (c : Context) (f h : flow.State) (k : List Entry) → IsNested k e w → LiveIn (ends_of k) bs
@@ -98,12 +105,19 @@ module _ (p : Program) (g : Typing) (x : Exits) (bs : List Bound) (e : Environme
   declares_blank number kind t js cs c f h k nests live within stands (reached, are) number_is kind_is continues stack =
       let below : AreBelow number bs = subst (λ n. AreBelow n bs) (sym number_is) stands.below in
       declares number kind t None false Proceeding (Rest js ∷ k) nests live below kind_is refl
-        (λ grows full. (
-          with_fullness Vacant f number,
-          (reached_with Vacant f number reached, (λ s. absurd (vacant_now f number reached s), set_more (new_typing t false) Vacant f number bs below (set_grown g (new_typing t false) grows f bs are))),
-          (cs, with_local true t c, h, older (new_local number t) cs bs within, context_more p x bs c t (new_local number t) stands number_is refl, continues,
-            stack_grown p g (new_typing t false) grows x cs (Go h) k stack),
-        ))
+      (λ grows full. (
+        with_fullness Vacant f number,
+        (reached_with Vacant f number reached, (λ s. absurd (vacant_now f number reached s), set_more (new_typing t false) Vacant f number bs below (set_grown g (new_typing t false) grows f bs are))),
+        (
+          cs,
+          with_local true t c,
+          h,
+          older (new_local number t) cs bs within,
+          context_more p x bs c t (new_local number t) stands number_is refl,
+          continues,
+          stack_grown p g (new_typing t false) grows x cs (Go h) k stack,
+        ),
+      ))
 
   -- ---- branches and loops
 
@@ -117,11 +131,20 @@ module _ (p : Program) (g : Typing) (x : Exits) (bs : List Bound) (e : Environme
   looped_on true condition body k l v f h live holds loop stack = on Proceeding k live (h, holds_implied g f h bs loop.fails holds, stack)
   looped_on false condition body k l v f h live holds loop stack =
       running p g (inside x l) bs e w typed globals bound variables (Executing body) (Loop condition body ∷ k) live (
-        in_body loop.context, f, loop.now,
+        in_body loop.context,
+        f,
+        loop.now,
         record {
-          globals = loop.stands.globals; functions = loop.stands.functions; result = loop.stands.result; loop = λ u. refl; scope = loop.stands.scope; below = loop.stands.below;
+          globals = loop.stands.globals;
+          functions = loop.stands.functions;
+          result = loop.stands.result;
+          loop = λ u. refl;
+          scope = loop.stands.scope;
+          below = loop.stands.below;
         },
-        holds, loop.again, (x, l, v, f, h, refl, loop, loop.back, stack),
+        holds,
+        loop.again,
+        (x, l, v, f, h, refl, loop, loop.back, stack),
       )
 
   thrown_on : (tag : ℕ) (v : values.Value) (k : List Entry) (h : flow.State) → LiveIn (ends_of k) bs → HasType g lives.Int v → IsStack p g x bs (Go h) k → IsWell p (throws_value tag v k e w)
@@ -153,7 +176,7 @@ module _ (p : Program) (g : Typing) (x : Exits) (bs : List Bound) (e : Environme
   given v k nests live holds is (stacks.initialises {number} {kind} {js} cs c t f h within stands number_is kind_is continues) are stack =
       let same : v.kind ≡ kind = is.0 ∙ kind_read t ∙ sym kind_is in
       subst (λ (b : Bool). IsWell p (if b then declared (region_at w e.home) Proceeding number kind (Some v.value) (Rest js ∷ k) e w else wrong w)) (sym (is_kind_same v.kind kind same))
-        (declares_full number kind v.value t js cs c f h k nests live within stands holds number_is (kind_is ∙ sym (kind_read t)) is.1 continues stack)
+      (declares_full number kind v.value t js cs c f h k nests live within stands holds number_is (kind_is ∙ sym (kind_read t)) is.1 continues stack)
   given v k nests live holds is (stacks.chooses {first} {second} c d s f i j l tested stands others one two m n) are stack =
       let (b, at_zero) = zero_is g s v tested is in
       subst (λ z. IsWell p (chosen z first second k e w)) (sym at_zero) (chosen_on b first second k c d f i j l live holds stands others one two m n stack)

@@ -36,14 +36,14 @@ module _ (p : Program) (g : Typing) (e : Environment) (w : World) (typed : IsTyp
     closes focus region home k nests live stands =
         let (r, found) = found_is (region_at w region) nests.0.0 in
         subst (λ a. IsWell p (closing a focus region home k e w)) (sym found)
-          (running p g x bs (record e { home = home }) (closed w region r) typed globals bound variables focus k live stands)
+        (running p g x bs (record e { home = home }) (closed w region r) typed globals bound variables focus k live stands)
 
     -- a loop's condition is evaluated again
     tests_again : (condition : Expression) (body : Statement) (k : List Entry) (y : Exits) (l : LoopExit) (v : ValueType) (u h : flow.State) → LiveIn (ends_of k) bs → IsLoop p y bs l condition body v u h → Holds g l.head bs → IsStack p g y bs (Go h) k
         → IsWell p (Running (Evaluating condition) (Needs (Test condition body) ∷ k) e w)
     tests_again condition body k y l v u h live loop holds stack =
         running p g y bs e w typed globals bound variables (Evaluating condition) (Needs (Test condition body) ∷ k) live
-          (loop.context, v, l.head, u, loop.stands, holds, loop.first, ([], bs, Go h, stacks.tests l v u h loop, tt, stack))
+        (loop.context, v, l.head, u, loop.stands, holds, loop.first, ([], bs, Go h, stacks.tests l v u h loop, tt, stack))
 
     -- ---- to the end of a call
 
@@ -70,7 +70,7 @@ module _ (p : Program) (g : Typing) (e : Environment) (w : World) (typed : IsTyp
     breaks (Discard ∷ k) l f nests live same holds stack = on Breaking k live (l, f, same, holds, stack)
     breaks (Rest js ∷ k) l f nests live same holds (cs, c, h, within, stands, rest, stack) =
         running p g x cs e w typed globals (within_bound e cs bs within bound) (within_variables g cs bs within variables) Breaking k (within_live (ends_of k) cs bs within live)
-          (l, h, same, within_holds g l.breaks cs bs within holds, stack)
+        (l, h, same, within_holds g l.breaks cs bs within holds, stack)
     breaks (Join ∷ k) l f nests live same holds (h, i, stack) = on Breaking k live (l, h, same, holds, stack)
     breaks (Loop condition body ∷ k) l f nests live same holds (y, m, v, u, h, around_is, loop, i, stack) =
         let one : m ≡ l = some_same m l (sym (ap (λ (z : Exits). z.loop) around_is) ∙ same) in
@@ -85,7 +85,7 @@ module _ (p : Program) (g : Typing) (e : Environment) (w : World) (typed : IsTyp
     continues (Discard ∷ k) l f nests live same holds stack = on Continuing k live (l, f, same, holds, stack)
     continues (Rest js ∷ k) l f nests live same holds (cs, c, h, within, stands, rest, stack) =
         running p g x cs e w typed globals (within_bound e cs bs within bound) (within_variables g cs bs within variables) Continuing k (within_live (ends_of k) cs bs within live)
-          (l, h, same, within_holds g l.head cs bs within holds, stack)
+        (l, h, same, within_holds g l.head cs bs within holds, stack)
     continues (Join ∷ k) l f nests live same holds (h, i, stack) = on Continuing k live (l, h, same, holds, stack)
     continues (Loop condition body ∷ k) l f nests live same holds (y, m, v, u, h, around_is, loop, i, stack) =
         let one : m ≡ l = some_same m l (sym (ap (λ (z : Exits). z.loop) around_is) ∙ same) in

@@ -151,9 +151,9 @@ well_start p input accepted well have =
     } in
     let count : 0 ≡ length h.parameters = sym (ap length none) in
     subst (λ o. IsWell p (called o [] (Main ∷ []) w)) (sym at)
-      (subst (λ (b : Bool). IsWell p (if b then Running (Entering h []) (Main ∷ []) no_locals w else wrong w)) (sym (eq-eqb 0 (length h.parameters) count))
-        (running p g x [] no_locals w objects (all_globals p.globals) tt tt (Entering h []) (Main ∷ []) tt
-          (end, ok, (refl, refl), refl, subst (λ ts. AreOperands g (map read ts) []) (sym none) tt, (refl, int, ok.ends types.Int int, tt))))
+    (subst (λ (b : Bool). IsWell p (if b then Running (Entering h []) (Main ∷ []) no_locals w else wrong w)) (sym (eq-eqb 0 (length h.parameters) count))
+    (running p g x [] no_locals w objects (all_globals p.globals) tt tt (Entering h []) (Main ∷ []) tt
+    (end, ok, (refl, refl), refl, subst (λ ts. AreOperands g (map read ts) []) (sym none) tt, (refl, int, ok.ends types.Int int, tt))))
 
 -- ---- the theorem
 

@@ -97,12 +97,15 @@ object_typed g objects t full x typed is = record {
     each : (number : ℕ) (u : ObjectType) → slice_get (g.objects ++ t ∷ []) number ≡ Some u
         → (y : Object) × (b : Bool) × (slice_get (objects ++ x ∷ []) number ≡ Some y) × (slice_get (g.full ++ full ∷ []) number ≡ Some b) × IsObject (with_object g t full) b u y
     each number u there = elim (appended g.objects t number u there) [
-      inl old ↦ (let (y, b, at, flag, was) = typed.each number u old in
-        (y, b, slice_get-append objects (x ∷ []) number y at, slice_get-append g.full (full ∷ []) number b flag, object_grown g (with_object g t full) (object_grows g t full) b u y was))
-      | inr new ↦ (x, full,
+      | inl old ↦ (let (y, b, at, flag, was) = typed.each number u old in
+          (y, b, slice_get-append objects (x ∷ []) number y at, slice_get-append g.full (full ∷ []) number b flag, object_grown g (with_object g t full) (object_grows g t full) b u y was))
+      | inr new ↦ (
+        x,
+        full,
         subst (λ n. slice_get (objects ++ x ∷ []) n ≡ Some x) (typed.count ∙ sym new.0) (slice_get-end objects x),
         subst (λ n. slice_get (g.full ++ full ∷ []) n ≡ Some full) (sym typed.flags ∙ typed.count ∙ sym new.0) (slice_get-end g.full full),
-        subst (λ z. IsObject (with_object g t full) full z x) new.1 is)
+        subst (λ z. IsObject (with_object g t full) full z x) new.1 is,
+      )
     ]
 
 -- ---- the cell of a variable
@@ -134,10 +137,16 @@ cell_there g w number region t x typed at cells life opens =
     let (c, only, fits) = one_cell g full t y.cells (subst (λ ts. AreCells g full ts y.cells) cells is.cells) in
     let live : is_live w y.owner ≡ true = live_owner w region y.owner (subst (λ l. IsOwner l y.owner) life is.owner) opens in
     record {
-      object = y; cell = c; full = full; there = there; flag = flag; only = only; is = fits;
+      object = y;
+      cell = c;
+      full = full;
+      there = there;
+      flag = flag;
+      only = only;
+      is = fits;
       found = ap (λ o. cell_in w o 0) there
-        ∙ ap (λ (b : Bool). if b then located y (slice_get y.cells 0) else Closed) live
-        ∙ ap (λ cs. located y (slice_get cs 0)) only;
+          ∙ ap (λ (b : Bool). if b then located y (slice_get y.cells 0) else Closed) live
+          ∙ ap (λ cs. located y (slice_get cs 0)) only;
     }
 
 -- ---- a variable is written
@@ -149,7 +158,7 @@ pub full_grows : (g : Typing) (number : ℕ) → Grows g (with_full g number)
 full_grows g number = record {
   objects = λ other u there. there;
   full = λ other is. elim (same_or_other other number) [
-    inl same ↦ subst (λ n. slice_get (set g.full number true) n ≡ Some true) (sym same) (slice_get-set_same g.full number true true (subst (λ n. slice_get g.full n ≡ Some true) same is))
+    | inl same ↦ subst (λ n. slice_get (set g.full number true) n ≡ Some true) (sym same) (slice_get-set_same g.full number true true (subst (λ n. slice_get g.full n ≡ Some true) same is))
     | inr apart ↦ slice_get-set_other g.full number other true apart ∙ is
   ];
 }
@@ -176,10 +185,11 @@ cell_written g w number t x v typed at cells c has = record {
         let one : IsCell (with_full g number) true t (record c.cell { content = Some v }) = (c.is.0, type_grown g (with_full g number) (full_grows g number) t v has) in
         let all : AreCells (with_full g number) true (t ∷ []) (record c.cell { content = Some v } ∷ []) = (one, tt) in
         let those : AreCells (with_full g number) true u.cells (with_content c.object c.cell v).cells =
-            subst (λ ts. AreCells (with_full g number) true ts (with_content c.object c.cell v).cells) (sym cells ∙ ap (λ (z : ObjectType). z.cells) (sym u_is))
-              (subst (λ cs. AreCells (with_full g number) true (t ∷ []) (set cs 0 (record c.cell { content = Some v }))) (sym c.only) all) in
+        subst (λ ts. AreCells (with_full g number) true ts (with_content c.object c.cell v).cells) (sym cells ∙ ap (λ (z : ObjectType). z.cells) (sym u_is))
+        (subst (λ cs. AreCells (with_full g number) true (t ∷ []) (set cs 0 (record c.cell { content = Some v }))) (sym c.only) all) in
         let is : IsObject (with_full g number) true u (with_content c.object c.cell v) = record { owner = owner; cells = those } in (
-          (with_content c.object c.cell v), true,
+          (with_content c.object c.cell v),
+          true,
           subst (λ n. slice_get (set w.objects number (with_content c.object c.cell v)) n ≡ Some (with_content c.object c.cell v)) (sym same) (slice_get-set_same w.objects number c.object (with_content c.object c.cell v) c.there),
           subst (λ n. slice_get (set g.full number true) n ≡ Some true) (sym same) (slice_get-set_same g.full number c.full true c.flag),
           is,
@@ -188,7 +198,7 @@ cell_written g w number t x v typed at cells c has = record {
     each : (other : ℕ) (u : ObjectType) → slice_get g.objects other ≡ Some u
         → (y : Object) × (b : Bool) × (slice_get (set w.objects number (with_content c.object c.cell v)) other ≡ Some y) × (slice_get (set g.full number true) other ≡ Some b) × IsObject (with_full g number) b u y
     each other u there = elim (same_or_other other number) [
-      inl same ↦ written_one other u there same
+      | inl same ↦ written_one other u there same
       | inr apart ↦ (let (y, b, stands, flag, was) = typed.each other u there in
-        (y, b, slice_get-set_other w.objects number other (with_content c.object c.cell v) apart ∙ stands, slice_get-set_other g.full number other true apart ∙ flag, object_grown g (with_full g number) (full_grows g number) b u y was))
+          (y, b, slice_get-set_other w.objects number other (with_content c.object c.cell v) apart ∙ stands, slice_get-set_other g.full number other true apart ∙ flag, object_grown g (with_full g number) (full_grows g number) b u y was))
     ]
