@@ -1,12 +1,12 @@
 -- CALLS: arguments become parameters, and the body of a function begins; the clauses of a `try` begin.
-use Rattle.std.proofs.Common.{◌≡◌, ℕ, zero, suc, ◌+◌, ◌<◌, ◌≤◌, ◌%◌, Bool, true, false, List, [], ◌∷◌, ◌++◌, length, map, reverse, Option, Some, None, slice_get, refl, sym, ap, subst, ◌∙◌, arith}
+use Rattle.std.proofs.Common.{◌≡◌, ℕ, suc, ◌+◌, ◌<◌, ◌≤◌, ◌%◌, Bool, true, false, List, [], ◌∷◌, ◌++◌, length, map, reverse, Option, Some, None, refl, sym, ap, subst, ◌∙◌, arith}
 use Rattle.std.specs.Prelude.{if◌then◌else◌, ◌==◌}
 use Rattle.std.proofs.lemmas.Bool.{eq-eqb}
 use mathlib.Core.List.{reverse_aux}
 use Rattle.cyc_types.specs.declared.typed.Kind.TheVariants as kinds
 use Rattle.cyc_types.specs.declared.typed.Callee.{Callee}
 use Rattle.cyc_types.specs.declared.typed.Callee.TheVariants as callees
-use Rattle.cyc_types.specs.Types.{Ty, ValueType, result_type}
+use Rattle.cyc_types.specs.Types.{Ty}
 use Rattle.cyc_types.specs.Types as types
 use Rattle.cyc_types.specs.TypedTrees.{Items, Clauses, NoClauses, Default, Case, Function, Program}
 use Rattle.cyc_types.specs.Declarations.{caught_types, item_types}
@@ -17,26 +17,26 @@ use Rattle.cyc_types.specs.flow.States.{Unreached, Full, meet, with_fullness, wi
 use Rattle.cyc_types.specs.flow.Statements.{Known, locks_of, or_clause, rule_items, rule_clauses}
 use Rattle.cyc_types.specs.flow.Statements as statements
 use Rattle.cyc_types.specs.flow.Programs.{start_of}
-use Rattle.cyc_meaning.specs.Values.{Operand, is_kind}
+use Rattle.cyc_meaning.specs.Values.{Operand}
 use Rattle.cyc_meaning.specs.Values as values
-use Rattle.cyc_meaning.specs.State.{World, opened, Environment, no_locals, region_at, Entry, Rest, CloseRegion, Caller, Focus, Given, Proceeding, Calling, Entering, Binding, Naming, Throwing, Catching, State, Running}
+use Rattle.cyc_meaning.specs.State.{World, opened, Environment, no_locals, region_at, Entry, Rest, Caller, Given, Proceeding, Entering, Binding, Naming, Throwing, Catching, State, Running}
 use Rattle.cyc_meaning.specs.Parts.{wrong, inside, region_end, declared}
 use Rattle.cyc_meaning.specs.Exceptions.{catches, step_catching}
 use Rattle.cyc_meaning.specs.Nesting.{ends_of, IsNested}
 use Rattle.cyc_meaning.specs.Step.{called, values_of, prints, reads, step_calling, step_entering, step_binding}
-use Rattle.cyc_soundness.specs.Lives.{RunTy, RunValue, Value, read, read_value}
+use Rattle.cyc_soundness.specs.Lives.{RunTy, RunValue, Value, read}
 use Rattle.cyc_soundness.specs.Lives as lives
-use Rattle.cyc_soundness.specs.Worlds.{Typing, IsFull, HasType, IsResult, AreOperands, IsTyped, Grows}
-use Rattle.cyc_soundness.specs.Frames.{Bound, IsScope, AreBelow, IsBound, AreVariables, LiveIn, Within, itself, older, AreSet, Holds, Implies, LoopExit, Exits, loop_of, around, AreBreaks, is_loop, IsContext, AreGlobals}
+use Rattle.cyc_soundness.specs.Worlds.{Typing, HasType, AreOperands, IsTyped, Grows}
+use Rattle.cyc_soundness.specs.Frames.{Bound, IsScope, AreBelow, IsBound, AreVariables, LiveIn, Within, itself, older, AreSet, Holds, Implies, Exits, loop_of, around, AreBreaks, IsContext, AreGlobals}
 use Rattle.cyc_soundness.specs.Classes.{InItems, InClauses}
-use Rattle.cyc_soundness.specs.Stacks.{Continues, Catches, IsAccepted, Val, Go, turned, IsCalled, IsBlocked, AreFull, IsBody, IsStack, IsFocus, IsWell}
+use Rattle.cyc_soundness.specs.Stacks.{Continues, Catches, IsAccepted, Val, Go, turned, IsCalled, IsBlocked, AreFull, IsBody, IsStack, IsWell}
 use Rattle.cyc_soundness.proofs.TypeLemmas.{is_kind_same, kind_meant}
-use Rattle.cyc_soundness.proofs.FlowLemmas.{implies_self, implies_after, meet_second, holds_implied}
+use Rattle.cyc_soundness.proofs.FlowLemmas.{implies_self, implies_after, meet_second}
 use Rattle.cyc_soundness.proofs.RuleLemmas.{breaks_clauses, clauses_implied, no_locks}
 use Rattle.cyc_soundness.proofs.WorldLemmas.{operands_grown}
 use Rattle.cyc_soundness.proofs.StackLemmas.{AreAccepted, stack_grown, below_more, live_more}
 use Rattle.cyc_soundness.proofs.Evaluation.{running}
-use Rattle.cyc_soundness.proofs.Supply.{declares, declares_full}
+use Rattle.cyc_soundness.proofs.Supply.{declares}
 use Rattle.cyc_soundness.proofs.Execution.{context_inside, breaks_before}
 
 -- ---- lists of operands

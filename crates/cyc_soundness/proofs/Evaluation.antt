@@ -1,46 +1,43 @@
 -- EVALUATION of a typed expression, and what waits for its value: each step leads to a typed state.
-use Rattle.std.proofs.Common.{◌≡◌, ◌⊎◌, inl, inr, ℕ, zero, suc, ◌+◌, Bool, true, false, not, List, [], ◌∷◌, ◌++◌, length, map, Option, Some, None, slice_get, refl, sym, ap, subst, ◌∙◌}
+use Rattle.std.proofs.Common.{◌≡◌, ◌⊎◌, inl, inr, ℕ, zero, suc, Bool, true, false, not, List, [], ◌∷◌, map, Option, Some, None, slice_get, refl, sym, ap, subst, ◌∙◌}
 use Rattle.std.specs.Prelude.{if◌then◌else◌, option_map}
 use Rattle.cyc_types.specs.declared.typed.Kind.{Kind}
 use Rattle.cyc_types.specs.declared.typed.Kind.TheVariants as kinds
 use Rattle.cyc_types.specs.declared.typed.Callee.{Callee}
 use Rattle.cyc_types.specs.declared.typed.Callee.TheVariants as callees
-use Rattle.cyc_types.specs.declared.typed.LogicalOperator.{LogicalOperator}
-use Rattle.cyc_types.specs.declared.typed.Operator.{Operator}
-use Rattle.cyc_types.specs.declared.typed.UnaryOperator.{UnaryOperator}
 use Rattle.cyc_types.specs.declared.typed.UnaryOperator.TheVariants as unary
 use Rattle.cyc_types.specs.declared.region.Region.{Region}
 use Rattle.cyc_types.specs.Types.{Ty, ValueType, result_type, substituted_ty}
 use Rattle.cyc_types.specs.Types as types
-use Rattle.cyc_types.specs.TypedTrees.{Lvalue, Local, Global, Expression, Number, NullPointer, HeapRegion, Copy, Move, Peek, Call, Unary, Binary, Assign, Converted, Convert, Arguments, NoArguments, MoreArguments, Operations, NoOperations, ThenCompute, ThenTest, ThenPointer, ThenPointerPeek, Items, GlobalVariable, Signature, Function, Program}
+use Rattle.cyc_types.specs.TypedTrees.{Local, Global, Expression, Number, NullPointer, HeapRegion, Copy, Move, Peek, Call, Unary, Binary, Assign, Convert, Arguments, NoArguments, MoreArguments, Operations, NoOperations, ThenCompute, ThenTest, ThenPointer, ThenPointerPeek, GlobalVariable, Signature, Function, Program}
 use Rattle.cyc_types.specs.Rules.{Derives}
 use Rattle.cyc_types.specs.typing.Tests.{is_moved, is_tested}
 use Rattle.cyc_types.specs.typing.Tests as tests
 use Rattle.cyc_types.specs.typing.Expressions.{assigned_type}
-use Rattle.cyc_types.specs.typing.WellTyped.{LocalInScope, Context, HasLocal, IsVariable, IsCallee, WellTyped, IsPeek, IsLeft, IsConverted, ArePassed, Converts, IsChain, signature_of}
+use Rattle.cyc_types.specs.typing.WellTyped.{Context, HasLocal, IsCallee, WellTyped, IsPeek, IsLeft, ArePassed, Converts, IsChain, signature_of}
 use Rattle.cyc_types.specs.flow.States as flow
-use Rattle.cyc_types.specs.flow.States.{Vacant, Full, meet, fullness, with_fullness, is_vacant}
+use Rattle.cyc_types.specs.flow.States.{Full, meet, fullness, with_fullness, is_vacant}
 use Rattle.cyc_types.specs.flow.Expressions.{rule, rule_arguments, rule_operations}
-use Rattle.cyc_meaning.specs.Values.{Operand, is_kind}
+use Rattle.cyc_meaning.specs.Values.{Operand}
 use Rattle.cyc_meaning.specs.Values as values
 use Rattle.cyc_meaning.specs.Operators.{Result, Gives, Raises, Misfits, is_zero, truth, truth_result, truth_of, decides}
 use Rattle.cyc_meaning.specs.Conversion.{conversion}
-use Rattle.cyc_meaning.specs.State.{World, Object, Access, Found, Located, cell_at, written, Environment, Awaiting, ConvertTo, Operate, Chain, Apply, Decide, Store, Pass, Entry, Needs, Focus, Evaluating, Given, Calling, Throwing, State, Running}
+use Rattle.cyc_meaning.specs.State.{World, cell_at, written, Environment, ConvertTo, Operate, Chain, Apply, Decide, Store, Pass, Entry, Needs, Focus, Evaluating, Given, Calling, Throwing, State, Running}
 use Rattle.cyc_meaning.specs.Parts.{wrong, computed, read, loaded, loaded_from, stored}
 use Rattle.cyc_meaning.specs.Nesting.{ends_of, AreOpen}
 use Rattle.cyc_meaning.specs.Step.{step_evaluating, passes, assigned, decided, tested, awaits_right, chained, converts}
 use Rattle.cyc_soundness.specs.Lives.{RunTy, RunValue, Value, kind_at, read_value, OfRegion}
 use Rattle.cyc_soundness.specs.Lives as lives
 use Rattle.cyc_soundness.specs.Worlds.{ObjectType, Typing, IsFull, variable_type, HasType, IsResult, Fits, AreOperands, IsContent, IsTyped}
-use Rattle.cyc_soundness.specs.Frames.{IsAmong, Bound, IsBound, AreVariables, LiveIn, IsSet, AreSet, Holds, Implies, Exits, IsContext, AreGlobals}
-use Rattle.cyc_soundness.specs.Classes.{KeepsToVariables, InConverted, InArguments, InOperations}
-use Rattle.cyc_soundness.specs.Stacks.{Evaluates, Computes, Passes, Val, Go, turned, IsCalled, IsStack, IsFocus, IsRunning, IsWell}
+use Rattle.cyc_soundness.specs.Frames.{IsAmong, Bound, IsBound, AreVariables, LiveIn, IsSet, Holds, Implies, Exits, IsContext, AreGlobals}
+use Rattle.cyc_soundness.specs.Classes.{KeepsToVariables, InArguments, InOperations}
+use Rattle.cyc_soundness.specs.Stacks.{Val, turned, IsCalled, IsStack, IsFocus, IsWell}
 use Rattle.cyc_soundness.specs.Stacks as stacks
 use Rattle.cyc_soundness.proofs.Numbers.{some_same, slice_get-set_same}
 use Rattle.cyc_soundness.proofs.TypeLemmas.{is_kind_same, kind_read, kind_meant, instances_read, result_read}
 use Rattle.cyc_soundness.proofs.FlowLemmas.{implies_self, meet_first, meet_second, vacant_implied, holds_implied, reached_with}
-use Rattle.cyc_soundness.proofs.WorldLemmas.{HasCell, cell_there, with_full, full_grows, cell_written, result_grown, globals_grown, variables_grown, holds_grown}
-use Rattle.cyc_soundness.proofs.StackLemmas.{AreAccepted, stack_grown, bound_of, place_local, among_bound, among_variable, among_live, among_set, set_stored, open_of, globals_among}
+use Rattle.cyc_soundness.proofs.WorldLemmas.{cell_there, with_full, full_grows, cell_written, result_grown, globals_grown, variables_grown, holds_grown}
+use Rattle.cyc_soundness.proofs.StackLemmas.{stack_grown, bound_of, place_local, among_bound, among_variable, among_live, among_set, set_stored, open_of, globals_among}
 use Rattle.cyc_soundness.proofs.ValueLemmas.{zero_is, converted, kind_given}
 
 -- a typed state, by its parts

@@ -1,26 +1,25 @@
 -- STATEMENTS and the items of blocks: each step leads to a typed state.
-use Rattle.std.proofs.Common.{◌≡◌, ◌⊎◌, inl, inr, ℕ, zero, suc, ◌+◌, ◌<◌, ◌≤◌, Bool, true, false, List, [], ◌∷◌, ◌++◌, length, Option, Some, None, refl, sym, ap, subst, ◌∙◌, arith}
+use Rattle.std.proofs.Common.{◌≡◌, inl, ℕ, ◌+◌, ◌≤◌, Bool, true, false, List, [], ◌∷◌, length, Option, Some, None, refl, sym, ap, subst, ◌∙◌, arith}
 use Rattle.cyc_types.specs.declared.typed.Kind.{Kind}
-use Rattle.cyc_types.specs.Types.{Ty, ValueType}
+use Rattle.cyc_types.specs.Types.{Ty}
 use Rattle.cyc_types.specs.Types as types
-use Rattle.cyc_types.specs.TypedTrees.{Expression, Converted, Convert, Statement, Block, Empty, Evaluate, If, While, Break, Continue, Throw, Try, Items, NoItems, MoreItems, Execute, Declare, DeclareRegion, OpenRegion, DeclareAlias, DeclareKey, Clauses, Program}
+use Rattle.cyc_types.specs.TypedTrees.{Expression, Convert, Statement, Block, Empty, Evaluate, If, While, Break, Continue, Throw, Try, Items, NoItems, MoreItems, Execute, Declare, DeclareRegion, OpenRegion, DeclareAlias, DeclareKey, Program}
 use Rattle.cyc_types.specs.TypedTrees as typed
 use Rattle.cyc_types.specs.Rules.{AllKept, Derives}
-use Rattle.cyc_types.specs.Declarations.{declared_types, declared_regions}
-use Rattle.cyc_types.specs.typing.WellTyped.{Context, IsConverted, IsReturned, IsThrown, in_block, behind, with_local, WellTypedStatement, WellTypedItems}
+use Rattle.cyc_types.specs.Declarations.{declared_types}
+use Rattle.cyc_types.specs.typing.WellTyped.{Context, IsReturned, IsThrown, in_block, behind, with_local, WellTypedStatement, WellTypedItems}
 use Rattle.cyc_types.specs.flow.States as flow
 use Rattle.cyc_types.specs.flow.States.{Unreached, Vacant, Full, meet, with_fullness, with_each}
-use Rattle.cyc_types.specs.flow.Statements.{Known, locks_of, caught, rule_statement, rule_items, rule_clauses}
+use Rattle.cyc_types.specs.flow.Statements.{Known, caught, rule_statement, rule_items}
 use Rattle.cyc_types.specs.flow.Statements as statements
 use Rattle.cyc_meaning.specs.Values as values
-use Rattle.cyc_meaning.specs.State.{World, opened, Environment, ConvertTo, Initialise, Choose, Test, ThrowWith, Entry, Needs, Discard, Rest, CloseRegion, Handler, Focus, Evaluating, Executing, Proceeding, Breaking, Continuing, Returning, Throwing, State, Running}
+use Rattle.cyc_meaning.specs.State.{World, opened, Environment, ConvertTo, Initialise, Choose, Test, ThrowWith, Entry, Needs, Discard, Rest, Handler, Focus, Evaluating, Executing, Proceeding, Breaking, Continuing, Returning, Throwing, State, Running}
 use Rattle.cyc_meaning.specs.State as state
-use Rattle.cyc_meaning.specs.Parts.{inside, region_end, declared}
+use Rattle.cyc_meaning.specs.Parts.{inside, region_end}
 use Rattle.cyc_meaning.specs.Exceptions.{throws}
 use Rattle.cyc_meaning.specs.Nesting.{ends_of, IsNested}
 use Rattle.cyc_meaning.specs.Step.{step_executing, returns, continues_with}
-use Rattle.cyc_soundness.specs.Lives.{Value, read, read_value}
-use Rattle.cyc_soundness.specs.Lives as lives
+use Rattle.cyc_soundness.specs.Lives.{Value, read}
 use Rattle.cyc_soundness.specs.Worlds.{Typing, IsTyped}
 use Rattle.cyc_soundness.specs.Frames.{Bound, IsBound, AreVariables, LiveIn, Within, itself, Holds, Implies, LoopExit, Exits, loop_of, around, AreBreaks, is_loop, IsContext, AreGlobals}
 use Rattle.cyc_soundness.specs.Classes.{InStatement, InItems, InValue, InThrown}
@@ -31,7 +30,7 @@ use Rattle.cyc_soundness.proofs.FlowLemmas.{implies_self, implies_after, meet_fi
 use Rattle.cyc_soundness.proofs.RuleLemmas.{breaks_statement, breaks_items, breaks_clauses, clauses_implied, no_locks}
 use Rattle.cyc_soundness.proofs.StackLemmas.{within_bound, within_variables, within_live, within_holds, below_more, live_more}
 use Rattle.cyc_soundness.proofs.Evaluation.{running}
-use Rattle.cyc_soundness.proofs.Supply.{declares_full, declares_blank}
+use Rattle.cyc_soundness.proofs.Supply.{declares_blank}
 use Rattle.cyc_types.specs.flow.Touched.{touched_statement}
 
 -- the same scope further on, where more numbers are given out

@@ -1,5 +1,5 @@
 -- Numbered lists, and numbers that are equal or not.
-use Rattle.std.proofs.Common.{◌≡◌, ℕ, zero, suc, Bool, true, false, List, [], ◌∷◌, ◌++◌, length, set, Option, Some, None, refl, sym, ap, subst, ◌∙◌, inl, inr}
+use Rattle.std.proofs.Common.{◌≡◌, ℕ, zero, suc, Bool, true, false, List, [], ◌∷◌, ◌++◌, length, set, Some, None, refl, ap, inl, inr}
 use Rattle.std.specs.Prelude.{◌≢◌, ◌⊎◌, ◌&&◌, slice_get}
 
 pub same_or_other : (i j : ℕ) → (i ≡ j) ⊎ (i ≢ j)

@@ -1,9 +1,9 @@
 -- What the flow rules only lower: what is known at breaks, and what is known behind a `try`.
-use Rattle.std.proofs.Common.{◌≡◌, ℕ, Bool, true, false, List, [], ◌∷◌, ◌++◌, Option, Some, None, refl, sym, ap, subst, ◌∙◌}
+use Rattle.std.proofs.Common.{◌≡◌, [], refl, sym, subst}
 use Rattle.cyc_types.specs.TypedTrees.{Statement, Block, Empty, Evaluate, Swap, If, While, Return, Break, Continue, Throw, Try, Items, NoItems, MoreItems, Item, Execute, Declare, DeclareRegion, OpenRegion, DeclareAlias, DeclareKey, Clauses, NoClauses, Default, Case}
 use Rattle.cyc_types.specs.Rules.{Derives}
 use Rattle.cyc_types.specs.flow.States.{State, Unreached, Full, meet, with_each}
-use Rattle.cyc_types.specs.flow.Statements.{Around, Known, in_loop, left_loop, locks_of, behind_item, at_end, or_clause, with_caught, rule_statement, rule_items, rule_item, rule_clauses}
+use Rattle.cyc_types.specs.flow.Statements.{Around, Known, left_loop, locks_of, behind_item, at_end, or_clause, with_caught, rule_statement, rule_items, rule_item, rule_clauses}
 use Rattle.cyc_types.specs.flow.Statements as statements
 use Rattle.cyc_soundness.specs.Frames.{Implies}
 use Rattle.cyc_soundness.specs.Classes.{InItems}

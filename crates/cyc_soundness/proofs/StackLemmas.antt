@@ -1,5 +1,5 @@
 -- The typing of stacks: it stays when the typing of the world grows, and what is found of the locals in scope.
-use Rattle.std.proofs.Common.{◌≡◌, ◌≢◌, ◌⊎◌, inl, inr, ℕ, zero, suc, ◌+◌, ◌<◌, ◌≤◌, Bool, true, false, not, List, [], ◌∷◌, ◌++◌, length, map, Option, Some, None, slice_get, eqb, refl, sym, ap, subst, ◌∙◌, arith}
+use Rattle.std.proofs.Common.{◌≡◌, ◌≢◌, inl, inr, ℕ, ◌≤◌, Bool, true, false, List, [], ◌∷◌, Option, Some, None, slice_get, eqb, refl, sym, ap, subst, ◌∙◌, arith}
 use Rattle.std.specs.Prelude.{if◌then◌else◌}
 use Rattle.std.proofs.lemmas.Bool.{eqb-true, eq-eqb, false_from_ne_true}
 use Rattle.cyc_types.specs.Types.{Ty, ValueType, result_type}
@@ -9,18 +9,17 @@ use Rattle.cyc_types.specs.typing.Tests.{is_tested}
 use Rattle.cyc_types.specs.typing.WellTyped.{LocalInScope, Context, HasLocal, HasPlace, Converts, IsChain}
 use Rattle.cyc_types.specs.flow.States as flow
 use Rattle.cyc_types.specs.flow.States.{Full, with_fullness}
-use Rattle.cyc_meaning.specs.Values.{Operand}
-use Rattle.cyc_meaning.specs.State.{Sort, Region, World, Access, Found, Closed, Missing, found_region, is_open, globals_number, Environment, with_local, Awaiting, Entry, Needs, NeedsPlace, Discard, Rest, Join, Loop, CloseRegion, CloseLexical, EndLoan, Handler, Caller, Main}
-use Rattle.cyc_meaning.specs.Nesting.{ends_of, IsScoped, IsFound, AreOpen, IsHome}
+use Rattle.cyc_meaning.specs.State.{Region, Access, Found, Closed, Missing, found_region, is_open, globals_number, Environment, with_local, Awaiting, Entry, Needs, Discard, Rest, Join, Loop, CloseRegion, CloseLexical, Handler, Caller, Main}
+use Rattle.cyc_meaning.specs.Nesting.{ends_of, IsFound, AreOpen, IsHome}
 use Rattle.cyc_soundness.specs.Lives.{RunTy, RunValue, Void, Null, Value, read, read_value}
 use Rattle.cyc_soundness.specs.Lives as lives
-use Rattle.cyc_soundness.specs.Worlds.{Typing, IsFull, variable_type, AreOperands, Grows}
+use Rattle.cyc_soundness.specs.Worlds.{Typing, IsFull, variable_type, Grows}
 use Rattle.cyc_soundness.specs.Frames.{IsAmong, first, later, Bound, IsScope, AreBelow, IsBound, AreVariables, LiveIn, Within, itself, older, IsSet, AreSet, Holds, Exits}
 use Rattle.cyc_soundness.specs.Classes.{InOperations}
 use Rattle.cyc_soundness.specs.Stacks.{IsAccepted, Want, Nothing, Val, Go, held, Waits, IsStack}
 use Rattle.cyc_soundness.specs.Stacks as stacks
 use Rattle.cyc_soundness.proofs.Numbers.{same_or_other}
-use Rattle.cyc_soundness.proofs.FlowLemmas.{other_set, reached_with}
+use Rattle.cyc_soundness.proofs.FlowLemmas.{other_set}
 use Rattle.cyc_soundness.proofs.WorldLemmas.{operands_grown, variables_grown, holds_grown}
 
 -- the functions of a program, each of which the rules accept

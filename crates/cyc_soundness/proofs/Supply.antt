@@ -1,20 +1,18 @@
 -- A VALUE COMES: what waits for it goes on, in a typed state.
-use Rattle.std.proofs.Common.{◌≡◌, ◌⊎◌, inl, inr, ℕ, zero, suc, ◌+◌, ◌<◌, ◌≤◌, Bool, true, false, List, [], ◌∷◌, ◌++◌, length, Option, Some, None, slice_get, refl, sym, ap, subst, ◌∙◌, arith}
+use Rattle.std.proofs.Common.{◌≡◌, ℕ, suc, ◌<◌, ◌≤◌, Bool, true, false, List, ◌∷◌, length, Option, Some, None, slice_get, refl, sym, ap, subst, ◌∙◌, arith}
 use Rattle.std.specs.Prelude.{if◌then◌else◌}
 use Rattle.cyc_types.specs.declared.typed.Kind.{Kind}
 use Rattle.cyc_types.specs.declared.typed.Kind.TheVariants as kinds
 use Rattle.cyc_types.specs.Types.{Ty, ValueType}
-use Rattle.cyc_types.specs.Types as types
 use Rattle.cyc_types.specs.TypedTrees.{Expression, Statement, Items, Program}
-use Rattle.cyc_types.specs.typing.Tests as tests
 use Rattle.cyc_types.specs.typing.WellTyped.{Context, with_local, in_body}
 use Rattle.cyc_types.specs.flow.States as flow
 use Rattle.cyc_types.specs.flow.States.{Vacant, Full, with_fullness}
 use Rattle.cyc_meaning.specs.Values.{Operand}
 use Rattle.cyc_meaning.specs.Values as values
-use Rattle.cyc_meaning.specs.Operators.{is_zero, unary_result, binary_result}
+use Rattle.cyc_meaning.specs.Operators.{unary_result, binary_result}
 use Rattle.cyc_types.specs.declared.typed.UnaryOperator.TheVariants as unary
-use Rattle.cyc_meaning.specs.State.{Region, Object, World, Access, Found, region_at, variable, made, Environment, Awaiting, Entry, Needs, Rest, Join, Loop, Focus, Given, Executing, Proceeding, Returning, Throwing, State, Running}
+use Rattle.cyc_meaning.specs.State.{World, region_at, variable, made, Environment, Awaiting, Entry, Rest, Join, Loop, Focus, Executing, Proceeding, Returning, Throwing, State, Running}
 use Rattle.cyc_meaning.specs.State as state
 use Rattle.cyc_meaning.specs.Parts.{wrong, declared}
 use Rattle.cyc_meaning.specs.Exceptions.{throws_value}
@@ -22,11 +20,11 @@ use Rattle.cyc_meaning.specs.Nesting.{ends_of, IsNested}
 use Rattle.cyc_meaning.specs.Step.{chosen, looped, supplied}
 use Rattle.cyc_meaning.proofs.ListLemmas.{slice_get-end}
 use Rattle.cyc_meaning.proofs.NestingLemmas.{home_found}
-use Rattle.cyc_soundness.specs.Lives.{RunTy, RunValue, Value, kind_at, read, read_value, OfRegion}
+use Rattle.cyc_soundness.specs.Lives.{RunTy, RunValue, Value, kind_at, read}
 use Rattle.cyc_soundness.specs.Lives as lives
 use Rattle.cyc_soundness.specs.Worlds.{Typing, IsFull, variable_type, HasType, IsResult, AreOperands, IsContent, IsObject, IsTyped, Grows}
-use Rattle.cyc_soundness.specs.Frames.{Bound, AreBelow, IsBound, AreVariables, LiveIn, Within, itself, older, IsSet, AreSet, Holds, Implies, LoopExit, Exits, IsContext, AreGlobals}
-use Rattle.cyc_soundness.specs.Stacks.{Executes, Continues, IsLoop, Want, Val, Go, held, inside, Waits, IsReturn, IsStack, IsFocus, IsWell}
+use Rattle.cyc_soundness.specs.Frames.{Bound, AreBelow, IsBound, AreVariables, LiveIn, Within, older, Holds, Implies, LoopExit, Exits, IsContext, AreGlobals}
+use Rattle.cyc_soundness.specs.Stacks.{Executes, Continues, IsLoop, Want, Go, held, inside, Waits, IsReturn, IsStack, IsFocus, IsWell}
 use Rattle.cyc_soundness.specs.Stacks as stacks
 use Rattle.cyc_soundness.proofs.TypeLemmas.{is_kind_same, kind_read}
 use Rattle.cyc_soundness.proofs.FlowLemmas.{holds_implied, reached_with, vacant_now}

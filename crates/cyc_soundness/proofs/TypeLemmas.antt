@@ -1,5 +1,5 @@
 -- Types in two readings, their kinds, and conversions.
-use Rattle.std.proofs.Common.{◌≡◌, ℕ, zero, suc, Bool, true, false, List, [], ◌∷◌, map, Option, Some, None, refl, sym, ap, subst, ◌∙◌}
+use Rattle.std.proofs.Common.{◌≡◌, true, List, [], ◌∷◌, map, Option, Some, None, refl, ap, subst, ◌∙◌}
 use Rattle.std.specs.Prelude.{option_map}
 use Rattle.cyc_syntax.specs.declared.tree.PointerKind.{PointerKind}
 use Rattle.cyc_syntax.specs.declared.tree.PointerKind.TheVariants as marks
@@ -7,12 +7,12 @@ use Rattle.cyc_types.specs.declared.region.Region.{Region}
 use Rattle.cyc_types.specs.declared.typed.Kind.{Kind}
 use Rattle.cyc_types.specs.declared.typed.Kind.TheVariants as kinds
 use Rattle.cyc_types.specs.Regions.{substituted_region}
-use Rattle.cyc_types.specs.Types.{Ty, ValueType, substituted_ty, result_type}
+use Rattle.cyc_types.specs.Types.{Ty, substituted_ty, result_type}
 use Rattle.cyc_types.specs.Types as types
 use Rattle.cyc_types.specs.typing.Tests as tests
 use Rattle.cyc_meaning.specs.Values.{is_kind}
 use Rattle.cyc_meaning.specs.Values as values
-use Rattle.cyc_soundness.specs.Lives.{Life, RunTy, RunValue, Value, kind_at, as_heap, read, read_value}
+use Rattle.cyc_soundness.specs.Lives.{Value, kind_at, as_heap, read, read_value}
 use Rattle.cyc_soundness.specs.Lives as lives
 
 -- ---- kinds

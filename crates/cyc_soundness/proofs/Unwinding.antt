@@ -1,5 +1,5 @@
 -- THE CONTROL STACK is left entry by entry: normally, by `break`, `continue` and `return`, and by an exception.
-use Rattle.std.proofs.Common.{◌≡◌, ℕ, Bool, true, false, List, [], ◌∷◌, Option, Some, None, refl, sym, ap, subst, ◌∙◌}
+use Rattle.std.proofs.Common.{◌≡◌, ℕ, true, false, List, [], ◌∷◌, Option, Some, None, refl, sym, ap, subst, ◌∙◌}
 use Rattle.cyc_types.specs.Types.{Ty, ValueType, result_type}
 use Rattle.cyc_types.specs.Types as types
 use Rattle.cyc_types.specs.TypedTrees.{Expression, Statement, Program}
@@ -7,15 +7,15 @@ use Rattle.cyc_types.specs.flow.States as flow
 use Rattle.cyc_types.specs.flow.States.{is_reached}
 use Rattle.cyc_meaning.specs.Values.{Operand}
 use Rattle.cyc_meaning.specs.Values as values
-use Rattle.cyc_meaning.specs.State.{World, closed, region_at, Environment, Test, Entry, Needs, NeedsPlace, Discard, Rest, Join, Loop, CloseRegion, CloseLexical, EndLoan, Handler, Caller, Main, Focus, Evaluating, Given, Proceeding, Breaking, Continuing, Returning, Throwing, Catching, State, Running}
+use Rattle.cyc_meaning.specs.State.{World, closed, region_at, Environment, Test, Entry, Needs, Discard, Rest, Join, Loop, CloseRegion, Handler, Caller, Main, Focus, Evaluating, Given, Proceeding, Breaking, Continuing, Returning, Throwing, Catching, State, Running}
 use Rattle.cyc_meaning.specs.Parts.{closing}
 use Rattle.cyc_meaning.specs.Nesting.{ends_of, IsNested}
 use Rattle.cyc_meaning.specs.Step.{step_proceeding, step_breaking, step_continuing, returned, main_returned, step_returning, step_throwing}
-use Rattle.cyc_soundness.specs.Lives.{RunValue, Void, Value, read, read_value}
+use Rattle.cyc_soundness.specs.Lives.{Value, read, read_value}
 use Rattle.cyc_soundness.specs.Lives as lives
-use Rattle.cyc_soundness.specs.Worlds.{Typing, HasType, IsResult, IsTyped}
-use Rattle.cyc_soundness.specs.Frames.{Bound, IsBound, AreVariables, LiveIn, Within, Holds, Implies, LoopExit, Exits, is_loop, AreGlobals}
-use Rattle.cyc_soundness.specs.Stacks.{IsLoop, Want, Nothing, Val, Go, inside, IsBlocked, IsReturn, IsStack, IsFocus, IsWell}
+use Rattle.cyc_soundness.specs.Worlds.{Typing, HasType, IsTyped}
+use Rattle.cyc_soundness.specs.Frames.{Bound, IsBound, AreVariables, LiveIn, Holds, LoopExit, Exits, is_loop, AreGlobals}
+use Rattle.cyc_soundness.specs.Stacks.{IsLoop, Want, Nothing, Val, Go, IsBlocked, IsReturn, IsStack, IsFocus, IsWell}
 use Rattle.cyc_soundness.specs.Stacks as stacks
 use Rattle.cyc_soundness.proofs.Numbers.{some_same}
 use Rattle.cyc_soundness.proofs.FlowLemmas.{holds_implied}

@@ -1,5 +1,5 @@
 -- What operators, tests and conversions give of typed values: a value of the type that is wanted, or an exception.
-use Rattle.std.proofs.Common.{◌≡◌, ℕ, zero, suc, ◌+◌, ◌<◌, Bool, true, false, List, [], ◌∷◌, Option, Some, None, eqb, refl, sym, ap, subst, ◌∙◌, arith}
+use Rattle.std.proofs.Common.{◌≡◌, ℕ, ◌+◌, ◌<◌, Bool, true, false, Some, eqb, refl, sym, subst, ◌∙◌, arith}
 use Rattle.std.specs.Prelude.{if◌then◌else◌, nat_lt}
 use Rattle.std.proofs.lemmas.Bool.{ltb-true}
 use Rattle.cyc_syntax.specs.declared.tree.PointerKind.{PointerKind}
@@ -14,7 +14,7 @@ use Rattle.cyc_types.specs.typing.Tests as tests
 use Rattle.cyc_types.specs.typing.WellTyped.{Context, Converts}
 use Rattle.cyc_meaning.specs.Values.{Operand}
 use Rattle.cyc_meaning.specs.Values as values
-use Rattle.cyc_meaning.specs.Operators.{Result, Gives, Raises, Misfits, is_zero, binary_result, word_result, has_no_result, unary_result, binary_word, division_by_zero, array_bounds}
+use Rattle.cyc_meaning.specs.Operators.{Gives, Raises, is_zero, binary_result, has_no_result, unary_result, binary_word, division_by_zero, array_bounds}
 use Rattle.cyc_meaning.specs.Conversion.{conversion, thinned}
 use Rattle.cyc_soundness.specs.Lives.{Life, RunTy, Int, Pointer, Handle, Key, read, read_value}
 use Rattle.cyc_soundness.specs.Lives as lives

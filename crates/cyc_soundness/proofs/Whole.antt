@@ -1,13 +1,12 @@
 -- THE WHOLE: every step of a typed state leads to a typed state, so no run of an accepted program of the class is dead or wrong.
-use Rattle.std.proofs.Common.{◌≡◌, ◌≢◌, ◌⊎◌, inl, inr, ℕ, zero, suc, Bool, true, false, not, List, [], ◌∷◌, length, map, Option, Some, None, slice_get, refl, sym, ap, subst, ◌∙◌}
+use Rattle.std.proofs.Common.{◌≡◌, ◌≢◌, inl, inr, ℕ, zero, suc, Bool, true, false, List, [], ◌∷◌, length, map, Option, Some, None, slice_get, refl, sym, ap, subst}
 use Rattle.std.specs.Prelude.{if◌then◌else◌}
 use Rattle.std.proofs.lemmas.Bool.{eq-eqb}
 use Rattle.cyc_syntax.specs.declared.tree.PointerKind.TheVariants as marks
 use Rattle.cyc_syntax.specs.Symbols.{Place}
 use Rattle.cyc_types.specs.Types.{Ty}
 use Rattle.cyc_types.specs.Types as types
-use Rattle.cyc_types.specs.TypedTrees.{GlobalVariable, Constant, Word, Signature, Function, Program}
-use Rattle.cyc_types.specs.TypedTrees as typed
+use Rattle.cyc_types.specs.TypedTrees.{GlobalVariable, Signature, Function, Program}
 use Rattle.cyc_types.specs.Rules.{AllKept, Derives}
 use Rattle.cyc_types.specs.typing.Scopes.{signature_of_ints}
 use Rattle.cyc_types.specs.typing.WellTyped.{signature_of, IsWellTypedProgram, AreWellTypedFunctions}
@@ -15,18 +14,17 @@ use Rattle.cyc_types.specs.flow.States as flow
 use Rattle.cyc_types.specs.flow.States.{is_reached}
 use Rattle.cyc_types.specs.flow.Programs.{end_demanded, rule_functions, IsAllowedProgram}
 use Rattle.cyc_meaning.specs.Values as values
-use Rattle.cyc_meaning.specs.State.{World, Object, Environment, no_locals, first_world, global_object, constant_value, globals_number, Awaiting, Entry, Needs, Discard, Main, Focus, Evaluating, Locating, Given, GivenPlace, Executing, Proceeding, Calling, Entering, Binding, Naming, Writing, Beginning, Repeating, Swapping, Breaking, Continuing, Returning, Throwing, Catching, State, Running, Ended, Dead, Wrong, GoesOn, HasEnded, IsDead, IsWrong, status_of}
+use Rattle.cyc_meaning.specs.State.{World, Object, Environment, no_locals, first_world, global_object, constant_value, Entry, Needs, Discard, Main, Focus, Evaluating, Given, Executing, Proceeding, Calling, Entering, Binding, Naming, Breaking, Continuing, Returning, Throwing, Catching, State, Running, Ended, Dead, Wrong, GoesOn, HasEnded, IsDead, IsWrong, status_of}
 use Rattle.cyc_meaning.specs.Parts.{wrong}
 use Rattle.cyc_meaning.specs.Nesting.{ends_of, IsNested, Nests}
 use Rattle.cyc_meaning.specs.Step.{called, step, stepped, step_given}
 use Rattle.cyc_meaning.specs.Run.{start, steps, run}
 use Rattle.cyc_meaning.proofs.Nested.{nests_step, nests_start}
 use Rattle.cyc_soundness.specs.Lives.{RunValue, read}
-use Rattle.cyc_soundness.specs.Lives as lives
-use Rattle.cyc_soundness.specs.Worlds.{ObjectType, Typing, IsFull, global_type, HasType, IsResult, AreOperands, IsObject, IsTyped}
-use Rattle.cyc_soundness.specs.Frames.{Bound, IsBound, AreVariables, LiveIn, Within, itself, Holds, Exits, AreGlobals}
+use Rattle.cyc_soundness.specs.Worlds.{ObjectType, Typing, global_type, HasType, IsResult, AreOperands, IsObject, IsTyped}
+use Rattle.cyc_soundness.specs.Frames.{Bound, IsBound, AreVariables, LiveIn, itself, Holds, Exits, AreGlobals}
 use Rattle.cyc_soundness.specs.Classes.{InFunctions, IsOfVariables}
-use Rattle.cyc_soundness.specs.Stacks.{IsAccepted, Val, Go, IsBlocked, IsStack, IsFocus, IsRunning, IsWell}
+use Rattle.cyc_soundness.specs.Stacks.{IsAccepted, Val, IsStack, IsFocus, IsWell}
 use Rattle.cyc_soundness.specs.Sound.{MayBeNull, HasValue, HaveValues, IsSound}
 use Rattle.cyc_soundness.proofs.Numbers.{some_same}
 use Rattle.cyc_soundness.proofs.TypeLemmas.{kind_meant}
@@ -34,7 +32,7 @@ use Rattle.cyc_soundness.proofs.StackLemmas.{AreAccepted}
 use Rattle.cyc_soundness.proofs.Evaluation.{running, not_true, of_map, evaluate}
 use Rattle.cyc_soundness.proofs.Supply.{given, declares_full}
 use Rattle.cyc_soundness.proofs.Execution.{execute}
-use Rattle.cyc_soundness.proofs.Calls.{blocked_of, call, enter, bind, catch}
+use Rattle.cyc_soundness.proofs.Calls.{call, enter, bind, catch}
 use Rattle.cyc_soundness.proofs.Unwinding.{proceed, breaks, continues, returns_on, throws_on}
 
 -- ---- a step

@@ -1,16 +1,15 @@
 -- The typing of a world grows: an object is made, a cell of a variable is written, and what was typed stays so.
-use Rattle.std.proofs.Common.{◌≡◌, ℕ, zero, suc, ◌+◌, ◌<◌, Bool, true, false, List, [], ◌∷◌, ◌++◌, length, set, Option, Some, None, refl, sym, ap, subst, ◌∙◌, inl, inr, arith, length-append}
-use Rattle.std.specs.Prelude.{◌≢◌, ◌⊎◌, if◌then◌else◌, slice_get}
+use Rattle.std.proofs.Common.{◌≡◌, ℕ, ◌+◌, Bool, true, List, [], ◌∷◌, ◌++◌, length, set, Option, Some, None, refl, sym, ap, subst, ◌∙◌, inl, inr, length-append}
+use Rattle.std.specs.Prelude.{if◌then◌else◌, slice_get}
 use Rattle.std.proofs.lemmas.List.{length-set}
 use Rattle.cyc_syntax.specs.declared.tree.PointerKind.TheVariants as marks
-use Rattle.cyc_types.specs.declared.typed.Kind.{Kind}
 use Rattle.cyc_types.specs.TypedTrees.{Program}
 use Rattle.cyc_meaning.specs.Values.{Operand, Cell}
 use Rattle.cyc_meaning.specs.Values as values
-use Rattle.cyc_meaning.specs.State.{Region, Owner, InRegion, Unique, Object, World, Access, Found, Closed, Missing, Located, located, is_open, is_live, cell_in, cell_at, variable, made, written}
+use Rattle.cyc_meaning.specs.State.{Owner, InRegion, Unique, Object, World, Found, Closed, located, is_open, is_live, cell_in, cell_at, written}
 use Rattle.cyc_meaning.proofs.ListLemmas.{slice_get-append, slice_get-end, slice_get-set_other}
-use Rattle.cyc_soundness.specs.Lives.{Life, OfRegion, OfObject, Never, RunTy, Int, Pointer, Handle, Key, Struct, RunValue, Void, Null, Value, kind_at}
-use Rattle.cyc_soundness.specs.Worlds.{ObjectType, Typing, IsFull, variable_type, IsTarget, HasType, IsResult, AreOperands, IsContent, IsCell, AreCells, IsOwner, IsObject, IsTyped, Grows}
+use Rattle.cyc_soundness.specs.Lives.{Life, OfRegion, RunTy, Int, Pointer, Handle, Key, RunValue, Void, Null, Value}
+use Rattle.cyc_soundness.specs.Worlds.{ObjectType, Typing, IsTarget, HasType, IsResult, AreOperands, IsContent, IsCell, AreCells, IsOwner, IsObject, IsTyped, Grows}
 use Rattle.cyc_soundness.specs.Frames.{Bound, AreVariables, AreSet, Holds, AreGlobals}
 use Rattle.cyc_types.specs.flow.States as flow
 use Rattle.cyc_soundness.proofs.Numbers.{same_or_other, slice_get-set_same, appended, some_same}

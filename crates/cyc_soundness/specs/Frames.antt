@@ -1,7 +1,7 @@
 -- THE LOCALS OF A CALL: to which objects the numbers in scope lead, what the flow rules say of them, and where control may go.
 use Rattle.std.specs.Prelude.{◌≡◌, ℕ, ◌<◌, Bool, true, false, List, [], ◌∷◌, map, Option, Some, None, slice_get}
 use Rattle.cyc_syntax.specs.Symbols.{Place}
-use Rattle.cyc_types.specs.Types.{Ty, ValueType}
+use Rattle.cyc_types.specs.Types.{Ty}
 use Rattle.cyc_types.specs.TypedTrees.{GlobalVariable, Program}
 use Rattle.cyc_types.specs.typing.WellTyped.{LocalInScope, Context, signature_of}
 use Rattle.cyc_types.specs.flow.States as flow

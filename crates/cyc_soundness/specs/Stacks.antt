@@ -1,33 +1,32 @@
 -- THE TYPING OF STATES. Each entry of the control stack is typed from what it awaits to what it hands on. Typed trees on it keep their
 -- judgements, types and flow in one; the locals in scope are an index, of which an entry may forget the newest.
-use Rattle.std.specs.Prelude.{◌≡◌, ◌⊎◌, ℕ, suc, ◌+◌, Bool, true, false, List, [], ◌∷◌, ◌++◌, length, map, Option, Some, None, slice_get}
+use Rattle.std.specs.Prelude.{◌≡◌, ◌⊎◌, ℕ, ◌+◌, true, false, List, [], ◌∷◌, length, map, Option, Some, None, slice_get}
 use Rattle.cyc_types.specs.declared.typed.Kind.{Kind}
 use Rattle.cyc_types.specs.declared.typed.Callee.{Callee}
 use Rattle.cyc_types.specs.declared.typed.Callee.TheVariants as callees
 use Rattle.cyc_types.specs.declared.typed.Operator.{Operator}
-use Rattle.cyc_types.specs.declared.typed.UnaryOperator.{UnaryOperator}
 use Rattle.cyc_types.specs.declared.typed.UnaryOperator.TheVariants as unary
 use Rattle.cyc_types.specs.Types.{Ty, ValueType, result_type}
 use Rattle.cyc_types.specs.Types as types
-use Rattle.cyc_types.specs.TypedTrees.{Local, Global, Expression, Converted, Arguments, Operations, Statement, Items, Clauses, GlobalVariable, Function, Program}
+use Rattle.cyc_types.specs.TypedTrees.{Expression, Arguments, Operations, Statement, Items, Clauses, GlobalVariable, Function, Program}
 use Rattle.cyc_types.specs.Rules.{Derives}
 use Rattle.cyc_types.specs.typing.Tests.{is_tested, kind_of, kind_of_value}
-use Rattle.cyc_types.specs.typing.Expressions.{assigned_type, instantiated}
-use Rattle.cyc_types.specs.typing.WellTyped.{LocalInScope, Context, IsCallee, WellTyped, IsPeek, IsConverted, ArePassed, Converts, IsChain, IsCondition, in_body, with_local, WellTypedStatement, WellTypedItems, WellTypedClauses, IsWellTypedFunction, body_context, parameters_in_scope}
+use Rattle.cyc_types.specs.typing.Expressions.{assigned_type}
+use Rattle.cyc_types.specs.typing.WellTyped.{LocalInScope, Context, WellTyped, IsPeek, ArePassed, Converts, IsChain, in_body, with_local, WellTypedStatement, WellTypedItems, WellTypedClauses, IsWellTypedFunction, parameters_in_scope}
 use Rattle.cyc_types.specs.flow.States as flow
-use Rattle.cyc_types.specs.flow.States.{Unreached, Full, meet, with_fullness, is_at_least, is_reached}
-use Rattle.cyc_types.specs.flow.Expressions.{rule, rule_converted, rule_arguments, rule_operations}
-use Rattle.cyc_types.specs.flow.Statements.{Known, in_loop, rule_statement, rule_items, rule_clauses}
-use Rattle.cyc_types.specs.flow.Programs.{start_of, in_function, rule_function}
+use Rattle.cyc_types.specs.flow.States.{Unreached, Full, with_fullness, is_reached}
+use Rattle.cyc_types.specs.flow.Expressions.{rule, rule_arguments, rule_operations}
+use Rattle.cyc_types.specs.flow.Statements.{rule_statement, rule_items, rule_clauses}
+use Rattle.cyc_types.specs.flow.Programs.{start_of, in_function}
 use Rattle.cyc_meaning.specs.Values.{Operand}
 use Rattle.cyc_meaning.specs.Values as values
-use Rattle.cyc_meaning.specs.State.{Awaiting, ConvertTo, Operate, Chain, Apply, Decide, Store, Pass, Initialise, Choose, Test, Return, ThrowWith, Entry, Needs, NeedsPlace, Discard, Rest, Join, Loop, CloseRegion, CloseLexical, EndLoan, Handler, Caller, Main, Environment, World, Focus, Evaluating, Given, Executing, Proceeding, Calling, Entering, Binding, Naming, Breaking, Continuing, Returning, Throwing, Catching, State, Running, Ended, Dead, Wrong}
+use Rattle.cyc_meaning.specs.State.{Awaiting, ConvertTo, Operate, Chain, Apply, Decide, Store, Pass, Initialise, Choose, Test, Return, ThrowWith, Entry, Needs, Discard, Rest, Join, Loop, CloseRegion, Handler, Caller, Main, Environment, World, Focus, Evaluating, Given, Executing, Proceeding, Calling, Entering, Binding, Naming, Breaking, Continuing, Returning, Throwing, Catching, State, Running, Ended, Dead, Wrong}
 use Rattle.cyc_meaning.specs.Nesting.{ends_of}
 use Rattle.cyc_soundness.specs.Lives.{RunTy, RunValue, Value, read, read_value}
 use Rattle.cyc_soundness.specs.Lives as lives
-use Rattle.cyc_soundness.specs.Worlds.{Typing, IsFull, HasType, IsResult, AreOperands, IsTyped}
+use Rattle.cyc_soundness.specs.Worlds.{Typing, IsFull, IsResult, AreOperands, IsTyped}
 use Rattle.cyc_soundness.specs.Frames.{IsAmong, Bound, IsScope, AreBelow, IsBound, AreVariables, LiveIn, Within, Holds, Implies, LoopExit, Exits, around, AreBreaks, is_loop, IsContext, AreGlobals}
-use Rattle.cyc_soundness.specs.Classes.{KeepsToVariables, InConverted, InArguments, InOperations, InStatement, InItems, InClauses}
+use Rattle.cyc_soundness.specs.Classes.{KeepsToVariables, InArguments, InOperations, InStatement, InItems, InClauses}
 
 -- ---- trees, with what is known before and behind them
 

@@ -6,7 +6,7 @@ use Rattle.cyc_types.specs.declared.typed.Kind.TheVariants as kinds
 use Rattle.cyc_meaning.specs.Values.{Operand, Cell}
 use Rattle.cyc_meaning.specs.Values as values
 use Rattle.cyc_meaning.specs.Operators.{Result, Gives, Raises, Misfits}
-use Rattle.cyc_meaning.specs.State.{Owner, InRegion, Unique, Object, World, globals_number}
+use Rattle.cyc_meaning.specs.State.{Owner, InRegion, Unique, Object, globals_number}
 use Rattle.cyc_soundness.specs.Lives.{Life, OfRegion, OfObject, RunTy, Int, Pointer, Handle, Key, Struct, RunValue, Void, Null, Value, kind_at}
 
 pub record ObjectType : Type 0 where
