@@ -1,0 +1,239 @@
+-- CALLS: arguments become parameters, and the body of a function begins; the clauses of a `try` begin.
+use Rattle.std.proofs.Common.{◌≡◌, ℕ, suc, ◌+◌, ◌<◌, ◌≤◌, ◌%◌, Bool, true, false, List, [], ◌∷◌, ◌++◌, length, map, reverse, Option, Some, None, refl, sym, ap, subst, ◌∙◌, arith}
+use Rattle.std.specs.Prelude.{if◌then◌else◌, ◌==◌}
+use Rattle.std.proofs.lemmas.Bool.{eq-eqb}
+use mathlib.Core.List.{reverse_aux}
+use Rattle.cyc_types.specs.declared.typed.Kind.TheVariants as kinds
+use Rattle.cyc_types.specs.declared.typed.Callee.{Callee}
+use Rattle.cyc_types.specs.declared.typed.Callee.TheVariants as callees
+use Rattle.cyc_types.specs.Types.{Ty}
+use Rattle.cyc_types.specs.Types as types
+use Rattle.cyc_types.specs.TypedTrees.{Items, Clauses, NoClauses, Default, Case, Function, Program}
+use Rattle.cyc_types.specs.Declarations.{caught_types, item_types}
+use Rattle.cyc_types.specs.Rules.{Derives}
+use Rattle.cyc_types.specs.typing.WellTyped.{LocalInScope, Context, IsCaught, in_block, with_local, with_caught, behind_clause, WellTypedItems, WellTypedClauses, body_context, parameters_in_scope}
+use Rattle.cyc_types.specs.flow.States as flow
+use Rattle.cyc_types.specs.flow.States.{Unreached, Full, meet, with_fullness, with_each, is_reached}
+use Rattle.cyc_types.specs.flow.Statements.{Known, locks_of, or_clause, rule_items, rule_clauses}
+use Rattle.cyc_types.specs.flow.Statements as statements
+use Rattle.cyc_types.specs.flow.Programs.{start_of}
+use Rattle.cyc_meaning.specs.Values.{Operand}
+use Rattle.cyc_meaning.specs.Values as values
+use Rattle.cyc_meaning.specs.State.{World, opened, Environment, no_locals, region_at, Entry, Rest, Caller, Given, Proceeding, Entering, Binding, Naming, Throwing, Catching, State, Running}
+use Rattle.cyc_meaning.specs.Parts.{wrong, inside, region_end, declared}
+use Rattle.cyc_meaning.specs.Exceptions.{catches, step_catching}
+use Rattle.cyc_meaning.specs.Nesting.{ends_of, IsNested}
+use Rattle.cyc_meaning.specs.Step.{called, values_of, prints, reads, step_calling, step_entering, step_binding}
+use Rattle.cyc_soundness.specs.Lives.{RunTy, RunValue, Value, read}
+use Rattle.cyc_soundness.specs.Lives as lives
+use Rattle.cyc_soundness.specs.Worlds.{Typing, HasType, AreOperands, IsTyped, Grows}
+use Rattle.cyc_soundness.specs.Frames.{Bound, IsScope, AreBelow, IsBound, AreVariables, LiveIn, Within, itself, older, AreSet, Holds, Implies, Exits, loop_of, around, AreBreaks, IsContext, AreGlobals}
+use Rattle.cyc_soundness.specs.Classes.{InItems, InClauses}
+use Rattle.cyc_soundness.specs.Stacks.{Continues, Catches, IsAccepted, Val, Go, turned, IsCalled, IsBlocked, AreFull, IsBody, IsStack, IsWell}
+use Rattle.cyc_soundness.proofs.TypeLemmas.{is_kind_same, kind_meant}
+use Rattle.cyc_soundness.proofs.FlowLemmas.{implies_self, implies_after, meet_second}
+use Rattle.cyc_soundness.proofs.RuleLemmas.{breaks_clauses, clauses_implied, no_locks}
+use Rattle.cyc_soundness.proofs.WorldLemmas.{operands_grown}
+use Rattle.cyc_soundness.proofs.StackLemmas.{AreAccepted, stack_grown, below_more, live_more}
+use Rattle.cyc_soundness.proofs.Evaluation.{running}
+use Rattle.cyc_soundness.proofs.Supply.{declares}
+use Rattle.cyc_soundness.proofs.Execution.{context_inside, breaks_before}
+
+-- ---- lists of operands
+
+turned_length : {A : Type 0} (as' bs : List A) → length (turned as' bs) ≡ length as' + length bs
+turned_length [] bs = let e : 0 + length bs ≡ length bs = omega arith in sym e
+turned_length (a ∷ as') bs =
+    let e : length (turned as' (a ∷ bs)) ≡ length as' + suc (length bs) = turned_length as' (a ∷ bs) in
+    let r : length (turned as' (a ∷ bs)) ≡ suc (length as') + length bs = omega (arith, e) in
+    r
+
+operands_turned : (g : Typing) (ts us : List RunTy) (vs ws : List Operand) → AreOperands g ts vs → AreOperands g us ws → AreOperands g (turned ts us) (reverse_aux vs ws)
+operands_turned g [] us [] ws are more = more
+operands_turned g [] us (v ∷ vs) ws are more = absurd are
+operands_turned g (t ∷ ts) us [] ws are more = absurd are
+operands_turned g (t ∷ ts) us (v ∷ vs) ws (is, are) more = operands_turned g ts (t ∷ us) vs (v ∷ ws) are (is, more)
+
+operands_reversed : (g : Typing) (ts : List RunTy) (vs : List Operand) → AreOperands g ts vs → AreOperands g (turned ts []) (reverse vs)
+operands_reversed g ts vs are = operands_turned g ts [] vs [] are tt
+
+operands_count : (g : Typing) (ts : List Ty) (vs : List Operand) → AreOperands g (map read ts) vs → length vs ≡ length ts
+operands_count g [] [] are = refl
+operands_count g [] (v ∷ vs) are = absurd are
+operands_count g (t ∷ ts) [] are = absurd are
+operands_count g (t ∷ ts) (v ∷ vs) are = ap suc (operands_count g ts vs are.1)
+
+pub blocked_of : (o : Option Ty) (f : flow.State) → ((t : Ty) → o ≡ Some t → is_reached f ≡ false) → IsBlocked o f
+blocked_of None f ends = tt
+blocked_of (Some t) f ends = ends t refl
+
+all_set : (g : Typing) (f : flow.State) (bs : List Bound) → AreFull g bs → AreSet g f bs
+all_set g f [] are = tt
+all_set g f (b ∷ bs) (is, are) = (λ s. is, all_set g f bs are)
+
+full_grown : (g h : Typing) → Grows g h → (bs : List Bound) → AreFull g bs → AreFull h bs
+full_grown g h grows [] are = tt
+full_grown g h grows (b ∷ bs) (is, are) = (grows.full b.object is, full_grown g h grows bs are)
+
+module _ (p : Program) (accepted : AreAccepted p) where
+  module _ (g : Typing) (x : Exits) (bs : List Bound) (e : Environment) (w : World) (typed : IsTyped g w.objects) (globals : AreGlobals g p) (bound : IsBound e.locals bs) (variables : AreVariables g bs) where
+    -- ---- calls
+
+    printed_on : (ts : List RunTy) (vs : List Operand) (k : List Entry) (f : flow.State) → LiveIn (ends_of k) bs → Holds g f bs → turned ts [] ≡ lives.Int ∷ [] → AreOperands g ts vs
+        → IsStack p g x bs (Val (Value lives.Int) f) k → IsWell p (prints (values_of vs) k e w)
+    printed_on [] vs k f live holds same are stack = absurd (let z : [] ≡ lives.Int ∷ [] = same in cc)
+    printed_on (t ∷ []) [] k f live holds same are stack = absurd are
+    printed_on (t ∷ []) (v ∷ v2 ∷ vs) k f live holds same are stack = absurd are.1
+    printed_on (t ∷ u ∷ ts) vs k f live holds same are stack =
+        let e1 : length (turned ts (u ∷ t ∷ [])) ≡ length ts + 2 = turned_length ts (u ∷ t ∷ []) in let e2 : length (turned ts (u ∷ t ∷ [])) ≡ 1 = ap length same in absurd (omega (arith, e1, e2))
+    printed_on (t ∷ []) (v ∷ []) k f live holds same (is, unit) stack =
+        let int : t ≡ lives.Int = (let z : t ∷ [] ≡ lives.Int ∷ [] = same in cc) in
+        go v.value (subst (λ z. HasType g z v.value) int is.1)
+      where
+        go : (value : values.Value) → HasType g lives.Int value → IsWell p (prints (value ∷ []) k e w)
+        go (values.Int word) has = running p g x bs e (record w { output = w.output ++ word % 256 ∷ [] }) typed globals bound variables
+            (Given (record { kind = kinds.Int; value = values.Int (word % 256) })) k live (Value lives.Int, f, holds, (refl, tt), stack)
+        go value has = absurd has
+
+    read_on : (ts : List RunTy) (vs : List Operand) (k : List Entry) (f : flow.State) → LiveIn (ends_of k) bs → Holds g f bs → turned ts [] ≡ [] → AreOperands g ts vs
+        → IsStack p g x bs (Val (Value lives.Int) f) k → IsWell p (reads (values_of vs) k e w)
+    read_on [] [] k f live holds same are stack =
+        running p g x bs e _ typed globals bound variables (Given _) k live (Value lives.Int, f, holds, (refl, tt), stack)
+    read_on [] (v ∷ vs) k f live holds same are stack = absurd are
+    read_on (t ∷ ts) vs k f live holds same are stack =
+        let e1 : length (turned ts (t ∷ [])) ≡ length ts + 1 = turned_length ts (t ∷ []) in let e2 : length (turned ts (t ∷ [])) ≡ 0 = ap length same in absurd (omega (arith, e1, e2))
+
+    pub call : (callee : Callee) (vs : List Operand) (k : List Entry) (ts : List RunTy) (r : RunValue) (f : flow.State) → LiveIn (ends_of k) bs → Holds g f bs → IsCalled p callee (turned ts []) r → AreOperands g ts vs
+        → IsStack p g x bs (Val r f) k → IsWell p (step_calling p callee vs k e w)
+    call callees.Putchar vs k ts r f live holds (types_is, result_is) are stack = printed_on ts vs k f live holds types_is are (subst (λ z. IsStack p g x bs (Val z f) k) result_is stack)
+    call callees.Getchar vs k ts r f live holds (types_is, result_is) are stack = read_on ts vs k f live holds types_is are (subst (λ z. IsStack p g x bs (Val z f) k) result_is stack)
+    call (callees.Function n) vs k ts r f live holds (h, at, types_is, result_is) are stack =
+        let (end, ok) = accepted n h at in
+        let arguments : AreOperands g (map read h.parameters) (reverse vs) = subst (λ us. AreOperands g us (reverse vs)) types_is (operands_reversed g ts vs are) in
+        let y : Exits = record { loop = None; result = h.result } in
+        subst (λ o. IsWell p (called o (reverse vs) (Caller e ∷ k) w)) (sym at)
+        (subst (λ (b : Bool). IsWell p (if b then Running (Entering h (reverse vs)) (Caller e ∷ k) no_locals w else wrong w)) (sym (eq-eqb (length (reverse vs)) (length h.parameters) (operands_count g h.parameters (reverse vs) arguments)))
+        (running p g y [] no_locals w typed globals tt tt (Entering h (reverse vs)) (Caller e ∷ k) tt (
+          end,
+          ok,
+          (refl, refl),
+          refl,
+          arguments,
+          (x, bs, f, refl, blocked_of h.result end ok.ends, bound, variables, live, holds, subst (λ z. IsStack p g x bs (Val z f) k) result_is stack),
+        )))
+
+    pub enter : (h : Function) (vs : List Operand) (k : List Entry) (end : flow.State) → IsAccepted p h end → IsBody x h → bs ≡ [] → AreOperands g (map read h.parameters) vs → IsStack p g x bs (Go end) k
+        → IsWell p (step_entering h vs k e w)
+    enter h vs k end ok body none are stack =
+        let count : 0 + length h.parameters ≡ length h.parameters = omega arith in
+        running p g x [] (inside e w) (opened w) typed globals tt tt (Binding 0 h.parameters vs h.body) (region_end e w ∷ k) tt
+        (h, end, [], [], itself [], ok, body, refl, refl, count, are, tt, tt, tt, (end, implies_self end, tt, subst (λ cs. IsStack p g x cs (Go end) k) none stack))
+
+    begin : (h : Function) (number : ℕ) (js : Items) (k : List Entry) (end : flow.State) (vs : List LocalInScope) (cs : List Bound) → LiveIn (ends_of k) bs → Within cs bs → IsAccepted p h end → IsBody x h → js ≡ h.body
+        → vs ≡ parameters_in_scope h.parameters 0 [] → number + 0 ≡ length h.parameters → IsScope vs bs → AreBelow number bs → AreFull g bs → IsStack p g x cs (Go end) k
+        → IsWell p (Running Proceeding (Rest js ∷ k) e w)
+    begin h number js k end vs cs live within ok (loop, result) body scope_is count scope below full stack =
+        let flows = subst (λ o. Derives (rule_items (record { loop = loop_of o; locks = [] }) h.body (record { now = start_of h; breaks = Unreached })) (record { now = end; breaks = ok.breaks })) (sym loop) ok.flows in
+        let rest : Continues x (body_context p h) h.body (start_of h) end =
+        record { before = Unreached; behind = ok.breaks; typed = ok.typed.body; flows = flows; breaks = subst (λ o. AreBreaks o ok.breaks) (sym loop) tt; kept = ok.kept } in
+        let last : number ≤ length h.parameters = omega (arith, count) in
+        let stands : IsContext p x bs (body_context p h) = record {
+          globals = refl;
+          functions = refl;
+          result = sym result;
+          loop = λ no. (let z : false ≡ true = no in absurd (cc));
+          scope = subst (λ z. IsScope z bs) scope_is scope;
+          below = below_more number (length h.parameters) bs last below;
+        } in
+        subst (λ z. IsWell p (Running Proceeding (Rest z ∷ k) e w)) (sym body)
+        (running p g x bs e w typed globals bound variables Proceeding (Rest h.body ∷ k) live
+        (start_of h, (refl, all_set g (start_of h) bs full), (cs, body_context p h, end, within, stands, rest, stack)))
+
+    pub bind : (number : ℕ) (ts : List Ty) (arguments : List Operand) (js : Items) (k : List Entry) (h : Function) (end : flow.State) (vs : List LocalInScope) (cs : List Bound) → IsNested k e w → LiveIn (ends_of k) bs
+        → Within cs bs → IsAccepted p h end → IsBody x h → js ≡ h.body → parameters_in_scope ts number vs ≡ parameters_in_scope h.parameters 0 [] → number + length ts ≡ length h.parameters
+        → AreOperands g (map read ts) arguments → IsScope vs bs → AreBelow number bs → AreFull g bs → IsStack p g x cs (Go end) k → IsWell p (step_binding number ts arguments js k e w)
+    bind number [] [] js k h end vs cs nests live within ok body body_is scope_is count are scope below full stack = begin h number js k end vs cs live within ok body body_is scope_is count scope below full stack
+    bind number [] (v ∷ arguments) js k h end vs cs nests live within ok body body_is scope_is count are scope below full stack = absurd are
+    bind number (t ∷ ts) [] js k h end vs cs nests live within ok body body_is scope_is count are scope below full stack = absurd are
+    bind number (t ∷ ts) (v ∷ arguments) js k h end vs cs nests live within ok body body_is scope_is count (is, are) scope below full stack =
+        let more : suc number + length ts ≡ length h.parameters = omega (arith, count) in
+        subst (λ (b : Bool). IsWell p (if b then declared (region_at w e.home) (Binding (suc number) ts arguments js) number (values.kind_of t) (Some v.value) k e w else wrong w))
+        (sym (is_kind_same v.kind (values.kind_of t) (is.0 ∙ kind_meant t)))
+        (declares p g x bs e w typed globals bound variables number (values.kind_of t) t (Some v.value) true (Binding (suc number) ts arguments js) k nests live below (sym (kind_meant t)) is.1
+        (λ grows filled. (
+          h,
+          end,
+          record { number = number; of_type = t; region = 0; is_place = true } ∷ vs,
+          cs,
+          older _ cs bs within,
+          ok,
+          body,
+          body_is,
+          scope_is,
+          more,
+          operands_grown g _ grows (map read ts) arguments are,
+          ((refl, refl), scope),
+          ((let less : number < suc number = omega arith in less), below_more number (suc number) bs (let le : number ≤ suc number = omega arith in le) below),
+          (filled refl, full_grown g _ grows bs full),
+          stack_grown p g _ grows x cs (Go end) k stack,
+        )))
+
+    -- ---- clauses
+
+    begin_clause : (js : Items) (k : List Entry) (c : Context) (start h before : flow.State) (l : Known) → LiveIn (ends_of k) bs → IsContext p x bs c → Holds g start bs → WellTypedItems (in_block c) js
+        → Derives (rule_items (around x) js (record { now = start; breaks = before })) l → AreBreaks x.loop l.breaks → InItems js → Implies l.now h → IsStack p g x bs (Go h) k
+        → IsWell p (Running Proceeding (Rest js ∷ region_end e w ∷ k) (inside e w) (opened w))
+    begin_clause js k c start h before l live stands holds well flows are kept implies stack =
+        let rest : Continues x (in_block c) js start l.now = record { before = before; behind = l.breaks; typed = well; flows = flows; breaks = are; kept = kept } in
+        running p g x bs (inside e w) (opened w) typed globals bound variables Proceeding (Rest js ∷ region_end e w ∷ k) (live_more _ (ends_of k) bs live)
+        (start, holds, (bs, in_block c, l.now, itself bs, context_inside p x bs c stands, rest, (h, implies, live, stack)))
+
+    caught : (value : ℕ) (v : Option ℕ) (js : Items) (k : List Entry) (c : Context) (start h before : flow.State) (has : Bool) (l : Known) → LiveIn (ends_of k) bs → IsContext p x bs c → Holds g start bs → IsCaught c has v
+        → WellTypedItems (with_caught v (in_block c)) js → Derives (rule_items (around x) js (record { now = statements.with_caught v start; breaks = before })) l → AreBreaks x.loop l.breaks → InItems js → Implies l.now h
+        → IsStack p g x bs (Go h) k → IsWell p (catches value v js k e w)
+    caught value None js k c start h before has l live stands holds is well flows are kept implies stack = begin_clause js k c start h before l live stands holds well flows are kept implies stack
+    caught value (Some n) js k c start h before false l live stands holds is well flows are kept implies stack = absurd is
+    caught value (Some n) js k c start h before true l live stands holds (number, there) well flows are kept implies stack =
+        let rest : Continues x (with_local true types.Int (in_block c)) js (with_fullness Full start n) l.now = record { before = before; behind = l.breaks; typed = well; flows = flows; breaks = are; kept = kept } in
+        running p g x bs (inside e w) (opened w) typed globals bound variables (Naming n (record { kind = kinds.Int; value = values.Int value }) js) (region_end e w ∷ k) (live_more _ (ends_of k) bs live)
+        (in_block c, types.Int, start, l.now, context_inside p x bs c stands, holds, number, (refl, tt), rest, (h, implies, live, stack))
+
+    pub catch : (tag value : ℕ) (ds : Clauses) (k : List Entry) (c : Context) (start f h before behind : flow.State) → LiveIn (ends_of k) bs → IsContext p x bs c → Holds g start bs → WellTypedClauses c ds
+        → Derives (rule_clauses (around x) start ds (record { now = f; breaks = before })) (record { now = h; breaks = behind }) → AreBreaks x.loop behind → InClauses ds → IsStack p g x bs (Go h) k
+        → IsWell p (step_catching tag value ds k e w)
+    catch tag value NoClauses k c start f h before behind live stands holds well flows are kept stack = running p g x bs e w typed globals bound variables (Throwing tag value) k live (Go h, stack)
+    catch tag value (Default r js) k c start f h before behind live stands holds (number, well) (l, d, (u, known)) are kept stack =
+        let now : h ≡ meet f (with_each Full (locks_of js) l.now) = ap (λ (z : Known). z.now) known in
+        let plain : h ≡ meet f l.now = now ∙ ap (λ ns. meet f (with_each Full ns l.now)) (no_locks js kept) in
+        begin_clause js k c start h before l live stands holds well d (subst (λ z. AreBreaks x.loop z) (ap (λ (z : Known). z.breaks) known) are) kept (subst (λ z. Implies l.now z) (sym plain) (meet_second f l.now)) stack
+    catch tag value (Case n v r js ds) k c start f h before behind live stands holds (has, is, bind', number, well, later) (l, d, dlater) are (kjs, kds) stack = go (n == tag)
+      where
+        sooner : AreBreaks x.loop l.breaks
+        sooner = breaks_before x.loop l.breaks behind (breaks_clauses (around x) start ds (or_clause f js l) (record { now = h; breaks = behind }) dlater) are
+
+        met : flow.State
+        met = meet f (with_each Full (locks_of js) l.now)
+
+        implies : Implies l.now h
+        implies = implies_after l.now (or_clause f js l).now h
+            (subst (λ ns. Implies l.now (meet f (with_each Full ns l.now))) (sym (no_locks js kjs)) (meet_second f l.now))
+            (clauses_implied (around x) start ds (or_clause f js l) (record { now = h; breaks = behind }) dlater)
+
+        behind_stands : IsContext p x bs (behind_clause c v js)
+        behind_stands = record {
+          globals = stands.globals;
+          functions = stands.functions;
+          result = stands.result;
+          loop = stands.loop;
+          scope = stands.scope;
+          below = below_more c.next_local (c.next_local + (length (caught_types v) + length (item_types js))) bs
+              (let le : c.next_local ≤ c.next_local + (length (caught_types v) + length (item_types js)) = omega arith in le) stands.below;
+        }
+
+        next : Catches x (behind_clause c v js) start ds (or_clause f js l).now h
+        next = record { before = l.breaks; behind = behind; typed = later; flows = dlater; breaks = are; kept = kds }
+
+        go : (b : Bool) → IsWell p (if b then catches value v js k e w else Running (Catching tag value ds) k e w)
+        go true = caught value v js k c start h before has l live stands holds bind' well d sooner kjs implies stack
+        go false = running p g x bs e w typed globals bound variables (Catching tag value ds) k live
+            (behind_clause c v js, start, (or_clause f js l).now, h, behind_stands, holds, next, stack)

@@ -1,0 +1,118 @@
+-- What is known of locals: what implies what, and what the rules only lower.
+use Rattle.std.proofs.Common.{◌≡◌, ℕ, zero, suc, Bool, true, false, List, [], ◌∷◌, refl, sym, subst, ◌∙◌}
+use Rattle.std.specs.Prelude.{◌≢◌, get_or, slice_set, if◌then◌else◌}
+use Rattle.std.proofs.lemmas.List.{get_or-set_other}
+use Rattle.cyc_types.specs.flow.States.{Fullness, Vacant, Locked, Full, State, Unreached, Reached, lower, lower_each, meet, is_as_full, are_as_full, is_at_least, is_reached, fullness, with_fullness, is_vacant, is_locked, emptied}
+use Rattle.cyc_soundness.specs.Worlds.{Typing}
+use Rattle.cyc_soundness.specs.Frames.{Bound, IsSet, AreSet, Holds, Implies}
+use Rattle.cyc_soundness.proofs.Numbers.{both_true}
+
+pub implies_self : (f : State) → Implies f f
+implies_self f = record { reached = λ h. h; set = λ n h. h }
+
+pub implies_after : (f g h : State) → Implies f g → Implies g h → Implies f h
+implies_after f g h a b = record { reached = λ r. b.reached (a.reached r); set = λ n s. a.set n (b.set n s) }
+
+pub unreached_implies : (f : State) → Implies Unreached f
+unreached_implies f = record { reached = λ e. (let k : false ≡ true = e in absurd (cc)); set = λ n s. refl }
+
+-- ---- meets
+
+lower_set : (a b : Fullness) → is_vacant (lower a b) ≡ false → (is_vacant a ≡ false) × (is_vacant b ≡ false)
+lower_set Vacant b e = absurd (let k : true ≡ false = e in cc)
+lower_set Locked Vacant e = absurd (let k : true ≡ false = e in cc)
+lower_set Locked Locked e = (refl, refl)
+lower_set Locked Full e = (refl, refl)
+lower_set Full b e = (refl, e)
+
+each_set : (as' bs : List Fullness) (n : ℕ) → is_vacant (get_or (lower_each as' bs) n Vacant) ≡ false → (is_vacant (get_or as' n Vacant) ≡ false) × (is_vacant (get_or bs n Vacant) ≡ false)
+each_set [] bs n e = absurd (let k : true ≡ false = e in cc)
+each_set (a ∷ as') [] n e = absurd (let k : true ≡ false = e in cc)
+each_set (a ∷ as') (b ∷ bs) zero e = lower_set a b e
+each_set (a ∷ as') (b ∷ bs) (suc n) e = each_set as' bs n e
+
+pub meet_first : (f g : State) → Implies f (meet f g)
+meet_first Unreached g = unreached_implies g
+meet_first (Reached as') Unreached = implies_self (Reached as')
+meet_first (Reached as') (Reached bs) = record { reached = λ h. refl; set = λ n s. (each_set as' bs n s).0 }
+
+pub meet_second : (f g : State) → Implies g (meet f g)
+meet_second Unreached g = implies_self g
+meet_second (Reached as') Unreached = unreached_implies (Reached as')
+meet_second (Reached as') (Reached bs) = record { reached = λ h. refl; set = λ n s. (each_set as' bs n s).1 }
+
+-- ---- the heads of loops
+
+as_full_set : (a b : Fullness) → is_as_full a b ≡ true → is_vacant b ≡ false → is_vacant a ≡ false
+as_full_set Vacant Vacant e s = s
+as_full_set Vacant Locked e s = absurd (let k : false ≡ true = e in cc)
+as_full_set Vacant Full e s = absurd (let k : false ≡ true = e in cc)
+as_full_set Locked b e s = refl
+as_full_set Full b e s = refl
+
+all_full_set : (as' bs : List Fullness) (n : ℕ) → are_as_full as' bs ≡ true → is_vacant (get_or bs n Vacant) ≡ false → is_vacant (get_or as' n Vacant) ≡ false
+all_full_set [] [] n e s = s
+all_full_set [] (b ∷ bs) n e s = absurd (let k : false ≡ true = e in cc)
+all_full_set (a ∷ as') [] n e s = absurd (let k : false ≡ true = e in cc)
+all_full_set (a ∷ as') (b ∷ bs) zero e s = as_full_set a b (both_true (is_as_full a b) (are_as_full as' bs) e).0 s
+all_full_set (a ∷ as') (b ∷ bs) (suc n) e s = all_full_set as' bs n (both_true (is_as_full a b) (are_as_full as' bs) e).1 s
+
+pub at_least_implies : (f g : State) → is_at_least f g ≡ true → Implies f g
+at_least_implies Unreached g e = unreached_implies g
+at_least_implies (Reached as') Unreached e = absurd (let k : false ≡ true = e in cc)
+at_least_implies (Reached as') (Reached bs) e = record { reached = λ h. refl; set = λ n s. all_full_set as' bs n e s }
+
+-- ---- one local
+
+pub other_set : (a : Fullness) (f : State) (n m : ℕ) → m ≢ n → IsSet (with_fullness a f n) m → IsSet f m
+other_set a Unreached n m other s = refl
+other_set a (Reached as') n m other s = subst (λ z. is_vacant z ≡ false) (get_or-set_other as' n m a Vacant other) s
+
+pub reached_with : (a : Fullness) (f : State) (n : ℕ) → is_reached f ≡ true → is_reached (with_fullness a f n) ≡ true
+reached_with a Unreached n h = h
+reached_with a (Reached as') n h = refl
+
+pub reached_without : (a : Fullness) (f : State) (n : ℕ) → is_reached (with_fullness a f n) ≡ true → is_reached f ≡ true
+reached_without a Unreached n h = h
+reached_without a (Reached as') n h = refl
+
+vacated : (as' : List Fullness) (n m : ℕ) → is_vacant (get_or (slice_set as' n Vacant) m Vacant) ≡ false → is_vacant (get_or as' m Vacant) ≡ false
+vacated [] n m s = s
+vacated (a ∷ as') zero zero s = absurd (let k : true ≡ false = s in cc)
+vacated (a ∷ as') zero (suc m) s = s
+vacated (a ∷ as') (suc n) zero s = s
+vacated (a ∷ as') (suc n) (suc m) s = vacated as' n m s
+
+-- a local that holds nothing any more
+pub vacant_implied : (f : State) (n : ℕ) → Implies f (with_fullness Vacant f n)
+vacant_implied Unreached n = unreached_implies Unreached
+vacant_implied (Reached as') n = record { reached = λ h. refl; set = λ m s. vacated as' n m s }
+
+either_implied : (b : Bool) (f : State) (n : ℕ) → Implies f (if b then f else with_fullness Vacant f n)
+either_implied true f n = implies_self f
+either_implied false f n = vacant_implied f n
+
+pub emptied_implied : (ns : List ℕ) (f : State) → Implies f (emptied ns f)
+emptied_implied [] f = implies_self f
+emptied_implied (n ∷ ns) f =
+    implies_after f (if is_locked (fullness f n) then f else with_fullness Vacant f n) (emptied (n ∷ ns) f)
+    (either_implied (is_locked (fullness f n)) f n) (emptied_implied ns (if is_locked (fullness f n) then f else with_fullness Vacant f n))
+
+-- ---- what holds
+
+are_set_implied : (g : Typing) (f h : State) (bs : List Bound) → Implies f h → AreSet g f bs → AreSet g h bs
+are_set_implied g f h [] i s = tt
+are_set_implied g f h (b ∷ bs) i (first, s) = (λ e. first (i.set b.number e), are_set_implied g f h bs i s)
+
+pub holds_implied : (g : Typing) (f h : State) (bs : List Bound) → Implies f h → Holds g f bs → Holds g h bs
+holds_implied g f h bs i (reached, s) = (i.reached reached, are_set_implied g f h bs i s)
+
+-- a local that was just declared without a value is known to hold nothing
+now_vacant : (as' : List Fullness) (n : ℕ) → is_vacant (get_or (slice_set as' n Vacant) n Vacant) ≡ true
+now_vacant [] n = refl
+now_vacant (a ∷ as') zero = refl
+now_vacant (a ∷ as') (suc n) = now_vacant as' n
+
+pub vacant_now : (f : State) (n : ℕ) → is_reached f ≡ true → IsSet (with_fullness Vacant f n) n → ⊥
+vacant_now Unreached n reached s = let k : false ≡ true = reached in absurd (cc)
+vacant_now (Reached as') n reached s = let k : true ≡ false = sym (now_vacant as' n) ∙ s in absurd (cc)

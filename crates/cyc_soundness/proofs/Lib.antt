@@ -1,0 +1,14 @@
+-- the lemmas behind the laws
+mod Numbers
+mod TypeLemmas
+mod FlowLemmas
+mod RuleLemmas
+mod WorldLemmas
+mod StackLemmas
+mod ValueLemmas
+mod Evaluation
+mod Supply
+mod Execution
+mod Calls
+mod Unwinding
+mod Whole

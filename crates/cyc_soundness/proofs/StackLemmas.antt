@@ -1,0 +1,241 @@
+-- The typing of stacks: it stays when the typing of the world grows, and what is found of the locals in scope.
+use Rattle.std.proofs.Common.{◌≡◌, ◌≢◌, inl, inr, ℕ, ◌≤◌, Bool, true, false, List, [], ◌∷◌, Option, Some, None, slice_get, eqb, refl, sym, ap, subst, ◌∙◌, arith}
+use Rattle.std.specs.Prelude.{if◌then◌else◌}
+use Rattle.std.proofs.lemmas.Bool.{eqb-true, eq-eqb, false_from_ne_true}
+use Rattle.cyc_types.specs.Types.{Ty, ValueType, result_type}
+use Rattle.cyc_types.specs.Types as types
+use Rattle.cyc_types.specs.TypedTrees.{Operations, NoOperations, ThenCompute, ThenTest, ThenPointer, ThenPointerPeek, Function, Program}
+use Rattle.cyc_types.specs.typing.Tests.{is_tested}
+use Rattle.cyc_types.specs.typing.WellTyped.{LocalInScope, Context, HasLocal, HasPlace, Converts, IsChain}
+use Rattle.cyc_types.specs.flow.States as flow
+use Rattle.cyc_types.specs.flow.States.{Full, with_fullness}
+use Rattle.cyc_meaning.specs.State.{Region, Access, Found, Closed, Missing, found_region, is_open, globals_number, Environment, with_local, Awaiting, Entry, Needs, Discard, Rest, Join, Loop, CloseRegion, CloseLexical, Handler, Caller, Main}
+use Rattle.cyc_meaning.specs.Nesting.{ends_of, IsFound, AreOpen, IsHome}
+use Rattle.cyc_soundness.specs.Lives.{RunTy, RunValue, Void, Null, Value, read, read_value}
+use Rattle.cyc_soundness.specs.Lives as lives
+use Rattle.cyc_soundness.specs.Worlds.{Typing, IsFull, variable_type, Grows}
+use Rattle.cyc_soundness.specs.Frames.{IsAmong, first, later, Bound, IsScope, AreBelow, IsBound, AreVariables, LiveIn, Within, itself, older, IsSet, AreSet, Holds, Exits}
+use Rattle.cyc_soundness.specs.Classes.{InOperations}
+use Rattle.cyc_soundness.specs.Stacks.{IsAccepted, Want, Nothing, Val, Go, held, Waits, IsStack}
+use Rattle.cyc_soundness.specs.Stacks as stacks
+use Rattle.cyc_soundness.proofs.Numbers.{same_or_other}
+use Rattle.cyc_soundness.proofs.FlowLemmas.{other_set}
+use Rattle.cyc_soundness.proofs.WorldLemmas.{operands_grown, variables_grown, holds_grown}
+
+-- the functions of a program, each of which the rules accept
+abbrev pub AreAccepted : Program → Type 0
+AreAccepted p = (number : ℕ) (h : Function) → slice_get p.functions number ≡ Some h → (end : flow.State) × IsAccepted p h end
+
+-- ---- growth
+
+module _ (p : Program) (g h : Typing) (grows : Grows g h) where
+  pub stack_grown : (x : Exits) (bs : List Bound) (w : Want) (k : List Entry) → IsStack p g x bs w k → IsStack p h x bs w k
+  stack_grown x bs Nothing [] is = tt
+  stack_grown x bs (Val r f) (Needs a ∷ k) (ts, cs, next, waits, are, rest) = (ts, cs, next, waits, operands_grown g h grows ts (held a) are, stack_grown x cs next k rest)
+  stack_grown x bs (Val r f) (Discard ∷ k) is = stack_grown x bs (Go f) k is
+  stack_grown x bs (Go f) (Discard ∷ k) is = stack_grown x bs (Go f) k is
+  stack_grown x bs (Go f) (Rest js ∷ k) (cs, c, end, within, stands, continues, rest) = (cs, c, end, within, stands, continues, stack_grown x cs (Go end) k rest)
+  stack_grown x bs (Go f) (Join ∷ k) (end, i, rest) = (end, i, stack_grown x bs (Go end) k rest)
+  stack_grown x bs (Go f) (Loop condition body ∷ k) (y, l, v, u, end, same, loop, i, rest) = (y, l, v, u, end, same, loop, i, stack_grown y bs (Go end) k rest)
+  stack_grown x bs (Go f) (CloseRegion region home ∷ k) (end, i, live, rest) = (end, i, live, stack_grown x bs (Go end) k rest)
+  stack_grown x bs (Go f) (Handler cs ∷ k) (c, start, end, stands, holds, catches, i, rest) =
+      (c, start, end, stands, holds_grown g h grows start bs holds, catches, i, stack_grown x bs (Go end) k rest)
+  stack_grown x bs (Go f) (Caller e ∷ k) (y, cs, end, loop, blocked, bound, variables, live, holds, rest) = (
+    y,
+    cs,
+    end,
+    loop,
+    blocked,
+    bound,
+    variables_grown g h grows cs variables,
+    live,
+    holds_grown g h grows end cs holds,
+    stack_grown y cs (Val (read_value (result_type x.result)) end) k rest,
+  )
+  stack_grown x bs (Go f) (Main ∷ k) (loop, int, blocked, rest) = (loop, int, blocked, stack_grown x bs Nothing k rest)
+  stack_grown x bs w k is = absurd is
+
+-- ---- what has no value is only dropped
+
+void_read : (v : ValueType) → read_value v ≡ Void → v ≡ types.Void
+void_read types.Void e = refl
+void_read types.Null e = absurd (let k : Null ≡ Void = e in cc)
+void_read (types.Value t) e = absurd (let k : Value (read t) ≡ Void = e in cc)
+
+void_converts : (c : Context) (t : Ty) → Converts c types.Void t → ⊥
+void_converts c types.Int conv = conv
+void_converts c (types.Pointer k t r) conv = conv
+void_converts c (types.Handle r) conv = conv
+void_converts c (types.Key r) conv = conv
+void_converts c (types.Struct n rs) conv = conv
+
+void_chain : (c : Context) (os : Operations) (t : Ty) → IsChain c types.Void os t → InOperations os → ⊥
+void_chain c NoOperations t e kept = absurd (let k : types.Void ≡ types.Value t = e in cc)
+void_chain c (ThenCompute o a os) t (e, well, chain) kept = absurd (let k : types.Void ≡ types.Value types.Int = e in cc)
+void_chain c (ThenTest o a os) t (e, well, chain) kept = absurd (let k : false ≡ true = e in cc)
+void_chain c (ThenPointer o a os) t chain kept = kept
+void_chain c (ThenPointerPeek n o a os) t chain kept = kept
+
+void_tested : (v : ValueType) → read_value v ≡ Void → is_tested v ≡ true → ⊥
+void_tested v e tested = let k : false ≡ true = subst (λ z. is_tested z ≡ true) (void_read v e) tested in absurd (cc)
+
+value_void : (t : RunTy) → Value t ≡ Void → ⊥
+value_void t e = let k : Value t ≡ Void = e in absurd (cc)
+
+void_waits : {p : Program} {x : Exits} {bs cs : List Bound} {a : Awaiting} {ts : List RunTy} {r : RunValue} {f : flow.State} {next : Want} → Waits p x bs a ts r f cs next → r ≡ Void → ⊥
+void_waits (stacks.converts c v t f conv from to) e = void_converts c t (subst (λ z. Converts c z t) (void_read v e) conv)
+void_waits (stacks.negates f) e = value_void lives.Int e
+void_waits (stacks.complements f) e = value_void lives.Int e
+void_waits (stacks.denies v f tested) e = void_tested v e tested
+void_waits (stacks.chains {os} c v t f h stands computes) e = void_chain c os t (subst (λ z. IsChain c z os t) (void_read v e) computes.typed) computes.kept
+void_waits (stacks.applies f) e = value_void lives.Int e
+void_waits (stacks.decides v f h tested i) e = void_tested v e tested
+void_waits (stacks.stores_local b t f among same) e = value_void (read t) e
+void_waits (stacks.stores_global number t f there) e = value_void (read t) e
+void_waits (stacks.passes c done t ts r f h stands passes called) e = value_void (read t) e
+void_waits (stacks.initialises cs c t f h within stands number kind continues) e = value_void (read t) e
+void_waits (stacks.chooses c d v f g h i tested first_stands second_stands one two j k) e = void_tested v e tested
+void_waits (stacks.tests l v f h loop) e = void_tested v e loop.tested
+void_waits (stacks.returns t f h result) e = value_void (read t) e
+void_waits (stacks.throws f h) e = value_void lives.Int e
+
+pub void_goes : (p : Program) (g : Typing) (x : Exits) (bs : List Bound) (f : flow.State) (r : RunValue) (k : List Entry) → r ≡ Void → IsStack p g x bs (Val r f) k → IsStack p g x bs (Go f) k
+void_goes p g x bs f r (Needs a ∷ k) e (ts, cs, next, waits, are, rest) = absurd (void_waits waits e)
+void_goes p g x bs f r (Discard ∷ k) e is = is
+void_goes p g x bs f r k e is = absurd is
+
+-- ---- locals
+
+pub bound_of : (vs : List LocalInScope) (bs : List Bound) (n : ℕ) (t : Ty) (r : ℕ) → IsScope vs bs → HasLocal vs n t r → (b : Bound) × IsAmong b bs × (b.number ≡ n) × (b.of_type ≡ read t)
+bound_of [] bs n t r is has = absurd has
+bound_of (v ∷ vs) [] n t r is has = absurd is
+bound_of (v ∷ vs) (b ∷ bs) n t r ((number, of_type), is) (inl (same, is_type, region)) = (b, first bs, sym number ∙ same, sym of_type ∙ ap read is_type)
+bound_of (v ∷ vs) (b ∷ bs) n t r (one, is) (inr has) = let (c, among, same, of_type) = bound_of vs bs n t r is has in (c, later b bs among, same, of_type)
+
+pub place_local : (vs : List LocalInScope) (n : ℕ) (t : Ty) (r : ℕ) → HasPlace vs n t r → HasLocal vs n t r
+place_local [] n t r has = absurd has
+place_local (v ∷ vs) n t r (inl (same, of_type, region, place)) = inl (same, of_type, region)
+place_local (v ∷ vs) n t r (inr has) = inr (place_local vs n t r has)
+
+pub among_bound : {b : Bound} {bs : List Bound} (e : Environment) → IsAmong b bs → IsBound e.locals bs → e.locals b.number ≡ Some b.object
+among_bound e (first cs) (is, are) = is
+among_bound e (later c cs among) (is, are) = among_bound e among are
+
+pub among_variable : {b : Bound} {bs : List Bound} (g : Typing) → IsAmong b bs → AreVariables g bs → slice_get g.objects b.object ≡ Some (variable_type b.of_type b.region)
+among_variable g (first cs) (is, are) = is
+among_variable g (later c cs among) (is, are) = among_variable g among are
+
+pub among_live : {b : Bound} {bs : List Bound} (regions : List ℕ) → IsAmong b bs → LiveIn regions bs → IsAmong b.region regions
+among_live regions (first cs) (is, are) = is
+among_live regions (later c cs among) (is, are) = among_live regions among are
+
+pub among_set : {b : Bound} {bs : List Bound} (g : Typing) (f : flow.State) → IsAmong b bs → AreSet g f bs → IsSet f b.number → IsFull g b.object
+among_set g f (first cs) (is, are) s = is s
+among_set g f (later c cs among) (is, are) s = among_set g f among are s
+
+-- an outer scope knows no more
+pub within_bound : (e : Environment) (cs bs : List Bound) → Within cs bs → IsBound e.locals bs → IsBound e.locals cs
+within_bound e cs bs (itself _) are = are
+within_bound e cs bs (older b _ ds within) (is, are) = within_bound e cs ds within are
+
+pub within_variables : (g : Typing) (cs bs : List Bound) → Within cs bs → AreVariables g bs → AreVariables g cs
+within_variables g cs bs (itself _) are = are
+within_variables g cs bs (older b _ ds within) (is, are) = within_variables g cs ds within are
+
+pub within_live : (regions : List ℕ) (cs bs : List Bound) → Within cs bs → LiveIn regions bs → LiveIn regions cs
+within_live regions cs bs (itself _) are = are
+within_live regions cs bs (older b _ ds within) (is, are) = within_live regions cs ds within are
+
+within_set : (g : Typing) (f : flow.State) (cs bs : List Bound) → Within cs bs → AreSet g f bs → AreSet g f cs
+within_set g f cs bs (itself _) are = are
+within_set g f cs bs (older b _ ds within) (is, are) = within_set g f cs ds within are
+
+pub within_holds : (g : Typing) (f : flow.State) (cs bs : List Bound) → Within cs bs → Holds g f bs → Holds g f cs
+within_holds g f cs bs within (reached, are) = (reached, within_set g f cs bs within are)
+
+pub live_more : (n : ℕ) (regions : List ℕ) (bs : List Bound) → LiveIn regions bs → LiveIn (n ∷ regions) bs
+live_more n regions [] are = tt
+live_more n regions (b ∷ bs) (is, are) = (later n regions is, live_more n regions bs are)
+
+pub below_more : (n m : ℕ) (bs : List Bound) → n ≤ m → AreBelow n bs → AreBelow m bs
+below_more n m [] less are = tt
+below_more n m (b ∷ bs) less (is, are) = (omega (arith, less, is), below_more n m bs less are)
+
+-- ---- a local more, and one that is stored
+
+pub local_new : (e : Environment) (number object : ℕ) → (with_local e number object).locals number ≡ Some object
+local_new e number object = ap (λ (b : Bool). if b then Some object else e.locals number) (eq-eqb number number refl)
+
+local_other : (e : Environment) (number other object : ℕ) → other ≢ number → (with_local e number object).locals other ≡ e.locals other
+local_other e number other object apart =
+    ap (λ (b : Bool). if b then Some object else e.locals other) (false_from_ne_true (eqb other number) (λ h. apart (eqb-true other number h)))
+
+pub bound_more : (e : Environment) (number object : ℕ) (bs : List Bound) → AreBelow number bs → IsBound e.locals bs → IsBound (with_local e number object).locals bs
+bound_more e number object [] below are = tt
+bound_more e number object (b ∷ bs) (less, below) (is, are) =
+    (local_other e number b.number object (λ e. (let k : b.number ≡ number = e in absurd (omega (arith, less, k)))) ∙ is, bound_more e number object bs below are)
+
+pub set_more : (g : Typing) (a : flow.Fullness) (f : flow.State) (number : ℕ) (bs : List Bound) → AreBelow number bs → AreSet g f bs → AreSet g (with_fullness a f number) bs
+set_more g a f number [] below are = tt
+set_more g a f number (b ∷ bs) (less, below) (is, are) =
+    (λ s. is (other_set a f number b.number (λ e. (let k : b.number ≡ number = e in absurd (omega (arith, less, k)))) s), set_more g a f number bs below are)
+
+-- two numbers that are one lead to one object
+pub set_stored : (g : Typing) (e : Environment) (f : flow.State) (number object : ℕ) (bs : List Bound) → IsBound e.locals bs → e.locals number ≡ Some object → IsFull g object → AreSet g f bs → AreSet g (with_fullness Full f number) bs
+set_stored g e f number object [] bound there full are = tt
+set_stored g e f number object (b ∷ bs) (here, bound) there full (is, are) = (go, set_stored g e f number object bs bound there full are)
+  where
+    go : IsSet (with_fullness Full f number) b.number → IsFull g b.object
+    go s = elim (same_or_other b.number number) [
+      | inl same ↦ (let k : Some object ≡ Some b.object = sym there ∙ ap e.locals (sym same) ∙ here in let one : object ≡ b.object = cc in subst (λ o. IsFull g o) one full)
+      | inr apart ↦ is (other_set Full f number b.number apart s)
+    ]
+
+-- ---- regions that will end
+
+found_open : (o : Option Region) → IsFound (found_region o) → is_open o ≡ true
+found_open None h = absurd h
+found_open (Some r) h = go r.is_open refl
+  where
+    go : (b : Bool) → r.is_open ≡ b → r.is_open ≡ true
+    go true e = e
+    go false e = absurd (subst (λ (b : Bool). IsFound (if b then Found r else Closed)) e h)
+
+pub open_of : {n : ℕ} {ns : List ℕ} (regions : List Region) → IsAmong n ns → AreOpen regions ns → is_open (slice_get regions n) ≡ true
+open_of {n} regions (first ms) (is, are) = found_open (slice_get regions n) is
+open_of regions (later m ms among) (is, are) = open_of regions among are
+
+pub globals_among : (k : List Entry) → IsAmong globals_number (ends_of k)
+globals_among [] = first []
+globals_among (CloseRegion region home ∷ k) = later region (ends_of k) (globals_among k)
+globals_among (CloseLexical region ∷ k) = later region (ends_of k) (globals_among k)
+globals_among (entry ∷ k) = globals_among k
+
+pub home_among : (home : ℕ) (k : List Entry) → IsHome home k → IsAmong home (ends_of k)
+home_among home [] is = subst (λ n. IsAmong n (globals_number ∷ [])) (sym is) (first [])
+home_among home (CloseRegion region outer ∷ k) is = subst (λ n. IsAmong n (region ∷ ends_of k)) (sym is.0) (first (ends_of k))
+home_among home (CloseLexical region ∷ k) is = later region (ends_of k) (home_among home k is)
+home_among home (Caller outer ∷ k) is = subst (λ n. IsAmong n (ends_of k)) (sym is.0) (globals_among k)
+home_among home (entry ∷ k) is = home_among home k is
+
+pub found_is : (a : Access Region) → IsFound a → (r : Region) × (a ≡ Found r)
+found_is (Found r) h = (r, refl)
+found_is Closed h = absurd h
+found_is Missing h = absurd h
+
+pub waits_within : {p : Program} {x : Exits} {bs cs : List Bound} {a : Awaiting} {ts : List RunTy} {r : RunValue} {f : flow.State} {next : Want} → Waits p x bs a ts r f cs next → Within cs bs
+waits_within {bs = bs} (stacks.converts c v t f conv from to) = itself bs
+waits_within {bs = bs} (stacks.negates f) = itself bs
+waits_within {bs = bs} (stacks.complements f) = itself bs
+waits_within {bs = bs} (stacks.denies v f tested) = itself bs
+waits_within {bs = bs} (stacks.chains c v t f h stands computes) = itself bs
+waits_within {bs = bs} (stacks.applies f) = itself bs
+waits_within {bs = bs} (stacks.decides v f h tested i) = itself bs
+waits_within {bs = bs} (stacks.stores_local b t f among same) = itself bs
+waits_within {bs = bs} (stacks.stores_global number t f there) = itself bs
+waits_within {bs = bs} (stacks.passes c done t ts r f h stands passes called) = itself bs
+waits_within (stacks.initialises cs c t f h within stands number kind continues) = within
+waits_within {bs = bs} (stacks.chooses c d v f g h i tested first_stands second_stands one two j k) = itself bs
+waits_within {bs = bs} (stacks.tests l v f h loop) = itself bs
+waits_within {bs = bs} (stacks.returns t f h result) = itself bs
+waits_within {bs = bs} (stacks.throws f h) = itself bs

@@ -1,0 +1,186 @@
+-- A VALUE COMES: what waits for it goes on, in a typed state.
+use Rattle.std.proofs.Common.{◌≡◌, ℕ, suc, ◌<◌, ◌≤◌, Bool, true, false, List, ◌∷◌, length, Option, Some, None, slice_get, refl, sym, ap, subst, ◌∙◌, arith}
+use Rattle.std.specs.Prelude.{if◌then◌else◌}
+use Rattle.cyc_types.specs.declared.typed.Kind.{Kind}
+use Rattle.cyc_types.specs.declared.typed.Kind.TheVariants as kinds
+use Rattle.cyc_types.specs.Types.{Ty, ValueType}
+use Rattle.cyc_types.specs.TypedTrees.{Expression, Statement, Items, Program}
+use Rattle.cyc_types.specs.typing.WellTyped.{Context, with_local, in_body}
+use Rattle.cyc_types.specs.flow.States as flow
+use Rattle.cyc_types.specs.flow.States.{Vacant, Full, with_fullness}
+use Rattle.cyc_meaning.specs.Values.{Operand}
+use Rattle.cyc_meaning.specs.Values as values
+use Rattle.cyc_meaning.specs.Operators.{unary_result, binary_result}
+use Rattle.cyc_types.specs.declared.typed.UnaryOperator.TheVariants as unary
+use Rattle.cyc_meaning.specs.State.{World, region_at, variable, made, Environment, Awaiting, Entry, Rest, Join, Loop, Focus, Executing, Proceeding, Returning, Throwing, State, Running}
+use Rattle.cyc_meaning.specs.State as state
+use Rattle.cyc_meaning.specs.Parts.{wrong, declared}
+use Rattle.cyc_meaning.specs.Exceptions.{throws_value}
+use Rattle.cyc_meaning.specs.Nesting.{ends_of, IsNested}
+use Rattle.cyc_meaning.specs.Step.{chosen, looped, supplied}
+use Rattle.cyc_meaning.proofs.ListLemmas.{slice_get-end}
+use Rattle.cyc_meaning.proofs.NestingLemmas.{home_found}
+use Rattle.cyc_soundness.specs.Lives.{RunTy, RunValue, Value, kind_at, read}
+use Rattle.cyc_soundness.specs.Lives as lives
+use Rattle.cyc_soundness.specs.Worlds.{Typing, IsFull, variable_type, HasType, IsResult, AreOperands, IsContent, IsObject, IsTyped, Grows}
+use Rattle.cyc_soundness.specs.Frames.{Bound, AreBelow, IsBound, AreVariables, LiveIn, Within, older, Holds, Implies, LoopExit, Exits, IsContext, AreGlobals}
+use Rattle.cyc_soundness.specs.Stacks.{Executes, Continues, IsLoop, Want, Go, held, inside, Waits, IsReturn, IsStack, IsFocus, IsWell}
+use Rattle.cyc_soundness.specs.Stacks as stacks
+use Rattle.cyc_soundness.proofs.TypeLemmas.{is_kind_same, kind_read}
+use Rattle.cyc_soundness.proofs.FlowLemmas.{holds_implied, reached_with, vacant_now}
+use Rattle.cyc_soundness.proofs.WorldLemmas.{with_object, object_grows, object_typed, content_grown, globals_grown, variables_grown, set_grown}
+use Rattle.cyc_soundness.proofs.StackLemmas.{stack_grown, below_more, local_new, bound_more, set_more, home_among, found_is}
+use Rattle.cyc_soundness.proofs.ValueLemmas.{negated, complemented, combined, zero_is}
+use Rattle.cyc_soundness.proofs.Evaluation.{running, gives, pass_on, chain_on, converted_on, denied_on, decided_on, writes_local, writes_global}
+
+-- a scope with one local more
+pub context_more : (p : Program) (x : Exits) (bs : List Bound) (c : Context) (t : Ty) (b : Bound) → IsContext p x bs c → b.number ≡ c.next_local → b.of_type ≡ read t → IsContext p x (b ∷ bs) (with_local true t c)
+context_more p x bs c t b stands number of_type = record {
+  globals = stands.globals;
+  functions = stands.functions;
+  result = stands.result;
+  loop = stands.loop;
+  scope = ((sym number, sym of_type), stands.scope);
+  below = ((let less : b.number < suc c.next_local = omega (arith, number) in less), below_more c.next_local (suc c.next_local) bs (let le : c.next_local ≤ suc c.next_local = omega arith in le) stands.below);
+}
+
+module _ (p : Program) (g : Typing) (x : Exits) (bs : List Bound) (e : Environment) (w : World) (typed : IsTyped g w.objects) (globals : AreGlobals g p) (bound : IsBound e.locals bs) (variables : AreVariables g bs) where
+  on : (focus : Focus) (k : List Entry) → LiveIn (ends_of k) bs → IsFocus p g x bs focus k → IsWell p (Running focus k e w)
+  on focus k live stands = running p g x bs e w typed globals bound variables focus k live stands
+
+  -- ---- a local is declared
+
+  -- the local, with its new object
+  abbrev new_local : (number : ℕ) → Ty → Bound
+  new_local number t = record { number = number; object = length w.objects; of_type = read t; region = e.home }
+
+  abbrev new_typing : Ty → (full : Bool) → Typing
+  new_typing t full = with_object g (variable_type (read t) e.home) full
+
+  pub declares : (number : ℕ) (kind : Kind) (t : Ty) (content : Option values.Value) (full : Bool) (focus : Focus) (stack : List Entry) → IsNested stack e w → LiveIn (ends_of stack) bs
+      → AreBelow number bs → kind ≡ kind_at (read t) → IsContent g full (read t) content
+      → (Grows g (new_typing t full) → (full ≡ true → IsFull (new_typing t full) (length w.objects)) → IsFocus p (new_typing t full) x (new_local number t ∷ bs) focus stack)
+      → IsWell p (declared (region_at w e.home) focus number kind content stack e w)
+  declares number kind t content full focus stack nests live below kind_is content_is goes =
+      let h = new_typing t full in
+      let grows : Grows g h = object_grows g (variable_type (read t) e.home) full in
+      let is : IsObject h full (variable_type (read t) e.home) (variable e.home kind content) = record { owner = refl; cells = ((kind_is, content_grown g h grows full (read t) content content_is), tt) } in
+      let (r, found) = found_is (region_at w e.home) (home_found w.regions e.home stack nests.2 nests.0) in
+      let there = subst (λ n. slice_get h.objects n ≡ Some (variable_type (read t) e.home)) (sym typed.count) (slice_get-end g.objects (variable_type (read t) e.home)) in
+      let flag = subst (λ n. slice_get h.full n ≡ Some full) (sym typed.flags) (slice_get-end g.full full) in
+      subst (λ a. IsWell p (declared a focus number kind content stack e w)) (sym found)
+      (running p h x (new_local number t ∷ bs) (state.with_local e number (length w.objects)) (made w (variable e.home kind content))
+      (object_typed g w.objects (variable_type (read t) e.home) full (variable e.home kind content) typed is) (globals_grown g h grows p globals)
+      (local_new e number (length w.objects), bound_more e number (length w.objects) bs below bound) (there, variables_grown g h grows bs variables)
+      focus stack (home_among e.home stack nests.2, live)
+      (goes grows (λ is_full. flag ∙ ap (λ (b : Bool). Some b) is_full)))
+
+  -- with a value, and the rest of its block goes on
+  pub declares_full : (number : ℕ) (kind : Kind) (v : values.Value) (t : Ty) (js : Items) (cs : List Bound) (c : Context) (f h : flow.State) (k : List Entry) → IsNested k e w → LiveIn (ends_of k) bs
+      → Within cs bs → IsContext p x bs c → Holds g f bs → number ≡ c.next_local → kind ≡ kind_at (read t) → HasType g (read t) v → Continues x (with_local true t c) js (with_fullness Full f number) h
+      → IsStack p g x cs (Go h) k → IsWell p (declared (region_at w e.home) Proceeding number kind (Some v) (Rest js ∷ k) e w)
+  declares_full number kind v t js cs c f h k nests live within stands (reached, are) number_is kind_is has continues stack =
+      let below : AreBelow number bs = subst (λ n. AreBelow n bs) (sym number_is) stands.below in
+      declares number kind t (Some v) true Proceeding (Rest js ∷ k) nests live below kind_is has
+      (λ grows full. (
+        with_fullness Full f number,
+        (reached_with Full f number reached, (λ s. full refl, set_more (new_typing t true) Full f number bs below (set_grown g (new_typing t true) grows f bs are))),
+        (
+          cs,
+          with_local true t c,
+          h,
+          older (new_local number t) cs bs within,
+          context_more p x bs c t (new_local number t) stands number_is refl,
+          continues,
+          stack_grown p g (new_typing t true) grows x cs (Go h) k stack,
+        ),
+      ))
+
+  -- without one
+  pub declares_blank : (number : ℕ) (kind : Kind) (t : Ty) (js : Items) (cs : List Bound) (c : Context) (f h : flow.State) (k : List Entry) → IsNested k e w → LiveIn (ends_of k) bs
+      → Within cs bs → IsContext p x bs c → Holds g f bs → number ≡ c.next_local → kind ≡ kind_at (read t) → Continues x (with_local true t c) js (with_fullness Vacant f number) h
+      → IsStack p g x cs (Go h) k → IsWell p (declared (region_at w e.home) Proceeding number kind None (Rest js ∷ k) e w)
+  declares_blank number kind t js cs c f h k nests live within stands (reached, are) number_is kind_is continues stack =
+      let below : AreBelow number bs = subst (λ n. AreBelow n bs) (sym number_is) stands.below in
+      declares number kind t None false Proceeding (Rest js ∷ k) nests live below kind_is refl
+      (λ grows full. (
+        with_fullness Vacant f number,
+        (reached_with Vacant f number reached, (λ s. absurd (vacant_now f number reached s), set_more (new_typing t false) Vacant f number bs below (set_grown g (new_typing t false) grows f bs are))),
+        (
+          cs,
+          with_local true t c,
+          h,
+          older (new_local number t) cs bs within,
+          context_more p x bs c t (new_local number t) stands number_is refl,
+          continues,
+          stack_grown p g (new_typing t false) grows x cs (Go h) k stack,
+        ),
+      ))
+
+  -- ---- branches and loops
+
+  chosen_on : (b : Bool) (first second : Statement) (k : List Entry) (c d : Context) (f i j l : flow.State) → LiveIn (ends_of k) bs → Holds g f bs → IsContext p x bs c → IsContext p x bs d
+      → Executes x c first f i → Executes x d second f j → Implies i l → Implies j l → IsStack p g x bs (Go l) k → IsWell p (chosen (Some b) first second k e w)
+  chosen_on true first second k c d f i j l live holds stands others one two m n stack = on (Executing second) (Join ∷ k) live (d, f, j, others, holds, two, (l, n, stack))
+  chosen_on false first second k c d f i j l live holds stands others one two m n stack = on (Executing first) (Join ∷ k) live (c, f, i, stands, holds, one, (l, m, stack))
+
+  looped_on : (b : Bool) (condition : Expression) (body : Statement) (k : List Entry) (l : LoopExit) (v : ValueType) (f h : flow.State) → LiveIn (ends_of k) bs → Holds g f bs → IsLoop p x bs l condition body v f h
+      → IsStack p g x bs (Go h) k → IsWell p (looped (Some b) condition body k e w)
+  looped_on true condition body k l v f h live holds loop stack = on Proceeding k live (h, holds_implied g f h bs loop.fails holds, stack)
+  looped_on false condition body k l v f h live holds loop stack =
+      running p g (inside x l) bs e w typed globals bound variables (Executing body) (Loop condition body ∷ k) live (
+        in_body loop.context,
+        f,
+        loop.now,
+        record {
+          globals = loop.stands.globals;
+          functions = loop.stands.functions;
+          result = loop.stands.result;
+          loop = λ u. refl;
+          scope = loop.stands.scope;
+          below = loop.stands.below;
+        },
+        holds,
+        loop.again,
+        (x, l, v, f, h, refl, loop, loop.back, stack),
+      )
+
+  thrown_on : (tag : ℕ) (v : values.Value) (k : List Entry) (h : flow.State) → LiveIn (ends_of k) bs → HasType g lives.Int v → IsStack p g x bs (Go h) k → IsWell p (throws_value tag v k e w)
+  thrown_on tag (values.Int word) k h live is stack = on (Throwing tag word) k live (Go h, stack)
+  thrown_on tag v k h live is stack = absurd is
+
+  -- ---- all that waits
+
+  pub given : {a : Awaiting} {ts : List RunTy} {r : RunValue} {f : flow.State} {cs : List Bound} {next : Want} (v : Operand) (k : List Entry) → IsNested k e w → LiveIn (ends_of k) bs → Holds g f bs → IsResult g r v
+      → Waits p x bs a ts r f cs next → AreOperands g ts (held a) → IsStack p g x cs next k → IsWell p (supplied a v k e w)
+  given v k nests live holds is (stacks.converts {from} {to} c s t f conv from_is to_is) are stack =
+      converted_on p g x bs e w typed globals bound variables from to v k c s t f live holds is conv from_is to_is stack
+  given v k nests live holds is (stacks.negates f) are stack =
+      gives p g x bs e w typed globals bound variables k kinds.Int lives.Int f (unary_result unary.Negate v.value) live holds refl (negated g v.value is.1) stack
+  given v k nests live holds is (stacks.complements f) are stack =
+      gives p g x bs e w typed globals bound variables k kinds.Int lives.Int f (unary_result unary.Complement v.value) live holds refl (complemented g v.value is.1) stack
+  given v k nests live holds is (stacks.denies s f tested) are stack = denied_on p g x bs e w typed globals bound variables v k s f live holds tested is stack
+  given v k nests live holds is (stacks.chains {os} c s t f h stands computes) are stack =
+      chain_on p g x bs e w typed globals bound variables os v k c s t f h computes.waiting live stands holds is computes.typed computes.flows computes.kept stack
+  given v k nests live holds is (stacks.applies {o} {left} f) (left_is, unit) stack =
+      gives p g x bs e w typed globals bound variables k kinds.Int lives.Int f (binary_result o left.value v.value) live holds refl (combined g o left.value v.value left_is.1 is.1) stack
+  given v k nests live holds is (stacks.decides s f h tested i) are stack = decided_on p g x bs e w typed globals bound variables v k s f h live holds tested i is stack
+  given v k nests live holds is (stacks.stores_local b t f among same) are stack =
+      writes_local p g x bs e w typed globals bound variables v k b t f nests.0 live among same holds is stack
+  given v k nests live holds is (stacks.stores_global number t f there) are stack =
+      writes_global p g x bs e w typed globals bound variables v k number t f nests.0 live there holds is stack
+  given v k nests live holds is (stacks.passes {callee} {before} {rest} c done t ts r f h stands passes called) are stack =
+      pass_on p g x bs e w typed globals bound variables k callee (v ∷ before) (read t ∷ done) rest ts c r f h passes.waiting live stands holds passes.typed passes.flows passes.kept (is, are) called stack
+  given v k nests live holds is (stacks.initialises {number} {kind} {js} cs c t f h within stands number_is kind_is continues) are stack =
+      let same : v.kind ≡ kind = is.0 ∙ kind_read t ∙ sym kind_is in
+      subst (λ (b : Bool). IsWell p (if b then declared (region_at w e.home) Proceeding number kind (Some v.value) (Rest js ∷ k) e w else wrong w)) (sym (is_kind_same v.kind kind same))
+      (declares_full number kind v.value t js cs c f h k nests live within stands holds number_is (kind_is ∙ sym (kind_read t)) is.1 continues stack)
+  given v k nests live holds is (stacks.chooses {first} {second} c d s f i j l tested stands others one two m n) are stack =
+      let (b, at_zero) = zero_is g s v tested is in
+      subst (λ z. IsWell p (chosen z first second k e w)) (sym at_zero) (chosen_on b first second k c d f i j l live holds stands others one two m n stack)
+  given v k nests live holds is (stacks.tests {condition} {body} l s f h loop) are stack =
+      let (b, at_zero) = zero_is g s v loop.tested is in
+      subst (λ z. IsWell p (looped z condition body k e w)) (sym at_zero) (looped_on b condition body k l s f h live holds loop stack)
+  given v k nests live holds is (stacks.returns t f h result) are stack =
+      on (Returning (Some v)) k live (h, subst (λ z. IsReturn g z (Some v)) (sym result) is, stack)
+  given v k nests live holds is (stacks.throws {tag} f h) are stack = thrown_on tag v.value k h live is.1 stack

@@ -1,0 +1,139 @@
+-- What operators, tests and conversions give of typed values: a value of the type that is wanted, or an exception.
+use Rattle.std.proofs.Common.{◌≡◌, ℕ, ◌+◌, ◌<◌, Bool, true, false, Some, eqb, refl, sym, subst, ◌∙◌, arith}
+use Rattle.std.specs.Prelude.{if◌then◌else◌, nat_lt}
+use Rattle.std.proofs.lemmas.Bool.{ltb-true}
+use Rattle.cyc_syntax.specs.declared.tree.PointerKind.{PointerKind}
+use Rattle.cyc_syntax.specs.declared.tree.PointerKind.TheVariants as marks
+use Rattle.cyc_types.specs.declared.typed.Kind.TheVariants as kinds
+use Rattle.cyc_types.specs.declared.typed.Operator.{Operator}
+use Rattle.cyc_types.specs.declared.typed.UnaryOperator.TheVariants as unary
+use Rattle.cyc_types.specs.Types.{Ty, ValueType}
+use Rattle.cyc_types.specs.Types as types
+use Rattle.cyc_types.specs.typing.Tests.{is_tested}
+use Rattle.cyc_types.specs.typing.Tests as tests
+use Rattle.cyc_types.specs.typing.WellTyped.{Context, Converts}
+use Rattle.cyc_meaning.specs.Values.{Operand}
+use Rattle.cyc_meaning.specs.Values as values
+use Rattle.cyc_meaning.specs.Operators.{Gives, Raises, is_zero, binary_result, has_no_result, unary_result, binary_word, division_by_zero, array_bounds}
+use Rattle.cyc_meaning.specs.Conversion.{conversion, thinned}
+use Rattle.cyc_soundness.specs.Lives.{Life, RunTy, Int, Pointer, Handle, Key, read, read_value}
+use Rattle.cyc_soundness.specs.Lives as lives
+use Rattle.cyc_soundness.specs.Worlds.{Typing, IsTarget, HasType, IsResult, Fits}
+use Rattle.cyc_soundness.proofs.TypeLemmas.{kind_read}
+
+module _ (g : Typing) where
+  -- ---- ints
+
+  pub negated : (v : values.Value) → HasType g Int v → Fits g Int (unary_result unary.Negate v)
+  negated (values.Int a) is = tt
+  negated v is = absurd is
+
+  pub complemented : (v : values.Value) → HasType g Int v → Fits g Int (unary_result unary.Complement v)
+  complemented (values.Int a) is = tt
+  complemented v is = absurd is
+
+  pub combined : (o : Operator) (a b : values.Value) → HasType g Int a → HasType g Int b → Fits g Int (binary_result o a b)
+  combined o (values.Int a) (values.Int b) first second = go (has_no_result o b)
+    where
+      go : (none : Bool) → Fits g Int (if none then Raises division_by_zero else Gives (values.Int (binary_word o a b)))
+      go true = tt
+      go false = tt
+  combined o (values.Int a) v first second = absurd second
+  combined o v b first second = absurd first
+
+  int_zero : (v : values.Value) → HasType g Int v → (b : Bool) × (is_zero v ≡ Some b)
+  int_zero (values.Int a) is = (eqb a 0, refl)
+  int_zero v is = absurd is
+
+  pointer_zero : (k : PointerKind) (t : RunTy) (l : Life) (v : values.Value) → HasType g (Pointer k t l) v → (b : Bool) × (is_zero v ≡ Some b)
+  pointer_zero k t l values.Null is = (true, refl)
+  pointer_zero k t l (values.Thin object offset) is = (false, refl)
+  pointer_zero k t l (values.Fat object start count index) is = (false, refl)
+  pointer_zero marks.Nullable t l v is = absurd is
+  pointer_zero marks.NonNull t l v is = absurd is
+  pointer_zero marks.Fat t l v is = absurd is
+
+  -- what is tested is zero or is not
+  pub zero_is : (t : ValueType) (v : Operand) → is_tested t ≡ true → IsResult g (read_value t) v → (b : Bool) × (is_zero v.value ≡ Some b)
+  zero_is (types.Value types.Int) v tested is = int_zero v.value is.1
+  zero_is (types.Value (types.Pointer k t r)) v tested is = pointer_zero k (read t) (lives.OfRegion 0) v.value is.1
+  zero_is t v tested is = absurd (let e : false ≡ true = tested in cc)
+
+  -- ---- conversions
+
+  int_converted : (v : values.Value) → HasType g Int v → Fits g Int (conversion kinds.Int v)
+  int_converted (values.Int a) is = tt
+  int_converted v is = absurd is
+
+  null_converted : (k : PointerKind) (t : RunTy) (l : Life) → Fits g (Pointer k t l) (conversion (tests.kind_of_mark k) values.Null)
+  null_converted marks.Nullable t l = tt
+  null_converted marks.NonNull t l = tt
+  null_converted marks.Fat t l = tt
+
+  only_target : (t : RunTy) (l : Life) (object offset i : ℕ) → i < 1 → IsTarget g t l object offset → IsTarget g t l object (offset + i)
+  only_target t l object offset i less is = let e : offset ≡ offset + i = omega (arith, less) in subst (λ n. IsTarget g t l object n) e is
+
+  thin_converted : (k : PointerKind) (t : RunTy) (l : Life) (object offset : ℕ) → IsTarget g t l object offset
+      → Fits g (Pointer k t l) (conversion (tests.kind_of_mark k) (values.Thin object offset))
+  thin_converted marks.Nullable t l object offset is = is
+  thin_converted marks.NonNull t l object offset is = is
+  thin_converted marks.Fat t l object offset is = λ i less. only_target t l object offset i less is
+
+  thinned_nullable : (t : RunTy) (l : Life) (object start count index : ℕ) → ((i : ℕ) → i < count → IsTarget g t l object (start + i))
+      → Fits g (Pointer marks.Nullable t l) (thinned object start count index)
+  thinned_nullable t l object start count index is = go (nat_lt index count) refl
+    where
+      go : (b : Bool) → nat_lt index count ≡ b → Fits g (Pointer marks.Nullable t l) (if b then Gives (values.Thin object (start + index)) else Raises array_bounds)
+      go true e = is index (ltb-true index count e)
+      go false e = tt
+
+  thinned_non_null : (t : RunTy) (l : Life) (object start count index : ℕ) → ((i : ℕ) → i < count → IsTarget g t l object (start + i))
+      → Fits g (Pointer marks.NonNull t l) (thinned object start count index)
+  thinned_non_null t l object start count index is = go (nat_lt index count) refl
+    where
+      go : (b : Bool) → nat_lt index count ≡ b → Fits g (Pointer marks.NonNull t l) (if b then Gives (values.Thin object (start + index)) else Raises array_bounds)
+      go true e = is index (ltb-true index count e)
+      go false e = tt
+
+  fat_converted : (k : PointerKind) (t : RunTy) (l : Life) (object start count index : ℕ) → ((i : ℕ) → i < count → IsTarget g t l object (start + i))
+      → Fits g (Pointer k t l) (conversion (tests.kind_of_mark k) (values.Fat object start count index))
+  fat_converted marks.Nullable t l object start count index is = thinned_nullable t l object start count index is
+  fat_converted marks.NonNull t l object start count index is = thinned_non_null t l object start count index is
+  fat_converted marks.Fat t l object start count index is = is
+
+  pointer_converted : (k m : PointerKind) (t : RunTy) (l : Life) (v : values.Value) → HasType g (Pointer k t l) v → Fits g (Pointer m t l) (conversion (tests.kind_of_mark m) v)
+  pointer_converted marks.Nullable m t l values.Null is = null_converted m t l
+  pointer_converted marks.Nullable m t l (values.Thin object offset) is = thin_converted m t l object offset is
+  pointer_converted marks.NonNull m t l (values.Thin object offset) is = thin_converted m t l object offset is
+  pointer_converted marks.Fat m t l values.Null is = null_converted m t l
+  pointer_converted marks.Fat m t l (values.Fat object start count index) is = fat_converted m t l object start count index is
+  pointer_converted k m t l v is = absurd is
+
+  handle_converted : (l : Life) (v : values.Value) → HasType g (Handle l) v → Fits g (Handle l) (conversion kinds.Handle v)
+  handle_converted l (values.Handle region) is = is
+  handle_converted l v is = absurd is
+
+  key_converted : (l : Life) (v : values.Value) → HasType g (Key l) v → Fits g (Key l) (conversion kinds.Key v)
+  key_converted l (values.Key region) is = is
+  key_converted l v is = absurd is
+
+  -- a value that may be converted becomes one of the type that is wanted
+  pub converted : (c : Context) (s : ValueType) (t : Ty) (v : Operand) → Converts c s t → IsResult g (read_value s) v → Fits g (read t) (conversion (tests.kind_of t) v.value)
+  converted c (types.Value types.Int) types.Int v conv is = int_converted v.value is.1
+  converted c (types.Value (types.Pointer k t r)) (types.Pointer m u s) v conv is =
+      subst (λ z. Fits g (Pointer m (read z) (lives.OfRegion 0)) (conversion (tests.kind_of_mark m) v.value)) conv.0 (pointer_converted k m (read t) (lives.OfRegion 0) v.value is.1)
+  converted c (types.Value (types.Handle r)) (types.Handle s) v conv is = handle_converted (lives.OfRegion 0) v.value is.1
+  converted c (types.Value (types.Key r)) (types.Key s) v conv is = key_converted (lives.OfRegion 0) v.value is.1
+  converted c types.Null (types.Pointer k t r) v conv is =
+      subst (λ z. Fits g (Pointer k (read t) (lives.OfRegion 0)) (conversion (tests.kind_of_mark k) z)) (sym is.1) (null_converted k (read t) (lives.OfRegion 0))
+  converted c s t v conv is = absurd conv
+
+  -- and it has the kind that the tree says
+  pub kind_given : (c : Context) (s : ValueType) (t : Ty) (v : Operand) → Converts c s t → IsResult g (read_value s) v → v.kind ≡ tests.kind_of_value s
+  kind_given c types.Void types.Int v conv is = absurd conv
+  kind_given c types.Void (types.Pointer k t r) v conv is = absurd conv
+  kind_given c types.Void (types.Handle r) v conv is = absurd conv
+  kind_given c types.Void (types.Key r) v conv is = absurd conv
+  kind_given c types.Void (types.Struct n rs) v conv is = absurd conv
+  kind_given c types.Null t v conv is = is.0
+  kind_given c (types.Value s) t v conv is = is.0 ∙ kind_read s

@@ -1,0 +1,161 @@
+-- THE WHOLE: every step of a typed state leads to a typed state, so no run of an accepted program of the class is dead or wrong.
+use Rattle.std.proofs.Common.{◌≡◌, ◌≢◌, inl, inr, ℕ, zero, suc, Bool, true, false, List, [], ◌∷◌, length, map, Option, Some, None, slice_get, refl, sym, ap, subst}
+use Rattle.std.specs.Prelude.{if◌then◌else◌}
+use Rattle.std.proofs.lemmas.Bool.{eq-eqb}
+use Rattle.cyc_syntax.specs.declared.tree.PointerKind.TheVariants as marks
+use Rattle.cyc_syntax.specs.Symbols.{Place}
+use Rattle.cyc_types.specs.Types.{Ty}
+use Rattle.cyc_types.specs.Types as types
+use Rattle.cyc_types.specs.TypedTrees.{GlobalVariable, Signature, Function, Program}
+use Rattle.cyc_types.specs.Rules.{AllKept, Derives}
+use Rattle.cyc_types.specs.typing.Scopes.{signature_of_ints}
+use Rattle.cyc_types.specs.typing.WellTyped.{signature_of, IsWellTypedProgram, AreWellTypedFunctions}
+use Rattle.cyc_types.specs.flow.States as flow
+use Rattle.cyc_types.specs.flow.States.{is_reached}
+use Rattle.cyc_types.specs.flow.Programs.{end_demanded, rule_functions, IsAllowedProgram}
+use Rattle.cyc_meaning.specs.Values as values
+use Rattle.cyc_meaning.specs.State.{World, Object, Environment, no_locals, first_world, global_object, constant_value, Entry, Needs, Discard, Main, Focus, Evaluating, Given, Executing, Proceeding, Calling, Entering, Binding, Naming, Breaking, Continuing, Returning, Throwing, Catching, State, Running, Ended, Dead, Wrong, GoesOn, HasEnded, IsDead, IsWrong, status_of}
+use Rattle.cyc_meaning.specs.Parts.{wrong}
+use Rattle.cyc_meaning.specs.Nesting.{ends_of, IsNested, Nests}
+use Rattle.cyc_meaning.specs.Step.{called, step, stepped, step_given}
+use Rattle.cyc_meaning.specs.Run.{start, steps, run}
+use Rattle.cyc_meaning.proofs.Nested.{nests_step, nests_start}
+use Rattle.cyc_soundness.specs.Lives.{RunValue, read}
+use Rattle.cyc_soundness.specs.Worlds.{ObjectType, Typing, global_type, HasType, IsResult, AreOperands, IsObject, IsTyped}
+use Rattle.cyc_soundness.specs.Frames.{Bound, IsBound, AreVariables, LiveIn, itself, Holds, Exits, AreGlobals}
+use Rattle.cyc_soundness.specs.Classes.{InFunctions, IsOfVariables}
+use Rattle.cyc_soundness.specs.Stacks.{IsAccepted, Val, IsStack, IsFocus, IsWell}
+use Rattle.cyc_soundness.specs.Sound.{MayBeNull, HasValue, HaveValues, IsSound}
+use Rattle.cyc_soundness.proofs.Numbers.{some_same}
+use Rattle.cyc_soundness.proofs.TypeLemmas.{kind_meant}
+use Rattle.cyc_soundness.proofs.StackLemmas.{AreAccepted}
+use Rattle.cyc_soundness.proofs.Evaluation.{running, not_true, of_map, evaluate}
+use Rattle.cyc_soundness.proofs.Supply.{given, declares_full}
+use Rattle.cyc_soundness.proofs.Execution.{execute}
+use Rattle.cyc_soundness.proofs.Calls.{call, enter, bind, catch}
+use Rattle.cyc_soundness.proofs.Unwinding.{proceed, breaks, continues, returns_on, throws_on}
+
+-- ---- a step
+
+module _ (p : Program) (accepted : AreAccepted p) (e : Environment) (w : World) (g : Typing) (x : Exits) (bs : List Bound) (objects : IsTyped g w.objects) (globals : AreGlobals g p) (bound : IsBound e.locals bs) (variables : AreVariables g bs) where
+  given_on : (v : values.Operand) (k : List Entry) (r : RunValue) (f : flow.State) → IsNested k e w → LiveIn (ends_of k) bs → Holds g f bs → IsResult g r v → IsStack p g x bs (Val r f) k → IsWell p (step_given v k e w)
+  given_on v (Needs a ∷ k) r f nests live holds is (ts, cs, next, waits, are, stack) = given p g x bs e w objects globals bound variables v k nests live holds is waits are stack
+  given_on v (Discard ∷ k) r f nests live holds is stack = running p g x bs e w objects globals bound variables Proceeding k live (f, holds, stack)
+  given_on v k r f nests live holds is stack = absurd stack
+
+  step_well : (focus : Focus) (k : List Entry) → IsNested k e w → LiveIn (ends_of k) bs → IsFocus p g x bs focus k → IsWell p (stepped p focus k e w)
+  step_well (Evaluating a) k nests live (c, t, f, h, stands, holds, evaluates, stack) =
+      evaluate p g x bs e w objects globals bound variables a k c t f h evaluates.waiting nests.0 live stands holds evaluates.typed evaluates.flows evaluates.kept stack
+  step_well (Given v) k nests live (r, f, holds, is, stack) = given_on v k r f nests live holds is stack
+  step_well (Executing s) k nests live (c, f, h, stands, holds, executes, stack) =
+      execute p g x bs e w objects globals bound variables s k c f h executes.before executes.behind live stands holds executes.typed executes.flows executes.breaks executes.kept stack
+  step_well Proceeding k nests live (f, holds, stack) = proceed p g e w objects globals x bs bound variables k f nests live holds stack
+  step_well (Calling callee arguments) k nests live (ts, r, f, holds, is, are, stack) = call p accepted g x bs e w objects globals bound variables callee arguments k ts r f live holds is are stack
+  step_well (Entering h arguments) k nests live (end, ok, body, none, are, stack) = enter p accepted g x bs e w objects globals bound variables h arguments k end ok body none are stack
+  step_well (Binding number ts arguments js) k nests live (h, end, vs, cs, within, ok, body, body_is, scope_is, count, are, scope, below, full, stack) =
+      bind p accepted g x bs e w objects globals bound variables number ts arguments js k h end vs cs nests live within ok body body_is scope_is count are scope below full stack
+  step_well (Naming number v js) k nests live (c, t, f, h, stands, holds, number_is, is, continues', stack) =
+      declares_full p g x bs e w objects globals bound variables number v.kind v.value t js bs c f h k nests live (itself bs) stands holds number_is is.0 is.1 continues' stack
+  step_well Breaking k nests live (l, f, same, holds, stack) = breaks p g e w objects globals x bs bound variables k l f nests live same holds stack
+  step_well Continuing k nests live (l, f, same, holds, stack) = continues p g e w objects globals x bs bound variables k l f nests live same holds stack
+  step_well (Returning v) k nests live (f, is, stack) = returns_on p g e w objects globals x bs bound variables k v f nests live is stack
+  step_well (Throwing tag value) k nests live (want, stack) = throws_on p g e w objects globals x bs bound variables k tag value want nests live stack
+  step_well (Catching tag value cs) k nests live (c, start', f, h, stands, holds, catches, stack) =
+      catch p accepted g x bs e w objects globals bound variables tag value cs k c start' f h catches.before catches.behind live stands holds catches.typed catches.flows catches.breaks catches.kept stack
+  step_well focus k nests live stands = absurd stands
+
+pub well_step : (p : Program) (s : State) → AreAccepted p → Nests s → IsWell p s → IsWell p (step p s)
+well_step p (Running focus k e w) accepted nests well =
+    step_well p accepted e w well.typing well.exits well.locals well.objects well.globals well.bound well.variables focus k nests well.live well.stands
+well_step p (Ended ending output input) accepted nests well = tt
+well_step p (Dead output input) accepted nests well = absurd well
+well_step p (Wrong output input) accepted nests well = absurd well
+
+pub well_steps : (p : Program) (n : ℕ) (s : State) → AreAccepted p → Nests s → IsWell p s → IsWell p (steps p n s)
+well_steps p zero s accepted nests well = well
+well_steps p (suc n) s accepted nests well = well_steps p n (step p s) accepted (nests_step p s nests) (well_step p s accepted nests well)
+
+well_alive : (p : Program) (s : State) → IsWell p s → (status_of s ≢ IsDead) × (status_of s ≢ IsWrong)
+well_alive p (Running focus k e w) well = (λ d. (let z : GoesOn ≡ IsDead = d in absurd (cc)), λ d. (let z : GoesOn ≡ IsWrong = d in absurd (cc)))
+well_alive p (Ended ending output input) well = (λ d. (let z : HasEnded ending ≡ IsDead = d in absurd (cc)), λ d. (let z : HasEnded ending ≡ IsWrong = d in absurd (cc)))
+well_alive p (Dead output input) well = absurd well
+well_alive p (Wrong output input) well = absurd well
+
+-- ---- accepted functions
+
+ends_are : (o : Option Ty) (place : Place) (f : flow.State) → AllKept (end_demanded o place f) → (t : Ty) → o ≡ Some t → is_reached f ≡ false
+ends_are o place f kept t same = let demands = subst (λ z. AllKept (end_demanded z place f)) same kept in not_true (is_reached f) demands.0
+
+accepted_among : (p : Program) (hs : List Function) → AreWellTypedFunctions p hs → Derives (rule_functions hs) tt → InFunctions hs → (n : ℕ) (h : Function) → slice_get hs n ≡ Some h → (end : flow.State) × IsAccepted p h end
+accepted_among p [] well flows kept n h found = absurd (let z : None ≡ Some h = found in cc)
+accepted_among p (f ∷ hs) (one, well) (u, (k, d, (demands, same)), flows) (in_one, kept) zero h found =
+    let f_is : f ≡ h = (let z : Some f ≡ Some h = found in cc) in
+    let ok : IsAccepted p f k.now = record { typed = one; breaks = k.breaks; flows = d; ends = ends_are f.result f.end k.now demands; kept = in_one } in
+    (k.now, subst (λ z. IsAccepted p z k.now) f_is ok)
+accepted_among p (f ∷ hs) (one, well) (u, d, flows) (in_one, kept) (suc n) h found = accepted_among p hs well flows kept n h found
+
+-- ---- the start
+
+abbrev globals_typed : List GlobalVariable → Typing
+globals_typed vs = record { objects = map (λ (v : GlobalVariable). global_type (read v.of_type)) vs; full = map (λ (v : GlobalVariable). true) vs }
+
+null_typed : (g : Typing) (t : Ty) → MayBeNull t → HasType g (read t) values.Null
+null_typed g types.Int is = absurd is
+null_typed g (types.Pointer marks.Nullable t r) is = tt
+null_typed g (types.Pointer marks.NonNull t r) is = absurd (let z : true ≡ false = is in cc)
+null_typed g (types.Pointer marks.Fat t r) is = tt
+null_typed g (types.Handle r) is = absurd is
+null_typed g (types.Key r) is = absurd is
+null_typed g (types.Struct n rs) is = absurd is
+
+value_typed : (g : Typing) (v : GlobalVariable) → HasValue v → HasType g (read v.of_type) (constant_value v.value)
+value_typed g v (inl (int, (word, is))) = subst (λ z. HasType g (read v.of_type) (constant_value z)) (sym is) (subst (λ t. HasType g (read t) (values.Int word)) (sym int) tt)
+value_typed g v (inr (null, is)) = subst (λ z. HasType g (read v.of_type) (constant_value z)) (sym is) (null_typed g v.of_type null)
+
+global_is : (g : Typing) (v : GlobalVariable) → HasValue v → IsObject g true (global_type (read v.of_type)) (global_object v)
+global_is g v has = record { owner = refl; cells = ((sym (kind_meant v.of_type), value_typed g v has), tt) }
+
+mapped_length : {A B C : Type 0} (f : A → B) (h : A → C) (xs : List A) → length (map f xs) ≡ length (map h xs)
+mapped_length f h [] = refl
+mapped_length f h (x ∷ xs) = ap suc (mapped_length f h xs)
+
+globals_each : (g : Typing) (vs : List GlobalVariable) → HaveValues vs → (n : ℕ) (t : ObjectType) → slice_get (globals_typed vs).objects n ≡ Some t
+    → (x : Object) × (full : Bool) × (slice_get (map global_object vs) n ≡ Some x) × (slice_get (globals_typed vs).full n ≡ Some full) × IsObject g full t x
+globals_each g [] have n t found = absurd (let z : None ≡ Some t = found in cc)
+globals_each g (v ∷ vs) (has, have) zero t found =
+    let t_is : global_type (read v.of_type) ≡ t = some_same (global_type (read v.of_type)) t found in
+    (global_object v, true, refl, refl, subst (λ z. IsObject g true z (global_object v)) t_is (global_is g v has))
+globals_each g (v ∷ vs) (has, have) (suc n) t found = globals_each g vs have n t found
+
+all_globals : (vs : List GlobalVariable) (n : ℕ) (t : Ty) → slice_get (map (λ (v : GlobalVariable). v.of_type) vs) n ≡ Some t
+    → (slice_get (globals_typed vs).objects n ≡ Some (global_type (read t))) × (slice_get (globals_typed vs).full n ≡ Some true)
+all_globals [] n t found = absurd (let z : None ≡ Some t = found in cc)
+all_globals (v ∷ vs) zero t found = (ap (λ u. Some (global_type (read u))) (some_same v.of_type t found), refl)
+all_globals (v ∷ vs) (suc n) t found = all_globals vs n t found
+
+well_start : (p : Program) (input : List ℕ) → AreAccepted p → IsWellTypedProgram p → HaveValues p.globals → IsWell p (start p input)
+well_start p input accepted well have =
+    let (h, at, same) = of_map signature_of p.functions p.main (signature_of_ints []) well.main in
+    let (end, ok) = accepted p.main h at in
+    let none : h.parameters ≡ [] = ap (λ (s : Signature). s.parameters) same in
+    let int : h.result ≡ Some types.Int = ap (λ (s : Signature). s.result) same in
+    let w = first_world p input in
+    let g = globals_typed p.globals in
+    let x : Exits = record { loop = None; result = h.result } in
+    let objects : IsTyped g w.objects = record {
+      count = mapped_length global_object (λ (v : GlobalVariable). global_type (read v.of_type)) p.globals;
+      flags = mapped_length global_object (λ (v : GlobalVariable). true) p.globals;
+      each = globals_each g p.globals have;
+    } in
+    let count : 0 ≡ length h.parameters = sym (ap length none) in
+    subst (λ o. IsWell p (called o [] (Main ∷ []) w)) (sym at)
+    (subst (λ (b : Bool). IsWell p (if b then Running (Entering h []) (Main ∷ []) no_locals w else wrong w)) (sym (eq-eqb 0 (length h.parameters) count))
+    (running p g x [] no_locals w objects (all_globals p.globals) tt tt (Entering h []) (Main ∷ []) tt
+    (end, ok, (refl, refl), refl, subst (λ ts. AreOperands g (map read ts) []) (sym none) tt, (refl, int, ok.ends types.Int int, tt))))
+
+-- ---- the theorem
+
+pub variables_sound : (p : Program) → IsWellTypedProgram p → HaveValues p.globals → IsAllowedProgram p → IsOfVariables p → IsSound p
+variables_sound p well have allowed kept input count =
+    let accepted : AreAccepted p = accepted_among p p.functions well.functions allowed kept in
+    well_alive p (run p input count) (well_steps p count (start p input) accepted (nests_start p input) (well_start p input accepted well have))

@@ -1,0 +1,10 @@
+-- Growth.
+use Rattle.cyc_soundness.proofs.WorldLemmas.{type_grown}
+use Rattle.cyc_soundness.proofs.StackLemmas.{stack_grown}
+use Rattle.cyc_soundness.proofs.laws.typings_stay.Goals as goal
+
+pub returns-clause-values : goal.returns-clause-values
+returns-clause-values c = type_grown
+
+pub returns-clause-stacks : goal.returns-clause-stacks
+returns-clause-stacks c = stack_grown

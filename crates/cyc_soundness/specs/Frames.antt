@@ -1,0 +1,117 @@
+-- THE LOCALS OF A CALL: to which objects the numbers in scope lead, what the flow rules say of them, and where control may go.
+use Rattle.std.specs.Prelude.{◌≡◌, ℕ, ◌<◌, Bool, true, false, List, [], ◌∷◌, map, Option, Some, None, slice_get}
+use Rattle.cyc_syntax.specs.Symbols.{Place}
+use Rattle.cyc_types.specs.Types.{Ty}
+use Rattle.cyc_types.specs.TypedTrees.{GlobalVariable, Program}
+use Rattle.cyc_types.specs.typing.WellTyped.{LocalInScope, Context, signature_of}
+use Rattle.cyc_types.specs.flow.States as flow
+use Rattle.cyc_types.specs.flow.States.{fullness, is_vacant, is_reached}
+use Rattle.cyc_types.specs.flow.Statements.{Loop, Around}
+use Rattle.cyc_soundness.specs.Lives.{RunTy, read}
+use Rattle.cyc_soundness.specs.Worlds.{Typing, IsFull, variable_type, global_type}
+
+pub data IsAmong {A : Type 0} (a : A) : List A → Type 0 where
+  first : (as' : List A) → IsAmong a (a ∷ as')
+  later : (b : A) (as' : List A) → IsAmong a as' → IsAmong a (b ∷ as')
+
+-- a local in scope, with its object and the region that this lives in
+pub record Bound : Type 0 where
+  pub number : ℕ
+  pub object : ℕ
+  pub of_type : RunTy
+  pub region : ℕ
+
+-- the scope of a tree, as this run has it
+abbrev pub IsScope : List LocalInScope → List Bound → Type 0
+IsScope [] [] = Unit {0}
+IsScope [] (b ∷ bs) = ⊥
+IsScope (v ∷ vs) [] = ⊥
+IsScope (v ∷ vs) (b ∷ bs) = ((v.number ≡ b.number) × (read v.of_type ≡ b.of_type)) × IsScope vs bs
+
+-- the numbers of locals in scope were given out before this one
+abbrev pub AreBelow : ℕ → List Bound → Type 0
+AreBelow n [] = Unit {0}
+AreBelow n (b ∷ bs) = (b.number < n) × AreBelow n bs
+
+-- the locals lead to their objects
+abbrev pub IsBound : (locals : ℕ → Option ℕ) → List Bound → Type 0
+IsBound locals [] = Unit {0}
+IsBound locals (b ∷ bs) = (locals b.number ≡ Some b.object) × IsBound locals bs
+
+-- which are variables of their types
+abbrev pub AreVariables : Typing → List Bound → Type 0
+AreVariables g [] = Unit {0}
+AreVariables g (b ∷ bs) = (slice_get g.objects b.object ≡ Some (variable_type b.of_type b.region)) × AreVariables g bs
+
+-- in regions that will end, and have not yet
+abbrev pub LiveIn : List ℕ → List Bound → Type 0
+LiveIn regions [] = Unit {0}
+LiveIn regions (b ∷ bs) = IsAmong b.region regions × LiveIn regions bs
+
+-- an outer scope
+pub data Within : (outer inner : List Bound) → Type 0 where
+  itself : (bs : List Bound) → Within bs bs
+  older : (b : Bound) (bs cs : List Bound) → Within bs cs → Within bs (b ∷ cs)
+
+-- ---- flow
+
+-- by what is known here, this local holds something
+abbrev pub IsSet : flow.State → ℕ → Type 0
+IsSet f n = is_vacant (fullness f n) ≡ false
+
+abbrev pub AreSet : Typing → flow.State → List Bound → Type 0
+AreSet g f [] = Unit {0}
+AreSet g f (b ∷ bs) = (IsSet f b.number → IsFull g b.object) × AreSet g f bs
+
+-- what is known here holds, and so code that is never run is not reached
+abbrev pub Holds : Typing → flow.State → List Bound → Type 0
+Holds g f bs = (is_reached f ≡ true) × AreSet g f bs
+
+-- where the first holds, so does the second
+pub record Implies (f h : flow.State) : Type 0 where
+  pub reached : is_reached f ≡ true → is_reached h ≡ true
+  pub set : (n : ℕ) → IsSet h n → IsSet f n
+
+-- ---- where control may go
+
+-- a loop around: what is known at its head, and at all breaks that leave it
+pub record LoopExit : Type 0 where
+  pub place : Place
+  pub head : flow.State
+  pub breaks : flow.State
+
+pub record Exits : Type 0 where
+  pub loop : Option LoopExit
+  -- of the function
+  pub result : Option Ty
+
+abbrev pub loop_of : Option LoopExit → Option Loop
+loop_of None = None
+loop_of (Some l) = Some (record { place = l.place; head = l.head })
+
+abbrev pub around : Exits → Around
+around x = record { loop = loop_of x.loop; locks = [] }
+
+-- what is known at breaks so far holds behind the loop
+abbrev pub AreBreaks : Option LoopExit → flow.State → Type 0
+AreBreaks None b = Unit {0}
+AreBreaks (Some l) b = Implies b l.breaks
+
+abbrev pub is_loop : Option LoopExit → Bool
+is_loop None = false
+is_loop (Some l) = true
+
+-- the context of a tree in a function of this program, where control may go there and these locals are in scope
+pub record IsContext (p : Program) (x : Exits) (bs : List Bound) (c : Context) : Type 0 where
+  pub globals : c.globals ≡ map (λ (g : GlobalVariable). g.of_type) p.globals
+  pub functions : c.functions ≡ map signature_of p.functions
+  pub result : c.result ≡ x.result
+  pub loop : c.in_loop ≡ true → is_loop x.loop ≡ true
+  pub scope : IsScope c.locals bs
+  pub below : AreBelow c.next_local bs
+
+-- the globals are the first objects
+abbrev pub AreGlobals : Typing → Program → Type 0
+AreGlobals g p =
+    (number : ℕ) (t : Ty) → slice_get (map (λ (v : GlobalVariable). v.of_type) p.globals) number ≡ Some t
+    → (slice_get g.objects number ≡ Some (global_type (read t))) × IsFull g number

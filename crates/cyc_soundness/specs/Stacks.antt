@@ -1,0 +1,243 @@
+-- THE TYPING OF STATES. Each entry of the control stack is typed from what it awaits to what it hands on. Typed trees on it keep their
+-- judgements, types and flow in one; the locals in scope are an index, of which an entry may forget the newest.
+use Rattle.std.specs.Prelude.{◌≡◌, ◌⊎◌, ℕ, ◌+◌, true, false, List, [], ◌∷◌, length, map, Option, Some, None, slice_get}
+use Rattle.cyc_types.specs.declared.typed.Kind.{Kind}
+use Rattle.cyc_types.specs.declared.typed.Callee.{Callee}
+use Rattle.cyc_types.specs.declared.typed.Callee.TheVariants as callees
+use Rattle.cyc_types.specs.declared.typed.Operator.{Operator}
+use Rattle.cyc_types.specs.declared.typed.UnaryOperator.TheVariants as unary
+use Rattle.cyc_types.specs.Types.{Ty, ValueType, result_type}
+use Rattle.cyc_types.specs.Types as types
+use Rattle.cyc_types.specs.TypedTrees.{Expression, Arguments, Operations, Statement, Items, Clauses, GlobalVariable, Function, Program}
+use Rattle.cyc_types.specs.Rules.{Derives}
+use Rattle.cyc_types.specs.typing.Tests.{is_tested, kind_of, kind_of_value}
+use Rattle.cyc_types.specs.typing.Expressions.{assigned_type}
+use Rattle.cyc_types.specs.typing.WellTyped.{LocalInScope, Context, WellTyped, IsPeek, ArePassed, Converts, IsChain, in_body, with_local, WellTypedStatement, WellTypedItems, WellTypedClauses, IsWellTypedFunction, parameters_in_scope}
+use Rattle.cyc_types.specs.flow.States as flow
+use Rattle.cyc_types.specs.flow.States.{Unreached, Full, with_fullness, is_reached}
+use Rattle.cyc_types.specs.flow.Expressions.{rule, rule_arguments, rule_operations}
+use Rattle.cyc_types.specs.flow.Statements.{rule_statement, rule_items, rule_clauses}
+use Rattle.cyc_types.specs.flow.Programs.{start_of, in_function}
+use Rattle.cyc_meaning.specs.Values.{Operand}
+use Rattle.cyc_meaning.specs.Values as values
+use Rattle.cyc_meaning.specs.State.{Awaiting, ConvertTo, Operate, Chain, Apply, Decide, Store, Pass, Initialise, Choose, Test, Return, ThrowWith, Entry, Needs, Discard, Rest, Join, Loop, CloseRegion, Handler, Caller, Main, Environment, World, Focus, Evaluating, Given, Executing, Proceeding, Calling, Entering, Binding, Naming, Breaking, Continuing, Returning, Throwing, Catching, State, Running, Ended, Dead, Wrong}
+use Rattle.cyc_meaning.specs.Nesting.{ends_of}
+use Rattle.cyc_soundness.specs.Lives.{RunTy, RunValue, Value, read, read_value}
+use Rattle.cyc_soundness.specs.Lives as lives
+use Rattle.cyc_soundness.specs.Worlds.{Typing, IsFull, IsResult, AreOperands, IsTyped}
+use Rattle.cyc_soundness.specs.Frames.{IsAmong, Bound, IsScope, AreBelow, IsBound, AreVariables, LiveIn, Within, Holds, Implies, LoopExit, Exits, around, AreBreaks, is_loop, IsContext, AreGlobals}
+use Rattle.cyc_soundness.specs.Classes.{KeepsToVariables, InArguments, InOperations, InStatement, InItems, InClauses}
+
+-- ---- trees, with what is known before and behind them
+
+-- an expression, which may be a peek
+pub record Evaluates (c : Context) (a : Expression) (f : flow.State) (t : ValueType) (h : flow.State) : Type 0 where
+  pub waiting : List ℕ
+  pub typed : WellTyped c a t ⊎ IsPeek c a t
+  pub flows : Derives (rule waiting a f) h
+  pub kept : KeepsToVariables a
+
+pub record Computes (c : Context) (left : ValueType) (os : Operations) (f : flow.State) (t : Ty) (h : flow.State) : Type 0 where
+  pub waiting : List ℕ
+  pub typed : IsChain c left os t
+  pub flows : Derives (rule_operations waiting os f) h
+  pub kept : InOperations os
+
+pub record Passes (c : Context) (ts : List Ty) (as' : Arguments) (f h : flow.State) : Type 0 where
+  pub waiting : List ℕ
+  pub typed : ArePassed c ts as'
+  pub flows : Derives (rule_arguments waiting as' f) h
+  pub kept : InArguments as'
+
+-- behind a statement this is known, which is what the breaks in it leave to the loop around
+pub record Executes (x : Exits) (c : Context) (s : Statement) (f h : flow.State) : Type 0 where
+  pub before : flow.State
+  pub behind : flow.State
+  pub typed : WellTypedStatement c s
+  pub flows : Derives (rule_statement (around x) s (record { now = f; breaks = before })) (record { now = h; breaks = behind })
+  pub breaks : AreBreaks x.loop behind
+  pub kept : InStatement s
+
+pub record Continues (x : Exits) (c : Context) (js : Items) (f h : flow.State) : Type 0 where
+  pub before : flow.State
+  pub behind : flow.State
+  pub typed : WellTypedItems c js
+  pub flows : Derives (rule_items (around x) js (record { now = f; breaks = before })) (record { now = h; breaks = behind })
+  pub breaks : AreBreaks x.loop behind
+  pub kept : InItems js
+
+-- clauses that begin with this known
+pub record Catches (x : Exits) (c : Context) (start : flow.State) (cs : Clauses) (f h : flow.State) : Type 0 where
+  pub before : flow.State
+  pub behind : flow.State
+  pub typed : WellTypedClauses c cs
+  pub flows : Derives (rule_clauses (around x) start cs (record { now = f; breaks = before })) (record { now = h; breaks = behind })
+  pub breaks : AreBreaks x.loop behind
+  pub kept : InClauses cs
+
+-- a function that is accepted, behind whose body this is known
+pub record IsAccepted (p : Program) (h : Function) (end : flow.State) : Type 0 where
+  pub typed : IsWellTypedFunction p h
+  pub breaks : flow.State
+  pub flows : Derives (rule_items in_function h.body (record { now = start_of h; breaks = Unreached })) (record { now = end; breaks = breaks })
+  pub ends : (t : Ty) → h.result ≡ Some t → is_reached end ≡ false
+  pub kept : InItems h.body
+
+-- ---- what is awaited
+
+pub data Want : Type 0 where
+  -- nothing: the run is over
+  Nothing : Want
+  -- a value, or nothing where no value is used, and this is known
+  Val : RunValue → flow.State → Want
+  -- the end of a statement
+  Go : flow.State → Want
+
+-- the operands that wait in an entry
+abbrev pub held : Awaiting → List Operand
+held (Apply operator left) = left ∷ []
+held (Pass callee before rest) = before
+held a = []
+
+-- these operands, the newest first, and then those of the second list
+abbrev pub turned : {A : Type 0} → List A → List A → List A
+turned [] rest = rest
+turned (a ∷ before) rest = turned before (a ∷ rest)
+
+-- a call with arguments of these types gives this
+abbrev pub IsCalled : Program → Callee → List RunTy → RunValue → Type 0
+IsCalled p callees.Putchar ts r = (ts ≡ lives.Int ∷ []) × (r ≡ Value lives.Int)
+IsCalled p callees.Getchar ts r = (ts ≡ []) × (r ≡ Value lives.Int)
+IsCalled p (callees.Function number) ts r =
+    (h : Function) × (slice_get p.functions number ≡ Some h) × (ts ≡ map read h.parameters) × (r ≡ read_value (result_type h.result))
+
+-- in the body of this loop
+abbrev pub inside : Exits → LoopExit → Exits
+inside x l = record x { loop = Some l }
+
+-- A loop, whose condition has a value of this type and leaves this known; behind the loop it is this.
+pub record IsLoop (p : Program) (x : Exits) (bs : List Bound) (l : LoopExit) (condition : Expression) (body : Statement) (v : ValueType) (f exit : flow.State) : Type 0 where
+  pub context : Context
+  pub now : flow.State
+  pub stands : IsContext p x bs context
+  pub tested : is_tested v ≡ true
+  pub first : Evaluates context condition l.head v f
+  pub again : Executes (inside x l) (in_body context) body f now
+  pub back : Implies now l.head
+  pub fails : Implies f exit
+  pub left : Implies l.breaks exit
+
+-- What waits for a value: with the types of the operands that wait in it, what it awaits, and what goes on then, in which scope.
+pub data Waits (p : Program) (x : Exits) (bs : List Bound) : Awaiting → List RunTy → RunValue → flow.State → List Bound → Want → Type 0 where
+  converts : {from to : Kind} (c : Context) (v : ValueType) (t : Ty) (f : flow.State) → Converts c v t → from ≡ kind_of_value v → to ≡ kind_of t
+      → Waits p x bs (ConvertTo from to) [] (read_value v) f bs (Val (Value (read t)) f)
+  negates : (f : flow.State) → Waits p x bs (Operate unary.Negate) [] (Value lives.Int) f bs (Val (Value lives.Int) f)
+  complements : (f : flow.State) → Waits p x bs (Operate unary.Complement) [] (Value lives.Int) f bs (Val (Value lives.Int) f)
+  denies : (v : ValueType) (f : flow.State) → is_tested v ≡ true → Waits p x bs (Operate unary.Not) [] (read_value v) f bs (Val (Value lives.Int) f)
+  chains : {os : Operations} (c : Context) (v : ValueType) (t : Ty) (f h : flow.State) → IsContext p x bs c → Computes c v os f t h
+      → Waits p x bs (Chain os) [] (read_value v) f bs (Val (Value (read t)) h)
+  applies : {o : Operator} {left : Operand} (f : flow.State) → Waits p x bs (Apply o left) (lives.Int ∷ []) (Value lives.Int) f bs (Val (Value lives.Int) f)
+  decides : (v : ValueType) (f h : flow.State) → is_tested v ≡ true → Implies f h → Waits p x bs Decide [] (read_value v) f bs (Val (Value lives.Int) h)
+  stores_local : (b : Bound) (t : Ty) (f : flow.State) → IsAmong b bs → b.of_type ≡ read t
+      → Waits p x bs (Store (values.Thin b.object 0)) [] (Value (read t)) f bs (Val (read_value (assigned_type t)) (with_fullness Full f b.number))
+  stores_global : (number : ℕ) (t : Ty) (f : flow.State) → slice_get (map (λ (v : GlobalVariable). v.of_type) p.globals) number ≡ Some t
+      → Waits p x bs (Store (values.Thin number 0)) [] (Value (read t)) f bs (Val (read_value (assigned_type t)) f)
+  passes : {callee : Callee} {before : List Operand} {rest : Arguments} (c : Context) (done : List RunTy) (t : Ty) (ts : List Ty) (r : ValueType) (f h : flow.State)
+      → IsContext p x bs c → Passes c ts rest f h → IsCalled p callee (turned (read t ∷ done) (map read ts)) (read_value r)
+      → Waits p x bs (Pass callee before rest) done (Value (read t)) f bs (Val (read_value r) h)
+  initialises : {number : ℕ} {kind : Kind} {js : Items} (cs : List Bound) (c : Context) (t : Ty) (f h : flow.State) → Within cs bs → IsContext p x bs c
+      → number ≡ c.next_local → kind ≡ kind_of t → Continues x (with_local true t c) js (with_fullness Full f number) h → Waits p x bs (Initialise number kind js) [] (Value (read t)) f cs (Go h)
+  chooses : {first second : Statement} (c d : Context) (v : ValueType) (f g h i : flow.State) → is_tested v ≡ true → IsContext p x bs c → IsContext p x bs d
+      → Executes x c first f g → Executes x d second f h → Implies g i → Implies h i → Waits p x bs (Choose first second) [] (read_value v) f bs (Go i)
+  tests : {condition : Expression} {body : Statement} (l : LoopExit) (v : ValueType) (f h : flow.State) → IsLoop p x bs l condition body v f h
+      → Waits p x bs (Test condition body) [] (read_value v) f bs (Go h)
+  returns : (t : Ty) (f h : flow.State) → x.result ≡ Some t → Waits p x bs Return [] (Value (read t)) f bs (Go h)
+  throws : {tag : ℕ} (f h : flow.State) → Waits p x bs (ThrowWith tag) [] (Value lives.Int) f bs (Go h)
+
+-- ---- the control stack
+
+-- a function with a result never comes to its end
+abbrev pub IsBlocked : Option Ty → flow.State → Type 0
+IsBlocked None f = Unit {0}
+IsBlocked (Some t) f = is_reached f ≡ false
+
+abbrev pub IsStack : Program → Typing → Exits → List Bound → Want → List Entry → Type 0
+IsStack p g x bs Nothing [] = Unit {0}
+IsStack p g x bs (Val r f) (Needs a ∷ k) =
+    (ts : List RunTy) × (cs : List Bound) × (next : Want) × Waits p x bs a ts r f cs next × AreOperands g ts (held a) × IsStack p g x cs next k
+IsStack p g x bs (Val r f) (Discard ∷ k) = IsStack p g x bs (Go f) k
+IsStack p g x bs (Go f) (Discard ∷ k) = IsStack p g x bs (Go f) k
+-- the locals that a block declares are out of scope behind its items
+IsStack p g x bs (Go f) (Rest js ∷ k) =
+    (cs : List Bound) × (c : Context) × (h : flow.State) × Within cs bs × IsContext p x bs c × Continues x c js f h × IsStack p g x cs (Go h) k
+IsStack p g x bs (Go f) (Join ∷ k) = (h : flow.State) × Implies f h × IsStack p g x bs (Go h) k
+IsStack p g x bs (Go f) (Loop condition body ∷ k) =
+    (y : Exits) × (l : LoopExit) × (v : ValueType) × (u h : flow.State) × (x ≡ inside y l) × IsLoop p y bs l condition body v u h × Implies f l.head × IsStack p g y bs (Go h) k
+IsStack p g x bs (Go f) (CloseRegion region home ∷ k) = (h : flow.State) × Implies f h × LiveIn (ends_of k) bs × IsStack p g x bs (Go h) k
+IsStack p g x bs (Go f) (Handler cs ∷ k) =
+    (c : Context) × (start h : flow.State) × IsContext p x bs c × Holds g start bs × Catches x c start cs f h × Implies f h × IsStack p g x bs (Go h) k
+-- the caller's locals are as they were, and hold what they held
+IsStack p g x bs (Go f) (Caller e ∷ k) =
+    (y : Exits) × (cs : List Bound) × (h : flow.State) × (is_loop x.loop ≡ false) × IsBlocked x.result f × IsBound e.locals cs × AreVariables g cs × LiveIn (ends_of k) cs × Holds g h cs
+    × IsStack p g y cs (Val (read_value (result_type x.result)) h) k
+IsStack p g x bs (Go f) (Main ∷ k) = (is_loop x.loop ≡ false) × (x.result ≡ Some types.Int) × (is_reached f ≡ false) × IsStack p g x bs Nothing k
+IsStack p g x bs w k = ⊥
+
+-- ---- states
+
+abbrev pub IsReturn : Typing → Option Ty → Option Operand → Type 0
+IsReturn g None None = Unit {0}
+IsReturn g (Some t) (Some v) = IsResult g (Value (read t)) v
+IsReturn g r v = ⊥
+
+-- these locals all hold something
+abbrev pub AreFull : Typing → List Bound → Type 0
+AreFull g [] = Unit {0}
+AreFull g (b ∷ bs) = IsFull g b.object × AreFull g bs
+
+-- in a function's body, outside of loops
+abbrev pub IsBody : Exits → Function → Type 0
+IsBody x h = (x.loop ≡ None) × (x.result ≡ h.result)
+
+abbrev pub IsFocus : Program → Typing → Exits → List Bound → Focus → List Entry → Type 0
+IsFocus p g x bs (Evaluating a) k =
+    (c : Context) × (t : ValueType) × (f h : flow.State) × IsContext p x bs c × Holds g f bs × Evaluates c a f t h × IsStack p g x bs (Val (read_value t) h) k
+IsFocus p g x bs (Given v) k = (r : RunValue) × (f : flow.State) × Holds g f bs × IsResult g r v × IsStack p g x bs (Val r f) k
+IsFocus p g x bs (Executing s) k =
+    (c : Context) × (f h : flow.State) × IsContext p x bs c × Holds g f bs × Executes x c s f h × IsStack p g x bs (Go h) k
+IsFocus p g x bs Proceeding k = (f : flow.State) × Holds g f bs × IsStack p g x bs (Go f) k
+IsFocus p g x bs (Calling callee arguments) k =
+    (ts : List RunTy) × (r : RunValue) × (f : flow.State) × Holds g f bs × IsCalled p callee (turned ts []) r × AreOperands g ts arguments × IsStack p g x bs (Val r f) k
+IsFocus p g x bs (Entering h arguments) k =
+    (end : flow.State) × IsAccepted p h end × IsBody x h × (bs ≡ []) × AreOperands g (map read h.parameters) arguments × IsStack p g x bs (Go end) k
+IsFocus p g x bs (Binding number ts arguments body) k =
+    (h : Function) × (end : flow.State) × (vs : List LocalInScope) × (cs : List Bound) × Within cs bs × IsAccepted p h end × IsBody x h × (body ≡ h.body) × (parameters_in_scope ts number vs ≡ parameters_in_scope h.parameters 0 [])
+    × (number + length ts ≡ length h.parameters) × AreOperands g (map read ts) arguments × IsScope vs bs × AreBelow number bs × AreFull g bs × IsStack p g x cs (Go end) k
+IsFocus p g x bs (Naming number v js) k =
+    (c : Context) × (t : Ty) × (f h : flow.State) × IsContext p x bs c × Holds g f bs × (number ≡ c.next_local) × IsResult g (Value (read t)) v
+    × Continues x (with_local true t c) js (with_fullness Full f number) h × IsStack p g x bs (Go h) k
+IsFocus p g x bs Breaking k = (l : LoopExit) × (f : flow.State) × (x.loop ≡ Some l) × Holds g l.breaks bs × IsStack p g x bs (Go f) k
+IsFocus p g x bs Continuing k = (l : LoopExit) × (f : flow.State) × (x.loop ≡ Some l) × Holds g l.head bs × IsStack p g x bs (Go f) k
+IsFocus p g x bs (Returning v) k = (f : flow.State) × IsReturn g x.result v × IsStack p g x bs (Go f) k
+IsFocus p g x bs (Throwing tag value) k = (w : Want) × IsStack p g x bs w k
+IsFocus p g x bs (Catching tag value cs) k =
+    (c : Context) × (start f h : flow.State) × IsContext p x bs c × Holds g start bs × Catches x c start cs f h × IsStack p g x bs (Go h) k
+IsFocus p g x bs focus k = ⊥
+
+pub record IsRunning (p : Program) (focus : Focus) (k : List Entry) (e : Environment) (w : World) : Type 0 where
+  pub typing : Typing
+  pub exits : Exits
+  pub locals : List Bound
+  pub objects : IsTyped typing w.objects
+  pub globals : AreGlobals typing p
+  pub bound : IsBound e.locals locals
+  pub variables : AreVariables typing locals
+  pub live : LiveIn (ends_of k) locals
+  pub stands : IsFocus p typing exits locals focus k
+
+-- THE INVARIANT: every part of a state has its type, so it is neither dead nor wrong
+abbrev pub IsWell : Program → State → Type 0
+IsWell p (Running focus k e w) = IsRunning p focus k e w
+IsWell p (Ended ending output input) = Unit {0}
+IsWell p (Dead output input) = ⊥
+IsWell p (Wrong output input) = ⊥

@@ -1,0 +1,38 @@
+//! Laws of the definitions in `specs/`. Each function does nothing: its contract is the law, and so it is proved with
+//! the crate.
+
+ghost use Rattle.std.specs.Prelude.{List};
+ghost use Rattle.cyc_types.specs.Types.{Ty, ValueType};
+ghost use Rattle.cyc_types.specs.TypedTrees.{Program};
+ghost use Rattle.cyc_types.specs.typing.Tests.{kind_of};
+ghost use Rattle.cyc_types.specs.typing.WellTyped.{Context, Converts, IsWellTypedProgram};
+ghost use Rattle.cyc_types.specs.flow.Programs.{IsAllowedProgram};
+ghost use Rattle.cyc_meaning.specs.Values.{Value, Operand};
+ghost use Rattle.cyc_meaning.specs.Conversion.{conversion};
+ghost use Rattle.cyc_meaning.specs.State.{Entry};
+ghost use Rattle.cyc_soundness.specs.Lives.{RunTy, read, read_value};
+ghost use Rattle.cyc_soundness.specs.Worlds.{Typing, HasType, IsResult, Fits, Grows};
+ghost use Rattle.cyc_soundness.specs.Frames.{Bound, Exits};
+ghost use Rattle.cyc_soundness.specs.Stacks.{Want, IsStack};
+ghost use Rattle.cyc_soundness.specs.Classes.{IsOfVariables};
+ghost use Rattle.cyc_soundness.specs.Sound.{HaveValues, IsSound};
+
+/// What is known of a world only grows, and what was typed stays so: a value keeps its type for good, and so does a
+/// control stack.
+pub fn typings_stay()
+    ensures values { (g h : Typing) → Grows g h → (t : RunTy) (v : Value) → HasType g t v → HasType h t v }
+    ensures stacks { (p : Program) (g h : Typing) → Grows g h → (x : Exits) (locals : List Bound) (want : Want) (stack : List Entry)
+        → IsStack p g x locals want stack → IsStack p h x locals want stack }
+{}
+
+/// A value that the rules let be converted becomes a value of the type that is wanted, or raises an exception.
+pub fn conversions_fit()
+    ensures { (g : Typing) (c : Context) (s : ValueType) (t : Ty) (v : Operand) → Converts c s t → IsResult g (read_value s) v
+        → Fits g (read t) (conversion (kind_of t) v.value) }
+{}
+
+/// No run of a program whose values live in variables alone is ever dead or wrong, where the typing rules and the flow
+/// rules accept it.
+pub fn variables_are_sound()
+    ensures { (p : Program) → IsWellTypedProgram p → HaveValues p.globals → IsAllowedProgram p → IsOfVariables p → IsSound p }
+{}
