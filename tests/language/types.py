@@ -117,9 +117,10 @@ class Written:
 
     def arguments(self, name, regions, place):
         """The regions of a struct's parameters. Those left out are the heap."""
-        found = [self.region(region, False) for region in regions]
         if name.text not in self.structs:
             self.faults.add(20, name.place)
+        found = [self.region(region, False) for region in regions]
+        if name.text not in self.structs:
             return None
         count = len(self.structs[name.text].parameters)
         if found and len(found) != count:
