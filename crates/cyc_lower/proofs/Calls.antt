@@ -32,7 +32,7 @@ use Rattle.cyc_lower.proofs.Stands.{ItemsAt}
 use Rattle.cyc_lower.proofs.Relation.{Is, Holds, HoldsFrom, held, callers, Shared, DataAt, DataIn, SharedAt, prints_only, gives_byte, StatementStack, PrintsStack, nowhere, behind_statement, Related, Matches, code_of, bounds_in, bounds_at, base_of, top}
 use Rattle.cyc_lower.proofs.Data.{Holds-rest, in_order, arguments_copied, data_declared, data_called}
 use Rattle.cyc_lower.proofs.Accesses.{IsWell, is_fitting, is_declared}
-use Rattle.cyc_lower.proofs.Matched.{IsMatched, above, below, matching, silently, one, two_known, shared_within, shared_way, steps_to, place_in, known, lands_depth}
+use Rattle.cyc_lower.proofs.Matched.{IsMatched, above, below, matching, silently, by_one, by_two_known, shared_within, shared_way, steps_to, place_in, known, lands_depth}
 use Rattle.cyc_lower.proofs.Evaluations.{IsStep, landed, lands_at}
 use Rattle.cyc_lower.proofs.StatementSteps.{shared_opened}
 
@@ -55,7 +55,7 @@ module _ (source : Program) (pages calls : ℕ) where
         same_classes = shared.same_classes;
         fits = shared.fits;
       } in
-      one source pages calls refl shared here
+      by_one source pages calls refl shared here
       (λ choice. landed source pages calls (record { kind = kinds.Int; value = Int byte }) word d k e next read q (ap (λ (l : List ℕ). unwrap_or (slice_get l 0) (2 ^ 32 - 1)) shared.same_input) shared_read facts holds end lands)
 
   low_byte_of : (a : ℕ) → bit_and a 255 ≡ a % 256
@@ -79,7 +79,7 @@ module _ (source : Program) (pages calls : ℕ) where
       → PrintsStack source c.active.function e.locals o c.active.next c.frames k
       → IsMatched source pages calls (Running (Calling callees.Putchar (record { kind = i; value = Int a } ∷ [])) k e w) (plain.Running c)
   prints i a o k e w c shared facts is holds (write, prints_only stack) =
-      one source pages calls refl shared write
+      by_one source pages calls refl shared write
       (λ choice. (shared_printed a (operand_word c.active.slots o) w c shared is, nowhere facts stack))
   prints i a o k e w c shared facts is holds (write, gives_byte d low lands) =
       let x = operand_word c.active.slots o in
@@ -91,7 +91,7 @@ module _ (source : Program) (pages calls : ℕ) where
       let shared_next : SharedAt source pages calls next first = shared_printed a x w c shared is in
       let done : Related source pages calls (Given (record { kind = kinds.Int; value = Int (a % 256) })) k e next last =
       landed source pages calls (record { kind = kinds.Int; value = Int (a % 256) }) (bit_and x 255) d k e next first (c.active.next + 1 + 1) (low_byte_of x ∙ ap (λ y. y % 256) is) shared_next facts holds refl lands in
-      two_known source pages calls first refl shared (shared_within source pages calls next first shared_next)
+      by_two_known source pages calls first refl shared (shared_within source pages calls next first shared_next)
       (way_after (above source pages calls) (below source pages calls) (matching source pages calls) s after (plain.Running first)
       (steps_to source pages calls s after (plain.Running last) refl done) (IsPrefix-append w.output (a % 256 ∷ [])) refl shared_next.same_output)
       write (λ choice. refl) low (λ same. omega (arith, same)) (λ choice. done)
@@ -219,7 +219,7 @@ module _ (source : Program) (pages calls : ℕ) where
                 shared here past
             | inr fine ↦
                 let frame : Frame = record { caller = (advanced c).active; result = into } in
-                one source pages calls does shared here
+                by_one source pages calls does shared here
                 (λ choice.
                 let slots = copied c.active.slots d (length before) choice.contents 0 in
                 entered stand n h (reverse before) (Caller e ∷ k) w slots c.globals [] (frame ∷ c.frames) c.store c.output c.input there

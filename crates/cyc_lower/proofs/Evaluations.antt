@@ -31,7 +31,7 @@ use Rattle.cyc_lower.proofs.Stands.{CopyBy, CopyAt, OperandBy, ExpressionAt, Arg
 use Rattle.cyc_lower.proofs.Relation.{Is, height, Holds, held, contents, callers, in_temporary, in_local, drops, leaves, copies, prints_only, gives_byte, DataIn, SharedAt, CallAt, to_slot, to_jump, ValueStack, ConditionStack, DroppedStack, AheadStack, LandsStack, HandsOnStack, PrintsStack, RightAt, as_operand, into_slot, for_effect, as_right, as_condition, in_operand, ahead, with_left, Related, Matches, code_of, bounds_in, bounds_at, base_of, top}
 use Rattle.cyc_lower.proofs.Data.{height-least, Holds-put, Holds-local, data_put, data_put_back}
 use Rattle.cyc_lower.proofs.Accesses.{IsWell, is_loaded}
-use Rattle.cyc_lower.proofs.Matched.{IsMatched, silently, one}
+use Rattle.cyc_lower.proofs.Matched.{IsMatched, silently, by_one}
 
 -- an object is found in the same way, wherever new variables live
 pub object_of_same : (l : Lvalue) (e : Environment) → object_of (record { locals = e.locals; home = 0; counters = λ level. None }) l ≡ object_of e l
@@ -231,15 +231,15 @@ module _ (source : Program) (pages calls : ℕ) where
       → ExpressionAt (code_of source c.active.function) (bounds_at source c.active.function) a d (top source c.active.function k) c.active.next q
       → LandsStack source c.active.function e.locals d q c.frames k → IsBegun a k e w c
   comes (Number n) k e w c d q (well, shared, facts, holds) (at, end) lands =
-      one source pages calls refl shared at (λ choice. landed (record { kind = kinds.Int; value = Int n }) n d k e w c q refl shared facts holds end lands)
+      by_one source pages calls refl shared at (λ choice. landed (record { kind = kinds.Int; value = Int n }) n d k e w c q refl shared facts holds end lands)
   comes (Copy (Local p n) t) k e w c d q (well, shared, facts, holds) (at, end) lands =
       let found = is_loaded (kind_of t) (e.locals n) k e w well in
-      one source pages calls found.gives shared at
+      by_one source pages calls found.gives shared at
       (λ choice. landed (record { kind = kind_of t; value = found.value }) (c.active.slots (slot_of n)) d k e w c q (facts.2.holds n found.number found.value found.there found.has) shared facts holds end lands)
   comes (Copy (Global n) t) k e w c d q (well, shared, facts, holds) (few, at, end) lands =
       let found = is_loaded (kind_of t) (Some n) k e w well in
       let same : n ≡ found.number = same_Some n found.number found.there in
-      one source pages calls found.gives shared at
+      by_one source pages calls found.gives shared at
       (λ choice. landed (record { kind = kind_of t; value = found.value }) (c.globals n) d k e w c q (facts.4 n found.value (global_there c.active.function n few) (ap (contents w.objects) same ∙ found.has)) shared facts holds end lands)
   comes (Call callees.Putchar cs t) k e w c d q known (o, m, at, write, low, end) lands =
       prints cs t k e w c o m known at (write, gives_byte d low (lands_at c.active.function e.locals d (m + 1 + 1) q c.frames k end lands))

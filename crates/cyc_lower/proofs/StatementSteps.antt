@@ -28,7 +28,7 @@ use Rattle.cyc_lower.proofs.Stands.{ExpressionAt, InitialAt, ReturnedAt, ItemsAt
 use Rattle.cyc_lower.proofs.Relation.{Is, Holds, held, callers, Shared, DataAt, SharedAt, in_temporary, in_local, ValueStack, AheadStack, StatementStack, LandsStack, EvaluatingAt, as_operand, into_slot, for_effect, as_condition, in_operand, ahead, behind_statement, behind_call, behind_wrong, Below, IsLast, Arrives, in_place, by_jump, code_of, bounds_in, bounds_at, base_of, top}
 use Rattle.cyc_lower.proofs.Data.{height-least, Holds-same, Holds-above, data_declared, data_returned}
 use Rattle.cyc_lower.proofs.Accesses.{IsWell, is_declared, is_closed, quiet_opened, quiet_closed, counted_opened, counted_closed}
-use Rattle.cyc_lower.proofs.Matched.{IsMatched, silently, one, two}
+use Rattle.cyc_lower.proofs.Matched.{IsMatched, silently, by_one, by_two}
 use Rattle.cyc_lower.proofs.Evaluations.{IsStep}
 
 module _ (source : Program) (pages calls : ℕ) where
@@ -96,7 +96,7 @@ module _ (source : Program) (pages calls : ℕ) where
       (shared, facts, as_condition x y m at_a tt (loop, r, q, jump, at_s, over, at_t, stack))
       (omega arith)
   executing (While p a s) k e w c well (shared, facts, (loop, q, (x, y, m, r, enter, leave, at_a, jump, at_s, back, end, after), stack)) =
-      one source pages calls refl shared enter
+      by_one source pages calls refl shared enter
       (λ choice. (shared, facts, as_condition x y m at_a tt (c.active.next, loop, q, (x, y, m, r, leave, at_a, jump, at_s, back, after), r, jump, at_s, back, stack)))
   executing (typed.Return None) k e w c well (shared, facts, (loop, q, (s, here), stack)) =
       silently source pages calls (Running (Executing (typed.Return None)) k e w) (Running (Returning None) k e w) (plain.Running c) refl
@@ -174,9 +174,9 @@ module _ (source : Program) (pages calls : ℕ) where
   leaves_call focus active (f ∷ frames) globals store output input k e outer w s does shared facts here (holds, in_temporary least stack) =
       let results = (routine_at (lower_program source) active.function).results in
       let back = comes_back active.function s results active.slots globals f frames k e.locals outer w facts least holds in
-      one source pages calls does shared here (λ choice. (shared_returned w output input store (length frames) shared, behind_call (operands.Slot f.result) back.0 stack))
+      by_one source pages calls does shared here (λ choice. (shared_returned w output input store (length frames) shared, behind_call (operands.Slot f.result) back.0 stack))
   leaves_call focus active (f ∷ frames) globals store output input k e outer w s does shared facts here (holds, in_local below stack) =
-      one source pages calls does shared here (λ choice. (shared_returned w output input store (length frames) shared, behind_wrong f.result stack))
+      by_one source pages calls does shared here (λ choice. (shared_returned w output input store (length frames) shared, behind_wrong f.result stack))
 
   -- with a value
   hands_back : (v : Kinded) (active : Activation) (frames : List Frame) (globals : Words) (store : StoreState) (output input : List ℕ) (k : List Entry) (e outer : Environment) (w : World) (s : ℕ)
@@ -189,7 +189,7 @@ module _ (source : Program) (pages calls : ℕ) where
   hands_back v active (f ∷ frames) globals store output input k e outer w s shared facts here is single (holds, in_temporary least stack) =
       let results = (routine_at (lower_program source) active.function).results in
       let back = comes_back active.function s results active.slots globals f frames k e.locals outer w facts least holds in
-      one source pages calls refl shared here
+      by_one source pages calls refl shared here
       (λ choice. (
         shared_returned w output input store (length frames) shared,
         in_operand (operands.Slot f.result) back.0 (subst (Is v.value) (sym (value_copied active.slots f.caller.slots s results f.result single)) is) back.1 stack,
@@ -201,7 +201,7 @@ module _ (source : Program) (pages calls : ℕ) where
       let now = copied active.slots s results f.caller.slots d in
       let elsewhere : (n : ℕ) → n ≢ d → now n ≡ f.caller.slots n =
       λ n other. ap (λ many. copied active.slots s many f.caller.slots d n) single ∙ one_copied active.slots f.caller.slots s d n other in
-      one source pages calls refl shared here
+      by_one source pages calls refl shared here
       (λ choice. (
         shared_returned w output input store (length frames) shared,
         ahead d
@@ -250,7 +250,7 @@ module _ (source : Program) (pages calls : ℕ) where
       (shared, behind_statement loop facts (subst (λ r. StatementStack source c.active.function loop r c.frames k) (sym end) stack))
       (omega arith)
   joins k e w c loop q shared facts (by_jump jump) stack =
-      one source pages calls refl shared jump (λ choice. (shared, behind_statement loop facts stack))
+      by_one source pages calls refl shared jump (λ choice. (shared, behind_statement loop facts stack))
 
   -- a local gets its initial value
   initial : (n : ℕ) (ty : Ty) (from to : Kind) (a : Expression) (js : Items) (k : List Entry) (e : Environment) (w : World) (c : Configuration) (loop m q : ℕ)
@@ -290,7 +290,7 @@ module _ (source : Program) (pages calls : ℕ) where
   after_statement (Rest js ∷ k) e w c loop well shared facts (q, at, stack) = absurd at
   after_statement (Join ∷ k) e w c loop well shared facts (q, arrives, stack) = joins k e w c loop q shared facts arrives stack
   after_statement (Loop a s ∷ k) e w c loop well shared facts (outer, q, (x, y, m, r, leave, at_a, jump, at_s, back, after), here, stack) =
-      one source pages calls refl shared here
+      by_one source pages calls refl shared here
       (λ choice. (shared, facts, as_condition x y m at_a tt (loop, outer, q, (x, y, m, r, leave, at_a, jump, at_s, back, after), r, jump, at_s, back, stack)))
   after_statement (CloseRegion region home ∷ k) e w c loop well shared facts stack =
       let found = is_closed Proceeding region home k e w well in
@@ -333,7 +333,7 @@ module _ (source : Program) (pages calls : ℕ) where
   breaking (Join ∷ k) e w c well (shared, facts, (loop, q, here, (r, arrives, stack))) =
       silently source pages calls (Running Breaking (Join ∷ k) e w) (Running Breaking k e w) (plain.Running c) refl (shared, facts, (loop, r, here, stack)) (omega arith)
   breaking (Loop a s ∷ k) e w c well (shared, facts, (loop, q, here, (outer, r, (x, y, m, n, leave, at_a, jump, at_s, back, after), again, stack))) =
-      two source pages calls (at c (break_target loop)) refl shared shared here (λ choice. refl) leave
+      by_two source pages calls (at c (break_target loop)) refl shared shared here (λ choice. refl) leave
       (λ same.
       let jumps : r ≡ break_target loop = ap (λ (i : Instruction). target_of i) (same_Some (instructions.Jump r) (instructions.Jump (break_target loop)) (sym leave ∙ ap (slice_get (code_of source c.active.function)) (sym same) ∙ here)) in
       absurd (omega (arith, jumps, after)))
@@ -363,7 +363,7 @@ module _ (source : Program) (pages calls : ℕ) where
   continuing (Join ∷ k) e w c well (shared, facts, (loop, q, here, (r, arrives, stack))) =
       silently source pages calls (Running Continuing (Join ∷ k) e w) (Running Continuing k e w) (plain.Running c) refl (shared, facts, (loop, r, here, stack)) (omega arith)
   continuing (Loop a s ∷ k) e w c well (shared, facts, (loop, q, here, (outer, r, (x, y, m, n, leave, at_a, jump, at_s, back, after), again, stack))) =
-      one source pages calls refl shared here
+      by_one source pages calls refl shared here
       (λ choice. (shared, facts, as_condition x y m at_a tt (loop, outer, r, (x, y, m, n, leave, at_a, jump, at_s, back, after), n, jump, at_s, back, stack)))
   continuing (CloseRegion region home ∷ k) e w c well (shared, facts, (loop, q, here, stack)) =
       let found = is_closed Continuing region home k e w well in
@@ -386,7 +386,7 @@ module _ (source : Program) (pages calls : ℕ) where
       → At (code_of source active.function) active.next (instructions.Return s) → Is v (active.slots s) → IsLast source frames k
       → IsMatched source pages calls (Running (Returning (Some (record { kind = i; value = v }))) (Main ∷ k) e w) (plain.Running (record { active = active; frames = frames; globals = globals; store = store; output = output; input = input }))
   ends_main i (Int a) active [] globals store output input [] e w s well shared here is last =
-      one source pages calls refl shared here (λ choice. (ap (λ x. Returned (signed x)) is, shared.same_output))
+      by_one source pages calls refl shared here (λ choice. (ap (λ x. Returned (signed x)) is, shared.same_output))
   ends_main i (Int a) active [] globals store output input (entry ∷ k) e w s well shared here is last = absurd last
   ends_main i (Int a) active (f ∷ frames) globals store output input k e w s well shared here is last = absurd last
   ends_main i v active frames globals store output input k e w s well shared here is last = absurd (well refl)
@@ -446,7 +446,7 @@ module _ (source : Program) (pages calls : ℕ) where
 
   pub throwing : (tag value : ℕ) (k : List Entry) (e : Environment) (w : World) (c : Configuration) → IsStep source pages calls (Throwing tag value) k e w c
   throwing tag value [] e w c well (shared, fits, plain_stack, s, here, is) =
-      one source pages calls refl shared here (λ choice. (ap (λ x. Uncaught tag (signed x)) is, shared.same_output))
+      by_one source pages calls refl shared here (λ choice. (ap (λ x. Uncaught tag (signed x)) is, shared.same_output))
   throwing tag value (Needs a ∷ k) e w c well (shared, fits, plain_stack, s, here, is) =
       silently source pages calls (Running (Throwing tag value) (Needs a ∷ k) e w) (Running (Throwing tag value) k e w) (plain.Running c) refl (shared, fits, plain_stack, s, here, is) (omega arith)
   throwing tag value (Discard ∷ k) e w c well (shared, fits, plain_stack, s, here, is) =

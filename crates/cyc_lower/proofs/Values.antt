@@ -44,7 +44,7 @@ use Rattle.cyc_lower.proofs.Data.{height-least, Holds-put, Holds-local, data_sam
 use Rattle.cyc_lower.proofs.Accesses.{IsWell, is_fitting, is_stored, written_here, written_elsewhere, written_length, is_declared}
 use Rattle.cyc_lower.proofs.Weights.{weight}
 use Rattle.cyc_lower.proofs.Relation.{StatementStack}
-use Rattle.cyc_lower.proofs.Matched.{IsMatched, silently, one, two, three, shared_way, shared_within, lands_depth, value_depth, lands_plain, value_plain}
+use Rattle.cyc_lower.proofs.Matched.{IsMatched, silently, by_one, by_two, by_three, shared_way, shared_within, lands_depth, value_depth, lands_plain, value_plain}
 use Rattle.cyc_lower.proofs.Evaluations.{IsStep, landed, lands_at, passes_related, passes_weight, object_of_same, global_there}
 
 -- an operand of a kind, and an int
@@ -148,7 +148,7 @@ module _ (source : Program) (pages calls : ℕ) where
   converted from kinds.Nullable i Null o k e w c well does stands (q, end, stack) = kept_value from kinds.Nullable i Null o k e w c q does stands end stack
   converted from kinds.Fat i Null o k e w c well does stands (q, end, stack) = kept_value from kinds.Fat i Null o k e w c q does stands end stack
   converted from kinds.NonNull i Null o k e w c well does (shared, facts, is, holds) (q, (jump, uncaught, end), stack) =
-      one source pages calls does shared jump
+      by_one source pages calls does shared jump
       (λ choice. not_taken (Running (Throwing 1 0) k e w) c (not (operand_word c.active.slots o == 0)) q (ap (λ x. not (x == 0)) is) (
         shared,
         omega (arith, value_depth source c.active.function e.locals o q c.frames k stack, shared.fits),
@@ -201,7 +201,7 @@ module _ (source : Program) (pages calls : ℕ) where
       → OperatesAt u o k e c → GoesBehind (of_kind i (Int a)) (Needs (Operate u) ∷ k) e w c
   operates_word u i a o k e w c result (shared, facts, is, holds) (d, here, lands) =
       let x = operand_word c.active.slots o in
-      one source pages calls (ap (λ r. computed kinds.Int r k e w) result) shared here
+      by_one source pages calls (ap (λ r. computed kinds.Int r k e w) result) shared here
       (λ choice. landed source pages calls (int_of (plain_operators.unary_result (unary_operator u) a)) (plain_operators.unary_result (unary_operator u) x) d k e w c (c.active.next + 1) (ap (plain_operators.unary_result (unary_operator u)) is) shared facts holds refl lands)
 
   operates_value : (u : UnaryOperator) (i : Kind) (v : Value) (o : Operand) (k : List Entry) (e : Environment) (w : World) (c : Configuration)
@@ -214,7 +214,7 @@ module _ (source : Program) (pages calls : ℕ) where
   operates_value unary.Negate i Null o k e w c well stands stack = absurd (well refl)
   operates_value unary.Complement i Null o k e w c well stands stack = absurd (well refl)
   operates_value unary.Not i Null o k e w c well (shared, facts, is, holds) (d, here, lands) =
-      one source pages calls refl shared here
+      by_one source pages calls refl shared here
       (λ choice. landed source pages calls (int_of 1) (truth (operand_word c.active.slots o == 0)) d k e w c (c.active.next + 1) (ap (λ x. truth (x == 0)) is) shared facts holds refl lands)
   operates_value unary.Negate i (Int a) o k e w c well stands stack = operates_word unary.Negate i a o k e w c refl stands stack
   operates_value unary.Complement i (Int a) o k e w c well stands stack = operates_word unary.Complement i a o k e w c refl stands stack
@@ -265,12 +265,12 @@ module _ (source : Program) (pages calls : ℕ) where
       → LandsStack source c.active.function e.locals d q c.frames k → GoesBehind (of_kind j (Int b)) (Needs (Apply u (of_kind i (Int a))) ∷ k) e w c
   tested_divides u i j a b true l r d k e w c m q plain_test test same zero_b shared facts is_left is holds (jump, uncaught, behind) here end lands =
       let b_is : b ≡ 0 = eqb-true b 0 zero_b in
-      one source pages calls (ap (λ x. computed kinds.Int (if x then Raises 4 else Gives (Int (binary_word u a b))) k e w) (test b ∙ zero_b)) shared jump
+      by_one source pages calls (ap (λ x. computed kinds.Int (if x then Raises 4 else Gives (Int (binary_word u a b))) k e w) (test b ∙ zero_b)) shared jump
       (λ choice. not_taken (Running (Throwing 4 0) k e w) c (not (operand_word c.active.slots r == 0)) m (ap (λ x. not (x == 0)) (is ∙ b_is))
       (shared, omega (arith, lands_depth source c.active.function e.locals d q c.frames k lands, shared.fits), lands_plain source c.active.function e.locals d q c.frames k lands, r, uncaught, is ∙ b_is))
   tested_divides u i j a b false l r d k e w c m q plain_test test same zero_b shared facts is_left is holds (jump, uncaught, behind) here end lands =
       let nonzero : (operand_word c.active.slots r == 0) ≡ false = ap (λ x. x == 0) is ∙ zero_b in
-      two source pages calls (at c m)
+      by_two source pages calls (at c m)
       (ap (λ x. computed kinds.Int (if x then Raises 4 else Gives (Int (binary_word u a b))) k e w) (test b ∙ zero_b)) shared shared
       jump (λ choice. ap (λ x. plain_step.branches c (not x) m) nonzero)
       here (λ equal. omega (arith, equal, behind))
@@ -286,7 +286,7 @@ module _ (source : Program) (pages calls : ℕ) where
       → LandsStack source c.active.function e.locals d q c.frames k → GoesBehind (of_kind j (Int b)) (Needs (Apply u (of_kind i (Int a))) ∷ k) e w c
   divides u i j a b l (operands.Word (suc n)) d k e w c q plain_test test same shared facts is_left is holds (m, begin, here, end) lands =
       let nonzero : (b == 0) ≡ false = ap (λ x. x == 0) (sym is) ∙ false_from_ne_true (suc n == 0) (λ h. absurd (let z : suc n ≡ 0 = eqb-true (suc n) 0 h in omega (arith, z))) in
-      one source pages calls (ap (λ x. computed kinds.Int (if x then Raises 4 else Gives (Int (binary_word u a b))) k e w) (test b ∙ nonzero)) shared
+      by_one source pages calls (ap (λ x. computed kinds.Int (if x then Raises 4 else Gives (Int (binary_word u a b))) k e w) (test b ∙ nonzero)) shared
       (subst (λ x. At (code_of source c.active.function) x (instructions.Binary (binary_operator u) d l (operands.Word (suc n)))) (sym begin) here)
       (quotient u a b l (operands.Word (suc n)) d k e w c q plain_test same nonzero shared facts is_left is holds (ap (λ x. x + 1) begin ∙ end) lands)
   divides u i j a b l (operands.Word zero) d k e w c q plain_test test same shared facts is_left is holds (m, check, here, end) lands =
@@ -306,7 +306,7 @@ module _ (source : Program) (pages calls : ℕ) where
   computes u i j a b l r d k e w c q shared facts is_left is holds (here, end) lands =
       let x = operand_word c.active.slots l in
       let y = operand_word c.active.slots r in
-      one source pages calls refl shared here
+      by_one source pages calls refl shared here
       (λ choice. landed source pages calls (int_of (binary_word u a b)) (binary_word u x y) d k e w c q
       (ap (λ z. binary_word u z y) is_left ∙ ap (binary_word u a) is) shared facts holds end lands)
 
@@ -373,7 +373,7 @@ module _ (source : Program) (pages calls : ℕ) where
   decides_truth v o k e w c (shared, facts, is, holds) (d, q, there, (first, second, end), lands) =
       let x = c.active.slots (top source c.active.function k) in
       let is_x : Is v.value x = subst (λ z. Is v.value (operand_word c.active.slots z)) there is in
-      two source pages calls (negated c k)
+      by_two source pages calls (negated c k)
       (ap (λ z. computed kinds.Int (truth_of z) k e w) (zero_is v.value x is_x)) shared shared first (λ choice. refl) second (λ equal. omega (arith, equal))
       (λ choice. negated_twice (truth (not (x == 0))) d k e w c q refl shared facts holds end lands)
 
@@ -403,7 +403,7 @@ module _ (source : Program) (pages calls : ℕ) where
       let code = code_of source c.active.function in
       let free = top source c.active.function k in
       let there = at c m in
-      three source pages calls there (negated there k) does shared
+      by_three source pages calls there (negated there k) does shared
       (shared_within source pages calls w there shared) (shared_way source pages calls (Given v) (Needs (Chain (ThenTest u b os)) ∷ k) e w there shared)
       (shared_within source pages calls w (negated there k) shared) (shared_way source pages calls (Given v) (Needs (Chain (ThenTest u b os)) ∷ k) e w (negated there k) shared)
       here jumps first (λ choice. refl) second
@@ -428,13 +428,13 @@ module _ (source : Program) (pages calls : ℕ) where
   tests logical.AndThen b os v false k e w c d q told (shared, facts, is, holds) (m, r, there, jump, at_b, truths, ops) lands =
       let free = top source c.active.function k in
       let does = ap (λ (x : Option Bool). tested x logical.AndThen b os k e w) (zero_is v.value _ is ∙ ap Some told) in
-      one source pages calls does shared jump
+      by_one source pages calls does shared jump
       (λ choice. not_taken (Running (Evaluating b) (Needs Decide ∷ Needs (Chain os) ∷ k) e w) c _ m told
       (shared, facts, into_slot free m at_b holds (in_temporary (omega arith) (next_slot os d free, r, refl, truths, chain_lands os c.active.function e.locals d r q c.frames k ops lands))))
   tests logical.OrElse b os v true k e w c d q told (shared, facts, is, holds) (m, r, there, jump, at_b, truths, ops) lands =
       let free = top source c.active.function k in
       let does = ap (λ (x : Option Bool). tested x logical.OrElse b os k e w) (zero_is v.value _ is ∙ ap Some told) in
-      one source pages calls does shared jump
+      by_one source pages calls does shared jump
       (λ choice. not_taken (Running (Evaluating b) (Needs Decide ∷ Needs (Chain os) ∷ k) e w) c _ m (ap not told)
       (shared, facts, into_slot free m at_b holds (in_temporary (omega arith) (next_slot os d free, r, refl, truths, chain_lands os c.active.function e.locals d r q c.frames k ops lands))))
   tests logical.OrElse b os v false k e w c d q told (shared, facts, is, holds) (m, r, there, jump, at_b, truths, ops) lands =
@@ -544,15 +544,15 @@ module _ (source : Program) (pages calls : ℕ) where
       → At (code_of source c.active.function) c.active.next i → ((choice : Choice) → performed (lower_program source) choice c i ≡ plain.Running d) → c.active.next ≢ d.active.next
       → Handed v k e w d → IsMatched source pages calls (Running focus before e w0) (plain.Running c)
   hands_behind {focus} {before} {w0} {i} v k e w c d does shared shared_d here first other (at_once related) =
-      one source pages calls does shared here (λ choice. subst (Matches source pages calls (Running (Given v) k e w)) (sym (first choice)) related)
+      by_one source pages calls does shared here (λ choice. subst (Matches source pages calls (Running (Given v) k e w)) (sym (first choice)) related)
   hands_behind {focus} {before} {w0} {i} v k e w c d does shared shared_d here first other (by_copy j at goes) =
-      two source pages calls d does shared shared_d here first at other goes
+      by_two source pages calls d does shared shared_d here first at other goes
 
   hands_at_once : (v : Kinded) (before : List Entry) (k : List Entry) (e : Environment) (w0 w : World) (c : Configuration)
       → step source (Running (Given v) before e w0) ≡ Running (Given v) k e w → SharedAt source pages calls w0 c
       → weight (Running (Given v) k e w) < weight (Running (Given v) before e w0) → Handed v k e w c → GoesBehind v before e w0 c
   hands_at_once v before k e w0 w c does shared lighter (at_once related) = silently source pages calls (Running (Given v) before e w0) (Running (Given v) k e w) (plain.Running c) does related lighter
-  hands_at_once v before k e w0 w c does shared lighter (by_copy i at goes) = one source pages calls does shared at goes
+  hands_at_once v before k e w0 w c does shared lighter (by_copy i at goes) = by_one source pages calls does shared at goes
 
   stores : (object : ℕ) (v : Kinded) (l : Lvalue) (o to : Operand) (k : List Entry) (e : Environment) (w : World) (c : Configuration) (q : ℕ)
       → object_of e l ≡ Some object → IsWell (stored_at (Thin object 0) v (Given v) k e w) → Stands v o k e w c
@@ -657,7 +657,7 @@ module _ (source : Program) (pages calls : ℕ) where
   initialises n kind js v o k e w c well (shared, facts, is, holds) (loop, q, here, few, items, stack) =
       let g = c.active.function in
       let x = operand_word c.active.slots o in
-      one source pages calls (makes_local n kind js v k e w well) shared here
+      by_one source pages calls (makes_local n kind js v k e w well) shared here
       (λ choice. (
         shared,
         behind_statement loop
@@ -691,10 +691,10 @@ module _ (source : Program) (pages calls : ℕ) where
       → SharedAt source pages calls w c → DataIn source c.active.slots (Needs (Choose s t) ∷ k) e w c
       → ConditionStack source c.active.function failing l r c.active.next c.frames (Needs (Choose s t) ∷ k) → GoesBehind v (Needs (Choose s t) ∷ k) e w c
   chooses s t v true failing l r k e w c fails told shared facts (loop, m, q, jump, at_s, over, at_t, stack) =
-      one source pages calls (ap (λ (x : Option Bool). chosen x s t k e w) fails) shared jump
+      by_one source pages calls (ap (λ (x : Option Bool). chosen x s t k e w) fails) shared jump
       (λ choice. taken (Running (Executing t) (Join ∷ k) e w) c _ (m + 1) told (shared, facts, (loop, q, at_t, (q, in_place refl, stack))))
   chooses s t v false failing l r k e w c fails told shared facts (loop, m, q, jump, at_s, over, at_t, stack) =
-      one source pages calls (ap (λ (x : Option Bool). chosen x s t k e w) fails) shared jump
+      by_one source pages calls (ap (λ (x : Option Bool). chosen x s t k e w) fails) shared jump
       (λ choice. not_taken (Running (Executing s) (Join ∷ k) e w) c _ (m + 1) told (shared, facts, (loop, m, at_s, (q, by_jump over, stack))))
 
   loops : (a : Expression) (s : Statement) (v : Kinded) (f : Bool) (failing : Comparison) (l r : Operand) (k : List Entry) (e : Environment) (w : World) (c : Configuration)
@@ -702,14 +702,14 @@ module _ (source : Program) (pages calls : ℕ) where
       → SharedAt source pages calls w c → DataIn source c.active.slots (Needs (Test a s) ∷ k) e w c
       → ConditionStack source c.active.function failing l r c.active.next c.frames (Needs (Test a s) ∷ k) → GoesBehind v (Needs (Test a s) ∷ k) e w c
   loops a s v true failing l r k e w c fails told shared facts (loop, outer, q, (x, y, m, n, leave, at_a, again, at_body, repeats, after), i, jump, at_s, back, stack) =
-      two source pages calls (at c (break_target loop)) (ap (λ (z : Option Bool). looped z a s k e w) fails) shared shared
+      by_two source pages calls (at c (break_target loop)) (ap (λ (z : Option Bool). looped z a s k e w) fails) shared shared
       jump (λ choice. ap (λ z. plain_step.branches c z (break_target loop)) told)
       leave
       (other_place (code_of source c.active.function) c.active.next (break_target loop) _ _ jump leave
       (λ same. let f : instructions.Branch failing l r (break_target loop) ≡ instructions.Jump q = same in cc))
       (λ choice. (shared, behind_statement outer facts stack))
   loops a s v false failing l r k e w c fails told shared facts (loop, outer, q, around, m, jump, at_s, back, stack) =
-      one source pages calls (ap (λ (z : Option Bool). looped z a s k e w) fails) shared jump
+      by_one source pages calls (ap (λ (z : Option Bool). looped z a s k e w) fails) shared jump
       (λ choice. not_taken (Running (Executing s) (Loop a s ∷ k) e w) c _ _ told (shared, facts, (loop, m, at_s, (outer, q, around, back, stack))))
 
   -- ---- all that waits for a value
