@@ -103,10 +103,10 @@ module _ (source : Program) where
     pub ahead_depth : (g : ℕ) (locals : ℕ → Option ℕ) (n p : ℕ) (frames : List Frame) (k : List Entry) → AheadStack source g locals n p frames k → HasDepth frames k
     ahead_depth g locals n p frames (Needs (ConvertTo from to) ∷ k) (quiet, stack) = ahead_depth g locals n p frames k stack
     ahead_depth g locals n p frames (Needs (Chain NoOperations) ∷ k) stack = ahead_depth g locals n p frames k stack
-    ahead_depth g locals n p frames (Needs (Store place) ∷ k) (object, is, found, hands) =
+    ahead_depth g locals n p frames (Needs (Store place) ∷ k) (number, object, is, found, same, hands) =
         by_hands hands (λ stack. dropped_depth g p frames k stack) (λ stack. value_depth g locals (operands.Slot n) p frames k stack)
         (λ d r lands. by_lands lands (λ stack. value_depth g locals (operands.Slot d) r frames k stack) (λ stack. ahead_depth g locals d r frames k stack))
-    ahead_depth g locals n p frames (Needs (Initialise number kind items) ∷ k) (loop, q, is, items_at, stack) = statement_depth g loop q frames k stack
+    ahead_depth g locals n p frames (Needs (Initialise number kind items) ∷ k) (loop, q, is, few, items_at, stack) = statement_depth g loop q frames k stack
     ahead_depth g locals n p frames k stack = absurd stack
 
     pub statement_depth : (g loop p : ℕ) (frames : List Frame) (k : List Entry) → StatementStack source g loop p frames k → HasDepth frames k
@@ -169,10 +169,10 @@ module _ (source : Program) where
     pub ahead_plain : (g : ℕ) (locals : ℕ → Option ℕ) (n p : ℕ) (frames : List Frame) (k : List Entry) → AheadStack source g locals n p frames k → IsPlainStack k
     ahead_plain g locals n p frames (Needs (ConvertTo from to) ∷ k) (quiet, stack) = ahead_plain g locals n p frames k stack
     ahead_plain g locals n p frames (Needs (Chain NoOperations) ∷ k) stack = ahead_plain g locals n p frames k stack
-    ahead_plain g locals n p frames (Needs (Store place) ∷ k) (object, is, found, hands) =
+    ahead_plain g locals n p frames (Needs (Store place) ∷ k) (number, object, is, found, same, hands) =
         by_hands hands (λ stack. dropped_plain g p frames k stack) (λ stack. value_plain g locals (operands.Slot n) p frames k stack)
         (λ d r lands. by_lands lands (λ stack. value_plain g locals (operands.Slot d) r frames k stack) (λ stack. ahead_plain g locals d r frames k stack))
-    ahead_plain g locals n p frames (Needs (Initialise number kind items) ∷ k) (loop, q, is, items_at, stack) = statement_plain g loop q frames k stack
+    ahead_plain g locals n p frames (Needs (Initialise number kind items) ∷ k) (loop, q, is, few, items_at, stack) = statement_plain g loop q frames k stack
     ahead_plain g locals n p frames k stack = absurd stack
 
     pub statement_plain : (g loop p : ℕ) (frames : List Frame) (k : List Entry) → StatementStack source g loop p frames k → IsPlainStack k
