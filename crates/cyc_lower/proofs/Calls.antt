@@ -29,10 +29,12 @@ use Rattle.cyc_meaning.specs.SourceMachine.{status_in}
 use Rattle.cyc_meaning.specs.Run.{is_within, limited_step}
 use Rattle.cyc_lower.specs.Lowering.{lower_program}
 use Rattle.cyc_lower.proofs.Stands.{ItemsAt}
-use Rattle.cyc_lower.proofs.Relation.{Is, Holds, HoldsFrom, held, callers, Shared, DataAt, DataIn, SharedAt, prints_only, gives_byte, StatementStack, PrintsStack, nowhere, behind_statement, Related, Matches, code_of, bounds_in, bounds_at, base_of, top}
+use Rattle.cyc_lower.specs.Slots.{starts_of, slot_of}
+use Rattle.cyc_lower.proofs.Slots.{slot-parameter, slot_types-many}
+use Rattle.cyc_lower.proofs.Relation.{Is, Holds, HoldsFrom, held, callers, Shared, DataAt, DataIn, SharedAt, prints_only, gives_byte, StatementStack, PrintsStack, nowhere, behind_statement, Related, Matches, code_of, types_in, starts_at, parameters_in, parameters_at, bounds_at, base_of, top}
 use Rattle.cyc_lower.proofs.Data.{Holds-rest, in_order, arguments_copied, data_declared, data_called}
 use Rattle.cyc_lower.proofs.Accesses.{IsWell, is_fitting, is_declared}
-use Rattle.cyc_lower.proofs.Matched.{IsMatched, above, below, matching, silently, one, two_known, shared_within, shared_way, steps_to, place_in, known, lands_depth}
+use Rattle.cyc_lower.proofs.Matched.{IsMatched, above, below, matching, silently, by_one, by_two_known, shared_within, shared_way, steps_to, place_in, known, lands_depth}
 use Rattle.cyc_lower.proofs.Evaluations.{IsStep, landed, lands_at}
 use Rattle.cyc_lower.proofs.StatementSteps.{shared_opened}
 
@@ -55,7 +57,7 @@ module _ (source : Program) (pages calls : ℕ) where
         same_classes = shared.same_classes;
         fits = shared.fits;
       } in
-      one source pages calls refl shared here
+      by_one source pages calls refl shared here
       (λ choice. landed source pages calls (record { kind = kinds.Int; value = Int byte }) word d k e next read q (ap (λ (l : List ℕ). unwrap_or (slice_get l 0) (2 ^ 32 - 1)) shared.same_input) shared_read facts holds end lands)
 
   low_byte_of : (a : ℕ) → bit_and a 255 ≡ a % 256
@@ -79,7 +81,7 @@ module _ (source : Program) (pages calls : ℕ) where
       → PrintsStack source c.active.function e.locals o c.active.next c.frames k
       → IsMatched source pages calls (Running (Calling callees.Putchar (record { kind = i; value = Int a } ∷ [])) k e w) (plain.Running c)
   prints i a o k e w c shared facts is holds (write, prints_only stack) =
-      one source pages calls refl shared write
+      by_one source pages calls refl shared write
       (λ choice. (shared_printed a (operand_word c.active.slots o) w c shared is, nowhere facts stack))
   prints i a o k e w c shared facts is holds (write, gives_byte d low lands) =
       let x = operand_word c.active.slots o in
@@ -91,7 +93,7 @@ module _ (source : Program) (pages calls : ℕ) where
       let shared_next : SharedAt source pages calls next first = shared_printed a x w c shared is in
       let done : Related source pages calls (Given (record { kind = kinds.Int; value = Int (a % 256) })) k e next last =
       landed source pages calls (record { kind = kinds.Int; value = Int (a % 256) }) (bit_and x 255) d k e next first (c.active.next + 1 + 1) (low_byte_of x ∙ ap (λ y. y % 256) is) shared_next facts holds refl lands in
-      two_known source pages calls first refl shared (shared_within source pages calls next first shared_next)
+      by_two_known source pages calls first refl shared (shared_within source pages calls next first shared_next)
       (way_after (above source pages calls) (below source pages calls) (matching source pages calls) s after (plain.Running first)
       (steps_to source pages calls s after (plain.Running last) refl done) (IsPrefix-append w.output (a % 256 ∷ [])) refl shared_next.same_output)
       write (λ choice. refl) low (λ same. omega (arith, same)) (λ choice. done)
@@ -111,6 +113,11 @@ module _ (source : Program) (pages calls : ℕ) where
       (shared_opened source pages calls w c shared, facts, (m, items, stack, holds, omega (arith, few)))
       (omega arith)
 
+  -- a parameter is a local, and its slot is its number
+  parameter_in : (h : Option Function) (n : ℕ) → n < parameters_in source h → (n < length (types_in source h)) × (slot_of (starts_of (types_in source h)) n ≡ n)
+  parameter_in None n inside = absurd (omega (arith, inside))
+  parameter_in (Some h) n inside = (omega (arith, inside, slot_types-many h), slot-parameter h n inside)
+
   pub binding : (n : ℕ) (types : List Ty) (arguments : List Kinded) (body : Items) (k : List Entry) (e : Environment) (w : World) (c : Configuration) → IsStep source pages calls (Binding n types arguments body) k e w c
   binding n [] [] body k e w c well (shared, facts, (m, items, stack, holds, few)) =
       silently source pages calls (Running (Binding n [] [] body) k e w) (Running Proceeding (Rest body ∷ k) e w) (plain.Running c) refl
@@ -120,6 +127,7 @@ module _ (source : Program) (pages calls : ℕ) where
   binding n (t ∷ types) [] body k e w c well related = absurd (well refl)
   binding n (t ∷ types) (v ∷ arguments) body k e w c well (shared, facts, (m, items, stack, (is, holds), few)) =
       let g = c.active.function in
+      let (local, slot) = parameter_in (slice_get source.functions g) n (omega (arith, few)) in
       let x = variable e.home (kind_of t) (Some v.value) in
       let made_it = declared (region_at w e.home) (Binding (suc n) types arguments body) n (kind_of t) (Some v.value) k e w in
       let does : step source (Running (Binding n (t ∷ types) (v ∷ arguments) body) k e w) ≡ made_it =
@@ -128,8 +136,8 @@ module _ (source : Program) (pages calls : ℕ) where
       (Running (Binding (suc n) types arguments body) k (with_local e n (length w.objects)) (made w x)) (plain.Running c)
       (does ∙ is_declared (region_at w e.home) (Binding (suc n) types arguments body) n (kind_of t) (Some v.value) k e w (subst IsWell does well)) (
         shared,
-        data_declared source g w.objects e (callers k) c.active.slots c.active.slots c.globals c.frames n x (omega (arith, few)) (λ i less other. refl)
-            (λ u has. subst (λ y. Is y (c.active.slots n)) (let same : v.value ≡ u = ap (λ o. unwrap_or o v.value) has in same) is) facts,
+        data_declared source g w.objects e (callers k) c.active.slots c.active.slots c.globals c.frames n x local (λ i less other. refl)
+            (λ u has. subst (λ y. Is u (c.active.slots y)) (sym slot) (subst (λ y. Is y (c.active.slots n)) (let same : v.value ≡ u = ap (λ o. unwrap_or o v.value) has in same) is)) facts,
         (m, items, stack, holds, omega (arith, few)),
       )
       (omega arith)
@@ -139,13 +147,11 @@ module _ (source : Program) (pages calls : ℕ) where
   -- the code of each function stands where it does
   abbrev pub FunctionsStand : Type 0
   FunctionsStand = (n : ℕ) (h : Function) → slice_get source.functions n ≡ Some h
-      → (m : ℕ) × ItemsAt (code_of source n) (bounds_at source n) h.body 0 (base_of source n) 0 m
+      → (m : ℕ) × ItemsAt (code_of source n) (bounds_at source n) (starts_at source n) h.body 0 (base_of source n) 0 m
       × At (code_of source n) m (instructions.Return (base_of source n))
 
-  parameters_fit : (n : ℕ) (h : Function) → slice_get source.functions n ≡ Some h → length h.parameters ≤ base_of source n
-  parameters_fit n h there =
-      let locals : base_of source n ≡ length h.parameters + length h.locals = ap (λ o. (bounds_in source o).locals) there in
-      omega (arith, locals)
+  parameters_fit : (n : ℕ) (h : Function) → slice_get source.functions n ≡ Some h → length h.parameters ≤ parameters_at source n
+  parameters_fit n h there = omega (arith, ap (parameters_in source) there)
 
   -- a function has been called, with its arguments in the first slots
   pub entered : FunctionsStand → (n : ℕ) (h : Function) (arguments : List Kinded) (k : List Entry) (w : World) (slots globals : Words) (handlers : List ℕ) (frames : List Frame) (store : StoreState) (output input : List ℕ)
@@ -219,7 +225,7 @@ module _ (source : Program) (pages calls : ℕ) where
                 shared here past
             | inr fine ↦
                 let frame : Frame = record { caller = (advanced c).active; result = into } in
-                one source pages calls does shared here
+                by_one source pages calls does shared here
                 (λ choice.
                 let slots = copied c.active.slots d (length before) choice.contents 0 in
                 entered stand n h (reverse before) (Caller e ∷ k) w slots c.globals [] (frame ∷ c.frames) c.store c.output c.input there

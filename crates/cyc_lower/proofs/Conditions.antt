@@ -16,21 +16,6 @@ use Rattle.cyc_lower.specs.Lowering.{operand_of, value_operand, Compared, with_z
 use Rattle.cyc_lower.specs.Emission.{most_locals, value_code, left_code, zero_condition}
 use Rattle.cyc_lower.proofs.Emitting.{room_behind}
 
--- what is made of a condition, and answered
-abbrev IsMade : (whole : Expression) → (answer : Condition) → (old new : List Instruction) → (t : ℕ) → Type 0
-IsMade whole answer old new t = (answer ≡ condition_of whole t) × (new ≡ old ++ condition_code whole (length old) t)
-
-abbrev operands_of : Compared → ℕ → Condition
-operands_of x t = record { failing = x.failing; left = first_operand x.left x.right t; right = value_operand x.right (suc t) }
-
-pub made_alone : (whole a : Expression) (failing : Comparison) (answer : Condition) (old new : List Instruction) (t : ℕ) → compared_of whole ≡ with_zero failing a
-    → (answer ≡ zero_condition failing a t) × (new ≡ old ++ value_code a (length old) t) → IsMade whole answer old new t
-made_alone whole a failing answer old new t is (answers, made) = (
-  answers ∙ sym (ap (λ (x : Compared). operands_of x t) is),
-  made ∙ ap (λ (l : List Instruction). old ++ l) (sym (append-nil (value_code a (length old) t)))
-      ∙ sym (ap (λ (x : Compared). old ++ pair_code x.left x.right (length old) t) is),
-)
-
 -- ---- chains that are tested whole
 
 pub not_single : (first : Expression) (os : List Operation) (ty : Ty) → (length os ≡ 1 → ⊥) → compared_of (Binary first (operations_of os) ty) ≡ with_zero comparisons.Equal (Binary first (operations_of os) ty)
@@ -44,11 +29,29 @@ not_single first (operation.Compute o e ∷ operation.Test u x ∷ os) ty many =
 not_single first (operation.Compute o e ∷ operation.Pointer u x ∷ os) ty many = refl
 not_single first (operation.Compute o e ∷ operation.PointerPeek u n x ∷ os) ty many = refl
 
--- behind the left operand there is room for the right one
-pub room_for_first : (a : Expression) (xs : List Operation) (x : Operation) (o : Operator) (e : Expr) (old new : List Instruction) (t : ℕ) → Some x ≡ slice_get xs 0 → x ≡ operation.Compute o e
-    → t ≤ most_locals + length old → new ≡ old ++ left_code a (operations_of xs) (length old) t t → operand_of (view_expression e) ≡ None → t + 1 ≤ most_locals + length new
-room_for_first a [] x o e old new t at is low made none = absurd (let f : Some x ≡ None = at in cc)
-room_for_first a (y ∷ xs) x o e old new t at is low made none =
-    let same : y ≡ operation.Compute o e = sym (same_Some x y at) ∙ is in
-    let room = room_behind a (operations_of (operation.Compute o e ∷ xs)) old new t t low (made ∙ ap (λ (z : Operation). old ++ left_code a (operations_of (z ∷ xs)) (length old) t t) same) in
-    omega (arith, room.1 none)
+-- ---- locals that have these first slots
+
+module _ (starts : List ℕ) where
+  -- what is made of a condition, and answered
+  abbrev IsMade : (whole : Expression) → (answer : Condition) → (old new : List Instruction) → (t : ℕ) → Type 0
+  IsMade whole answer old new t = (answer ≡ condition_of starts whole t) × (new ≡ old ++ condition_code starts whole (length old) t)
+
+  abbrev operands_of : Compared → ℕ → Condition
+  operands_of x t = record { failing = x.failing; left = first_operand starts x.left x.right t; right = value_operand starts x.right (suc t) }
+
+  pub made_alone : (whole a : Expression) (failing : Comparison) (answer : Condition) (old new : List Instruction) (t : ℕ) → compared_of whole ≡ with_zero failing a
+      → (answer ≡ zero_condition starts failing a t) × (new ≡ old ++ value_code starts a (length old) t) → IsMade whole answer old new t
+  made_alone whole a failing answer old new t is (answers, made) = (
+    answers ∙ sym (ap (λ (x : Compared). operands_of x t) is),
+    made ∙ ap (λ (l : List Instruction). old ++ l) (sym (append-nil (value_code starts a (length old) t)))
+        ∙ sym (ap (λ (x : Compared). old ++ pair_code starts x.left x.right (length old) t) is),
+  )
+
+  -- behind the left operand there is room for the right one
+  pub room_for_first : (a : Expression) (xs : List Operation) (x : Operation) (o : Operator) (e : Expr) (old new : List Instruction) (t : ℕ) → Some x ≡ slice_get xs 0 → x ≡ operation.Compute o e
+      → t ≤ most_locals + length old → new ≡ old ++ left_code starts a (operations_of xs) (length old) t t → operand_of starts (view_expression e) ≡ None → t + 1 ≤ most_locals + length new
+  room_for_first a [] x o e old new t at is low made none = absurd (let f : Some x ≡ None = at in cc)
+  room_for_first a (y ∷ xs) x o e old new t at is low made none =
+      let same : y ≡ operation.Compute o e = sym (same_Some x y at) ∙ is in
+      let room = room_behind starts a (operations_of (operation.Compute o e ∷ xs)) old new t t low (made ∙ ap (λ (z : Operation). old ++ left_code starts a (operations_of (z ∷ xs)) (length old) t t) same) in
+      omega (arith, room.1 none)

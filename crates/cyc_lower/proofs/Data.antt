@@ -9,8 +9,11 @@ use Rattle.cyc_plain.specs.State.{Words, put, copied, Frame}
 use Rattle.cyc_plain.proofs.SlotLaws.{put-same, put-other, copied-inside}
 use Rattle.cyc_meaning.specs.Values.{Value, Operand}
 use Rattle.cyc_meaning.specs.State.{Object, Environment, with_local}
-use Rattle.cyc_lower.specs.Lowering.{slot_of}
-use Rattle.cyc_lower.proofs.Relation.{Is, height, Holds, HoldsFrom, content_of, contents, LocalsHold, GlobalsHold, FramesHold, DataAt, base_of}
+use Rattle.cyc_types.specs.Types.{Ty}
+use Rattle.cyc_meaning.specs.FrameCount.{words_of_all}
+use Rattle.cyc_lower.specs.Slots.{starts_of, slot_of}
+use Rattle.cyc_lower.proofs.Slots.{slot-inside, slot-other}
+use Rattle.cyc_lower.proofs.Relation.{Is, height, Holds, HoldsFrom, content_of, contents, LocalsHold, GlobalsHold, FramesHold, DataAt, types_at, starts_at, base_of}
 
 -- ---- values in slots
 
@@ -122,9 +125,9 @@ SameBetween low high objects others = (o : ℕ) → low ≤ o → o < high → c
 
 -- ---- the locals of a call
 
-pub locals_kept : (base : ℕ) (objects others : List Object) (locals : ℕ → Option ℕ) (low high : ℕ) (slots : Words)
-    → SameBetween low high objects others → LocalsHold base objects locals low high slots → LocalsHold base others locals low high slots
-locals_kept base objects others locals low high slots same hold = record {
+pub locals_kept : (types : List Ty) (objects others : List Object) (locals : ℕ → Option ℕ) (low high : ℕ) (slots : Words)
+    → SameBetween low high objects others → LocalsHold types objects locals low high slots → LocalsHold types others locals low high slots
+locals_kept types objects others locals low high slots same hold = record {
   within = hold.within;
   apart = hold.apart;
   holds = λ number object v at has.
@@ -132,28 +135,30 @@ locals_kept base objects others locals low high slots same hold = record {
       hold.holds number object v at (sym (same object inside.1 inside.2) ∙ has);
 }
 
-pub locals_same_slots : (base : ℕ) (objects : List Object) (locals : ℕ → Option ℕ) (low high : ℕ) (slots other : Words)
-    → ((n : ℕ) → n < base → other n ≡ slots n) → LocalsHold base objects locals low high slots → LocalsHold base objects locals low high other
-locals_same_slots base objects locals low high slots other same hold = record {
+pub locals_same_slots : (types : List Ty) (objects : List Object) (locals : ℕ → Option ℕ) (low high : ℕ) (slots other : Words)
+    → ((n : ℕ) → n < words_of_all types → other n ≡ slots n) → LocalsHold types objects locals low high slots → LocalsHold types objects locals low high other
+locals_same_slots types objects locals low high slots other same hold = record {
   within = hold.within;
   apart = hold.apart;
-  holds = λ number object v at has. subst (Is v) (sym (same number (hold.within number object at).0)) (hold.holds number object v at has);
+  holds = λ number object v at has. subst (Is v) (sym (same (slot_of (starts_of types) number) (slot-inside types number (hold.within number object at).0))) (hold.holds number object v at has);
 }
 
 -- a local is assigned
-pub locals_assigned : (base : ℕ) (objects others : List Object) (locals : ℕ → Option ℕ) (low high : ℕ) (slots : Words) (number object : ℕ) (v : Value) (w : ℕ)
+pub locals_assigned : (types : List Ty) (objects others : List Object) (locals : ℕ → Option ℕ) (low high : ℕ) (slots : Words) (number object : ℕ) (v : Value) (w : ℕ)
     → locals number ≡ Some object → contents others object ≡ Some v → ((o : ℕ) → o ≢ object → contents others o ≡ contents objects o) → Is v w
-    → LocalsHold base objects locals low high slots → LocalsHold base others locals low high (put slots (slot_of number) w)
-locals_assigned base objects others locals low high slots number object v w here now same is hold = record {
+    → LocalsHold types objects locals low high slots → LocalsHold types others locals low high (put slots (slot_of (starts_of types) number) w)
+locals_assigned types objects others locals low high slots number object v w here now same is hold = record {
   within = hold.within;
   apart = hold.apart;
   holds = λ n o u at has. elim (cases_eq n number) [
     | inl equal ↦
         let o_is : o ≡ object = same_Some o object (sym at ∙ ap locals equal ∙ here) in
         let u_is : v ≡ u = same_Some v u (sym now ∙ sym (ap (contents others) o_is) ∙ has) in
-        subst (λ m. Is u (put slots (slot_of number) w m)) (sym equal) (subst (Is u) (sym (put-same slots number w)) (subst (λ x. Is x w) u_is is))
+        let slot = slot_of (starts_of types) number in
+        subst (λ m. Is u (put slots slot w (slot_of (starts_of types) m))) (sym equal) (subst (Is u) (sym (put-same slots slot w)) (subst (λ x. Is x w) u_is is))
     | inr other ↦
-        subst (Is u) (sym (put-other slots number n w other))
+        let apart = slot-other types n number (hold.within n o at).0 (hold.within number object here).0 other in
+        subst (Is u) (sym (put-other slots (slot_of (starts_of types) number) (slot_of (starts_of types) n) w apart))
         (hold.holds n o u at (sym (same o (λ e. other (hold.apart n number object (at ∙ ap Some e) here))) ∙ has))
   ];
 }
@@ -166,12 +171,12 @@ local_other locals number other object apart =
     ap (λ (b : Bool). if b then Some object else locals other) (false_from_ne_true (other == number) (λ h. apart (eqb-true other number h)))
 
 -- a local is declared, whose object is the one made last
-pub locals_declared : (base : ℕ) (objects : List Object) (e : Environment) (low : ℕ) (slots other : Words) (number : ℕ) (x : Object)
-    → number < base → low ≤ length objects → ((n : ℕ) → n < base → n ≢ number → other n ≡ slots n)
-    → ((v : Value) → content_of (Some x) ≡ Some v → Is v (other number))
-    → LocalsHold base objects e.locals low (length objects) slots
-    → LocalsHold base (objects ++ x ∷ []) (with_local e number (length objects)).locals low (length (objects ++ x ∷ [])) other
-locals_declared base objects e low slots other number x below low_is same is hold =
+pub locals_declared : (types : List Ty) (objects : List Object) (e : Environment) (low : ℕ) (slots other : Words) (number : ℕ) (x : Object)
+    → number < length types → low ≤ length objects → ((n : ℕ) → n < words_of_all types → n ≢ slot_of (starts_of types) number → other n ≡ slots n)
+    → ((v : Value) → content_of (Some x) ≡ Some v → Is v (other (slot_of (starts_of types) number)))
+    → LocalsHold types objects e.locals low (length objects) slots
+    → LocalsHold types (objects ++ x ∷ []) (with_local e number (length objects)).locals low (length (objects ++ x ∷ [])) other
+locals_declared types objects e low slots other number x below low_is same is hold =
     let locals = e.locals in
     let long : length (objects ++ x ∷ []) ≡ length objects + 1 = length-append objects (x ∷ []) in
     record {
@@ -202,25 +207,25 @@ locals_declared base objects e low slots other number x below low_is same is hol
       holds = λ n o v at has. elim (cases_eq n number) [
         | inl equal ↦
             let o_is : length objects ≡ o = same_Some (length objects) o (sym (local_new locals number (length objects)) ∙ ap (with_local e number (length objects)).locals (sym equal) ∙ at) in
-            subst (λ m. Is v (other m)) (sym equal) (is v (sym (contents_new objects x) ∙ ap (contents (objects ++ x ∷ [])) o_is ∙ has))
+            subst (λ m. Is v (other (slot_of (starts_of types) m))) (sym equal) (is v (sym (contents_new objects x) ∙ ap (contents (objects ++ x ∷ [])) o_is ∙ has))
         | inr apart ↦
             let at_old = sym (local_other locals number n (length objects) apart) ∙ at in
             let old = hold.within n o at_old in
-            subst (Is v) (sym (same n old.0 apart)) (hold.holds n o v at_old (sym (contents_made objects x o old.2) ∙ has))
+            subst (Is v) (sym (same (slot_of (starts_of types) n) (slot-inside types n old.0) (slot-other types n number old.0 below apart))) (hold.holds n o v at_old (sym (contents_made objects x o old.2) ∙ has))
       ];
     }
 
 -- no local is there before the first is declared
-pub no_locals_hold : (base : ℕ) (objects : List Object) (low high : ℕ) (slots : Words) → LocalsHold base objects (λ (number : ℕ). None) low high slots
-no_locals_hold base objects low high slots = record {
+pub no_locals_hold : (types : List Ty) (objects : List Object) (low high : ℕ) (slots : Words) → LocalsHold types objects (λ (number : ℕ). None) low high slots
+no_locals_hold types objects low high slots = record {
   within = λ number object at. absurd (none-some object at);
   apart = λ number other object at at_other. absurd (none-some object at);
   holds = λ number object v at has. absurd (none-some object at);
 }
 
-pub locals_raised : (base : ℕ) (objects : List Object) (locals : ℕ → Option ℕ) (low high higher : ℕ) (slots : Words) → high ≤ higher
-    → LocalsHold base objects locals low high slots → LocalsHold base objects locals low higher slots
-locals_raised base objects locals low high higher slots raised hold = record {
+pub locals_raised : (types : List Ty) (objects : List Object) (locals : ℕ → Option ℕ) (low high higher : ℕ) (slots : Words) → high ≤ higher
+    → LocalsHold types objects locals low high slots → LocalsHold types objects locals low higher slots
+locals_raised types objects locals low high higher slots raised hold = record {
   within = λ number object at. let inside = hold.within number object at in (inside.0, inside.1, omega (arith, inside.2, raised));
   apart = hold.apart;
   holds = hold.holds;
@@ -246,7 +251,7 @@ module _ (source : Program) where
       let above = globals_below objects low frames outer rest in (
         low,
         below,
-        locals_kept (base_of source f.caller.function) objects others e.locals low high f.caller.slots (λ o from to. same o (omega (arith, above, from)) to) hold,
+        locals_kept (types_at source f.caller.function) objects others e.locals low high f.caller.slots (λ o from to. same o (omega (arith, above, from)) to) hold,
         frames_kept objects others low frames outer (λ o from to. same o from (omega (arith, to, below))) rest,
       )
 
@@ -258,7 +263,7 @@ module _ (source : Program) where
   pub data_same : (g : ℕ) (objects : List Object) (locals : ℕ → Option ℕ) (outer : List Environment) (slots other globals : Words) (frames : List Frame)
       → ((n : ℕ) → n < base_of source g → other n ≡ slots n) → DataAt source g objects locals outer slots globals frames → DataAt source g objects locals outer other globals frames
   data_same g objects locals outer slots other globals frames same (low, below, hold, waiting, words) =
-      (low, below, locals_same_slots (base_of source g) objects locals low (length objects) slots other same hold, waiting, words)
+      (low, below, locals_same_slots (types_at source g) objects locals low (length objects) slots other same hold, waiting, words)
 
   -- a temporary is written
   pub data_put : (g : ℕ) (objects : List Object) (locals : ℕ → Option ℕ) (outer : List Environment) (slots globals : Words) (frames : List Frame) (n w : ℕ)
@@ -274,26 +279,27 @@ module _ (source : Program) where
 
   pub data_assigned : (g : ℕ) (objects others : List Object) (locals : ℕ → Option ℕ) (outer : List Environment) (slots globals : Words) (frames : List Frame) (number object : ℕ) (v : Value) (w : ℕ)
       → locals number ≡ Some object → contents others object ≡ Some v → ((o : ℕ) → o ≢ object → contents others o ≡ contents objects o) → length others ≡ length objects → Is v w
-      → DataAt source g objects locals outer slots globals frames → DataAt source g others locals outer (put slots (slot_of number) w) globals frames
+      → DataAt source g objects locals outer slots globals frames → DataAt source g others locals outer (put slots (slot_of (starts_at source g) number) w) globals frames
   data_assigned g objects others locals outer slots globals frames number object v w here now same long is (low, below, hold, waiting, words) =
       let inside = hold.within number object here in
       let above = globals_below objects low frames outer waiting in
       let not : (o : ℕ) → o < low → o ≢ object = λ o less e. absurd (omega (arith, e, less, inside.1)) in (
         low,
         omega (arith, below, long),
-        subst (λ high. LocalsHold (base_of source g) others locals low high (put slots (slot_of number) w)) (sym long)
-            (locals_assigned (base_of source g) objects others locals low (length objects) slots number object v w here now same is hold),
+        subst (λ high. LocalsHold (types_at source g) others locals low high (put slots (slot_of (starts_at source g) number) w)) (sym long)
+            (locals_assigned (types_at source g) objects others locals low (length objects) slots number object v w here now same is hold),
         frames_kept objects others low frames outer (λ o from to. same o (not o to)) waiting,
         globals_kept objects others globals (λ o from to. same o (not o (omega (arith, to, above)))) words,
       )
 
   -- the same, where the slot has the word already
   pub data_caught_up : (g : ℕ) (objects others : List Object) (locals : ℕ → Option ℕ) (outer : List Environment) (slots globals : Words) (frames : List Frame) (number object : ℕ) (v : Value) (old : ℕ)
-      → locals number ≡ Some object → contents others object ≡ Some v → ((o : ℕ) → o ≢ object → contents others o ≡ contents objects o) → length others ≡ length objects → Is v (slots number)
-      → DataAt source g objects locals outer (put slots number old) globals frames → DataAt source g others locals outer slots globals frames
+      → locals number ≡ Some object → contents others object ≡ Some v → ((o : ℕ) → o ≢ object → contents others o ≡ contents objects o) → length others ≡ length objects → Is v (slots (slot_of (starts_at source g) number))
+      → DataAt source g objects locals outer (put slots (slot_of (starts_at source g) number) old) globals frames → DataAt source g others locals outer slots globals frames
   data_caught_up g objects others locals outer slots globals frames number object v old here now same long is facts =
-      data_same g others locals outer (put (put slots number old) number (slots number)) slots globals frames (λ m below. sym (put_over slots number old (slots number) m refl))
-      (data_assigned g objects others locals outer (put slots number old) globals frames number object v (slots number) here now same long is facts)
+      let slot = slot_of (starts_at source g) number in
+      data_same g others locals outer (put (put slots slot old) slot (slots slot)) slots globals frames (λ m below. sym (put_over slots slot old (slots slot) m refl))
+      (data_assigned g objects others locals outer (put slots slot old) globals frames number object v (slots slot) here now same long is facts)
 
   pub data_assigned_global : (g : ℕ) (objects others : List Object) (locals : ℕ → Option ℕ) (outer : List Environment) (slots globals : Words) (frames : List Frame) (number : ℕ) (v : Value) (w : ℕ)
       → number < global_count → contents others number ≡ Some v → ((o : ℕ) → o ≢ number → contents others o ≡ contents objects o) → length others ≡ length objects → Is v w
@@ -303,8 +309,8 @@ module _ (source : Program) where
       let not : (o : ℕ) → global_count ≤ o → o ≢ number = λ o from e. absurd (omega (arith, e, from, few)) in (
         low,
         omega (arith, below, long),
-        subst (λ high. LocalsHold (base_of source g) others locals low high slots) (sym long)
-            (locals_kept (base_of source g) objects others locals low (length objects) slots (λ o from to. same o (not o (omega (arith, above, from)))) hold),
+        subst (λ high. LocalsHold (types_at source g) others locals low high slots) (sym long)
+            (locals_kept (types_at source g) objects others locals low (length objects) slots (λ o from to. same o (not o (omega (arith, above, from)))) hold),
         frames_kept objects others low frames outer (λ o from to. same o (not o from)) waiting,
         λ n u less has. elim (cases_eq n number) [
           | inl equal ↦
@@ -315,13 +321,14 @@ module _ (source : Program) where
       )
 
   pub data_declared : (g : ℕ) (objects : List Object) (e : Environment) (outer : List Environment) (slots other globals : Words) (frames : List Frame) (number : ℕ) (x : Object)
-      → number < base_of source g → ((n : ℕ) → n < base_of source g → n ≢ number → other n ≡ slots n) → ((v : Value) → content_of (Some x) ≡ Some v → Is v (other number))
+      → number < length (types_at source g) → ((n : ℕ) → n < base_of source g → n ≢ slot_of (starts_at source g) number → other n ≡ slots n)
+      → ((v : Value) → content_of (Some x) ≡ Some v → Is v (other (slot_of (starts_at source g) number)))
       → DataAt source g objects e.locals outer slots globals frames → DataAt source g (objects ++ x ∷ []) (with_local e number (length objects)).locals outer other globals frames
   data_declared g objects e outer slots other globals frames number x few same is (low, below, hold, waiting, words) =
       let above = globals_below objects low frames outer waiting in (
         low,
         omega (arith, below, length-append objects (x ∷ [])),
-        locals_declared (base_of source g) objects e low slots other number x few below same is hold,
+        locals_declared (types_at source g) objects e low slots other number x few below same is hold,
         frames_kept objects (objects ++ x ∷ []) low frames outer (λ o from to. contents_made objects x o (omega (arith, to, below))) waiting,
         globals_kept objects (objects ++ x ∷ []) globals (λ o from to. contents_made objects x o (omega (arith, to, above, below))) words,
       )
@@ -332,12 +339,12 @@ module _ (source : Program) where
   data_called g callee objects e outer slots other globals f frames function_is slots_are (low, below, hold, waiting, words) = (
     length objects,
     omega arith,
-    no_locals_hold (base_of source callee) objects (length objects) (length objects) other,
+    no_locals_hold (types_at source callee) objects (length objects) (length objects) other,
     (
       low,
       below,
-      subst (λ n. LocalsHold (base_of source n) objects e.locals low (length objects) f.caller.slots) (sym function_is)
-          (subst (λ (s : Words). LocalsHold (base_of source g) objects e.locals low (length objects) s) (sym slots_are) hold),
+      subst (λ n. LocalsHold (types_at source n) objects e.locals low (length objects) f.caller.slots) (sym function_is)
+          (subst (λ (s : Words). LocalsHold (types_at source g) objects e.locals low (length objects) s) (sym slots_are) hold),
       waiting,
     ),
     words,
@@ -350,8 +357,8 @@ module _ (source : Program) where
   data_returned g objects locals e outer slots other globals f frames same (low, below, hold, (under, less, waits, waiting), words) = (
     under,
     omega (arith, below, less),
-    locals_same_slots (base_of source f.caller.function) objects e.locals under (length objects) f.caller.slots other same
-        (locals_raised (base_of source f.caller.function) objects e.locals under low (length objects) f.caller.slots below waits),
+    locals_same_slots (types_at source f.caller.function) objects e.locals under (length objects) f.caller.slots other same
+        (locals_raised (types_at source f.caller.function) objects e.locals under low (length objects) f.caller.slots below waits),
     waiting,
     words,
   )

@@ -31,10 +31,9 @@ use Rattle.cyc_plain.specs.declared.instruction.Operand.{Operand}
 use Rattle.cyc_plain.specs.declared.instruction.Operand.TheVariants as operands
 use Rattle.cyc_plain.specs.declared.instruction.Instruction.{Instruction}
 use Rattle.cyc_plain.specs.declared.instruction.Instruction.TheVariants as instructions
-use Rattle.cyc_lower.specs.Lowering.{slot_of, operand_of, operand_or, code_unless, left_with, left_of, slot_with, left_slot, low_byte, value_operand, next_slot, converted_operand, printed_operand, operator_code, load_code, compute_code, test_jump, truth_code, test_code, copy_code, expression_code, arguments_code, converted_code, converted_operand_code, printed_code, initial_code, assignment_code, assigned_operand, operations_code, discarded_code, binary_operator}
+use Rattle.cyc_lower.specs.Slots.{slot_of}
+use Rattle.cyc_lower.specs.Lowering.{operand_of, operand_or, code_unless, left_with, left_of, slot_with, left_slot, low_byte, value_operand, next_slot, converted_operand, printed_operand, operator_code, load_code, compute_code, test_jump, truth_code, test_code, copy_code, expression_code, arguments_code, converted_code, converted_operand_code, printed_code, initial_code, assignment_code, assigned_operand, operations_code, discarded_code, binary_operator}
 use Rattle.cyc_lower.specs.Emission.{most_locals, value_code, print_code, left_code, takes_operand, HasRoom, operation_code}
-
--- ---- no expression is without code
 
 behind : (xs ys : List Instruction) → 0 < length ys → 0 < length (xs ++ ys)
 behind xs ys some = omega (arith, length-append xs ys)
@@ -42,47 +41,10 @@ behind xs ys some = omega (arith, length-append xs ys)
 before : (xs ys : List Instruction) → 0 < length xs → 0 < length (xs ++ ys)
 before xs ys some = omega (arith, length-append xs ys)
 
-loads : (l : Lvalue) (d : ℕ) → 0 < length (load_code l d)
-loads (Local p n) d = omega arith
-loads (Global n) d = omega arith
-
 operates : (o : Operator) (l r : Operand) (p d : ℕ) → 0 < length (operator_code o l r p d)
 operates operators.Divide l r p d = behind _ (instructions.Binary (binary_operator operators.Divide) d l r ∷ []) (omega arith)
 operates operators.Remainder l r p d = behind _ (instructions.Binary (binary_operator operators.Remainder) d l r ∷ []) (omega arith)
 operates o l r p d = omega arith
-
-computes : (o : Operator) (b : Expression) (os : Operations) (p : ℕ) (l : Operand) (d t : ℕ) → 0 < length (operations_code (ThenCompute o b os) p l d t)
-computes o b os p l d t =
-    before (compute_code o l (value_operand b (suc t)) (value_code b p (suc t)) p (next_slot os d t)) _
-    (behind (value_code b p (suc t)) _ (operates o l (value_operand b (suc t)) (p + length (value_code b p (suc t))) (next_slot os d t)))
-
-tests : (o : LogicalOperator) (b : Expression) (os : Operations) (p : ℕ) (l : Operand) (d t : ℕ) → 0 < length (operations_code (ThenTest o b os) p l d t)
-tests o b os p l d t = before (test_code o (expression_code b (p + 1) t t) p (next_slot os d t) t) _ (omega arith)
-
-mutual
-  pub expression_some : (a : Expression) (p d t : ℕ) → 0 < length (expression_code a p d t)
-  expression_some (Number n) p d t = omega arith
-  expression_some (Copy l ty) p d t = loads l d
-  expression_some (Call callees.Putchar cs ty) p d t = behind (printed_code cs p t) _ (omega arith)
-  expression_some (Call callees.Getchar cs ty) p d t = behind (arguments_code cs p t) _ (omega arith)
-  expression_some (Call (callees.Function n) cs ty) p d t = behind (arguments_code cs p t) _ (omega arith)
-  expression_some (Unary o a) p d t = behind (value_code a p t) _ (omega arith)
-  expression_some (Binary a NoOperations ty) p d t = before (expression_code a p d t) _ (expression_some a p d t)
-  expression_some (Binary a (ThenCompute o b os) ty) p d t =
-      let front = left_code a (ThenCompute o b os) p d t in
-      behind front _ (computes o b os (p + length front) (operand_or (left_of a (ThenCompute o b os)) (left_slot a (ThenCompute o b os) d t)) d t)
-  expression_some (Binary a (ThenTest o b os) ty) p d t =
-      let front = left_code a (ThenTest o b os) p d t in
-      behind front _ (tests o b os (p + length front) (operands.Slot t) d t)
-  expression_some (Binary a os ty) p d t = before (expression_code a p t t) _ (expression_some a p t t)
-  expression_some (Assign (Local w n) c ty) p d t = before (initial_code c p (slot_of n) t) _ (initial_some c p (slot_of n) t)
-  expression_some (Assign (Global n) c ty) p d t =
-      before (converted_operand_code c p t ++ _) (copy_code (converted_operand c t) d) (behind (converted_operand_code c p t) _ (omega arith))
-  expression_some a p d t = omega arith
-
-  initial_some : (c : Converted) (p d t : ℕ) → 0 < length (initial_code c p d t)
-  initial_some (Convert from kinds.NonNull a) p d t = behind _ (instructions.Move d (value_operand a t) ∷ []) (omega arith)
-  initial_some (Convert from to a) p d t = expression_some a p d t
 
 -- what was added makes the code longer
 pub grown : (old more new : List Instruction) → new ≡ old ++ more → 0 < length more → length old < length new
@@ -123,59 +85,6 @@ module _ {X S : Type 0} (all : List X → ℕ → S → List Instruction) (one :
       ∙ ap (λ (ys : List X). code ++ all ys (length code) s) (sym (drop_all i xs done))
       ∙ r
 
--- arguments: the state is the slot of the next
-abbrev pub all_arguments : List ConvertedCode → (p t : ℕ) → List Instruction
-all_arguments cs p t = arguments_code (arguments_of cs) p t
-
-abbrev pub one_argument : ConvertedCode → List ConvertedCode → (p t : ℕ) → List Instruction
-one_argument c cs p t = converted_code (view_converted c) p t
-
-abbrev pub next_argument : ConvertedCode → List ConvertedCode → ℕ → ℕ
-next_argument c cs t = suc t
-
-pub arguments_lower : Lowers all_arguments one_argument next_argument
-arguments_lower = record { none = λ p t. refl; more = λ x xs p t. refl }
-
--- the argument of `putchar`: the state is where its value stands
-abbrev pub all_printed : ℕ → List ConvertedCode → ℕ → Operand → List Instruction
-all_printed t cs p o = printed_code (arguments_of cs) p t
-
-abbrev pub one_printed : ℕ → ConvertedCode → List ConvertedCode → ℕ → Operand → List Instruction
-one_printed t c cs p o = converted_operand_code (view_converted c) p t
-
-abbrev pub next_printed : ℕ → ConvertedCode → List ConvertedCode → Operand → Operand
-next_printed t c cs o = converted_operand (view_converted c) t
-
-pub printed_lower : (t : ℕ) → Lowers (all_printed t) (one_printed t) (next_printed t)
-printed_lower t = record { none = λ p o. refl; more = λ x xs p o. refl }
-
--- where the value stands in the end
-abbrev pub PrintedLeft : List ConvertedCode → (i : ℕ) → Operand → ℕ → Type 0
-PrintedLeft cs i o t = printed_operand (arguments_of (drop i cs)) o t ≡ printed_operand (arguments_of cs) (operands.Slot t) t
-
-pub printed_done : (cs : List ConvertedCode) (i : ℕ) (o : Operand) (t : ℕ) → length cs ≤ i → PrintedLeft cs i o t → o ≡ printed_operand (arguments_of cs) (operands.Slot t) t
-printed_done cs i o t done left = sym (ap (λ (ys : List ConvertedCode). printed_operand (arguments_of ys) o t) (drop_all i cs done)) ∙ left
-
--- a chain: the state is the left operand
-abbrev pub all_operations : (d t : ℕ) → List Operation → ℕ → Operand → List Instruction
-all_operations d t os p l = operations_code (operations_of os) p l d t
-
-abbrev pub one_operation : (d t : ℕ) → Operation → List Operation → ℕ → Operand → List Instruction
-one_operation d t o os p l = operation_code o p l (next_slot (operations_of os) d t) t
-
-abbrev pub next_operation : (d t : ℕ) → Operation → List Operation → Operand → Operand
-next_operation d t o os l = operands.Slot (next_slot (operations_of os) d t)
-
-one_operation_more : (d t : ℕ) (o : Operation) (os : List Operation) (p : ℕ) (l : Operand)
-    → all_operations d t (o ∷ os) p l ≡ one_operation d t o os p l ++ all_operations d t os (p + length (one_operation d t o os p l)) (next_operation d t o os l)
-one_operation_more d t (operation.Compute o e) os p l = refl
-one_operation_more d t (operation.Test o e) os p l = refl
-one_operation_more d t (operation.Pointer o e) os p l = refl
-one_operation_more d t (operation.PointerPeek n o e) os p l = refl
-
-pub operations_lower : (d t : ℕ) → Lowers (all_operations d t) (one_operation d t) (next_operation d t)
-operations_lower d t = record { none = λ p l. refl; more = one_operation_more d t }
-
 -- the last operator gives to d, and any other to t
 next_slot_some : (o : Operation) (os : List Operation) (d t : ℕ) → next_slot (operations_of (o ∷ os)) d t ≡ t
 next_slot_some (operation.Compute o e) os d t = refl
@@ -191,17 +100,9 @@ pub slot_at_end : (os : List Operation) (d t : ℕ) → length os ≡ 0 → next
 slot_at_end [] d t none = refl
 slot_at_end (o ∷ os) d t none = absurd (omega (arith, none))
 
--- ---- nodes with lists
-
 pub argument_count_of : (cs : List ConvertedCode) → argument_count (arguments_of cs) ≡ length cs
 argument_count_of [] = refl
 argument_count_of (c ∷ cs) = ap suc (argument_count_of cs)
-
--- the type of what a call gives changes no code
-pub call_alike : (f : Callee) (cs : Arguments) (ty other : ValueType) (p d t : ℕ) → expression_code (Call f cs ty) p d t ≡ expression_code (Call f cs other) p d t
-call_alike callees.Putchar cs ty other p d t = refl
-call_alike callees.Getchar cs ty other p d t = refl
-call_alike (callees.Function n) cs ty other p d t = refl
 
 pub call_viewed : (value : Expr) (f : Callee) (v : Vec ConvertedCode Heap) (t : ValueTypeCode) → value ≡ expr.Call f v t → (items : List ConvertedCode) → items ≡ v.items
     → view_expression value ≡ Call f (arguments_of items) (view_value_type t)
@@ -242,193 +143,296 @@ module _ (old : List Instruction) (x : Instruction) (body : ℕ → List Instruc
       (written_back old x body jump begun made patched b m (p ∙ ap (λ (k : ℕ). set made k (jump target)) here ∙ ap (λ (k : ℕ). set made (length old) (jump k)) t))
       ∙ append_assoc old all last
 
-module _ (value : Operation) (o : LogicalOperator) (e : Expr) (is : value ≡ operation.Test o e) (old : List Instruction) (x : Instruction) (begun made patched new : List Instruction) (l : Operand) (d t place target : ℕ) where
-  pub made_test : place ≡ length old → begun ≡ old ++ x ∷ [] → made ≡ begun ++ expression_code (view_expression e) (length begun) t t → target ≡ length made
-      → patched ≡ set made place (test_jump o t target) → new ≡ patched ++ truth_code t d → new ≡ old ++ operation_code value (length old) l d t
-  made_test here b m k p n =
-      tested old x (λ (q : ℕ). expression_code (view_expression e) q t t) (λ (q : ℕ). test_jump o t q) begun made patched new (truth_code t d) place here target b m k p n
-      ∙ ap (λ (y : Operation). old ++ operation_code y (length old) l d t) (sym is)
-
--- ---- pieces one behind the other
-
 -- the second is made for the place behind the first
 pub joined : (old x : List Instruction) (y : ℕ → List Instruction) (m1 m2 : List Instruction) → m1 ≡ old ++ x → m2 ≡ m1 ++ y (length m1) → m2 ≡ old ++ (x ++ y (length old + length x))
 joined old x y m1 m2 e1 e2 =
     let place = length old + length x in
     e2 ∙ ap (λ (n : ℕ). m1 ++ y n) (ap length e1 ∙ length-append old x) ∙ ap (λ (l : List Instruction). l ++ y place) e1 ∙ append_assoc old x (y place)
 
-pub converted_longer : (old new : List Instruction) (c : ConvertedCode) (t : ℕ) → new ≡ old ++ converted_code (view_converted c) (length old) t → length old < length new
-converted_longer old new c t is = grown old (converted_code (view_converted c) (length old) t) new is (before (expression_code (view_expression c.value) (length old) t t) _ (expression_some (view_expression c.value) (length old) t t))
-
--- ---- calls
-
-module _ (f : Callee) (items : List ConvertedCode) (old m1 m2 : List Instruction) (d t : ℕ) where
-  pub made_putchar : (byte : Operand) → f ≡ callees.Putchar → byte ≡ printed_operand (arguments_of items) (operands.Slot t) t → m1 ≡ old ++ print_code (arguments_of items) (length old) t
-      → m2 ≡ m1 ++ low_byte byte d ∷ [] → m2 ≡ old ++ expression_code (Call f (arguments_of items) Void) (length old) d t
-  made_putchar byte is byte_is e1 e2 =
-      let o = printed_operand (arguments_of items) (operands.Slot t) t in
-      let front = printed_code (arguments_of items) (length old) t in
-      joined old (print_code (arguments_of items) (length old) t) (λ n. low_byte o d ∷ []) m1 m2 e1 (e2 ∙ ap (λ b. m1 ++ low_byte b d ∷ []) byte_is)
-      ∙ ap (λ (l : List Instruction). old ++ l) (append_assoc front (instructions.WriteByte o ∷ []) (low_byte o d ∷ []))
-      ∙ ap (λ (g : Callee). old ++ expression_code (Call g (arguments_of items) Void) (length old) d t) (sym is)
-
-  pub made_call : (n many : ℕ) → f ≡ callees.Function n → many ≡ length items → m1 ≡ old ++ arguments_code (arguments_of items) (length old) t
-      → m2 ≡ m1 ++ instructions.Call n t many d ∷ [] → m2 ≡ old ++ expression_code (Call f (arguments_of items) Void) (length old) d t
-  made_call n many is counted e1 e2 =
-      let all = argument_count (arguments_of items) in
-      joined old (arguments_code (arguments_of items) (length old) t) (λ p. instructions.Call n t all d ∷ []) m1 m2 e1 (e2 ∙ ap (λ k. m1 ++ instructions.Call n t k d ∷ []) (counted ∙ sym (argument_count_of items)))
-      ∙ ap (λ (g : Callee). old ++ expression_code (Call g (arguments_of items) Void) (length old) d t) (sym is)
-
--- a call, as the expression that it is
-pub made_called : (value : Expr) (f : Callee) (v : Vec ConvertedCode Heap) (ty : ValueTypeCode) (items : List ConvertedCode) (old new : List Instruction) (d t : ℕ) → value ≡ expr.Call f v ty → items ≡ v.items
-    → new ≡ old ++ expression_code (Call f (arguments_of items) Void) (length old) d t → new ≡ old ++ expression_code (view_expression value) (length old) d t
-made_called value f v ty items old new d t is same made =
-    made ∙ ap (λ (l : List Instruction). old ++ l) (call_alike f (arguments_of items) Void (view_value_type ty) (length old) d t)
-    ∙ ap (λ (a : Expression). old ++ expression_code a (length old) d t) (sym (call_viewed value f v ty is items same))
-
--- ---- chains
-
-pub made_binary : (value : Expr) (b : Box Expr Heap) (v : Vec Operation Heap) (ty : TyCode) (first : Expr) (items others : List Operation) (old m1 m2 : List Instruction) (l : Operand) (d t : ℕ)
-    → value ≡ expr.Binary b v ty → first ≡ b.value → items ≡ v.items → others ≡ v.items
-    → (l ≡ operand_or (left_of (view_expression first) (operations_of items)) (left_slot (view_expression first) (operations_of items) d t))
-    → m1 ≡ old ++ left_code (view_expression first) (operations_of items) (length old) d t
-    → m2 ≡ m1 ++ operations_code (operations_of others) (length m1) l d t → m2 ≡ old ++ expression_code (view_expression value) (length old) d t
-made_binary value b v ty first items others old m1 m2 l d t is at same same_others l_is e1 e2 =
-    let a = view_expression first in
-    let os = operations_of items in
-    let left = operand_or (left_of a os) (left_slot a os d t) in
-    joined old (left_code a os (length old) d t) (λ p. operations_code os p left d t) m1 m2 e1
-    (e2 ∙ ap (λ (os' : List Operation). m1 ++ operations_code (operations_of os') (length m1) l d t) (same_others ∙ sym same) ∙ ap (λ (o : Operand). m1 ++ operations_code os (length m1) o d t) l_is)
-    ∙ ap (λ (x : Expression). old ++ expression_code x (length old) d t) (sym (binary_viewed value b v ty is first at items same))
-
 -- what was added makes the code no shorter
 pub no_shorter_than : (old more new : List Instruction) → new ≡ old ++ more → length old ≤ length new
 no_shorter_than old more new is = let e : length new ≡ length (old ++ more) = ap length is in omega (arith, e, length-append old more)
-
--- behind a left operand there is room for the chain
-pub room_behind : (a : Expression) (os : Operations) (old new : List Instruction) (d t : ℕ) → t ≤ most_locals + length old → new ≡ old ++ left_code a os (length old) d t
-    → (t ≤ most_locals + length new) × HasRoom os t (length new)
-room_behind a NoOperations old new d t low is = let more = no_shorter_than old _ new is in (omega (arith, low, more), omega (arith, low, more))
-room_behind a (ThenCompute o b os) old new d t low is =
-    let more = no_shorter_than old _ new is in (
-      omega (arith, low, more),
-      λ none.
-          let code : left_code a (ThenCompute o b os) (length old) d t ≡ expression_code a (length old) t t =
-          ap (λ (k : Option Operand). code_unless (left_with k (operand_of a)) (expression_code a (length old) (slot_with k a t) t)) none in
-          let longer = grown old (expression_code a (length old) t t) new (is ∙ ap (λ (l : List Instruction). old ++ l) code) (expression_some a (length old) t t) in
-          omega (arith, low, longer),
-    )
-room_behind a os old new d t low is = let more = no_shorter_than old _ new is in (omega (arith, low, more), omega (arith, low, more))
-
--- a left operand that is not one without code
-left_plain : (a : Expression) (os : List Operation) (d t to : ℕ) → takes_operand (operations_of os) ≡ false → (length os ≡ 0 → to ≡ d) → (0 < length os → to ≡ t)
-    → (left_of a (operations_of os) ≡ None) × (to ≡ left_slot a (operations_of os) d t)
-left_plain a [] d t to plain none some = (refl, none refl)
-left_plain a (operation.Test o e ∷ os) d t to plain none some = (refl, some (omega arith))
-left_plain a (operation.Pointer o e ∷ os) d t to plain none some = (refl, some (omega arith))
-left_plain a (operation.PointerPeek n o e ∷ os) d t to plain none some = (refl, some (omega arith))
-left_plain a (operation.Compute o e ∷ os) d t to plain none some = by (operand_of (view_expression e)) plain
-  where
-    by : (k : Option Operand) → is_some k ≡ false → (left_with k (operand_of a) ≡ None) × (to ≡ slot_with k a t)
-    by (Some k) plain = absurd (let f : true ≡ false = plain in cc)
-    by None plain = (refl, some (omega arith))
-
-made_left : (a : Expression) (os : List Operation) (old new : List Instruction) (d t to : ℕ) → takes_operand (operations_of os) ≡ false → (length os ≡ 0 → to ≡ d) → (0 < length os → to ≡ t)
-    → new ≡ old ++ expression_code a (length old) to t
-    → (operands.Slot to ≡ operand_or (left_of a (operations_of os)) (left_slot a (operations_of os) d t)) × (new ≡ old ++ left_code a (operations_of os) (length old) d t)
-made_left a os old new d t to plain none some is =
-    let (unknown, slot) = left_plain a os d t to plain none some in
-    let there = left_slot a (operations_of os) d t in (
-      ap operands.Slot slot ∙ sym (ap (λ (k : Option Operand). operand_or k there) unknown),
-      is ∙ ap (λ (n : ℕ). old ++ expression_code a (length old) n t) slot ∙ sym (ap (λ (k : Option Operand). old ++ code_unless k (expression_code a (length old) there t)) unknown),
-    )
-
-pub made_left_alone : (a : Expression) (os : List Operation) (old new : List Instruction) (d t to : ℕ) → takes_operand (operations_of os) ≡ false → (length os == 0) ≡ true → to ≡ d
-    → new ≡ old ++ expression_code a (length old) to t
-    → (operands.Slot to ≡ operand_or (left_of a (operations_of os)) (left_slot a (operations_of os) d t)) × (new ≡ old ++ left_code a (operations_of os) (length old) d t)
-made_left_alone a os old new d t to plain empty there is =
-    made_left a os old new d t to plain (λ none. there) (λ some. absurd (let none : length os ≡ 0 = eqb-true (length os) 0 empty in omega (arith, some, none))) is
-
-pub made_left_first : (a : Expression) (os : List Operation) (old new : List Instruction) (d t to : ℕ) → takes_operand (operations_of os) ≡ false → (length os == 0) ≡ false → to ≡ t
-    → new ≡ old ++ expression_code a (length old) to t
-    → (operands.Slot to ≡ operand_or (left_of a (operations_of os)) (left_slot a (operations_of os) d t)) × (new ≡ old ++ left_code a (operations_of os) (length old) d t)
-made_left_first a os old new d t to plain more there is =
-    made_left a os old new d t to plain (λ none. absurd (let f : false ≡ true = sym more ∙ eq-eqb (length os) 0 none in cc)) (λ some. there) is
-
-pub made_compute : (value : Operation) (o : Operator) (e : Expr) (old m1 m2 : List Instruction) (l r : Operand) (d t : ℕ) → value ≡ operation.Compute o e
-    → r ≡ value_operand (view_expression e) (t + 1) → m1 ≡ old ++ value_code (view_expression e) (length old) (t + 1) → m2 ≡ m1 ++ operator_code o l r (length m1) d
-    → m2 ≡ old ++ operation_code value (length old) l d t
-made_compute value o e old m1 m2 l r d t is r_is e1 e2 =
-    let a = view_expression e in
-    let next : t + 1 ≡ suc t = omega arith in
-    let right = value_operand a (suc t) in
-    joined old (value_code a (length old) (suc t)) (λ p. operator_code o l right p d) m1 m2 (e1 ∙ ap (λ (n : ℕ). old ++ value_code a (length old) n) next)
-    (e2 ∙ ap (λ (x : Operand). m1 ++ operator_code o l x (length m1) d) (r_is ∙ ap (value_operand a) next))
-    ∙ ap (λ (x : Operation). old ++ operation_code x (length old) l d t) (sym is)
-
--- where one operator is made, more may follow
-operates_longer : (x : Operation) (p : ℕ) (l : Operand) (d t : ℕ) → 0 < length (operation_code x p l d t)
-operates_longer (operation.Compute o e) p l d t = behind (value_code (view_expression e) p (suc t)) _ (operates o l (value_operand (view_expression e) (suc t)) (p + length (value_code (view_expression e) p (suc t))) d)
-operates_longer (operation.Test o e) p l d t = omega arith
-operates_longer (operation.Pointer o e) p l d t = omega arith
-operates_longer (operation.PointerPeek n o e) p l d t = omega arith
-
-room_everywhere : (os : Operations) (t many : ℕ) → t < most_locals + many → HasRoom os t many
-room_everywhere NoOperations t many low = omega (arith, low)
-room_everywhere (ThenCompute o b os) t many low = λ none. low
-room_everywhere os t many low = omega (arith, low)
-
-pub room_after : (x : Operation) (os : Operations) (old new : List Instruction) (l : Operand) (d t : ℕ) → t ≤ most_locals + length old → new ≡ old ++ operation_code x (length old) l d t
-    → (t ≤ most_locals + length new) × HasRoom os t (length new)
-room_after x os old new l d t low is =
-    let longer = grown old (operation_code x (length old) l d t) new is (operates_longer x (length old) l d t) in
-    (omega (arith, low, longer), room_everywhere os t (length new) (omega (arith, low, longer)))
 
 -- the slot for what an operator gives, by how many follow
 pub slot_by_count : (xs : List Operation) (i many to d t : ℕ) → many + (i + 1) ≡ length xs → (many ≡ 0 → to ≡ d) → (0 < many → to ≡ t) → to ≡ next_slot (operations_of (drop (i + 1) xs)) d t
 slot_by_count xs i zero to d t counted none some = none refl ∙ sym (slot_at_end (drop (i + 1) xs) d t (omega (arith, length-drop (i + 1) xs, counted)))
 slot_by_count xs i (suc many) to d t counted none some = some (omega arith) ∙ sym (slot_behind (drop (i + 1) xs) d t (omega (arith, length-drop (i + 1) xs, counted)))
 
--- the byte that `putchar` prints
-pub made_print : (items : List ConvertedCode) (old code new : List Instruction) (i : ℕ) (byte : Operand) (t : ℕ) → length items ≤ i
-    → Remains (all_printed t) old items (operands.Slot t) i code byte → PrintedLeft items i byte t → new ≡ code ++ instructions.WriteByte byte ∷ []
-    → (byte ≡ printed_operand (arguments_of items) (operands.Slot t) t) × (new ≡ old ++ print_code (arguments_of items) (length old) t)
-made_print items old code new i byte t done r left is =
-    let o = printed_operand (arguments_of items) (operands.Slot t) t in
-    let byte_is : byte ≡ o = printed_done items i byte t done left in
-    let made = all_made (all_printed t) (one_printed t) (next_printed t) (printed_lower t) old items (operands.Slot t) i code byte done r in (
-      byte_is,
-      joined old (printed_code (arguments_of items) (length old) t) (λ p. instructions.WriteByte o ∷ []) code new made (is ∙ ap (λ (b : Operand). code ++ instructions.WriteByte b ∷ []) byte_is),
-    )
+-- ---- locals that have these first slots
 
--- a call whose value is dropped, as the expression that it is
-discarded_alike : (f : Callee) (cs : Arguments) (ty other : ValueType) (p t : ℕ) → discarded_code (Call f cs ty) p t ≡ discarded_code (Call f cs other) p t
-discarded_alike callees.Putchar cs ty other p t = refl
-discarded_alike callees.Getchar cs ty other p t = refl
-discarded_alike (callees.Function n) cs ty other p t = refl
+module _ (starts : List ℕ) where
+  -- ---- no expression is without code
 
-pub made_discarded : (value : Expr) (f : Callee) (v : Vec ConvertedCode Heap) (ty : ValueTypeCode) (items : List ConvertedCode) (old new : List Instruction) (t : ℕ) → value ≡ expr.Call f v ty → items ≡ v.items
-    → new ≡ old ++ discarded_code (Call f (arguments_of items) Void) (length old) t → new ≡ old ++ discarded_code (view_expression value) (length old) t
-made_discarded value f v ty items old new t is same made =
-    made ∙ ap (λ (l : List Instruction). old ++ l) (discarded_alike f (arguments_of items) Void (view_value_type ty) (length old) t)
-    ∙ ap (λ (a : Expression). old ++ discarded_code a (length old) t) (sym (call_viewed value f v ty is items same))
+  loads : (l : Lvalue) (d : ℕ) → 0 < length (load_code starts l d)
+  loads (Local p n) d = omega arith
+  loads (Global n) d = omega arith
 
--- ---- assignments
+  computes : (o : Operator) (b : Expression) (os : Operations) (p : ℕ) (l : Operand) (d t : ℕ) → 0 < length (operations_code starts (ThenCompute o b os) p l d t)
+  computes o b os p l d t =
+      before (compute_code o l (value_operand starts b (suc t)) (value_code starts b p (suc t)) p (next_slot os d t)) _
+      (behind (value_code starts b p (suc t)) _ (operates o l (value_operand starts b (suc t)) (p + length (value_code starts b p (suc t))) (next_slot os d t)))
 
-assigned_code : (l : Lvalue) (c : Converted) (ty : ValueType) (p d t : ℕ) → assignment_code l c p t ++ copy_code (assigned_operand l c t) d ≡ expression_code (Assign l c ty) p d t
-assigned_code (Local w n) c ty p d t = refl
-assigned_code (Global n) c ty p d t = refl
+  tests : (o : LogicalOperator) (b : Expression) (os : Operations) (p : ℕ) (l : Operand) (d t : ℕ) → 0 < length (operations_code starts (ThenTest o b os) p l d t)
+  tests o b os p l d t = before (test_code o (expression_code starts b (p + 1) t t) p (next_slot os d t) t) _ (omega arith)
 
--- an assignment, whose value comes to a slot then
-pub made_assigned : (value : Expr) (l : LvalueCode) (b : Box ConvertedCode Heap) (ty : ValueTypeCode) → value ≡ expr.Assign l b ty → (x : ConvertedCode) → x ≡ b.value → (old m1 m2 : List Instruction) (o : Operand) (d t : ℕ)
-    → o ≡ assigned_operand (view_lvalue l) (view_converted x) t → m1 ≡ old ++ assignment_code (view_lvalue l) (view_converted x) (length old) t → m2 ≡ m1 ++ copy_code o d
-    → m2 ≡ old ++ expression_code (view_expression value) (length old) d t
-made_assigned value l b ty is x at old m1 m2 o d t o_is e1 e2 =
-    let c = view_converted x in
-    let front = assignment_code (view_lvalue l) c (length old) t in
-    let tree : view_expression value ≡ Assign (view_lvalue l) c (view_value_type ty)
-    = ap view_expression is ∙ ap (λ (z : ConvertedCode). Assign (view_lvalue l) (view_converted z) (view_value_type ty)) (sym at) in
-    joined old front (λ p. copy_code o d) m1 m2 e1 e2
-    ∙ ap (λ (q : Operand). old ++ (front ++ copy_code q d)) o_is
-    ∙ ap (λ (k : List Instruction). old ++ k) (assigned_code (view_lvalue l) c (view_value_type ty) (length old) d t)
-    ∙ ap (λ (y : Expression). old ++ expression_code y (length old) d t) (sym tree)
+  mutual
+    pub expression_some : (a : Expression) (p d t : ℕ) → 0 < length (expression_code starts a p d t)
+    expression_some (Number n) p d t = omega arith
+    expression_some (Copy l ty) p d t = loads l d
+    expression_some (Call callees.Putchar cs ty) p d t = behind (printed_code starts cs p t) _ (omega arith)
+    expression_some (Call callees.Getchar cs ty) p d t = behind (arguments_code starts cs p t) _ (omega arith)
+    expression_some (Call (callees.Function n) cs ty) p d t = behind (arguments_code starts cs p t) _ (omega arith)
+    expression_some (Unary o a) p d t = behind (value_code starts a p t) _ (omega arith)
+    expression_some (Binary a NoOperations ty) p d t = before (expression_code starts a p d t) _ (expression_some a p d t)
+    expression_some (Binary a (ThenCompute o b os) ty) p d t =
+        let front = left_code starts a (ThenCompute o b os) p d t in
+        behind front _ (computes o b os (p + length front) (operand_or (left_of starts a (ThenCompute o b os)) (left_slot starts a (ThenCompute o b os) d t)) d t)
+    expression_some (Binary a (ThenTest o b os) ty) p d t =
+        let front = left_code starts a (ThenTest o b os) p d t in
+        behind front _ (tests o b os (p + length front) (operands.Slot t) d t)
+    expression_some (Binary a os ty) p d t = before (expression_code starts a p t t) _ (expression_some a p t t)
+    expression_some (Assign (Local w n) c ty) p d t = before (initial_code starts c p (slot_of starts n) t) _ (initial_some c p (slot_of starts n) t)
+    expression_some (Assign (Global n) c ty) p d t =
+        before (converted_operand_code starts c p t ++ _) (copy_code (converted_operand starts c t) d) (behind (converted_operand_code starts c p t) _ (omega arith))
+    expression_some a p d t = omega arith
+
+    initial_some : (c : Converted) (p d t : ℕ) → 0 < length (initial_code starts c p d t)
+    initial_some (Convert from kinds.NonNull a) p d t = behind _ (instructions.Move d (value_operand starts a t) ∷ []) (omega arith)
+    initial_some (Convert from to a) p d t = expression_some a p d t
+
+  -- arguments: the state is the slot of the next
+  abbrev pub all_arguments : List ConvertedCode → (p t : ℕ) → List Instruction
+  all_arguments cs p t = arguments_code starts (arguments_of cs) p t
+
+  abbrev pub one_argument : ConvertedCode → List ConvertedCode → (p t : ℕ) → List Instruction
+  one_argument c cs p t = converted_code starts (view_converted c) p t
+
+  abbrev pub next_argument : ConvertedCode → List ConvertedCode → ℕ → ℕ
+  next_argument c cs t = suc t
+
+  pub arguments_lower : Lowers all_arguments one_argument next_argument
+  arguments_lower = record { none = λ p t. refl; more = λ x xs p t. refl }
+
+  -- the argument of `putchar`: the state is where its value stands
+  abbrev pub all_printed : ℕ → List ConvertedCode → ℕ → Operand → List Instruction
+  all_printed t cs p o = printed_code starts (arguments_of cs) p t
+
+  abbrev pub one_printed : ℕ → ConvertedCode → List ConvertedCode → ℕ → Operand → List Instruction
+  one_printed t c cs p o = converted_operand_code starts (view_converted c) p t
+
+  abbrev pub next_printed : ℕ → ConvertedCode → List ConvertedCode → Operand → Operand
+  next_printed t c cs o = converted_operand starts (view_converted c) t
+
+  pub printed_lower : (t : ℕ) → Lowers (all_printed t) (one_printed t) (next_printed t)
+  printed_lower t = record { none = λ p o. refl; more = λ x xs p o. refl }
+
+  -- where the value stands in the end
+  abbrev pub PrintedLeft : List ConvertedCode → (i : ℕ) → Operand → ℕ → Type 0
+  PrintedLeft cs i o t = printed_operand starts (arguments_of (drop i cs)) o t ≡ printed_operand starts (arguments_of cs) (operands.Slot t) t
+
+  pub printed_done : (cs : List ConvertedCode) (i : ℕ) (o : Operand) (t : ℕ) → length cs ≤ i → PrintedLeft cs i o t → o ≡ printed_operand starts (arguments_of cs) (operands.Slot t) t
+  printed_done cs i o t done left = sym (ap (λ (ys : List ConvertedCode). printed_operand starts (arguments_of ys) o t) (drop_all i cs done)) ∙ left
+
+  -- a chain: the state is the left operand
+  abbrev pub all_operations : (d t : ℕ) → List Operation → ℕ → Operand → List Instruction
+  all_operations d t os p l = operations_code starts (operations_of os) p l d t
+
+  abbrev pub one_operation : (d t : ℕ) → Operation → List Operation → ℕ → Operand → List Instruction
+  one_operation d t o os p l = operation_code starts o p l (next_slot (operations_of os) d t) t
+
+  abbrev pub next_operation : (d t : ℕ) → Operation → List Operation → Operand → Operand
+  next_operation d t o os l = operands.Slot (next_slot (operations_of os) d t)
+
+  one_operation_more : (d t : ℕ) (o : Operation) (os : List Operation) (p : ℕ) (l : Operand)
+      → all_operations d t (o ∷ os) p l ≡ one_operation d t o os p l ++ all_operations d t os (p + length (one_operation d t o os p l)) (next_operation d t o os l)
+  one_operation_more d t (operation.Compute o e) os p l = refl
+  one_operation_more d t (operation.Test o e) os p l = refl
+  one_operation_more d t (operation.Pointer o e) os p l = refl
+  one_operation_more d t (operation.PointerPeek n o e) os p l = refl
+
+  pub operations_lower : (d t : ℕ) → Lowers (all_operations d t) (one_operation d t) (next_operation d t)
+  operations_lower d t = record { none = λ p l. refl; more = one_operation_more d t }
+
+  -- ---- nodes with lists
+
+  -- the type of what a call gives changes no code
+  pub call_alike : (f : Callee) (cs : Arguments) (ty other : ValueType) (p d t : ℕ) → expression_code starts (Call f cs ty) p d t ≡ expression_code starts (Call f cs other) p d t
+  call_alike callees.Putchar cs ty other p d t = refl
+  call_alike callees.Getchar cs ty other p d t = refl
+  call_alike (callees.Function n) cs ty other p d t = refl
+
+  module _ (value : Operation) (o : LogicalOperator) (e : Expr) (is : value ≡ operation.Test o e) (old : List Instruction) (x : Instruction) (begun made patched new : List Instruction) (l : Operand) (d t place target : ℕ) where
+    pub made_test : place ≡ length old → begun ≡ old ++ x ∷ [] → made ≡ begun ++ expression_code starts (view_expression e) (length begun) t t → target ≡ length made
+        → patched ≡ set made place (test_jump o t target) → new ≡ patched ++ truth_code t d → new ≡ old ++ operation_code starts value (length old) l d t
+    made_test here b m k p n =
+        tested old x (λ (q : ℕ). expression_code starts (view_expression e) q t t) (λ (q : ℕ). test_jump o t q) begun made patched new (truth_code t d) place here target b m k p n
+        ∙ ap (λ (y : Operation). old ++ operation_code starts y (length old) l d t) (sym is)
+
+  -- ---- pieces one behind the other
+
+  pub converted_longer : (old new : List Instruction) (c : ConvertedCode) (t : ℕ) → new ≡ old ++ converted_code starts (view_converted c) (length old) t → length old < length new
+  converted_longer old new c t is = grown old (converted_code starts (view_converted c) (length old) t) new is (before (expression_code starts (view_expression c.value) (length old) t t) _ (expression_some (view_expression c.value) (length old) t t))
+
+  -- ---- calls
+
+  module _ (f : Callee) (items : List ConvertedCode) (old m1 m2 : List Instruction) (d t : ℕ) where
+    pub made_putchar : (byte : Operand) → f ≡ callees.Putchar → byte ≡ printed_operand starts (arguments_of items) (operands.Slot t) t → m1 ≡ old ++ print_code starts (arguments_of items) (length old) t
+        → m2 ≡ m1 ++ low_byte byte d ∷ [] → m2 ≡ old ++ expression_code starts (Call f (arguments_of items) Void) (length old) d t
+    made_putchar byte is byte_is e1 e2 =
+        let o = printed_operand starts (arguments_of items) (operands.Slot t) t in
+        let front = printed_code starts (arguments_of items) (length old) t in
+        joined old (print_code starts (arguments_of items) (length old) t) (λ n. low_byte o d ∷ []) m1 m2 e1 (e2 ∙ ap (λ b. m1 ++ low_byte b d ∷ []) byte_is)
+        ∙ ap (λ (l : List Instruction). old ++ l) (append_assoc front (instructions.WriteByte o ∷ []) (low_byte o d ∷ []))
+        ∙ ap (λ (g : Callee). old ++ expression_code starts (Call g (arguments_of items) Void) (length old) d t) (sym is)
+
+    pub made_call : (n many : ℕ) → f ≡ callees.Function n → many ≡ length items → m1 ≡ old ++ arguments_code starts (arguments_of items) (length old) t
+        → m2 ≡ m1 ++ instructions.Call n t many d ∷ [] → m2 ≡ old ++ expression_code starts (Call f (arguments_of items) Void) (length old) d t
+    made_call n many is counted e1 e2 =
+        let all = argument_count (arguments_of items) in
+        joined old (arguments_code starts (arguments_of items) (length old) t) (λ p. instructions.Call n t all d ∷ []) m1 m2 e1 (e2 ∙ ap (λ k. m1 ++ instructions.Call n t k d ∷ []) (counted ∙ sym (argument_count_of items)))
+        ∙ ap (λ (g : Callee). old ++ expression_code starts (Call g (arguments_of items) Void) (length old) d t) (sym is)
+
+  -- a call, as the expression that it is
+  pub made_called : (value : Expr) (f : Callee) (v : Vec ConvertedCode Heap) (ty : ValueTypeCode) (items : List ConvertedCode) (old new : List Instruction) (d t : ℕ) → value ≡ expr.Call f v ty → items ≡ v.items
+      → new ≡ old ++ expression_code starts (Call f (arguments_of items) Void) (length old) d t → new ≡ old ++ expression_code starts (view_expression value) (length old) d t
+  made_called value f v ty items old new d t is same made =
+      made ∙ ap (λ (l : List Instruction). old ++ l) (call_alike f (arguments_of items) Void (view_value_type ty) (length old) d t)
+      ∙ ap (λ (a : Expression). old ++ expression_code starts a (length old) d t) (sym (call_viewed value f v ty is items same))
+
+  -- ---- chains
+
+  pub made_binary : (value : Expr) (b : Box Expr Heap) (v : Vec Operation Heap) (ty : TyCode) (first : Expr) (items others : List Operation) (old m1 m2 : List Instruction) (l : Operand) (d t : ℕ)
+      → value ≡ expr.Binary b v ty → first ≡ b.value → items ≡ v.items → others ≡ v.items
+      → (l ≡ operand_or (left_of starts (view_expression first) (operations_of items)) (left_slot starts (view_expression first) (operations_of items) d t))
+      → m1 ≡ old ++ left_code starts (view_expression first) (operations_of items) (length old) d t
+      → m2 ≡ m1 ++ operations_code starts (operations_of others) (length m1) l d t → m2 ≡ old ++ expression_code starts (view_expression value) (length old) d t
+  made_binary value b v ty first items others old m1 m2 l d t is at same same_others l_is e1 e2 =
+      let a = view_expression first in
+      let os = operations_of items in
+      let left = operand_or (left_of starts a os) (left_slot starts a os d t) in
+      joined old (left_code starts a os (length old) d t) (λ p. operations_code starts os p left d t) m1 m2 e1
+      (e2 ∙ ap (λ (os' : List Operation). m1 ++ operations_code starts (operations_of os') (length m1) l d t) (same_others ∙ sym same) ∙ ap (λ (o : Operand). m1 ++ operations_code starts os (length m1) o d t) l_is)
+      ∙ ap (λ (x : Expression). old ++ expression_code starts x (length old) d t) (sym (binary_viewed value b v ty is first at items same))
+
+  -- behind a left operand there is room for the chain
+  pub room_behind : (a : Expression) (os : Operations) (old new : List Instruction) (d t : ℕ) → t ≤ most_locals + length old → new ≡ old ++ left_code starts a os (length old) d t
+      → (t ≤ most_locals + length new) × HasRoom starts os t (length new)
+  room_behind a NoOperations old new d t low is = let more = no_shorter_than old _ new is in (omega (arith, low, more), omega (arith, low, more))
+  room_behind a (ThenCompute o b os) old new d t low is =
+      let more = no_shorter_than old _ new is in (
+        omega (arith, low, more),
+        λ none.
+            let code : left_code starts a (ThenCompute o b os) (length old) d t ≡ expression_code starts a (length old) t t =
+            ap (λ (k : Option Operand). code_unless (left_with k (operand_of starts a)) (expression_code starts a (length old) (slot_with starts k a t) t)) none in
+            let longer = grown old (expression_code starts a (length old) t t) new (is ∙ ap (λ (l : List Instruction). old ++ l) code) (expression_some a (length old) t t) in
+            omega (arith, low, longer),
+      )
+  room_behind a os old new d t low is = let more = no_shorter_than old _ new is in (omega (arith, low, more), omega (arith, low, more))
+
+  -- a left operand that is not one without code
+  left_plain : (a : Expression) (os : List Operation) (d t to : ℕ) → takes_operand starts (operations_of os) ≡ false → (length os ≡ 0 → to ≡ d) → (0 < length os → to ≡ t)
+      → (left_of starts a (operations_of os) ≡ None) × (to ≡ left_slot starts a (operations_of os) d t)
+  left_plain a [] d t to plain none some = (refl, none refl)
+  left_plain a (operation.Test o e ∷ os) d t to plain none some = (refl, some (omega arith))
+  left_plain a (operation.Pointer o e ∷ os) d t to plain none some = (refl, some (omega arith))
+  left_plain a (operation.PointerPeek n o e ∷ os) d t to plain none some = (refl, some (omega arith))
+  left_plain a (operation.Compute o e ∷ os) d t to plain none some = by (operand_of starts (view_expression e)) plain
+    where
+      by : (k : Option Operand) → is_some k ≡ false → (left_with k (operand_of starts a) ≡ None) × (to ≡ slot_with starts k a t)
+      by (Some k) plain = absurd (let f : true ≡ false = plain in cc)
+      by None plain = (refl, some (omega arith))
+
+  made_left : (a : Expression) (os : List Operation) (old new : List Instruction) (d t to : ℕ) → takes_operand starts (operations_of os) ≡ false → (length os ≡ 0 → to ≡ d) → (0 < length os → to ≡ t)
+      → new ≡ old ++ expression_code starts a (length old) to t
+      → (operands.Slot to ≡ operand_or (left_of starts a (operations_of os)) (left_slot starts a (operations_of os) d t)) × (new ≡ old ++ left_code starts a (operations_of os) (length old) d t)
+  made_left a os old new d t to plain none some is =
+      let (unknown, slot) = left_plain a os d t to plain none some in
+      let there = left_slot starts a (operations_of os) d t in (
+        ap operands.Slot slot ∙ sym (ap (λ (k : Option Operand). operand_or k there) unknown),
+        is ∙ ap (λ (n : ℕ). old ++ expression_code starts a (length old) n t) slot ∙ sym (ap (λ (k : Option Operand). old ++ code_unless k (expression_code starts a (length old) there t)) unknown),
+      )
+
+  pub made_left_alone : (a : Expression) (os : List Operation) (old new : List Instruction) (d t to : ℕ) → takes_operand starts (operations_of os) ≡ false → (length os == 0) ≡ true → to ≡ d
+      → new ≡ old ++ expression_code starts a (length old) to t
+      → (operands.Slot to ≡ operand_or (left_of starts a (operations_of os)) (left_slot starts a (operations_of os) d t)) × (new ≡ old ++ left_code starts a (operations_of os) (length old) d t)
+  made_left_alone a os old new d t to plain empty there is =
+      made_left a os old new d t to plain (λ none. there) (λ some. absurd (let none : length os ≡ 0 = eqb-true (length os) 0 empty in omega (arith, some, none))) is
+
+  pub made_left_first : (a : Expression) (os : List Operation) (old new : List Instruction) (d t to : ℕ) → takes_operand starts (operations_of os) ≡ false → (length os == 0) ≡ false → to ≡ t
+      → new ≡ old ++ expression_code starts a (length old) to t
+      → (operands.Slot to ≡ operand_or (left_of starts a (operations_of os)) (left_slot starts a (operations_of os) d t)) × (new ≡ old ++ left_code starts a (operations_of os) (length old) d t)
+  made_left_first a os old new d t to plain more there is =
+      made_left a os old new d t to plain (λ none. absurd (let f : false ≡ true = sym more ∙ eq-eqb (length os) 0 none in cc)) (λ some. there) is
+
+  pub made_compute : (value : Operation) (o : Operator) (e : Expr) (old m1 m2 : List Instruction) (l r : Operand) (d t : ℕ) → value ≡ operation.Compute o e
+      → r ≡ value_operand starts (view_expression e) (t + 1) → m1 ≡ old ++ value_code starts (view_expression e) (length old) (t + 1) → m2 ≡ m1 ++ operator_code o l r (length m1) d
+      → m2 ≡ old ++ operation_code starts value (length old) l d t
+  made_compute value o e old m1 m2 l r d t is r_is e1 e2 =
+      let a = view_expression e in
+      let next : t + 1 ≡ suc t = omega arith in
+      let right = value_operand starts a (suc t) in
+      joined old (value_code starts a (length old) (suc t)) (λ p. operator_code o l right p d) m1 m2 (e1 ∙ ap (λ (n : ℕ). old ++ value_code starts a (length old) n) next)
+      (e2 ∙ ap (λ (x : Operand). m1 ++ operator_code o l x (length m1) d) (r_is ∙ ap (value_operand starts a) next))
+      ∙ ap (λ (x : Operation). old ++ operation_code starts x (length old) l d t) (sym is)
+
+  -- where one operator is made, more may follow
+  operates_longer : (x : Operation) (p : ℕ) (l : Operand) (d t : ℕ) → 0 < length (operation_code starts x p l d t)
+  operates_longer (operation.Compute o e) p l d t = behind (value_code starts (view_expression e) p (suc t)) _ (operates o l (value_operand starts (view_expression e) (suc t)) (p + length (value_code starts (view_expression e) p (suc t))) d)
+  operates_longer (operation.Test o e) p l d t = omega arith
+  operates_longer (operation.Pointer o e) p l d t = omega arith
+  operates_longer (operation.PointerPeek n o e) p l d t = omega arith
+
+  room_everywhere : (os : Operations) (t many : ℕ) → t < most_locals + many → HasRoom starts os t many
+  room_everywhere NoOperations t many low = omega (arith, low)
+  room_everywhere (ThenCompute o b os) t many low = λ none. low
+  room_everywhere os t many low = omega (arith, low)
+
+  pub room_after : (x : Operation) (os : Operations) (old new : List Instruction) (l : Operand) (d t : ℕ) → t ≤ most_locals + length old → new ≡ old ++ operation_code starts x (length old) l d t
+      → (t ≤ most_locals + length new) × HasRoom starts os t (length new)
+  room_after x os old new l d t low is =
+      let longer = grown old (operation_code starts x (length old) l d t) new is (operates_longer x (length old) l d t) in
+      (omega (arith, low, longer), room_everywhere os t (length new) (omega (arith, low, longer)))
+
+  -- the byte that `putchar` prints
+  pub made_print : (items : List ConvertedCode) (old code new : List Instruction) (i : ℕ) (byte : Operand) (t : ℕ) → length items ≤ i
+      → Remains (all_printed t) old items (operands.Slot t) i code byte → PrintedLeft items i byte t → new ≡ code ++ instructions.WriteByte byte ∷ []
+      → (byte ≡ printed_operand starts (arguments_of items) (operands.Slot t) t) × (new ≡ old ++ print_code starts (arguments_of items) (length old) t)
+  made_print items old code new i byte t done r left is =
+      let o = printed_operand starts (arguments_of items) (operands.Slot t) t in
+      let byte_is : byte ≡ o = printed_done items i byte t done left in
+      let made = all_made (all_printed t) (one_printed t) (next_printed t) (printed_lower t) old items (operands.Slot t) i code byte done r in (
+        byte_is,
+        joined old (printed_code starts (arguments_of items) (length old) t) (λ p. instructions.WriteByte o ∷ []) code new made (is ∙ ap (λ (b : Operand). code ++ instructions.WriteByte b ∷ []) byte_is),
+      )
+
+  -- a call whose value is dropped, as the expression that it is
+  discarded_alike : (f : Callee) (cs : Arguments) (ty other : ValueType) (p t : ℕ) → discarded_code starts (Call f cs ty) p t ≡ discarded_code starts (Call f cs other) p t
+  discarded_alike callees.Putchar cs ty other p t = refl
+  discarded_alike callees.Getchar cs ty other p t = refl
+  discarded_alike (callees.Function n) cs ty other p t = refl
+
+  pub made_discarded : (value : Expr) (f : Callee) (v : Vec ConvertedCode Heap) (ty : ValueTypeCode) (items : List ConvertedCode) (old new : List Instruction) (t : ℕ) → value ≡ expr.Call f v ty → items ≡ v.items
+      → new ≡ old ++ discarded_code starts (Call f (arguments_of items) Void) (length old) t → new ≡ old ++ discarded_code starts (view_expression value) (length old) t
+  made_discarded value f v ty items old new t is same made =
+      made ∙ ap (λ (l : List Instruction). old ++ l) (discarded_alike f (arguments_of items) Void (view_value_type ty) (length old) t)
+      ∙ ap (λ (a : Expression). old ++ discarded_code starts a (length old) t) (sym (call_viewed value f v ty is items same))
+
+  -- ---- assignments
+
+  assigned_code : (l : Lvalue) (c : Converted) (ty : ValueType) (p d t : ℕ) → assignment_code starts l c p t ++ copy_code (assigned_operand starts l c t) d ≡ expression_code starts (Assign l c ty) p d t
+  assigned_code (Local w n) c ty p d t = refl
+  assigned_code (Global n) c ty p d t = refl
+
+  -- an assignment, whose value comes to a slot then
+  pub made_assigned : (value : Expr) (l : LvalueCode) (b : Box ConvertedCode Heap) (ty : ValueTypeCode) → value ≡ expr.Assign l b ty → (x : ConvertedCode) → x ≡ b.value → (old m1 m2 : List Instruction) (o : Operand) (d t : ℕ)
+      → o ≡ assigned_operand starts (view_lvalue l) (view_converted x) t → m1 ≡ old ++ assignment_code starts (view_lvalue l) (view_converted x) (length old) t → m2 ≡ m1 ++ copy_code o d
+      → m2 ≡ old ++ expression_code starts (view_expression value) (length old) d t
+  made_assigned value l b ty is x at old m1 m2 o d t o_is e1 e2 =
+      let c = view_converted x in
+      let front = assignment_code starts (view_lvalue l) c (length old) t in
+      let tree : view_expression value ≡ Assign (view_lvalue l) c (view_value_type ty)
+      = ap view_expression is ∙ ap (λ (z : ConvertedCode). Assign (view_lvalue l) (view_converted z) (view_value_type ty)) (sym at) in
+      joined old front (λ p. copy_code o d) m1 m2 e1 e2
+      ∙ ap (λ (q : Operand). old ++ (front ++ copy_code q d)) o_is
+      ∙ ap (λ (k : List Instruction). old ++ k) (assigned_code (view_lvalue l) c (view_value_type ty) (length old) d t)
+      ∙ ap (λ (y : Expression). old ++ expression_code starts y (length old) d t) (sym tree)

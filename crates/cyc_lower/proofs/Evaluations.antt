@@ -25,13 +25,15 @@ use Rattle.cyc_meaning.specs.Values.{Int, Thin, Operand as Kinded, kind_of}
 use Rattle.cyc_meaning.specs.SourceMachine.{status_in}
 use Rattle.cyc_meaning.specs.State.{status_of, World, Environment, ConvertTo, Operate, Chain, Apply, Store, Pass, Choose, Test, Entry, Needs, Discard, Focus, Evaluating, Given, Running}
 use Rattle.cyc_meaning.specs.Step.{object_of, assigned, passes, step}
-use Rattle.cyc_lower.specs.Lowering.{slot_of, failing_comparison, operand_of, left_with, slot_with, compared_or, compared_of}
+use Rattle.cyc_lower.specs.Slots.{slot_of}
+use Rattle.cyc_lower.proofs.Slots.{slot-inside}
+use Rattle.cyc_lower.specs.Lowering.{failing_comparison, operand_of, left_with, slot_with, compared_or, compared_of}
 use Rattle.cyc_lower.proofs.Weights.{weight, stack_weight, expression_weight, arguments_weight}
 use Rattle.cyc_lower.proofs.Stands.{CopyBy, CopyAt, OperandBy, ExpressionAt, ArgumentsAt, ValueAt, PairAt, ConditionAt, AssignmentAt, PrintedAt, DiscardedAt}
-use Rattle.cyc_lower.proofs.Relation.{Is, height, Holds, held, contents, callers, in_temporary, in_local, drops, leaves, copies, prints_only, gives_byte, DataIn, SharedAt, CallAt, to_slot, to_jump, ValueStack, ConditionStack, DroppedStack, AheadStack, LandsStack, HandsOnStack, PrintsStack, RightAt, as_operand, into_slot, for_effect, as_right, as_condition, in_operand, ahead, with_left, Related, Matches, code_of, bounds_in, bounds_at, base_of, top}
+use Rattle.cyc_lower.proofs.Relation.{Is, types_at, starts_at, height, Holds, held, contents, callers, in_temporary, in_local, drops, leaves, copies, prints_only, gives_byte, DataIn, SharedAt, CallAt, to_slot, to_jump, ValueStack, ConditionStack, DroppedStack, AheadStack, LandsStack, HandsOnStack, PrintsStack, RightAt, as_operand, into_slot, for_effect, as_right, as_condition, in_operand, ahead, with_left, Related, Matches, code_of, bounds_in, bounds_at, base_of, top}
 use Rattle.cyc_lower.proofs.Data.{height-least, Holds-put, Holds-local, data_put, data_put_back}
 use Rattle.cyc_lower.proofs.Accesses.{IsWell, is_loaded}
-use Rattle.cyc_lower.proofs.Matched.{IsMatched, silently, one}
+use Rattle.cyc_lower.proofs.Matched.{IsMatched, silently, by_one}
 
 -- an object is found in the same way, wherever new variables live
 pub object_of_same : (l : Lvalue) (e : Environment) → object_of (record { locals = e.locals; home = 0; counters = λ level. None }) l ≡ object_of e l
@@ -84,7 +86,7 @@ module _ (source : Program) (pages calls : ℕ) where
     pub is : Is value.value (operand_word c.active.slots o)
     pub some : expression_weight a ≡ 1
 
-  pub reads : (a : Expression) (o : Operand) (k : List Entry) (e : Environment) (w : World) (c : Configuration) → operand_of a ≡ Some o → IsWell (step source (Running (Evaluating a) k e w))
+  pub reads : (a : Expression) (o : Operand) (k : List Entry) (e : Environment) (w : World) (c : Configuration) → operand_of (starts_at source c.active.function) a ≡ Some o → IsWell (step source (Running (Evaluating a) k e w))
       → DataIn source c.active.slots k e w c → IsRead a o k e w c
   reads (Number n) o k e w c known well facts =
       record { value = record { kind = kinds.Int; value = Int n }; gives = refl; is = ap (operand_word c.active.slots) (sym (same_Some (operands.Word n) o known)); some = refl }
@@ -93,7 +95,7 @@ module _ (source : Program) (pages calls : ℕ) where
       record {
         value = record { kind = kind_of t; value = found.value };
         gives = found.gives;
-        is = subst (λ x. Is found.value (operand_word c.active.slots x)) (same_Some (operands.Slot (slot_of n)) o known) (hold.holds n found.number found.value found.there found.has);
+        is = subst (λ x. Is found.value (operand_word c.active.slots x)) (same_Some (operands.Slot (slot_of (starts_at source c.active.function) n)) o known) (hold.holds n found.number found.value found.there found.has);
         some = refl;
       }
   reads a o k e w c known well facts = absurd (none-some o known)
@@ -103,7 +105,7 @@ module _ (source : Program) (pages calls : ℕ) where
   -- the next argument is evaluated, or the call is made
   pub passes_related : (f : Callee) (before : List Kinded) (cs : Arguments) (k : List Entry) (e : Environment) (w : World) (c : Configuration) (d m q all : ℕ)
       → SharedAt source pages calls w c → DataIn source c.active.slots k e w c
-      → ArgumentsAt (code_of source c.active.function) (bounds_at source c.active.function) cs (height (base_of source c.active.function) (before ++ held k)) c.active.next m
+      → ArgumentsAt (code_of source c.active.function) (bounds_at source c.active.function) (starts_at source c.active.function) cs (height (base_of source c.active.function) (before ++ held k)) c.active.next m
       → CallAt source c.active.function f all (top source c.active.function k) d m q
       → length before + argument_count cs ≡ all
       → Holds c.active.slots (base_of source c.active.function) (before ++ held k) → LandsStack source c.active.function e.locals d q c.frames k
@@ -153,7 +155,7 @@ module _ (source : Program) (pages calls : ℕ) where
   abbrev IsBegun : Expression → List Entry → Environment → World → Configuration → Type 0
   IsBegun a k e w c = IsMatched source pages calls (Running (Evaluating a) k e w) (plain.Running c)
 
-  known_operand : (a : Expression) (o : Operand) (k : List Entry) (e : Environment) (w : World) (c : Configuration) (q : ℕ) → operand_of a ≡ Some o → c.active.next ≡ q → At_step a k e w c
+  known_operand : (a : Expression) (o : Operand) (k : List Entry) (e : Environment) (w : World) (c : Configuration) (q : ℕ) → operand_of (starts_at source c.active.function) a ≡ Some o → c.active.next ≡ q → At_step a k e w c
       → ValueStack source c.active.function e.locals o q c.frames k → IsBegun a k e w c
   known_operand a o k e w c q known end (well, shared, facts, holds) stack =
       let found = reads a o k e w c known well facts in
@@ -164,7 +166,7 @@ module _ (source : Program) (pages calls : ℕ) where
   -- a place is assigned, and then the value of the assignment is handed on
   assigns : (l : Lvalue) (from to : Kind) (a : Expression) (t : ValueType) (k : List Entry) (e : Environment) (w : World) (c : Configuration) (object : Option ℕ) (o : Operand) (m : ℕ)
       → object_of e l ≡ object → At_step (Assign l (Convert from to a) t) k e w c
-      → AssignmentAt (code_of source c.active.function) (bounds_at source c.active.function) l (Convert from to a) o (top source c.active.function k) c.active.next m
+      → AssignmentAt (code_of source c.active.function) (bounds_at source c.active.function) (starts_at source c.active.function) l (Convert from to a) o (top source c.active.function k) c.active.next m
       → HandsOnStack source c.active.function e.locals o m c.frames k → IsBegun (Assign l (Convert from to a) t) k e w c
   assigns l from to a t k e w c None o m found (well, shared, facts, holds) at hands =
       absurd (well (ap (λ x. status_in (status_of (assigned x (Convert from to a) k e w))) found))
@@ -177,11 +179,11 @@ module _ (source : Program) (pages calls : ℕ) where
       (omega arith)
   assigns (Local p n) from to a t k e w c (Some object) o m found (well, shared, facts, holds) (there, at_a) hands =
       let g = c.active.function in
-      let below : n < base_of source g = (facts.2.within n object found).0 in
+      let below = slot-inside (types_at source g) n (facts.2.within n object found).0 in
       silently source pages calls (Running (Evaluating (Assign (Local p n) (Convert from to a) t)) k e w)
       (Running (Evaluating a) (Needs (ConvertTo from to) ∷ Needs (Store (Thin object 0)) ∷ k) e w) (plain.Running c)
       (ap (λ x. assigned x (Convert from to a) k e w) found)
-      (shared, facts, into_slot n m at_a holds (in_local below (tt, (object, refl, found, subst (λ x. HandsOnStack source g e.locals x m c.frames k) there hands))))
+      (shared, facts, into_slot (slot_of (starts_at source g) n) m at_a holds (in_local below (tt, (n, object, refl, found, refl, subst (λ x. HandsOnStack source g e.locals x m c.frames k) there hands))))
       (omega arith)
   assigns (Global n) from to a t k e w c (Some object) o m found (well, shared, facts, holds) (s, (r, at_a, at_to), few, store, end) hands =
       silently source pages calls (Running (Evaluating (Assign (Global n) (Convert from to a) t)) k e w)
@@ -192,7 +194,7 @@ module _ (source : Program) (pages calls : ℕ) where
 
   -- a byte is printed
   prints : (cs : Arguments) (t : ValueType) (k : List Entry) (e : Environment) (w : World) (c : Configuration) (o : Operand) (m : ℕ) → At_step (Call callees.Putchar cs t) k e w c
-      → PrintedAt (code_of source c.active.function) (bounds_at source c.active.function) cs (top source c.active.function k) o c.active.next m
+      → PrintedAt (code_of source c.active.function) (bounds_at source c.active.function) (starts_at source c.active.function) cs (top source c.active.function k) o c.active.next m
       → PrintsStack source c.active.function e.locals o m c.frames k → IsBegun (Call callees.Putchar cs t) k e w c
   prints NoArguments t k e w c o m known at stack = absurd at
   prints (MoreArguments (Convert from to a) NoArguments) t k e w c o m (well, shared, facts, holds) (s, at_a, at_to) (write, stack) =
@@ -203,7 +205,7 @@ module _ (source : Program) (pages calls : ℕ) where
   prints (MoreArguments c' (MoreArguments c'' cs)) t k e w c o m known at stack = absurd at
 
   calls_out : (f : Callee) (cs : Arguments) (t : ValueType) (k : List Entry) (e : Environment) (w : World) (c : Configuration) (d m q : ℕ) → At_step (Call f cs t) k e w c
-      → ArgumentsAt (code_of source c.active.function) (bounds_at source c.active.function) cs (top source c.active.function k) c.active.next m
+      → ArgumentsAt (code_of source c.active.function) (bounds_at source c.active.function) (starts_at source c.active.function) cs (top source c.active.function k) c.active.next m
       → CallAt source c.active.function f (argument_count cs) (top source c.active.function k) d m q
       → LandsStack source c.active.function e.locals d q c.frames k → IsBegun (Call f cs t) k e w c
   calls_out f cs t k e w c d m q (well, shared, facts, holds) at call lands =
@@ -213,9 +215,9 @@ module _ (source : Program) (pages calls : ℕ) where
 
   -- the first operand of a chain: it may be without code where the second is
   chain_begins : (right : Option Operand) (a : Expression) (os : Operations) (t : Ty) (k : List Entry) (e : Environment) (w : World) (c : Configuration) (l : Operand) (m : ℕ) → At_step (Binary a os t) k e w c
-      → OperandBy (code_of source c.active.function) (bounds_at source c.active.function) (left_with right (operand_of a))
-      (ExpressionAt (code_of source c.active.function) (bounds_at source c.active.function) a (slot_with right a (top source c.active.function k)) (top source c.active.function k) c.active.next m)
-      (slot_with right a (top source c.active.function k)) l c.active.next m
+      → OperandBy (code_of source c.active.function) (bounds_at source c.active.function) (starts_at source c.active.function) (left_with right (operand_of (starts_at source c.active.function) a))
+      (ExpressionAt (code_of source c.active.function) (bounds_at source c.active.function) (starts_at source c.active.function) a (slot_with (starts_at source c.active.function) right a (top source c.active.function k)) (top source c.active.function k) c.active.next m)
+      (slot_with (starts_at source c.active.function) right a (top source c.active.function k)) l c.active.next m
       → ValueStack source c.active.function e.locals l m c.frames (Needs (Chain os) ∷ k) → IsBegun (Binary a os t) k e w c
   chain_begins (Some r) a os t k e w c l m (well, shared, facts, holds) at stack =
       silently source pages calls (Running (Evaluating (Binary a os t)) k e w) (Running (Evaluating a) (Needs (Chain os) ∷ k) e w) (plain.Running c) refl
@@ -228,18 +230,18 @@ module _ (source : Program) (pages calls : ℕ) where
       (omega arith)
 
   comes : (a : Expression) (k : List Entry) (e : Environment) (w : World) (c : Configuration) (d q : ℕ) → At_step a k e w c
-      → ExpressionAt (code_of source c.active.function) (bounds_at source c.active.function) a d (top source c.active.function k) c.active.next q
+      → ExpressionAt (code_of source c.active.function) (bounds_at source c.active.function) (starts_at source c.active.function) a d (top source c.active.function k) c.active.next q
       → LandsStack source c.active.function e.locals d q c.frames k → IsBegun a k e w c
   comes (Number n) k e w c d q (well, shared, facts, holds) (at, end) lands =
-      one source pages calls refl shared at (λ choice. landed (record { kind = kinds.Int; value = Int n }) n d k e w c q refl shared facts holds end lands)
+      by_one source pages calls refl shared at (λ choice. landed (record { kind = kinds.Int; value = Int n }) n d k e w c q refl shared facts holds end lands)
   comes (Copy (Local p n) t) k e w c d q (well, shared, facts, holds) (at, end) lands =
       let found = is_loaded (kind_of t) (e.locals n) k e w well in
-      one source pages calls found.gives shared at
-      (λ choice. landed (record { kind = kind_of t; value = found.value }) (c.active.slots (slot_of n)) d k e w c q (facts.2.holds n found.number found.value found.there found.has) shared facts holds end lands)
+      by_one source pages calls found.gives shared at
+      (λ choice. landed (record { kind = kind_of t; value = found.value }) (c.active.slots (slot_of (starts_at source c.active.function) n)) d k e w c q (facts.2.holds n found.number found.value found.there found.has) shared facts holds end lands)
   comes (Copy (Global n) t) k e w c d q (well, shared, facts, holds) (few, at, end) lands =
       let found = is_loaded (kind_of t) (Some n) k e w well in
       let same : n ≡ found.number = same_Some n found.number found.there in
-      one source pages calls found.gives shared at
+      by_one source pages calls found.gives shared at
       (λ choice. landed (record { kind = kind_of t; value = found.value }) (c.globals n) d k e w c q (facts.4 n found.value (global_there c.active.function n few) (ap (contents w.objects) same ∙ found.has)) shared facts holds end lands)
   comes (Call callees.Putchar cs t) k e w c d q known (o, m, at, write, low, end) lands =
       prints cs t k e w c o m known at (write, gives_byte d low (lands_at c.active.function e.locals d (m + 1 + 1) q c.frames k end lands))
@@ -254,7 +256,7 @@ module _ (source : Program) (pages calls : ℕ) where
       (shared, facts, into_slot d m at_a holds (lands_at c.active.function e.locals d m q c.frames k end lands))
       (omega arith)
   comes (Binary a (ThenCompute o b os) t) k e w c d q known (l, m, at_a, at) lands =
-      chain_begins (operand_of b) a (ThenCompute o b os) t k e w c l m known at_a (to_slot (d, q, at, lands))
+      chain_begins (operand_of (starts_at source c.active.function) b) a (ThenCompute o b os) t k e w c l m known at_a (to_slot (d, q, at, lands))
   comes (Binary a (ThenTest o b os) t) k e w c d q known (l, m, at_a, at) lands =
       chain_begins None a (ThenTest o b os) t k e w c l m known at_a (to_slot (d, q, at, lands))
   comes (Binary a os t) k e w c d q known (l, m, at_a, at) lands = absurd at
@@ -268,13 +270,13 @@ module _ (source : Program) (pages calls : ℕ) where
 
   in_top : (a : Expression) (k : List Entry) (e : Environment) (w : World) (c : Configuration) (o : Operand) (q : ℕ) → At_step a k e w c
       → (o ≡ operands.Slot (top source c.active.function k))
-      × ExpressionAt (code_of source c.active.function) (bounds_at source c.active.function) a (top source c.active.function k) (top source c.active.function k) c.active.next q
+      × ExpressionAt (code_of source c.active.function) (bounds_at source c.active.function) (starts_at source c.active.function) a (top source c.active.function k) (top source c.active.function k) c.active.next q
       → ValueStack source c.active.function e.locals o q c.frames k → IsBegun a k e w c
   in_top a k e w c o q known (is, at) stack =
       comes a k e w c (top source c.active.function k) q known at (in_temporary (omega arith) (subst (λ x. ValueStack source c.active.function e.locals x q c.frames k) is stack))
 
   operand : (a : Expression) (k : List Entry) (e : Environment) (w : World) (c : Configuration) (o : Operand) (q : ℕ) → At_step a k e w c
-      → ValueAt (code_of source c.active.function) (bounds_at source c.active.function) a (top source c.active.function k) o c.active.next q
+      → ValueAt (code_of source c.active.function) (bounds_at source c.active.function) (starts_at source c.active.function) a (top source c.active.function k) o c.active.next q
       → ValueStack source c.active.function e.locals o q c.frames k → IsBegun a k e w c
   operand (Number n) k e w c o q known (is, end) stack = known_operand (Number n) o k e w c q (ap Some (sym is)) end known stack
   operand (Copy (Local p n) t) k e w c o q known (is, end) stack = known_operand (Copy (Local p n) t) o k e w c q (ap Some (sym is)) end known stack
@@ -284,14 +286,15 @@ module _ (source : Program) (pages calls : ℕ) where
   operand (Binary a os t) k e w c o q known at stack = in_top (Binary a os t) k e w c o q known at stack
   operand (Assign (Local p n) (Convert from to a) t) k e w c o q known (is, (there, m, (is_there, at), copy)) stack =
       let g = c.active.function in
-      let end : m ≡ q = copy_none (code_of source g) n m q (subst (λ x. CopyAt (code_of source g) x n m q) is_there copy) in
+      let slot = slot_of (starts_at source g) n in
+      let end : m ≡ q = copy_none (code_of source g) slot m q (subst (λ x. CopyAt (code_of source g) x slot m q) is_there copy) in
       assigns (Local p n) from to a t k e w c (object_of e (Local p n)) there m refl known (is_there, at)
       (leaves (subst (λ x. ValueStack source g e.locals x m c.frames k) (is ∙ sym is_there) (subst (λ r. ValueStack source g e.locals o r c.frames k) (sym end) stack)))
   operand (Assign (Global n) c' t) k e w c o q known at stack = in_top (Assign (Global n) c' t) k e w c o q known at stack
   operand a k e w c o q known (is, at) stack = absurd at
 
   for_its_effect : (a : Expression) (k : List Entry) (e : Environment) (w : World) (c : Configuration) (q : ℕ) → At_step a k e w c
-      → DiscardedAt (code_of source c.active.function) (bounds_at source c.active.function) a (top source c.active.function k) c.active.next q
+      → DiscardedAt (code_of source c.active.function) (bounds_at source c.active.function) (starts_at source c.active.function) a (top source c.active.function k) c.active.next q
       → DroppedStack source c.active.function q c.frames k → IsBegun a k e w c
   for_its_effect (Call callees.Putchar cs t) k e w c q known (o, m, at, write, end) stack =
       prints cs t k e w c o m known at (write, prints_only (subst (λ r. DroppedStack source c.active.function r c.frames k) (sym end) stack))
@@ -341,22 +344,22 @@ module _ (source : Program) (pages calls : ℕ) where
       subst (λ x. ConditionStack source g failing l x p frames k) is (subst (λ x. ConditionStack source g failing l r x frames k) (sym end) stack)
 
   not_zero : (a : Expression) (k : List Entry) (e : Environment) (w : World) (c : Configuration) (l r : Operand) (q : ℕ) → At_step a k e w c
-      → PairAt (code_of source c.active.function) (bounds_at source c.active.function) a (Number 0) l r (top source c.active.function k) c.active.next q
+      → PairAt (code_of source c.active.function) (bounds_at source c.active.function) (starts_at source c.active.function) a (Number 0) l r (top source c.active.function k) c.active.next q
       → ConditionStack source c.active.function comparisons.Equal l r q c.frames k → IsBegun a k e w c
   not_zero a k e w c l r q known (m, at_a, (is, end)) stack =
       operand a k e w c l m known at_a (tested_value c.active.function e.locals l m c.frames k (alone c.active.function comparisons.Equal l r m q c.frames k is end stack))
 
   compares : (f : Option Comparison) (o : Operator) (a b : Expression) (t : Ty) (k : List Entry) (e : Environment) (w : World) (c : Configuration) (l r : Operand) (q : ℕ) → failing_comparison o ≡ f
       → At_step (Binary a (ThenCompute o b NoOperations) t) k e w c
-      → PairAt (code_of source c.active.function) (bounds_at source c.active.function) (compared_or f a b (Binary a (ThenCompute o b NoOperations) t)).left
+      → PairAt (code_of source c.active.function) (bounds_at source c.active.function) (starts_at source c.active.function) (compared_or f a b (Binary a (ThenCompute o b NoOperations) t)).left
       (compared_or f a b (Binary a (ThenCompute o b NoOperations) t)).right l r (top source c.active.function k) c.active.next q
       → ConditionStack source c.active.function (compared_or f a b (Binary a (ThenCompute o b NoOperations) t)).failing l r q c.frames k → IsBegun (Binary a (ThenCompute o b NoOperations) t) k e w c
   compares (Some failing) o a b t k e w c l r q is known (m, at_a, at_b) stack =
-      chain_begins (operand_of b) a (ThenCompute o b NoOperations) t k e w c l m known at_a (to_jump (failing, r, q, (is, at_b), stack))
+      chain_begins (operand_of (starts_at source c.active.function) b) a (ThenCompute o b NoOperations) t k e w c l m known at_a (to_jump (failing, r, q, (is, at_b), stack))
   compares None o a b t k e w c l r q is known at stack = not_zero (Binary a (ThenCompute o b NoOperations) t) k e w c l r q known at stack
 
   condition : (a : Expression) (k : List Entry) (e : Environment) (w : World) (c : Configuration) (l r : Operand) (q : ℕ) → At_step a k e w c
-      → ConditionAt (code_of source c.active.function) (bounds_at source c.active.function) a l r (top source c.active.function k) c.active.next q
+      → ConditionAt (code_of source c.active.function) (bounds_at source c.active.function) (starts_at source c.active.function) a l r (top source c.active.function k) c.active.next q
       → ConditionStack source c.active.function (compared_of a).failing l r q c.frames k → IsBegun a k e w c
   condition (Unary unary.Not a) k e w c l r q (well, shared, facts, holds) (m, at_a, (is, end)) stack =
       silently source pages calls (Running (Evaluating (Unary unary.Not a)) k e w) (Running (Evaluating a) (Needs (Operate unary.Not) ∷ k) e w) (plain.Running c) refl

@@ -12,7 +12,7 @@ use Rattle.cyc_types.specs.declared.typed.LogicalOperator.TheVariants.{AndThen, 
 use Rattle.cyc_types.specs.Types.{Ty, Int, Pointer, Value}
 use Rattle.cyc_types.specs.TypedTrees.{Local, Global, Expression, Number, Copy, Call, Unary, Binary, Assign, Converted, Convert, Arguments, NoArguments, MoreArguments, Operations, NoOperations, ThenCompute, ThenTest, Statement, Block, Empty, Evaluate, If, While, Return, Break, Continue, Items, NoItems, MoreItems, Execute, Declare, Word, Null, Function, Program}
 use Rattle.cyc_types.specs.declared.region.Region.TheVariants.{Heap}
-use Rattle.cyc_syntax.specs.declared.tree.PointerKind.TheVariants.{Nullable, NonNull}
+use Rattle.cyc_syntax.specs.declared.tree.PointerKind.TheVariants.{Nullable, NonNull, Fat}
 use Rattle.cyc_plain.specs.declared.instruction.Instruction.{Instruction}
 use Rattle.cyc_plain.specs.declared.instruction.Operand.TheVariants.{Slot, Word as Constant}
 use Rattle.cyc_plain.specs.declared.instruction.Instruction.TheVariants.{Move, Jump}
@@ -303,6 +303,12 @@ chain_code : code_of_body (all (Evaluate (sets 0 (two (local 1) (ThenCompute Sub
     ∷ instructions.Binary plain_binary.Remainder 0 (Slot 2) (Constant 7)
     ∷ instructions.Return 2 ∷ []
 chain_code = refl
+
+-- a local behind a fat pointer has the slot behind its three words, and temporaries stand behind both
+wide_code : function_code (function [] (Pointer Fat Int Heap ∷ Int ∷ []) (all (Evaluate (sets 1 (two (local 1) (ThenCompute Add (Number 1) NoOperations))) ∷ []))) ≡
+    instructions.Binary plain_binary.Add 3 (Slot 3) (Constant 1)
+    ∷ instructions.Return 4 ∷ []
+wide_code = refl
 
 -- ---- frame counts
 

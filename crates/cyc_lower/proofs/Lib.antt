@@ -28,7 +28,8 @@ pub mod NeedBounds
 -- the code that emits, and that counts
 pub mod Emitting
 pub mod NeedsFound
--- the slots of locals of several words
+-- the slots of locals
 pub mod Slots
+pub mod LocalSlots
 -- worked examples
 pub mod Examples

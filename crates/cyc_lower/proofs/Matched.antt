@@ -103,10 +103,10 @@ module _ (source : Program) where
     pub ahead_depth : (g : ℕ) (locals : ℕ → Option ℕ) (n p : ℕ) (frames : List Frame) (k : List Entry) → AheadStack source g locals n p frames k → HasDepth frames k
     ahead_depth g locals n p frames (Needs (ConvertTo from to) ∷ k) (quiet, stack) = ahead_depth g locals n p frames k stack
     ahead_depth g locals n p frames (Needs (Chain NoOperations) ∷ k) stack = ahead_depth g locals n p frames k stack
-    ahead_depth g locals n p frames (Needs (Store place) ∷ k) (object, is, found, hands) =
+    ahead_depth g locals n p frames (Needs (Store place) ∷ k) (number, object, is, found, same, hands) =
         by_hands hands (λ stack. dropped_depth g p frames k stack) (λ stack. value_depth g locals (operands.Slot n) p frames k stack)
         (λ d r lands. by_lands lands (λ stack. value_depth g locals (operands.Slot d) r frames k stack) (λ stack. ahead_depth g locals d r frames k stack))
-    ahead_depth g locals n p frames (Needs (Initialise number kind items) ∷ k) (loop, q, is, items_at, stack) = statement_depth g loop q frames k stack
+    ahead_depth g locals n p frames (Needs (Initialise number kind items) ∷ k) (loop, q, is, few, items_at, stack) = statement_depth g loop q frames k stack
     ahead_depth g locals n p frames k stack = absurd stack
 
     pub statement_depth : (g loop p : ℕ) (frames : List Frame) (k : List Entry) → StatementStack source g loop p frames k → HasDepth frames k
@@ -169,10 +169,10 @@ module _ (source : Program) where
     pub ahead_plain : (g : ℕ) (locals : ℕ → Option ℕ) (n p : ℕ) (frames : List Frame) (k : List Entry) → AheadStack source g locals n p frames k → IsPlainStack k
     ahead_plain g locals n p frames (Needs (ConvertTo from to) ∷ k) (quiet, stack) = ahead_plain g locals n p frames k stack
     ahead_plain g locals n p frames (Needs (Chain NoOperations) ∷ k) stack = ahead_plain g locals n p frames k stack
-    ahead_plain g locals n p frames (Needs (Store place) ∷ k) (object, is, found, hands) =
+    ahead_plain g locals n p frames (Needs (Store place) ∷ k) (number, object, is, found, same, hands) =
         by_hands hands (λ stack. dropped_plain g p frames k stack) (λ stack. value_plain g locals (operands.Slot n) p frames k stack)
         (λ d r lands. by_lands lands (λ stack. value_plain g locals (operands.Slot d) r frames k stack) (λ stack. ahead_plain g locals d r frames k stack))
-    ahead_plain g locals n p frames (Needs (Initialise number kind items) ∷ k) (loop, q, is, items_at, stack) = statement_plain g loop q frames k stack
+    ahead_plain g locals n p frames (Needs (Initialise number kind items) ∷ k) (loop, q, is, few, items_at, stack) = statement_plain g loop q frames k stack
     ahead_plain g locals n p frames k stack = absurd stack
 
     pub statement_plain : (g loop p : ℕ) (frames : List Frame) (k : List Entry) → StatementStack source g loop p frames k → IsPlainStack k
@@ -394,24 +394,24 @@ module _ (source : Program) (pages calls : ℕ) where
   apart c d other same = other (ap (λ (p : CodePlace). p.index) same)
 
   -- one instruction
-  pub one : {focus : Focus} {k : List Entry} {e : Environment} {w : World} {c : Configuration} {next : State} {i : Instruction}
+  pub by_one : {focus : Focus} {k : List Entry} {e : Environment} {w : World} {c : Configuration} {next : State} {i : Instruction}
       → step source (Running focus k e w) ≡ next → SharedAt source pages calls w c
       → At (code_of source c.active.function) c.active.next i
       → ((choice : Choice) → Matches source pages calls next (performed (lower_program source) choice c i))
       → IsMatched (Running focus k e w) (plain.Running c)
-  one {focus} {k} {e} {w} {c} {next} {i} does shared at goes =
+  by_one {focus} {k} {e} {w} {c} {next} {i} does shared at goes =
       by_places (Running focus k e w) next (place_in c) [] (plain.Running c) does (tt, tt) (known c i at, tt)
       (executes (Running focus k e w) next c i [] at (λ choice. matches_within_below next (performed (lower_program source) choice c i) (goes choice)) (shared_way focus k e w c shared) goes)
 
   -- two, of which the first is known
-  pub two_known : {focus : Focus} {k : List Entry} {e : Environment} {w : World} {c : Configuration} {next : State} {i j : Instruction} (d : Configuration)
+  pub by_two_known : {focus : Focus} {k : List Entry} {e : Environment} {w : World} {c : Configuration} {next : State} {i j : Instruction} (d : Configuration)
       → step source (Running focus k e w) ≡ next → SharedAt source pages calls w c
       → plain_step.is_within pages calls (plain.Running d) ≡ true → IsOnTheWay above below (Running focus k e w) (plain.Running d)
       → At (code_of source c.active.function) c.active.next i → ((choice : Choice) → performed (lower_program source) choice c i ≡ plain.Running d)
       → At (code_of source d.active.function) d.active.next j → c.active.next ≢ d.active.next
       → ((choice : Choice) → Matches source pages calls next (performed (lower_program source) choice d j))
       → IsMatched (Running focus k e w) (plain.Running c)
-  two_known {focus} {k} {e} {w} {c} {next} {i} {j} d does shared within_d way_d at first at_d other goes =
+  by_two_known {focus} {k} {e} {w} {c} {next} {i} {j} d does shared within_d way_d at first at_d other goes =
       by_places (Running focus k e w) next (place_in c) (place_in d ∷ []) (plain.Running c) does ((apart c d other, tt), (tt, tt)) (known c i at, (known d j at_d, tt))
       (executes (Running focus k e w) next c i (place_in d ∷ []) at
       (λ choice. ap (plain_step.is_within pages calls) (first choice) ∙ within_d) (shared_way focus k e w c shared)
@@ -419,17 +419,17 @@ module _ (source : Program) (pages calls : ℕ) where
       (executes (Running focus k e w) next d j [] at_d (λ later. matches_within_below next (performed (lower_program source) later d j) (goes later)) way_d goes)))
 
   -- two, of which the first shows nothing
-  pub two : {focus : Focus} {k : List Entry} {e : Environment} {w : World} {c : Configuration} {next : State} {i j : Instruction} (d : Configuration)
+  pub by_two : {focus : Focus} {k : List Entry} {e : Environment} {w : World} {c : Configuration} {next : State} {i j : Instruction} (d : Configuration)
       → step source (Running focus k e w) ≡ next → SharedAt source pages calls w c → SharedAt source pages calls w d
       → At (code_of source c.active.function) c.active.next i → ((choice : Choice) → performed (lower_program source) choice c i ≡ plain.Running d)
       → At (code_of source d.active.function) d.active.next j → c.active.next ≢ d.active.next
       → ((choice : Choice) → Matches source pages calls next (performed (lower_program source) choice d j))
       → IsMatched (Running focus k e w) (plain.Running c)
-  two {focus} {k} {e} {w} {c} {next} {i} {j} d does shared shared_d at first at_d other goes =
-      two_known d does shared (shared_within w d shared_d) (shared_way focus k e w d shared_d) at first at_d other goes
+  by_two {focus} {k} {e} {w} {c} {next} {i} {j} d does shared shared_d at first at_d other goes =
+      by_two_known d does shared (shared_within w d shared_d) (shared_way focus k e w d shared_d) at first at_d other goes
 
   -- three, of which the first two are known
-  pub three : {focus : Focus} {k : List Entry} {e : Environment} {w : World} {c : Configuration} {next : State} {i j l : Instruction} (d f : Configuration)
+  pub by_three : {focus : Focus} {k : List Entry} {e : Environment} {w : World} {c : Configuration} {next : State} {i j l : Instruction} (d f : Configuration)
       → step source (Running focus k e w) ≡ next → SharedAt source pages calls w c
       → plain_step.is_within pages calls (plain.Running d) ≡ true → IsOnTheWay above below (Running focus k e w) (plain.Running d)
       → plain_step.is_within pages calls (plain.Running f) ≡ true → IsOnTheWay above below (Running focus k e w) (plain.Running f)
@@ -439,7 +439,7 @@ module _ (source : Program) (pages calls : ℕ) where
       → c.active.next ≢ d.active.next → c.active.next ≢ f.active.next → d.active.next ≢ f.active.next
       → ((choice : Choice) → Matches source pages calls next (performed (lower_program source) choice f l))
       → IsMatched (Running focus k e w) (plain.Running c)
-  three {focus} {k} {e} {w} {c} {next} {i} {j} {l} d f does shared within_d way_d within_f way_f at first at_d second at_f cd cf df goes =
+  by_three {focus} {k} {e} {w} {c} {next} {i} {j} {l} d f does shared within_d way_d within_f way_f at first at_d second at_f cd cf df goes =
       by_places (Running focus k e w) next (place_in c) (place_in d ∷ place_in f ∷ []) (plain.Running c) does
       ((apart c d cd, (apart c f cf, tt)), ((apart d f df, tt), (tt, tt))) (known c i at, (known d j at_d, (known f l at_f, tt)))
       (executes (Running focus k e w) next c i (place_in d ∷ place_in f ∷ []) at

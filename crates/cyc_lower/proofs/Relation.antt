@@ -6,6 +6,7 @@ use Rattle.cyc_types.specs.declared.typed.Callee.{Callee}
 use Rattle.cyc_types.specs.declared.typed.UnaryOperator.TheVariants as unary
 use Rattle.cyc_types.specs.declared.typed.Operator.{Operator}
 use Rattle.cyc_types.specs.declared.typed.Callee.TheVariants as callees
+use Rattle.cyc_types.specs.Types.{Ty}
 use Rattle.cyc_types.specs.TypedTrees.{Lvalue, Local, Global, Expression, NoArguments, NoOperations, Statement, Function, Program}
 use Rattle.cyc_types.specs.Numbered.{Numbering, numbering_of, signatures_of, argument_count}
 use Rattle.cyc_store.specs.State.{StoreState, sizes_in, demand}
@@ -25,7 +26,9 @@ use Rattle.cyc_meaning.specs.Values.{Value, Int, Null, Thin, Fat, Handle, Key, O
 use Rattle.cyc_meaning.specs.State.{Sort, Heap, Globals, Stack, Lexical, Dynamic, Region, Object, World, counted, Environment, ConvertTo, Operate, Chain, Apply, Decide, Store, Pass, Initialise, Choose, Test, Return, Entry, Needs, NeedsPlace, Discard, Rest, Join, Loop, CloseRegion, CloseLexical, EndLoan, Handler, Caller, Main, calls_in, Focus, Evaluating, Given, Executing, Proceeding, Calling, Entering, Binding, Breaking, Continuing, Returning, Throwing, State, Running, Ended}
 use Rattle.cyc_meaning.specs.Step.{object_of}
 use Rattle.cyc_meaning.specs.Operators.{is_zero}
-use Rattle.cyc_lower.specs.Lowering.{slot_of, unary_operator, failing_comparison, operand_of, low_byte, compared_of, break_target, continue_target, results_of, lower_program}
+use Rattle.cyc_meaning.specs.FrameCount.{words_of_all}
+use Rattle.cyc_lower.specs.Slots.{starts_of, slot_of}
+use Rattle.cyc_lower.specs.Lowering.{slot_types, unary_operator, failing_comparison, operand_of, low_byte, compared_of, break_target, continue_target, results_of, lower_program}
 use Rattle.cyc_lower.proofs.Stands.{ConversionAt, OperatorAt, TruthAt, CopyAt, ExpressionAt, ArgumentsAt, OperationsAt, ValueAt, ConditionAt, FailingAt, ComparesAt, DiscardedAt, StatementAt, ItemsAt}
 
 -- ---- values in slots
@@ -83,11 +86,12 @@ content_of (Some x) = content_of_cell (slice_get x.cells 0)
 abbrev pub contents : List Object → ℕ → Option Value
 contents objects number = content_of (slice_get objects number)
 
--- The locals of a call, whose objects are all from `low` on and below `high`: each slot has what its local holds.
-pub record LocalsHold (base : ℕ) (objects : List Object) (locals : ℕ → Option ℕ) (low high : ℕ) (slots : Words) : Type 0 where
-  pub within : (number object : ℕ) → locals number ≡ Some object → (number < base) × (low ≤ object) × (object < high)
+-- The locals of a call, which have these types and whose objects are all from `low` on and below `high`: the slot of each has what
+-- it holds.
+pub record LocalsHold (types : List Ty) (objects : List Object) (locals : ℕ → Option ℕ) (low high : ℕ) (slots : Words) : Type 0 where
+  pub within : (number object : ℕ) → locals number ≡ Some object → (number < length types) × (low ≤ object) × (object < high)
   pub apart : (number other object : ℕ) → locals number ≡ Some object → locals other ≡ Some object → number ≡ other
-  pub holds : (number object : ℕ) (v : Value) → locals number ≡ Some object → contents objects object ≡ Some v → Is v (slots (slot_of number))
+  pub holds : (number object : ℕ) (v : Value) → locals number ≡ Some object → contents objects object ≡ Some v → Is v (slots (slot_of (starts_of types) number))
 
 abbrev pub GlobalsHold : (globals : ℕ) → List Object → Words → Type 0
 GlobalsHold globals objects words = (number : ℕ) (v : Value) → number < globals → contents objects number ≡ Some v → Is v (words number)
@@ -145,9 +149,27 @@ module _ (source : Program) where
   abbrev pub bounds_at : ℕ → Numbering
   bounds_at g = bounds_in (slice_get source.functions g)
 
+  -- the types of its locals, and their first slots
+  abbrev pub types_in : Option Function → List Ty
+  types_in None = []
+  types_in (Some h) = slot_types h
+
+  abbrev pub types_at : ℕ → List Ty
+  types_at g = types_in (slice_get source.functions g)
+
+  abbrev pub starts_at : ℕ → List ℕ
+  starts_at g = starts_of (types_at g)
+
+  abbrev pub parameters_in : Option Function → ℕ
+  parameters_in None = 0
+  parameters_in (Some h) = length h.parameters
+
+  abbrev pub parameters_at : ℕ → ℕ
+  parameters_at g = parameters_in (slice_get source.functions g)
+
   -- the first slot behind the locals
   abbrev pub base_of : ℕ → ℕ
-  base_of g = (bounds_at g).locals
+  base_of g = words_of_all (types_at g)
 
   -- the slot of the next value
   abbrev pub top : ℕ → List Entry → ℕ
@@ -158,13 +180,13 @@ module _ (source : Program) where
   -- the calls that wait, whose objects lie apart by order: those of an older call have smaller numbers
   abbrev pub FramesHold : List Object → (high : ℕ) → List Frame → List Environment → Type 0
   FramesHold objects high [] [] = length source.globals ≤ high
-  FramesHold objects high (f ∷ frames) (e ∷ outer) = (low : ℕ) × (low ≤ high) × LocalsHold (base_of f.caller.function) objects e.locals low high f.caller.slots × FramesHold objects low frames outer
+  FramesHold objects high (f ∷ frames) (e ∷ outer) = (low : ℕ) × (low ≤ high) × LocalsHold (types_at f.caller.function) objects e.locals low high f.caller.slots × FramesHold objects low frames outer
   FramesHold objects high [] (e ∷ outer) = ⊥
   FramesHold objects high (f ∷ frames) [] = ⊥
 
   abbrev pub DataAt : ℕ → List Object → (ℕ → Option ℕ) → List Environment → Words → Words → List Frame → Type 0
   DataAt g objects locals outer slots globals frames = (low : ℕ) × (low ≤ length objects)
-      × LocalsHold (base_of g) objects locals low (length objects) slots
+      × LocalsHold (types_at g) objects locals low (length objects) slots
       × FramesHold objects low frames outer
       × GlobalsHold (length source.globals) objects globals
 
@@ -198,23 +220,23 @@ module _ (source : Program) where
 
   abbrev pub LoopAt : ℕ → Expression → Statement → (loop q : ℕ) → Type 0
   LoopAt g condition body loop q = (x : Operand) × (y : Operand) × (m : ℕ) × (r : ℕ) × At (code_of g) (break_target loop) (instructions.Jump q)
-      × ConditionAt (code_of g) (bounds_at g) condition x y (base_of g) (continue_target loop) m
-      × FailingAt (code_of g) (bounds_at g) condition x y m (break_target loop)
-      × StatementAt (code_of g) (bounds_at g) body loop (base_of g) (m + 1) r
+      × ConditionAt (code_of g) (bounds_at g) (starts_at g) condition x y (base_of g) (continue_target loop) m
+      × FailingAt (code_of g) (bounds_at g) (starts_at g) condition x y m (break_target loop)
+      × StatementAt (code_of g) (bounds_at g) (starts_at g) body loop (base_of g) (m + 1) r
       × At (code_of g) r (instructions.Jump (continue_target loop)) × (break_target loop < q)
 
   -- A branch that is taken where a condition has failed, and what stands behind it. From a place in a loop on stands what waits.
   abbrev pub ChoosesAt : (g : ℕ) → Comparison → (l r : Operand) → (p : ℕ) → (first second : Statement) → (waits : (loop q : ℕ) → Type 0) → Type 0
   ChoosesAt g failing l r p first second waits =
       (loop : ℕ) × (m : ℕ) × (q : ℕ) × At (code_of g) p (instructions.Branch failing l r (m + 1))
-      × StatementAt (code_of g) (bounds_at g) first loop (base_of g) (p + 1) m × At (code_of g) m (instructions.Jump q)
-      × StatementAt (code_of g) (bounds_at g) second loop (base_of g) (m + 1) q × waits loop q
+      × StatementAt (code_of g) (bounds_at g) (starts_at g) first loop (base_of g) (p + 1) m × At (code_of g) m (instructions.Jump q)
+      × StatementAt (code_of g) (bounds_at g) (starts_at g) second loop (base_of g) (m + 1) q × waits loop q
 
   abbrev pub RepeatsAt : (g : ℕ) → Comparison → (l r : Operand) → (p : ℕ) → Expression → Statement → (waits : (loop q : ℕ) → Type 0) → Type 0
   RepeatsAt g failing l r p condition body waits =
       (loop : ℕ) × (outer : ℕ) × (q : ℕ) × LoopAt g condition body loop q
       × (m : ℕ) × At (code_of g) p (instructions.Branch failing l r (break_target loop))
-      × StatementAt (code_of g) (bounds_at g) body loop (base_of g) (p + 1) m
+      × StatementAt (code_of g) (bounds_at g) (starts_at g) body loop (base_of g) (p + 1) m
       × At (code_of g) m (instructions.Jump (continue_target loop)) × waits outer q
 
   abbrev pub Below : List Frame → (Frame → List Frame → Type 0) → Type 0
@@ -237,7 +259,7 @@ module _ (source : Program) where
 
   -- the value in an operand is stored, and then stands in another
   abbrev pub StoreAt : (g : ℕ) → Lvalue → (from to : Operand) → (p q : ℕ) → Type 0
-  StoreAt g (Local w n) from to p q = At (code_of g) p (instructions.Move (slot_of n) from) × (p + 1 ≡ q) × (to ≡ operands.Slot (slot_of n))
+  StoreAt g (Local w n) from to p q = At (code_of g) p (instructions.Move (slot_of (starts_at g) n) from) × (p + 1 ≡ q) × (to ≡ operands.Slot (slot_of (starts_at g) n))
   StoreAt g (Global n) from to p q =
       At (code_of g) p (instructions.StoreGlobal n from) × (p + 1 ≡ q) × (to ≡ from) × (n < (bounds_at g).globals)
 
@@ -253,22 +275,22 @@ module _ (source : Program) where
     pub ValueStack : (g : ℕ) → (ℕ → Option ℕ) → Operand → (p : ℕ) → List Frame → List Entry → Type 0
     ValueStack g locals o p frames [] = ⊥
     ValueStack g locals o p frames (Needs (ConvertTo from to) ∷ k) =
-        (q : ℕ) × ConversionAt (code_of g) (bounds_at g) to o p q × ValueStack g locals o q frames k
+        (q : ℕ) × ConversionAt (code_of g) (bounds_at g) (starts_at g) to o p q × ValueStack g locals o q frames k
     ValueStack g locals o p frames (Needs (Operate operator) ∷ k) =
         Yields ((d : ℕ) × At (code_of g) p (instructions.Unary (unary_operator operator) d o)
         × Lands (base_of g) (top g k) d (ValueStack g locals (operands.Slot d) (p + 1) frames k) (AheadStack g locals d (p + 1) frames k))
         ((operator ≡ unary.Not) × ConditionStack g comparisons.NotEqual o (operands.Word 0) p frames k)
     ValueStack g locals o p frames (Needs (Chain NoOperations) ∷ k) = ValueStack g locals o p frames k
     ValueStack g locals o p frames (Needs (Chain operations) ∷ k) =
-        Yields ((d : ℕ) × (q : ℕ) × OperationsAt (code_of g) (bounds_at g) operations o d (top g k) p q
+        Yields ((d : ℕ) × (q : ℕ) × OperationsAt (code_of g) (bounds_at g) (starts_at g) operations o d (top g k) p q
         × Lands (base_of g) (top g k) d (ValueStack g locals (operands.Slot d) q frames k) (AheadStack g locals d q frames k))
-        ((failing : Comparison) × (r : Operand) × (q : ℕ) × ComparesAt (code_of g) (bounds_at g) operations failing o r (top g k) p q × ConditionStack g failing o r q frames k)
+        ((failing : Comparison) × (r : Operand) × (q : ℕ) × ComparesAt (code_of g) (bounds_at g) (starts_at g) operations failing o r (top g k) p q × ConditionStack g failing o r q frames k)
     ValueStack g locals o p frames (Needs (Apply operator left) ∷ k) =
-        Yields ((d : ℕ) × (q : ℕ) × OperatorAt (code_of g) (bounds_at g) operator d (operands.Slot (top g k)) o p q
+        Yields ((d : ℕ) × (q : ℕ) × OperatorAt (code_of g) (bounds_at g) (starts_at g) operator d (operands.Slot (top g k)) o p q
         × Lands (base_of g) (top g k) d (ValueStack g locals (operands.Slot d) q frames k) (AheadStack g locals d q frames k))
         ((failing : Comparison) × (failing_comparison operator ≡ Some failing) × ConditionStack g failing (operands.Slot (top g k)) o p frames k)
     ValueStack g locals o p frames (Needs Decide ∷ k) =
-        (d : ℕ) × (q : ℕ) × (o ≡ operands.Slot (top g k)) × TruthAt (code_of g) (bounds_at g) (top g k) d p q
+        (d : ℕ) × (q : ℕ) × (o ≡ operands.Slot (top g k)) × TruthAt (code_of g) (bounds_at g) (starts_at g) (top g k) d p q
         × Lands (base_of g) (top g k) d (ValueStack g locals (operands.Slot d) q frames k) (AheadStack g locals d q frames k)
     ValueStack g locals o p frames (Needs (Store place) ∷ k) =
         (l : Lvalue) × (to : Operand) × (q : ℕ) × StoreAt g l o to p q × IsPlaceOf locals l place
@@ -280,12 +302,12 @@ module _ (source : Program) where
         (λ d. Lands (base_of g) (top g k) d (ValueStack g locals (operands.Slot d) (p + 1 + 1) frames k) (AheadStack g locals d (p + 1 + 1) frames k))
     ValueStack g locals o p frames (Needs (Pass callee before arguments) ∷ k) =
         (d : ℕ) × (m : ℕ) × (q : ℕ) × (all : ℕ) × (o ≡ operands.Slot (height (base_of g) (before ++ held k)))
-        × ArgumentsAt (code_of g) (bounds_at g) arguments (suc (height (base_of g) (before ++ held k))) p m
+        × ArgumentsAt (code_of g) (bounds_at g) (starts_at g) arguments (suc (height (base_of g) (before ++ held k))) p m
         × CallAt g callee all (top g k) d m q × (length before + suc (argument_count arguments) ≡ all)
         × Lands (base_of g) (top g k) d (ValueStack g locals (operands.Slot d) q frames k) (AheadStack g locals d q frames k)
     ValueStack g locals o p frames (Needs (Initialise number kind items) ∷ k) =
-        (loop : ℕ) × (q : ℕ) × At (code_of g) p (instructions.Move (slot_of number) o) × (number < base_of g)
-        × ItemsAt (code_of g) (bounds_at g) items loop (base_of g) (p + 1) q × StatementStack g loop q frames k
+        (loop : ℕ) × (q : ℕ) × At (code_of g) p (instructions.Move (slot_of (starts_at g) number) o) × (number < length (types_at g))
+        × ItemsAt (code_of g) (bounds_at g) (starts_at g) items loop (base_of g) (p + 1) q × StatementStack g loop q frames k
     ValueStack g locals o p frames (Needs (Choose first second) ∷ k) =
         ChoosesAt g comparisons.Equal o (operands.Word 0) p first second (λ loop q. StatementStack g loop q frames k)
     ValueStack g locals o p frames (Needs (Test condition body) ∷ k) =
@@ -308,22 +330,22 @@ module _ (source : Program) where
     DroppedStack g p frames (Discard ∷ k) = (loop : ℕ) × StatementStack g loop p frames k
     DroppedStack g p frames k = ⊥
 
-    -- the same for a value that stands in the slot of local n already, which is about to get it
+    -- the same for a value that stands already in the slot n of a local, which is about to get it
     pub AheadStack : (g : ℕ) → (ℕ → Option ℕ) → (n p : ℕ) → List Frame → List Entry → Type 0
     AheadStack g locals n p frames (Needs (ConvertTo from to) ∷ k) = IsQuiet to × AheadStack g locals n p frames k
     AheadStack g locals n p frames (Needs (Chain NoOperations) ∷ k) = AheadStack g locals n p frames k
     AheadStack g locals n p frames (Needs (Store place) ∷ k) =
-        (object : ℕ) × (place ≡ Thin object 0) × (locals n ≡ Some object)
+        (number : ℕ) × (object : ℕ) × (place ≡ Thin object 0) × (locals number ≡ Some object) × (slot_of (starts_at g) number ≡ n)
         × HandsOn (code_of g) (operands.Slot n) p (DroppedStack g p frames k) (ValueStack g locals (operands.Slot n) p frames k)
         (λ d r. Lands (base_of g) (top g k) d (ValueStack g locals (operands.Slot d) r frames k) (AheadStack g locals d r frames k))
     AheadStack g locals n p frames (Needs (Initialise number kind items) ∷ k) =
-        (loop : ℕ) × (q : ℕ) × (number ≡ n) × ItemsAt (code_of g) (bounds_at g) items loop (base_of g) p q × StatementStack g loop q frames k
+        (loop : ℕ) × (q : ℕ) × (slot_of (starts_at g) number ≡ n) × (number < length (types_at g)) × ItemsAt (code_of g) (bounds_at g) (starts_at g) items loop (base_of g) p q × StatementStack g loop q frames k
     AheadStack g locals n p frames k = ⊥
 
     -- the same where no value waits
     pub StatementStack : (g loop p : ℕ) → List Frame → List Entry → Type 0
     StatementStack g loop p frames (Rest items ∷ k) =
-        (q : ℕ) × ItemsAt (code_of g) (bounds_at g) items loop (base_of g) p q × StatementStack g loop q frames k
+        (q : ℕ) × ItemsAt (code_of g) (bounds_at g) (starts_at g) items loop (base_of g) p q × StatementStack g loop q frames k
     StatementStack g loop p frames (Join ∷ k) = (q : ℕ) × Arrives (code_of g) p q × StatementStack g loop q frames k
     StatementStack g loop p frames (Loop condition body ∷ k) =
         (outer : ℕ) × (q : ℕ) × LoopAt g condition body loop q × At (code_of g) p (instructions.Jump (continue_target loop))
@@ -355,7 +377,7 @@ module _ (source : Program) where
   -- what an operator on two operands gives is brought to a slot, or tested
   abbrev pub AppliedStack : (g : ℕ) → (ℕ → Option ℕ) → Operator → (l r : Operand) → (p : ℕ) → List Frame → List Entry → Type 0
   AppliedStack g locals operator l r p frames k =
-      Yields ((d : ℕ) × (q : ℕ) × OperatorAt (code_of g) (bounds_at g) operator d l r p q × LandsStack g locals d q frames k)
+      Yields ((d : ℕ) × (q : ℕ) × OperatorAt (code_of g) (bounds_at g) (starts_at g) operator d l r p q × LandsStack g locals d q frames k)
       ((failing : Comparison) × (failing_comparison operator ≡ Some failing) × ConditionStack g failing l r p frames k)
 
   -- ---- the focus
@@ -363,7 +385,7 @@ module _ (source : Program) where
   -- A right operand without code: the left one may be without code too, and both are read at once.
   abbrev pub RightAt : Expression → (ℕ → Option ℕ) → (g p : ℕ) → Words → List Frame → List Entry → Type 0
   RightAt a locals g p slots frames (Needs (Apply operator left) ∷ k) =
-      (l : Operand) × (r : Operand) × (operand_of a ≡ Some r) × Is left.value (operand_word slots l) × Holds slots (base_of g) (held k)
+      (l : Operand) × (r : Operand) × (operand_of (starts_at g) a ≡ Some r) × Is left.value (operand_word slots l) × Holds slots (base_of g) (held k)
       × AppliedStack g locals operator l r p frames k
   RightAt a locals g p slots frames k = ⊥
 
@@ -376,31 +398,31 @@ module _ (source : Program) where
 
   -- the code of an expression, by where its value is to be
   pub data EvaluatingAt (a : Expression) (locals : ℕ → Option ℕ) (g p : ℕ) (slots : Words) (frames : List Frame) (k : List Entry) : Type 0 where
-    as_operand : (o : Operand) → (q : ℕ) → ValueAt (code_of g) (bounds_at g) a (top g k) o p q → Holds slots (base_of g) (held k)
+    as_operand : (o : Operand) → (q : ℕ) → ValueAt (code_of g) (bounds_at g) (starts_at g) a (top g k) o p q → Holds slots (base_of g) (held k)
         → ValueStack g locals o q frames k → EvaluatingAt a locals g p slots frames k
-    into_slot : (d q : ℕ) → ExpressionAt (code_of g) (bounds_at g) a d (top g k) p q → Holds slots (base_of g) (held k)
+    into_slot : (d q : ℕ) → ExpressionAt (code_of g) (bounds_at g) (starts_at g) a d (top g k) p q → Holds slots (base_of g) (held k)
         → LandsStack g locals d q frames k → EvaluatingAt a locals g p slots frames k
-    for_effect : (q : ℕ) → DiscardedAt (code_of g) (bounds_at g) a (top g k) p q → Holds slots (base_of g) (held k)
+    for_effect : (q : ℕ) → DiscardedAt (code_of g) (bounds_at g) (starts_at g) a (top g k) p q → Holds slots (base_of g) (held k)
         → DroppedStack g q frames k → EvaluatingAt a locals g p slots frames k
     as_right : RightAt a locals g p slots frames k → EvaluatingAt a locals g p slots frames k
-    as_condition : (l r : Operand) → (q : ℕ) → ConditionAt (code_of g) (bounds_at g) a l r (top g k) p q → Holds slots (base_of g) (held k)
+    as_condition : (l r : Operand) → (q : ℕ) → ConditionAt (code_of g) (bounds_at g) (starts_at g) a l r (top g k) p q → Holds slots (base_of g) (held k)
         → ConditionStack g (compared_of a).failing l r q frames k → EvaluatingAt a locals g p slots frames k
 
   abbrev pub FocusAt : Focus → List Entry → (ℕ → Option ℕ) → (g p : ℕ) → Words → List Frame → Type 0
   FocusAt (Evaluating a) k locals g p slots frames = EvaluatingAt a locals g p slots frames k
   FocusAt (Executing s) k locals g p slots frames =
-      (loop : ℕ) × (q : ℕ) × StatementAt (code_of g) (bounds_at g) s loop (base_of g) p q × StatementStack g loop q frames k
+      (loop : ℕ) × (q : ℕ) × StatementAt (code_of g) (bounds_at g) (starts_at g) s loop (base_of g) p q × StatementStack g loop q frames k
   FocusAt (Calling callees.Putchar before) k locals g p slots frames =
       (v : Kinded) × (o : Operand) × (before ≡ v ∷ []) × Is v.value (operand_word slots o) × Holds slots (base_of g) (held k) × PrintsStack g locals o p frames k
   FocusAt (Calling callee before) k locals g p slots frames =
       (d : ℕ) × (q : ℕ) × CallAt g callee (length before) (top g k) d p q × Holds slots (base_of g) (before ++ held k)
       × LandsStack g locals d q frames k
   FocusAt (Entering h arguments) k locals g p slots frames =
-      (m : ℕ) × ItemsAt (code_of g) (bounds_at g) h.body 0 (base_of g) p m × StatementStack g 0 m frames k
-      × HoldsFrom slots 0 arguments × (length h.parameters ≤ base_of g)
+      (m : ℕ) × ItemsAt (code_of g) (bounds_at g) (starts_at g) h.body 0 (base_of g) p m × StatementStack g 0 m frames k
+      × HoldsFrom slots 0 arguments × (length h.parameters ≤ parameters_at g)
   FocusAt (Binding number types arguments body) k locals g p slots frames =
-      (m : ℕ) × ItemsAt (code_of g) (bounds_at g) body 0 (base_of g) p m × StatementStack g 0 m frames k
-      × HoldsFrom slots number arguments × (number + length types ≤ base_of g)
+      (m : ℕ) × ItemsAt (code_of g) (bounds_at g) (starts_at g) body 0 (base_of g) p m × StatementStack g 0 m frames k
+      × HoldsFrom slots number arguments × (number + length types ≤ parameters_at g)
   FocusAt Breaking k locals g p slots frames =
       (loop : ℕ) × (q : ℕ) × At (code_of g) p (instructions.Jump (break_target loop)) × StatementStack g loop q frames k
   FocusAt Continuing k locals g p slots frames =

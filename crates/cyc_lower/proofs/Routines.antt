@@ -1,18 +1,21 @@
 -- Functions and globals that are lowered one after the other.
-use Rattle.std.proofs.Common.{◌≡◌, ℕ, zero, suc, ◌+◌, ◌<◌, ◌≤◌, List, [], ◌∷◌, length, get_or, map, Some, refl, sym, ap, ◌∙◌, arith, slice_get}
+use Rattle.std.proofs.Common.{◌≡◌, ℕ, zero, suc, ◌+◌, ◌<◌, ◌≤◌, List, [], ◌∷◌, ◌++◌, length, get_or, map, take, Some, refl, sym, ap, ◌∙◌, arith, slice_get}
 use Rattle.cyc_words.specs.declared.fault.Code.{Code}
 use Rattle.cyc_words.specs.declared.fault.Code.TheVariants.{TooManyFunctions}
 use Rattle.cyc_words.specs.declared.fault.Fault.{Fault}
 use Rattle.cyc_types.specs.declared.typed.TypedTree.{TypedTree}
 use Rattle.cyc_types.specs.declared.typed.Function.{Function as FunctionCode}
-use Rattle.cyc_types.specs.TypeView.{view_ty}
-use Rattle.cyc_types.specs.TypedTrees.{Function, Program}
+use Rattle.cyc_types.specs.TypedTrees.{Items, Function, Program}
 use Rattle.cyc_types.specs.TypedTreeView.{view_function, view_program}
-use Rattle.cyc_meaning.specs.FrameCount.{frame_count}
+use Rattle.cyc_meaning.specs.FrameCount.{frame_count, words_of_all}
+use Rattle.cyc_plain.specs.declared.instruction.Instruction.{Instruction}
+use Rattle.cyc_plain.specs.declared.instruction.Instruction.TheVariants.{Return}
+use Rattle.cyc_lower.specs.Slots.{starts_of}
+use Rattle.cyc_lower.specs.Lowering.{one_word, slot_types, first_temporary, items_code, function_code}
 use Rattle.cyc_lower.specs.declared.limits.TheConstants.{MOST_FUNCTIONS}
 use Rattle.cyc_lower.specs.Lowered.{HasTooMany}
 use Rattle.cyc_lower.specs.Emission.{most_frame_count, most_locals}
-use Rattle.cyc_lower.proofs.NeedBounds.{words_of_types}
+use Rattle.cyc_lower.proofs.Slots.{slots-few}
 
 pub counted : {A B : Type 0} (f : A → B) (xs : List A) → length (map f xs) ≡ length xs
 counted f [] = refl
@@ -24,10 +27,45 @@ numbered_at f [] n x inside at = absurd (omega arith)
 numbered_at f (y ∷ ys) zero x inside at = ap (λ z. Some (f z)) (sym at)
 numbered_at f (y ∷ ys) (suc n) x inside at = numbered_at f ys n x (omega arith) at
 
--- a frame has a word for each local at least
-pub few_locals : (f : FunctionCode) → frame_count (view_function f) ≤ most_frame_count → length f.parameters.items + length f.locals.items ≤ most_locals
-few_locals f small =
-    omega (arith, small, counted view_ty f.parameters.items, counted view_ty f.locals.items, (words_of_types (map view_ty f.parameters.items)).0, (words_of_types (map view_ty f.locals.items)).0)
+-- a frame has room for the slots of the locals
+pub few_locals : (f : FunctionCode) → frame_count (view_function f) ≤ most_frame_count
+    → (words_of_all (map one_word (view_function f).parameters) ≤ most_frame_count) × (first_temporary (view_function f) ≤ most_locals)
+few_locals f small = let few = slots-few (view_function f) in (omega (arith, small, few.0), omega (arith, small, few.1))
+
+-- the code of a function's body, with a return behind it
+pub function_made : (h : Function) (starts : List ℕ) (free : ℕ) (js : Items) (begun body code : List Instruction) → starts ≡ starts_of (slot_types h) → free ≡ first_temporary h → js ≡ h.body → begun ≡ []
+    → body ≡ begun ++ items_code starts js (length begun) 0 free → code ≡ body ++ Return free ∷ [] → code ≡ function_code h
+function_made h starts free js begun body code starts_is free_is js_is begun_is body_is code_is =
+    code_is
+    ∙ ap (λ (l : List Instruction). l ++ Return free ∷ []) (body_is ∙ ap (λ (l : List Instruction). l ++ items_code starts js (length l) 0 free) begun_is)
+    ∙ ap (λ (l : List ℕ). items_code l js 0 0 free ++ Return free ∷ []) starts_is
+    ∙ ap (λ (x : Items). items_code (starts_of (slot_types h)) x 0 0 free ++ Return free ∷ []) js_is
+    ∙ ap (λ (n : ℕ). items_code (starts_of (slot_types h)) h.body 0 0 n ++ Return n ∷ []) free_is
+
+-- ---- lists that are lowered element by element
+
+map_snoc : {A B : Type 0} (f : A → B) (xs : List A) (x : A) → map f (xs ++ x ∷ []) ≡ map f xs ++ f x ∷ []
+map_snoc f [] x = refl
+map_snoc f (y ∷ xs) x = ap (λ l. f y ∷ l) (map_snoc f xs x)
+
+taken : {A : Type 0} (xs : List A) (i : ℕ) (x : A) → i < length xs → x ≡ get_or xs i x → take (suc i) xs ≡ take i xs ++ x ∷ []
+taken [] i x inside at = absurd (omega (arith, inside))
+taken (y ∷ xs) zero x inside at = ap (λ z. z ∷ []) (sym at)
+taken (y ∷ xs) (suc i) x inside at = ap (λ l. y ∷ l) (taken xs i x (omega (arith, inside)) at)
+
+-- what is made of one element more
+pub one_more : {A B C D : Type 0} (f : A → D) (g : C → D) (view : B → C) (made new : List A) (xs : List B) (i : ℕ) (a : A) (x : B) → i < length xs → x ≡ get_or xs i x → new ≡ made ++ a ∷ []
+    → f a ≡ g (view x) → map f made ≡ map g (map view (take i xs)) → map f new ≡ map g (map view (take (i + 1) xs))
+one_more {A} {B} {C} {D} f g view made new xs i a x inside at is one made_is =
+    let next : suc i ≡ i + 1 = omega arith in
+    ap (λ (l : List A). map f l) is
+    ∙ map_snoc f made a
+    ∙ ap (λ (l : List D). l ++ f a ∷ []) made_is
+    ∙ ap (λ (d : D). map g (map view (take i xs)) ++ d ∷ []) one
+    ∙ sym (map_snoc g (map view (take i xs)) (view x))
+    ∙ ap (λ (l : List C). map g l) (sym (map_snoc view (take i xs) x))
+    ∙ ap (λ (l : List B). map g (map view l)) (sym (taken xs i x inside at))
+    ∙ ap (λ (n : ℕ). map g (map view (take n xs))) next
 
 -- ---- more functions than there may be
 

@@ -21,7 +21,8 @@ use Rattle.cyc_plain.specs.declared.instruction.Operand.TheVariants as operands
 use Rattle.cyc_plain.specs.declared.instruction.Instruction.{Instruction}
 use Rattle.cyc_plain.specs.declared.instruction.Instruction.TheVariants as instructions
 use Rattle.cyc_plain.specs.Program.{instruction_size, size}
-use Rattle.cyc_lower.specs.Lowering.{slot_of, unary_operator, binary_operator, operand_of, operand_or, code_unless, slot_or, code_unless_slot, left_of, value_slot, next_slot, left_slot, value_operand, converted_operand, printed_operand, check_code, conversion_code, divisor_code, checked_code, operator_code, truth_code, load_code, low_byte, test_code, is_in, copy_code, expression_code, arguments_code, converted_code, converted_operand_code, printed_code, initial_code, assignment_code, operations_code, discarded_code, failing_comparison, compared_or, left_with, slot_with, first_code, second_code, pair_code, condition_code, condition_of, failing_jump, break_target, continue_target, return_code, declaration_code, statement_code, items_code, first_temporary, jump_if_zero, jump_if_nonzero, lower_function}
+use Rattle.cyc_lower.specs.Slots.{starts_of, slot_of}
+use Rattle.cyc_lower.specs.Lowering.{slot_types, unary_operator, binary_operator, operand_of, operand_or, code_unless, slot_or, code_unless_slot, left_of, value_slot, next_slot, left_slot, value_operand, converted_operand, printed_operand, check_code, conversion_code, divisor_code, checked_code, operator_code, truth_code, load_code, low_byte, test_code, is_in, copy_code, expression_code, arguments_code, converted_code, converted_operand_code, printed_code, initial_code, assignment_code, operations_code, discarded_code, failing_comparison, compared_or, left_with, slot_with, first_code, second_code, pair_code, condition_code, condition_of, failing_jump, break_target, continue_target, return_code, declaration_code, statement_code, items_code, first_temporary, jump_if_zero, jump_if_nonzero, lower_function}
 use Rattle.cyc_lower.specs.Lowered.{size_per_weight}
 
 abbrev code_size : List Instruction → ℕ
@@ -66,10 +67,6 @@ operator_size operators.Divide l r p d = checked_size operators.Divide l r p d
 operator_size operators.Remainder l r p d = checked_size operators.Remainder l r p d
 operator_size o l r p d = omega arith
 
-load_size : (l : Lvalue) (d : ℕ) → code_size (load_code l d) ≤ 6
-load_size (Local w n) d = omega arith
-load_size (Global n) d = omega arith
-
 copy_by_size : (is : Bool) (o : Operand) (d : ℕ) → code_size (if is then [] else instructions.Move d o ∷ []) ≤ 6
 copy_by_size true o d = omega arith
 copy_by_size false o d = omega arith
@@ -81,220 +78,228 @@ test_size : (o : LogicalOperator) (operand : List Instruction) (p d t : ℕ) →
 test_size logical.AndThen operand p d t = omega (arith, both operand (truth_code t d), cons (jump_if_zero (operands.Slot t) (p + 1 + length operand)) (operand ++ truth_code t d))
 test_size logical.OrElse operand p d t = omega (arith, both operand (truth_code t d), cons (jump_if_nonzero (operands.Slot t) (p + 1 + length operand)) (operand ++ truth_code t d))
 
-mutual
-  expression_size : (a : Expression) (p d t : ℕ) → code_size (expression_code a p d t) ≤ size_per_weight * expression_weight a
-  expression_size (Number n) p d t = omega arith
-  expression_size (Copy l ty) p d t = omega (arith, load_size l d)
-  expression_size (Call callees.Putchar cs ty) p d t =
-      let o = printed_operand cs (operands.Slot t) t in
-      omega (arith, both (printed_code cs p t) (instructions.WriteByte o ∷ low_byte o d ∷ []), printed_size cs p t)
-  expression_size (Call callees.Getchar cs ty) p d t =
-      omega (arith, both (arguments_code cs p t) (instructions.ReadByte d ∷ []), arguments_size cs p t)
-  expression_size (Call (callees.Function n) cs ty) p d t =
-      omega (arith, both (arguments_code cs p t) (instructions.Call n t (argument_count cs) d ∷ []), arguments_size cs p t)
-  expression_size (Unary o a) p d t =
-      let inner = expression_code a p (value_slot a t) t in
-      omega (arith, both (code_unless (operand_of a) inner) (instructions.Unary (unary_operator o) d (value_operand a t) ∷ []), unless_size (operand_of a) inner, expression_size a p (value_slot a t) t)
-  expression_size (Binary a os ty) p d t =
-      let inner = expression_code a p (left_slot a os d t) t in
-      let front = code_unless (left_of a os) inner in
-      let l = operand_or (left_of a os) (left_slot a os d t) in
-      omega (arith, both front (operations_code os (p + length front) l d t), unless_size (left_of a os) inner, expression_size a p (left_slot a os d t) t, operations_size os (p + length front) l d t)
-  expression_size (Assign (Local w n) c ty) p d t =
-      let o = operands.Slot (slot_of n) in
-      omega (arith, both (initial_code c p (slot_of n) t) (copy_code o d), initial_size c p (slot_of n) t, copy_size o d)
-  expression_size (Assign (Global n) c ty) p d t =
-      let o = converted_operand c t in
-      let front = converted_operand_code c p t in
-      let store = instructions.StoreGlobal n o ∷ [] in
-      omega (arith, both (front ++ store) (copy_code o d), both front store, converted_operand_size c p t, copy_size o d)
-  expression_size a p d t = omega (arith, some_token a)
+-- ---- locals that have these first slots
 
-  initial_size : (c : Converted) (p d t : ℕ) → code_size (initial_code c p d t) ≤ size_per_weight * converted_weight c + 24
-  initial_size (Convert from kinds.NonNull a) p d t =
-      let inner = expression_code a p (value_slot a t) t in
-      let front = code_unless (operand_of a) inner in
-      let o = value_operand a t in
-      let check = check_code null_exception o (p + length front) in
-      omega (arith, both (front ++ check) (instructions.Move d o ∷ []), both front check, unless_size (operand_of a) inner, expression_size a p (value_slot a t) t)
-  initial_size (Convert from to a) p d t = omega (arith, expression_size a p d t)
+module _ (starts : List ℕ) where
+  load_size : (l : Lvalue) (d : ℕ) → code_size (load_code starts l d) ≤ 6
+  load_size (Local w n) d = omega arith
+  load_size (Global n) d = omega arith
 
-  converted_size : (c : Converted) (p t : ℕ) → code_size (converted_code c p t) ≤ size_per_weight * converted_weight c + 18
-  converted_size (Convert from to a) p t =
-      let front = expression_code a p t t in
-      omega (arith, both front (conversion_code to (operands.Slot t) (p + length front)), expression_size a p t t, conversion_size to (operands.Slot t) (p + length front))
+  mutual
+    expression_size : (a : Expression) (p d t : ℕ) → code_size (expression_code starts a p d t) ≤ size_per_weight * expression_weight a
+    expression_size (Number n) p d t = omega arith
+    expression_size (Copy l ty) p d t = omega (arith, load_size l d)
+    expression_size (Call callees.Putchar cs ty) p d t =
+        let o = printed_operand starts cs (operands.Slot t) t in
+        omega (arith, both (printed_code starts cs p t) (instructions.WriteByte o ∷ low_byte o d ∷ []), printed_size cs p t)
+    expression_size (Call callees.Getchar cs ty) p d t =
+        omega (arith, both (arguments_code starts cs p t) (instructions.ReadByte d ∷ []), arguments_size cs p t)
+    expression_size (Call (callees.Function n) cs ty) p d t =
+        omega (arith, both (arguments_code starts cs p t) (instructions.Call n t (argument_count cs) d ∷ []), arguments_size cs p t)
+    expression_size (Unary o a) p d t =
+        let inner = expression_code starts a p (value_slot starts a t) t in
+        omega (arith, both (code_unless (operand_of starts a) inner) (instructions.Unary (unary_operator o) d (value_operand starts a t) ∷ []), unless_size (operand_of starts a) inner, expression_size a p (value_slot starts a t) t)
+    expression_size (Binary a os ty) p d t =
+        let inner = expression_code starts a p (left_slot starts a os d t) t in
+        let front = code_unless (left_of starts a os) inner in
+        let l = operand_or (left_of starts a os) (left_slot starts a os d t) in
+        omega (arith, both front (operations_code starts os (p + length front) l d t), unless_size (left_of starts a os) inner, expression_size a p (left_slot starts a os d t) t, operations_size os (p + length front) l d t)
+    expression_size (Assign (Local w n) c ty) p d t =
+        let o = operands.Slot (slot_of starts n) in
+        omega (arith, both (initial_code starts c p (slot_of starts n) t) (copy_code o d), initial_size c p (slot_of starts n) t, copy_size o d)
+    expression_size (Assign (Global n) c ty) p d t =
+        let o = converted_operand starts c t in
+        let front = converted_operand_code starts c p t in
+        let store = instructions.StoreGlobal n o ∷ [] in
+        omega (arith, both (front ++ store) (copy_code o d), both front store, converted_operand_size c p t, copy_size o d)
+    expression_size a p d t = omega (arith, some_token a)
 
-  converted_operand_size : (c : Converted) (p t : ℕ) → code_size (converted_operand_code c p t) ≤ size_per_weight * converted_weight c + 18
-  converted_operand_size (Convert from to a) p t =
-      let inner = expression_code a p (value_slot a t) t in
-      let front = code_unless (operand_of a) inner in
-      omega (arith, both front (conversion_code to (value_operand a t) (p + length front)), unless_size (operand_of a) inner, expression_size a p (value_slot a t) t, conversion_size to (value_operand a t) (p + length front))
+    initial_size : (c : Converted) (p d t : ℕ) → code_size (initial_code starts c p d t) ≤ size_per_weight * converted_weight c + 24
+    initial_size (Convert from kinds.NonNull a) p d t =
+        let inner = expression_code starts a p (value_slot starts a t) t in
+        let front = code_unless (operand_of starts a) inner in
+        let o = value_operand starts a t in
+        let check = check_code null_exception o (p + length front) in
+        omega (arith, both (front ++ check) (instructions.Move d o ∷ []), both front check, unless_size (operand_of starts a) inner, expression_size a p (value_slot starts a t) t)
+    initial_size (Convert from to a) p d t = omega (arith, expression_size a p d t)
 
-  printed_size : (cs : Arguments) (p t : ℕ) → code_size (printed_code cs p t) ≤ size_per_weight * arguments_weight cs + 18
-  printed_size NoArguments p t = omega arith
-  printed_size (MoreArguments c cs) p t =
-      let front = converted_operand_code c p t in
-      omega (arith, both front (printed_code cs (p + length front) t), converted_operand_size c p t, more_printed_size cs (p + length front) t)
+    converted_size : (c : Converted) (p t : ℕ) → code_size (converted_code starts c p t) ≤ size_per_weight * converted_weight c + 18
+    converted_size (Convert from to a) p t =
+        let front = expression_code starts a p t t in
+        omega (arith, both front (conversion_code to (operands.Slot t) (p + length front)), expression_size a p t t, conversion_size to (operands.Slot t) (p + length front))
 
-  more_printed_size : (cs : Arguments) (p t : ℕ) → code_size (printed_code cs p t) ≤ size_per_weight * more_arguments_weight cs
-  more_printed_size NoArguments p t = omega arith
-  more_printed_size (MoreArguments c cs) p t =
-      let front = converted_operand_code c p t in
-      omega (arith, both front (printed_code cs (p + length front) t), converted_operand_size c p t, more_printed_size cs (p + length front) t)
+    converted_operand_size : (c : Converted) (p t : ℕ) → code_size (converted_operand_code starts c p t) ≤ size_per_weight * converted_weight c + 18
+    converted_operand_size (Convert from to a) p t =
+        let inner = expression_code starts a p (value_slot starts a t) t in
+        let front = code_unless (operand_of starts a) inner in
+        omega (arith, both front (conversion_code to (value_operand starts a t) (p + length front)), unless_size (operand_of starts a) inner, expression_size a p (value_slot starts a t) t, conversion_size to (value_operand starts a t) (p + length front))
 
-  -- with the words that are passed
-  arguments_size : (cs : Arguments) (p t : ℕ) → code_size (arguments_code cs p t) + 4 * argument_count cs ≤ size_per_weight * arguments_weight cs + 22
-  arguments_size NoArguments p t = omega arith
-  arguments_size (MoreArguments c cs) p t =
-      let q = p + length (converted_code c p t) in
-      omega (arith, both (converted_code c p t) (arguments_code cs q (suc t)), converted_size c p t, more_arguments_size cs q (suc t))
+    printed_size : (cs : Arguments) (p t : ℕ) → code_size (printed_code starts cs p t) ≤ size_per_weight * arguments_weight cs + 18
+    printed_size NoArguments p t = omega arith
+    printed_size (MoreArguments c cs) p t =
+        let front = converted_operand_code starts c p t in
+        omega (arith, both front (printed_code starts cs (p + length front) t), converted_operand_size c p t, more_printed_size cs (p + length front) t)
 
-  more_arguments_size : (cs : Arguments) (p t : ℕ) → code_size (arguments_code cs p t) + 4 * argument_count cs ≤ size_per_weight * more_arguments_weight cs
-  more_arguments_size NoArguments p t = omega arith
-  more_arguments_size (MoreArguments c cs) p t =
-      let q = p + length (converted_code c p t) in
-      omega (arith, both (converted_code c p t) (arguments_code cs q (suc t)), converted_size c p t, more_arguments_size cs q (suc t))
+    more_printed_size : (cs : Arguments) (p t : ℕ) → code_size (printed_code starts cs p t) ≤ size_per_weight * more_arguments_weight cs
+    more_printed_size NoArguments p t = omega arith
+    more_printed_size (MoreArguments c cs) p t =
+        let front = converted_operand_code starts c p t in
+        omega (arith, both front (printed_code starts cs (p + length front) t), converted_operand_size c p t, more_printed_size cs (p + length front) t)
 
-  operations_size : (os : Operations) (p : ℕ) (l : Operand) (d t : ℕ) → code_size (operations_code os p l d t) ≤ size_per_weight * operations_weight os
-  operations_size NoOperations p l d t = omega arith
-  operations_size (ThenCompute o a os) p l d t =
-      let inner = expression_code a p (value_slot a (suc t)) (suc t) in
-      let operand = code_unless (operand_of a) inner in
-      let next = next_slot os d t in
-      let operator = operator_code o l (value_operand a (suc t)) (p + length operand) next in
-      let q = p + length (operand ++ operator) in
-      omega (
-        arith,
-        both (operand ++ operator) (operations_code os q (operands.Slot next) d t),
-        both operand operator,
-        unless_size (operand_of a) inner,
-        expression_size a p (value_slot a (suc t)) (suc t),
-        operator_size o l (value_operand a (suc t)) (p + length operand) next,
-        operations_size os q (operands.Slot next) d t,
-      )
-  operations_size (ThenTest o a os) p l d t =
-      let operand = expression_code a (p + 1) t t in
-      let next = next_slot os d t in
-      let front = test_code o operand p next t in
-      let q = p + length front in
-      omega (arith, both front (operations_code os q (operands.Slot next) d t), test_size o operand p next t, expression_size a (p + 1) t t, operations_size os q (operands.Slot next) d t)
-  operations_size (ThenPointer o a os) p l d t =
-      let next = next_slot os d t in
-      omega (arith, cons (instructions.Move next (operands.Word 0)) (operations_code os (p + 1) (operands.Slot next) d t), operations_size os (p + 1) (operands.Slot next) d t)
-  operations_size (ThenPointerPeek n o a os) p l d t =
-      let next = next_slot os d t in
-      omega (arith, cons (instructions.Move next (operands.Word 0)) (operations_code os (p + 1) (operands.Slot next) d t), operations_size os (p + 1) (operands.Slot next) d t)
+    -- with the words that are passed
+    arguments_size : (cs : Arguments) (p t : ℕ) → code_size (arguments_code starts cs p t) + 4 * argument_count cs ≤ size_per_weight * arguments_weight cs + 22
+    arguments_size NoArguments p t = omega arith
+    arguments_size (MoreArguments c cs) p t =
+        let q = p + length (converted_code starts c p t) in
+        omega (arith, both (converted_code starts c p t) (arguments_code starts cs q (suc t)), converted_size c p t, more_arguments_size cs q (suc t))
 
-assignment_size : (l : Lvalue) (c : Converted) (p t : ℕ) → code_size (assignment_code l c p t) ≤ size_per_weight * converted_weight c + 24
-assignment_size (Local w n) c p t = initial_size c p (slot_of n) t
-assignment_size (Global n) c p t =
-    let front = converted_operand_code c p t in
-    omega (arith, both front (instructions.StoreGlobal n (converted_operand c t) ∷ []), converted_operand_size c p t)
+    more_arguments_size : (cs : Arguments) (p t : ℕ) → code_size (arguments_code starts cs p t) + 4 * argument_count cs ≤ size_per_weight * more_arguments_weight cs
+    more_arguments_size NoArguments p t = omega arith
+    more_arguments_size (MoreArguments c cs) p t =
+        let q = p + length (converted_code starts c p t) in
+        omega (arith, both (converted_code starts c p t) (arguments_code starts cs q (suc t)), converted_size c p t, more_arguments_size cs q (suc t))
 
-discarded_size : (a : Expression) (p t : ℕ) → code_size (discarded_code a p t) ≤ size_per_weight * expression_weight a
-discarded_size (Call callees.Putchar cs ty) p t =
-    omega (arith, both (printed_code cs p t) (instructions.WriteByte (printed_operand cs (operands.Slot t) t) ∷ []), printed_size cs p t)
-discarded_size (Assign l c ty) p t = omega (arith, assignment_size l c p t)
-discarded_size a p t = omega (arith, unless_size (operand_of a) (expression_code a p t t), expression_size a p t t)
-
--- ---- statements
-
-first_size : (a b : Expression) (p t : ℕ) → code_size (first_code a b p t) ≤ size_per_weight * expression_weight a
-first_size a b p t =
-    let slot = slot_with (operand_of b) a t in
-    omega (arith, unless_size (left_with (operand_of b) (operand_of a)) (expression_code a p slot t), expression_size a p slot t)
-
-second_size : (b : Expression) (p t : ℕ) → code_size (second_code b p t) ≤ size_per_weight * expression_weight b
-second_size b p t = omega (arith, unless_size (operand_of b) (expression_code b p (value_slot b (suc t)) (suc t)), expression_size b p (value_slot b (suc t)) (suc t))
-
--- a value that is compared with 0
-alone_size : (a : Expression) (p t : ℕ) → code_size (pair_code a (Number 0) p t) ≤ size_per_weight * expression_weight a
-alone_size a p t = omega (arith, both (first_code a (Number 0) p t) [], first_size a (Number 0) p t)
-
-condition_size : (a : Expression) (p t : ℕ) → code_size (condition_code a p t) ≤ size_per_weight * expression_weight a
-condition_size (Unary unary.Not a) p t = omega (arith, alone_size a p t)
-condition_size (Binary a (ThenCompute o b NoOperations) ty) p t = by (failing_comparison o)
-  where
-    by : (f : Option Comparison) → code_size (pair_code (compared_or f a b (Binary a (ThenCompute o b NoOperations) ty)).left (compared_or f a b (Binary a (ThenCompute o b NoOperations) ty)).right p t) ≤ size_per_weight * expression_weight (Binary a (ThenCompute o b NoOperations) ty)
-    by (Some failing) =
-        let front = first_code a b p t in
+    operations_size : (os : Operations) (p : ℕ) (l : Operand) (d t : ℕ) → code_size (operations_code starts os p l d t) ≤ size_per_weight * operations_weight os
+    operations_size NoOperations p l d t = omega arith
+    operations_size (ThenCompute o a os) p l d t =
+        let inner = expression_code starts a p (value_slot starts a (suc t)) (suc t) in
+        let operand = code_unless (operand_of starts a) inner in
+        let next = next_slot os d t in
+        let operator = operator_code o l (value_operand starts a (suc t)) (p + length operand) next in
+        let q = p + length (operand ++ operator) in
+        omega (
+          arith,
+          both (operand ++ operator) (operations_code starts os q (operands.Slot next) d t),
+          both operand operator,
+          unless_size (operand_of starts a) inner,
+          expression_size a p (value_slot starts a (suc t)) (suc t),
+          operator_size o l (value_operand starts a (suc t)) (p + length operand) next,
+          operations_size os q (operands.Slot next) d t,
+        )
+    operations_size (ThenTest o a os) p l d t =
+        let operand = expression_code starts a (p + 1) t t in
+        let next = next_slot os d t in
+        let front = test_code o operand p next t in
         let q = p + length front in
-        omega (arith, both front (second_code b q t), first_size a b p t, second_size b q t)
-    by None = alone_size (Binary a (ThenCompute o b NoOperations) ty) p t
-condition_size a p t = alone_size a p t
+        omega (arith, both front (operations_code starts os q (operands.Slot next) d t), test_size o operand p next t, expression_size a (p + 1) t t, operations_size os q (operands.Slot next) d t)
+    operations_size (ThenPointer o a os) p l d t =
+        let next = next_slot os d t in
+        omega (arith, cons (instructions.Move next (operands.Word 0)) (operations_code starts os (p + 1) (operands.Slot next) d t), operations_size os (p + 1) (operands.Slot next) d t)
+    operations_size (ThenPointerPeek n o a os) p l d t =
+        let next = next_slot os d t in
+        omega (arith, cons (instructions.Move next (operands.Word 0)) (operations_code starts os (p + 1) (operands.Slot next) d t), operations_size os (p + 1) (operands.Slot next) d t)
 
-return_size : (v : Option Converted) (p t : ℕ) → code_size (return_code v p t) ≤ size_per_weight * statement_weight (Return v)
-return_size None p t = omega arith
-return_size (Some (Convert from to a)) p t =
-    let inner = expression_code a p t t in
-    let front = code_unless_slot (operand_of a) inner in
-    let s = slot_or (operand_of a) t in
-    let conversion = conversion_code to (operands.Slot s) (p + length front) in
-    omega (arith, both (front ++ conversion) (instructions.Return s ∷ []), both front conversion, unless_slot_size (operand_of a) inner, expression_size a p t t, conversion_size to (operands.Slot s) (p + length front))
+  assignment_size : (l : Lvalue) (c : Converted) (p t : ℕ) → code_size (assignment_code starts l c p t) ≤ size_per_weight * converted_weight c + 24
+  assignment_size (Local w n) c p t = initial_size c p (slot_of starts n) t
+  assignment_size (Global n) c p t =
+      let front = converted_operand_code starts c p t in
+      omega (arith, both front (instructions.StoreGlobal n (converted_operand starts c t) ∷ []), converted_operand_size c p t)
 
-else_size : (t : Statement) (p loop d : ℕ) → code_size (statement_code t p loop d) ≤ size_per_weight * statement_weight t → code_size (statement_code t p loop d) ≤ size_per_weight * else_weight t (statement_weight t)
-else_size Empty p loop d bound = omega arith
-else_size t p loop d bound = omega (arith, bound)
+  discarded_size : (a : Expression) (p t : ℕ) → code_size (discarded_code starts a p t) ≤ size_per_weight * expression_weight a
+  discarded_size (Call callees.Putchar cs ty) p t =
+      omega (arith, both (printed_code starts cs p t) (instructions.WriteByte (printed_operand starts cs (operands.Slot t) t) ∷ []), printed_size cs p t)
+  discarded_size (Assign l c ty) p t = omega (arith, assignment_size l c p t)
+  discarded_size a p t = omega (arith, unless_size (operand_of starts a) (expression_code starts a p t t), expression_size a p t t)
 
-mutual
-  statement_size : (s : Statement) (p loop d : ℕ) → code_size (statement_code s p loop d) ≤ size_per_weight * statement_weight s
-  statement_size (Block r js) p loop d = omega (arith, items_size js p loop d)
-  statement_size Empty p loop d = omega arith
-  statement_size (Evaluate a) p loop t = omega (arith, discarded_size a p t)
-  statement_size (If a s u) p loop t =
-      let condition = condition_code a p t in
-      let m = p + length condition in
-      let first = statement_code s (m + 1) loop t in
-      let r = m + 1 + length first in
-      let second = statement_code u (r + 1) loop t in
-      let jump_first = failing_jump (condition_of a t) (r + 1) ∷ first in
-      let jump_second = instructions.Jump (r + 1 + length second) ∷ second in
-      omega (
-        arith,
-        both (condition ++ jump_first) jump_second,
-        both condition jump_first,
-        cons (failing_jump (condition_of a t) (r + 1)) first,
-        cons (instructions.Jump (r + 1 + length second)) second,
-        condition_size a p t,
-        statement_size s (m + 1) loop t,
-        else_size u (r + 1) loop t (statement_size u (r + 1) loop t),
-      )
-  statement_size (While w a s) p loop t =
-      let condition = condition_code a (p + 2) t in
-      let m = p + 2 + length condition in
-      let body = statement_code s (m + 1) p t in
-      let test = failing_jump (condition_of a t) (break_target p) ∷ body in
-      let again = instructions.Jump (continue_target p) ∷ [] in
-      let rest = (condition ++ test) ++ again in
-      let exit = instructions.Jump (m + 1 + length body + 1) in
-      omega (
-        arith,
-        cons (instructions.Jump (continue_target p)) (exit ∷ rest),
-        cons exit rest,
-        both (condition ++ test) again,
-        both condition test,
-        cons (failing_jump (condition_of a t) (break_target p)) body,
-        condition_size a (p + 2) t,
-        statement_size s (m + 1) p t,
-      )
-  statement_size (Return v) p loop d = return_size v p d
-  statement_size Break p loop d = omega arith
-  statement_size Continue p loop d = omega arith
-  statement_size s p loop d = omega arith
+  -- ---- statements
 
-  items_size : (js : Items) (p loop d : ℕ) → code_size (items_code js p loop d) ≤ size_per_weight * items_weight js
-  items_size NoItems p loop d = omega arith
-  items_size (MoreItems (Execute s) js) p loop d =
-      let q = p + length (statement_code s p loop d) in
-      omega (arith, both (statement_code s p loop d) (items_code js q loop d), statement_size s p loop d, items_size js q loop d)
-  items_size (MoreItems (Declare n t None) js) p loop d = omega (arith, items_size js (p + 0) loop d)
-  items_size (MoreItems (Declare n t (Some c)) js) p loop d =
-      let front = declaration_code n (Some c) p d in
-      let q = p + length front in
-      omega (arith, both front (items_code js q loop d), initial_size c p n d, items_size js q loop d)
-  items_size (MoreItems j js) p loop d = omega (arith, items_size js p loop d)
+  first_size : (a b : Expression) (p t : ℕ) → code_size (first_code starts a b p t) ≤ size_per_weight * expression_weight a
+  first_size a b p t =
+      let slot = slot_with starts (operand_of starts b) a t in
+      omega (arith, unless_size (left_with (operand_of starts b) (operand_of starts a)) (expression_code starts a p slot t), expression_size a p slot t)
+
+  second_size : (b : Expression) (p t : ℕ) → code_size (second_code starts b p t) ≤ size_per_weight * expression_weight b
+  second_size b p t = omega (arith, unless_size (operand_of starts b) (expression_code starts b p (value_slot starts b (suc t)) (suc t)), expression_size b p (value_slot starts b (suc t)) (suc t))
+
+  -- a value that is compared with 0
+  alone_size : (a : Expression) (p t : ℕ) → code_size (pair_code starts a (Number 0) p t) ≤ size_per_weight * expression_weight a
+  alone_size a p t = omega (arith, both (first_code starts a (Number 0) p t) [], first_size a (Number 0) p t)
+
+  condition_size : (a : Expression) (p t : ℕ) → code_size (condition_code starts a p t) ≤ size_per_weight * expression_weight a
+  condition_size (Unary unary.Not a) p t = omega (arith, alone_size a p t)
+  condition_size (Binary a (ThenCompute o b NoOperations) ty) p t = by (failing_comparison o)
+    where
+      by : (f : Option Comparison) → code_size (pair_code starts (compared_or f a b (Binary a (ThenCompute o b NoOperations) ty)).left (compared_or f a b (Binary a (ThenCompute o b NoOperations) ty)).right p t) ≤ size_per_weight * expression_weight (Binary a (ThenCompute o b NoOperations) ty)
+      by (Some failing) =
+          let front = first_code starts a b p t in
+          let q = p + length front in
+          omega (arith, both front (second_code starts b q t), first_size a b p t, second_size b q t)
+      by None = alone_size (Binary a (ThenCompute o b NoOperations) ty) p t
+  condition_size a p t = alone_size a p t
+
+  return_size : (v : Option Converted) (p t : ℕ) → code_size (return_code starts v p t) ≤ size_per_weight * statement_weight (Return v)
+  return_size None p t = omega arith
+  return_size (Some (Convert from to a)) p t =
+      let inner = expression_code starts a p t t in
+      let front = code_unless_slot (operand_of starts a) inner in
+      let s = slot_or (operand_of starts a) t in
+      let conversion = conversion_code to (operands.Slot s) (p + length front) in
+      omega (arith, both (front ++ conversion) (instructions.Return s ∷ []), both front conversion, unless_slot_size (operand_of starts a) inner, expression_size a p t t, conversion_size to (operands.Slot s) (p + length front))
+
+  else_size : (t : Statement) (p loop d : ℕ) → code_size (statement_code starts t p loop d) ≤ size_per_weight * statement_weight t → code_size (statement_code starts t p loop d) ≤ size_per_weight * else_weight t (statement_weight t)
+  else_size Empty p loop d bound = omega arith
+  else_size t p loop d bound = omega (arith, bound)
+
+  mutual
+    statement_size : (s : Statement) (p loop d : ℕ) → code_size (statement_code starts s p loop d) ≤ size_per_weight * statement_weight s
+    statement_size (Block r js) p loop d = omega (arith, items_size js p loop d)
+    statement_size Empty p loop d = omega arith
+    statement_size (Evaluate a) p loop t = omega (arith, discarded_size a p t)
+    statement_size (If a s u) p loop t =
+        let condition = condition_code starts a p t in
+        let m = p + length condition in
+        let first = statement_code starts s (m + 1) loop t in
+        let r = m + 1 + length first in
+        let second = statement_code starts u (r + 1) loop t in
+        let jump_first = failing_jump (condition_of starts a t) (r + 1) ∷ first in
+        let jump_second = instructions.Jump (r + 1 + length second) ∷ second in
+        omega (
+          arith,
+          both (condition ++ jump_first) jump_second,
+          both condition jump_first,
+          cons (failing_jump (condition_of starts a t) (r + 1)) first,
+          cons (instructions.Jump (r + 1 + length second)) second,
+          condition_size a p t,
+          statement_size s (m + 1) loop t,
+          else_size u (r + 1) loop t (statement_size u (r + 1) loop t),
+        )
+    statement_size (While w a s) p loop t =
+        let condition = condition_code starts a (p + 2) t in
+        let m = p + 2 + length condition in
+        let body = statement_code starts s (m + 1) p t in
+        let test = failing_jump (condition_of starts a t) (break_target p) ∷ body in
+        let again = instructions.Jump (continue_target p) ∷ [] in
+        let rest = (condition ++ test) ++ again in
+        let exit = instructions.Jump (m + 1 + length body + 1) in
+        omega (
+          arith,
+          cons (instructions.Jump (continue_target p)) (exit ∷ rest),
+          cons exit rest,
+          both (condition ++ test) again,
+          both condition test,
+          cons (failing_jump (condition_of starts a t) (break_target p)) body,
+          condition_size a (p + 2) t,
+          statement_size s (m + 1) p t,
+        )
+    statement_size (Return v) p loop d = return_size v p d
+    statement_size Break p loop d = omega arith
+    statement_size Continue p loop d = omega arith
+    statement_size s p loop d = omega arith
+
+    items_size : (js : Items) (p loop d : ℕ) → code_size (items_code starts js p loop d) ≤ size_per_weight * items_weight js
+    items_size NoItems p loop d = omega arith
+    items_size (MoreItems (Execute s) js) p loop d =
+        let q = p + length (statement_code starts s p loop d) in
+        omega (arith, both (statement_code starts s p loop d) (items_code starts js q loop d), statement_size s p loop d, items_size js q loop d)
+    items_size (MoreItems (Declare n t None) js) p loop d = omega (arith, items_size js (p + 0) loop d)
+    items_size (MoreItems (Declare n t (Some c)) js) p loop d =
+        let front = declaration_code starts n (Some c) p d in
+        let q = p + length front in
+        omega (arith, both front (items_code starts js q loop d), initial_size c p (slot_of starts n) d, items_size js q loop d)
+    items_size (MoreItems j js) p loop d = omega (arith, items_size js p loop d)
 
 pub function_size : (h : Function) → size (lower_function h) ≤ size_per_weight * function_weight h
 function_size h =
     let d = first_temporary h in
-    omega (arith, both (items_code h.body 0 0 d) (instructions.Return d ∷ []), items_size h.body 0 0 d)
+    let starts = starts_of (slot_types h) in
+    omega (arith, both (items_code starts h.body 0 0 d) (instructions.Return d ∷ []), items_size starts h.body 0 0 d)

@@ -1,10 +1,32 @@
 -- The slots of locals are apart, in their order, and none is left out.
-use Rattle.std.proofs.Common.{◌≡◌, ℕ, zero, suc, ◌+◌, ◌≤◌, ◌<◌, List, [], ◌∷◌, ◌++◌, length, Some, slice_get, refl, ap, arith}
+use Rattle.std.proofs.Common.{◌≡◌, ◌≢◌, ℕ, zero, suc, ◌+◌, ◌≤◌, ◌<◌, List, [], ◌∷◌, ◌++◌, length, map, Some, slice_get, refl, sym, ap, ◌∙◌, arith, inl, inr, length-append}
 use Rattle.std.specs.List.{AllByRecursion}
 use Rattle.std.proofs.lemmas.Option.{same_Some, none-some}
-use Rattle.cyc_types.specs.Types.{Ty, words_of}
+use Rattle.std.proofs.lemmas.Bool.{cases_lt}
+use Rattle.cyc_syntax.specs.declared.tree.PointerKind.{PointerKind}
+use Rattle.cyc_syntax.specs.declared.tree.PointerKind.TheVariants.{Nullable, NonNull, Fat}
+use Rattle.cyc_types.specs.Types.{Ty, words_of, words_of_mark}
+use Rattle.cyc_types.specs.Types as types
+use Rattle.cyc_types.specs.TypedTrees.{Function}
 use Rattle.cyc_meaning.specs.FrameCount.{words_of_all}
-use Rattle.cyc_lower.specs.Slots.{slot_in}
+use Rattle.cyc_lower.specs.Slots.{slot_in, starts_from, starts_of, slot_of}
+use Rattle.cyc_lower.specs.Lowering.{one_word, slot_types, first_temporary}
+
+-- ---- words
+
+mark_positive : (k : PointerKind) → 1 ≤ words_of_mark k
+mark_positive Nullable = omega arith
+mark_positive NonNull = omega arith
+mark_positive Fat = omega arith
+
+pub words_positive : (t : Ty) → 1 ≤ words_of t
+words_positive types.Int = omega arith
+words_positive (types.Pointer k t r) = mark_positive k
+words_positive (types.Handle r) = omega arith
+words_positive (types.Key r) = omega arith
+words_positive (types.Struct n rs) = omega arith
+
+-- ---- slots
 
 pub slot-below : (ts : List Ty) (n : ℕ) (t : Ty) → slice_get ts n ≡ Some t → slot_in ts n + words_of t ≤ words_of_all ts
 slot-below [] n t at = absurd (none-some t at)
@@ -35,3 +57,87 @@ pub slot-number : (ts : List Ty) (n : ℕ) → AllByRecursion (λ t. words_of t 
 slot-number [] n one few = omega (arith, few)
 slot-number (t ∷ ts) zero one few = refl
 slot-number (t ∷ ts) (suc n) (first, rest) few = omega (arith, first, slot-number ts n rest (omega (arith, few)))
+
+-- ---- the list of first slots
+
+starts-from : (ts : List Ty) (slot n : ℕ) → n < length ts → slot_of (starts_from slot ts) n ≡ slot + slot_in ts n
+starts-from [] slot n inside = absurd (omega (arith, inside))
+starts-from (t ∷ ts) slot zero inside = omega arith
+starts-from (t ∷ ts) slot (suc n) inside = omega (arith, starts-from ts (slot + words_of t) n (omega (arith, inside)))
+
+-- it has the slot of each local
+pub starts-are : (ts : List Ty) (n : ℕ) → n < length ts → slot_of (starts_of ts) n ≡ slot_in ts n
+starts-are ts n inside = omega (arith, starts-from ts 0 n inside)
+
+type-there : (ts : List Ty) (n : ℕ) → n < length ts → (t : Ty) × (slice_get ts n ≡ Some t)
+type-there [] n inside = absurd (omega (arith, inside))
+type-there (t ∷ ts) zero inside = (t, refl)
+type-there (t ∷ ts) (suc n) inside = type-there ts n (omega (arith, inside))
+
+-- the slot of a local is one of the locals'
+pub slot-inside : (ts : List Ty) (n : ℕ) → n < length ts → slot_of (starts_of ts) n < words_of_all ts
+slot-inside ts n inside =
+    let (t, at) = type-there ts n inside in
+    omega (arith, starts-are ts n inside, slot-below ts n t at, words_positive t)
+
+slot-before : (ts : List Ty) (n m : ℕ) → n < m → m < length ts → slot_of (starts_of ts) n < slot_of (starts_of ts) m
+slot-before ts n m less inside =
+    let (t, at) = type-there ts n (omega (arith, less, inside)) in
+    let (u, there) = type-there ts m inside in
+    omega (arith, starts-are ts n (omega (arith, less, inside)), starts-are ts m inside, slots-apart ts n m t u less at there, words_positive t)
+
+-- two locals have two slots
+pub slot-other : (ts : List Ty) (n m : ℕ) → n < length ts → m < length ts → n ≢ m → slot_of (starts_of ts) n ≢ slot_of (starts_of ts) m
+slot-other ts n m inside there other same = elim (cases_lt n m) [
+  | inl less ↦ absurd (omega (arith, same, slot-before ts n m less there))
+  | inr most ↦ elim (cases_lt m n) [
+    | inl less ↦ absurd (omega (arith, same, slot-before ts m n less inside))
+    | inr least ↦ other (omega (arith, most, least))
+  ]
+]
+
+parameter-from : (ps ls : List Ty) (slot n : ℕ) → n < length ps → slot_of (starts_from slot (map one_word ps ++ ls)) n ≡ slot + n
+parameter-from [] ls slot n inside = absurd (omega (arith, inside))
+parameter-from (p ∷ ps) ls slot zero inside = omega arith
+parameter-from (p ∷ ps) ls slot (suc n) inside = omega (arith, parameter-from ps ls (slot + 1) n (omega (arith, inside)))
+
+-- the slot of a parameter is its number
+pub slot-parameter : (h : Function) (n : ℕ) → n < length h.parameters → slot_of (starts_of (slot_types h)) n ≡ n
+slot-parameter h n inside = omega (arith, parameter-from h.parameters h.locals 0 n inside)
+
+mapped-many : (ps : List Ty) → length (map one_word ps) ≡ length ps
+mapped-many [] = refl
+mapped-many (p ∷ ps) = ap suc (mapped-many ps)
+
+pub slot_types-many : (h : Function) → length (slot_types h) ≡ length h.parameters + length h.locals
+slot_types-many h = omega (arith, length-append (map one_word h.parameters) h.locals, mapped-many h.parameters)
+
+pub words-append : (ts us : List Ty) → words_of_all (ts ++ us) ≡ words_of_all ts + words_of_all us
+words-append [] us = omega arith
+words-append (t ∷ ts) us = omega (arith, words-append ts us)
+
+pub starts-append : (slot : ℕ) (ts us : List Ty) → starts_from slot (ts ++ us) ≡ starts_from slot ts ++ starts_from (slot + words_of_all ts) us
+starts-append slot [] us = ap (λ (n : ℕ). starts_from n us) (let e : slot ≡ slot + 0 = omega arith in e)
+starts-append slot (t ∷ ts) us =
+    ap (λ (l : List ℕ). slot ∷ l)
+    (starts-append (slot + words_of t) ts us
+    ∙ ap (λ (n : ℕ). starts_from (slot + words_of t) ts ++ starts_from n us) (let e : slot + words_of t + words_of_all ts ≡ slot + words_of_all (t ∷ ts) = omega arith in e))
+
+parameter-words : (ps : List Ty) → words_of_all (map one_word ps) ≤ words_of_all ps
+parameter-words [] = omega arith
+parameter-words (p ∷ ps) = omega (arith, parameter-words ps, words_positive p)
+
+-- the locals' slots are no more than their words
+pub slots-few : (h : Function) → (words_of_all (map one_word h.parameters) ≤ words_of_all h.parameters) × (first_temporary h ≤ words_of_all h.parameters + words_of_all h.locals)
+slots-few h = (parameter-words h.parameters, omega (arith, words-append (map one_word h.parameters) h.locals, parameter-words h.parameters))
+
+-- the slots of the parameters, and behind them those of the other locals
+pub slots-made : (h : Function) (behind free : ℕ) (first all : List ℕ) → behind ≡ words_of_all (map one_word h.parameters) → first ≡ starts_from 0 (map one_word h.parameters)
+    → free ≡ behind + words_of_all h.locals → all ≡ first ++ starts_from behind h.locals → (all ≡ starts_of (slot_types h)) × (free ≡ first_temporary h)
+slots-made h behind free first all behind_is first_is free_is all_is = (
+  all_is
+      ∙ ap (λ (l : List ℕ). l ++ starts_from behind h.locals) first_is
+      ∙ ap (λ (n : ℕ). starts_from 0 (map one_word h.parameters) ++ starts_from n h.locals) (let e : behind ≡ 0 + words_of_all (map one_word h.parameters) = omega (arith, behind_is) in e)
+      ∙ sym (starts-append 0 (map one_word h.parameters) h.locals),
+  omega (arith, free_is, behind_is, words-append (map one_word h.parameters) h.locals),
+)

@@ -15,7 +15,8 @@ use Rattle.cyc_plain.specs.declared.instruction.Instruction.{Instruction}
 use Rattle.cyc_plain.specs.declared.instruction.Instruction.TheVariants as instructions
 use Rattle.cyc_plain.specs.Straight.{At}
 use Rattle.cyc_meaning.specs.Operators.{null_exception, division_by_zero}
-use Rattle.cyc_lower.specs.Lowering.{slot_of, unary_operator, binary_operator, operand_of, failing_comparison, left_with, left_of, value_slot, next_slot, slot_with, left_slot, is_in, jump_if_nonzero, test_jump, compared_of, low_byte, break_target, continue_target, results_of}
+use Rattle.cyc_lower.specs.Slots.{slot_of}
+use Rattle.cyc_lower.specs.Lowering.{unary_operator, binary_operator, operand_of, failing_comparison, left_with, left_of, value_slot, next_slot, slot_with, left_slot, is_in, jump_if_nonzero, test_jump, compared_of, low_byte, break_target, continue_target, results_of}
 
 -- ---- expressions
 
@@ -29,7 +30,7 @@ module _ (code : List Instruction) where
   CopyAt o d p q = CopyBy (is_in o d) o d p q
 
 -- In a code of a function with these bounds, from p to q stands the code of this, with temporaries from slot t on.
-module _ (code : List Instruction) (bounds : Numbering) where
+module _ (code : List Instruction) (bounds : Numbering) (starts : List ℕ) where
   -- an operand without code, or code that brings the value to a slot
   abbrev pub OperandBy : Option Operand → (computed : Type 0) → (slot : ℕ) → Operand → (p q : ℕ) → Type 0
   OperandBy (Some known) computed slot o p q = (o ≡ known) × (p ≡ q)
@@ -60,7 +61,7 @@ module _ (code : List Instruction) (bounds : Numbering) where
       × (p + 1 + 1 ≡ q)
 
   abbrev pub LoadAt : Lvalue → (d p q : ℕ) → Type 0
-  LoadAt (Local w n) d p q = At code p (instructions.Move d (operands.Slot (slot_of n))) × (p + 1 ≡ q)
+  LoadAt (Local w n) d p q = At code p (instructions.Move d (operands.Slot (slot_of starts n))) × (p + 1 ≡ q)
   LoadAt (Global n) d p q = (n < bounds.globals) × At code p (instructions.LoadGlobal d n) × (p + 1 ≡ q)
 
   abbrev mutual
@@ -74,13 +75,13 @@ module _ (code : List Instruction) (bounds : Numbering) where
     ExpressionAt (Call (callees.Function n) cs ty) d t p q =
         (m : ℕ) × ArgumentsAt cs t p m × At code m (instructions.Call n t (argument_count cs) d) × (m + 1 ≡ q)
     ExpressionAt (Unary o a) d t p q =
-        (r : Operand) × (m : ℕ) × OperandBy (operand_of a) (ExpressionAt a (value_slot a t) t p m) (value_slot a t) r p m
+        (r : Operand) × (m : ℕ) × OperandBy (operand_of starts a) (ExpressionAt a (value_slot starts a t) t p m) (value_slot starts a t) r p m
         × At code m (instructions.Unary (unary_operator o) d r) × (m + 1 ≡ q)
     ExpressionAt (Binary a os ty) d t p q =
-        (l : Operand) × (m : ℕ) × OperandBy (left_of a os) (ExpressionAt a (left_slot a os d t) t p m) (left_slot a os d t) l p m
+        (l : Operand) × (m : ℕ) × OperandBy (left_of starts a os) (ExpressionAt a (left_slot starts a os d t) t p m) (left_slot starts a os d t) l p m
         × OperationsAt os l d t m q
     ExpressionAt (Assign (Local w n) c ty) d t p q =
-        (o : Operand) × (m : ℕ) × ((o ≡ operands.Slot (slot_of n)) × InitialAt c (slot_of n) t p m) × CopyAt code o d m q
+        (o : Operand) × (m : ℕ) × ((o ≡ operands.Slot (slot_of starts n)) × InitialAt c (slot_of starts n) t p m) × CopyAt code o d m q
     ExpressionAt (Assign (Global n) c ty) d t p q =
         (o : Operand) × (m : ℕ)
         × ((r : ℕ) × ConvertedOperandAt c t o p r × (n < bounds.globals) × At code r (instructions.StoreGlobal n o) × (r + 1 ≡ m))
@@ -90,7 +91,7 @@ module _ (code : List Instruction) (bounds : Numbering) where
     -- the value comes to slot d, converted
     pub InitialAt : Converted → (d t p q : ℕ) → Type 0
     InitialAt (Convert from kinds.NonNull a) d t p q =
-        (o : Operand) × (m : ℕ) × (r : ℕ) × OperandBy (operand_of a) (ExpressionAt a (value_slot a t) t p m) (value_slot a t) o p m
+        (o : Operand) × (m : ℕ) × (r : ℕ) × OperandBy (operand_of starts a) (ExpressionAt a (value_slot starts a t) t p m) (value_slot starts a t) o p m
         × CheckAt null_exception o m r × At code r (instructions.Move d o) × (r + 1 ≡ q)
     InitialAt (Convert from to a) d t p q = ExpressionAt a d t p q
 
@@ -101,7 +102,7 @@ module _ (code : List Instruction) (bounds : Numbering) where
     -- the value is converted where it is
     pub ConvertedOperandAt : Converted → (t : ℕ) → Operand → (p q : ℕ) → Type 0
     ConvertedOperandAt (Convert from to a) t o p q =
-        (m : ℕ) × OperandBy (operand_of a) (ExpressionAt a (value_slot a t) t p m) (value_slot a t) o p m × ConversionAt to o m q
+        (m : ℕ) × OperandBy (operand_of starts a) (ExpressionAt a (value_slot starts a t) t p m) (value_slot starts a t) o p m × ConversionAt to o m q
 
     -- the only argument of `putchar`
     pub PrintedAt : Arguments → (t : ℕ) → Operand → (p q : ℕ) → Type 0
@@ -117,7 +118,7 @@ module _ (code : List Instruction) (bounds : Numbering) where
     OperationsAt NoOperations l d t p q = (l ≡ operands.Slot d) × (p ≡ q)
     OperationsAt (ThenCompute o a os) l d t p q =
         (r : Operand) × (m : ℕ) × (s : ℕ)
-        × OperandBy (operand_of a) ((l ≡ operands.Slot t) × ExpressionAt a (value_slot a (suc t)) (suc t) p m) (value_slot a (suc t)) r p m
+        × OperandBy (operand_of starts a) ((l ≡ operands.Slot t) × ExpressionAt a (value_slot starts a (suc t)) (suc t) p m) (value_slot starts a (suc t)) r p m
         × OperatorAt o (next_slot os d t) l r m s × OperationsAt os (operands.Slot (next_slot os d t)) d t s q
     OperationsAt (ThenTest o a os) l d t p q =
         (m : ℕ) × (r : ℕ) × (l ≡ operands.Slot t) × At code p (test_jump o t m) × ExpressionAt a t t (p + 1) m × TruthAt t (next_slot os d t) m r
@@ -126,15 +127,15 @@ module _ (code : List Instruction) (bounds : Numbering) where
 
   -- where the value of an expression stands that is an operand
   abbrev pub ValueAt : Expression → (t : ℕ) → Operand → (p q : ℕ) → Type 0
-  ValueAt a t o p q = OperandBy (operand_of a) (ExpressionAt a (value_slot a t) t p q) (value_slot a t) o p q
+  ValueAt a t o p q = OperandBy (operand_of starts a) (ExpressionAt a (value_slot starts a t) t p q) (value_slot starts a t) o p q
 
   -- the second of two operands that are compared, where the first one is l
   abbrev pub SecondAt : Expression → (l r : Operand) → (t p q : ℕ) → Type 0
-  SecondAt a l r t p q = OperandBy (operand_of a) ((l ≡ operands.Slot t) × ExpressionAt a (value_slot a (suc t)) (suc t) p q) (value_slot a (suc t)) r p q
+  SecondAt a l r t p q = OperandBy (operand_of starts a) ((l ≡ operands.Slot t) × ExpressionAt a (value_slot starts a (suc t)) (suc t) p q) (value_slot starts a (suc t)) r p q
 
   abbrev pub PairAt : (a b : Expression) → (l r : Operand) → (t p q : ℕ) → Type 0
   PairAt a b l r t p q =
-      (m : ℕ) × OperandBy (left_with (operand_of b) (operand_of a)) (ExpressionAt a (slot_with (operand_of b) a t) t p m) (slot_with (operand_of b) a t) l p m
+      (m : ℕ) × OperandBy (left_with (operand_of starts b) (operand_of starts a)) (ExpressionAt a (slot_with starts (operand_of starts b) a t) t p m) (slot_with starts (operand_of starts b) a t) l p m
       × SecondAt b l r t m q
 
   abbrev pub ConditionAt : Expression → (l r : Operand) → (t p q : ℕ) → Type 0
@@ -151,7 +152,7 @@ module _ (code : List Instruction) (bounds : Numbering) where
 
   -- what is assigned comes to its place, and then stands in an operand too
   abbrev pub AssignmentAt : Lvalue → Converted → Operand → (t p q : ℕ) → Type 0
-  AssignmentAt (Local w n) c o t p q = (o ≡ operands.Slot (slot_of n)) × InitialAt c (slot_of n) t p q
+  AssignmentAt (Local w n) c o t p q = (o ≡ operands.Slot (slot_of starts n)) × InitialAt c (slot_of starts n) t p q
   AssignmentAt (Global n) c o t p q =
       (r : ℕ) × ConvertedOperandAt c t o p r × (n < bounds.globals) × At code r (instructions.StoreGlobal n o) × (r + 1 ≡ q)
 
@@ -159,7 +160,7 @@ module _ (code : List Instruction) (bounds : Numbering) where
   abbrev pub DiscardedAt : Expression → (t p q : ℕ) → Type 0
   DiscardedAt (Call callees.Putchar cs ty) t p q = (o : Operand) × (m : ℕ) × PrintedAt cs t o p m × At code m (instructions.WriteByte o) × (m + 1 ≡ q)
   DiscardedAt (Assign l c ty) t p q = (o : Operand) × AssignmentAt l c o t p q
-  DiscardedAt a t p q = (o : Operand) × OperandBy (operand_of a) (ExpressionAt a t t p q) t o p q
+  DiscardedAt a t p q = (o : Operand) × OperandBy (operand_of starts a) (ExpressionAt a t t p q) t o p q
 
   -- ---- statements
 
@@ -171,12 +172,12 @@ module _ (code : List Instruction) (bounds : Numbering) where
   abbrev pub ReturnAt : Option Converted → (t p : ℕ) → Type 0
   ReturnAt None t p = (s : ℕ) × At code p (instructions.Return s)
   ReturnAt (Some (Convert from to a)) t p =
-      (s : ℕ) × (m : ℕ) × (r : ℕ) × ReturnedAt (operand_of a) (ExpressionAt a t t p m) t s p m × ConversionAt to (operands.Slot s) m r
+      (s : ℕ) × (m : ℕ) × (r : ℕ) × ReturnedAt (operand_of starts a) (ExpressionAt a t t p m) t s p m × ConversionAt to (operands.Slot s) m r
       × At code r (instructions.Return s) × (results_of bounds.result ≡ 1)
 
   abbrev pub DeclarationAt : ℕ → Option Converted → (t p q : ℕ) → Type 0
   DeclarationAt n None t p q = (n < bounds.locals) × (p ≡ q)
-  DeclarationAt n (Some c) t p q = (n < bounds.locals) × InitialAt c (slot_of n) t p q
+  DeclarationAt n (Some c) t p q = (n < bounds.locals) × InitialAt c (slot_of starts n) t p q
 
   -- in a loop that begins at this place
   abbrev mutual

@@ -23,12 +23,14 @@ use Rattle.cyc_plain.specs.Straight.{At}
 use Rattle.cyc_meaning.specs.Values.{Value, Int, kind_of, Operand as Kinded}
 use Rattle.cyc_meaning.specs.State.{Region, World, Environment, variable, made, opened, closed, with_local, region_at, ConvertTo, Initialise, Choose, Return, Entry, Needs, NeedsPlace, Discard, Rest, Join, Loop, CloseRegion, CloseLexical, EndLoan, Handler, Caller, Main, Focus, Evaluating, Executing, Proceeding, Breaking, Continuing, Returning, Throwing, Running}
 use Rattle.cyc_meaning.specs.Step.{inside, region_end, step}
+use Rattle.cyc_lower.specs.Slots.{slot_of}
+use Rattle.cyc_lower.proofs.Slots.{slot-inside, slot_types-many}
 use Rattle.cyc_lower.specs.Lowering.{operand_of, break_target, results_of, lower_function, lower_program}
 use Rattle.cyc_lower.proofs.Stands.{ExpressionAt, InitialAt, ReturnedAt, ItemsAt}
-use Rattle.cyc_lower.proofs.Relation.{Is, Holds, held, callers, Shared, DataAt, SharedAt, in_temporary, in_local, ValueStack, AheadStack, StatementStack, LandsStack, EvaluatingAt, as_operand, into_slot, for_effect, as_condition, in_operand, ahead, behind_statement, behind_call, behind_wrong, Below, IsLast, Arrives, in_place, by_jump, code_of, bounds_in, bounds_at, base_of, top}
+use Rattle.cyc_lower.proofs.Relation.{Is, types_in, types_at, starts_at, Holds, held, callers, Shared, DataAt, SharedAt, in_temporary, in_local, ValueStack, AheadStack, StatementStack, LandsStack, EvaluatingAt, as_operand, into_slot, for_effect, as_condition, in_operand, ahead, behind_statement, behind_call, behind_wrong, Below, IsLast, Arrives, in_place, by_jump, code_of, bounds_in, bounds_at, base_of, top}
 use Rattle.cyc_lower.proofs.Data.{height-least, Holds-same, Holds-above, data_declared, data_returned}
 use Rattle.cyc_lower.proofs.Accesses.{IsWell, is_declared, is_closed, quiet_opened, quiet_closed, counted_opened, counted_closed}
-use Rattle.cyc_lower.proofs.Matched.{IsMatched, silently, one, two}
+use Rattle.cyc_lower.proofs.Matched.{IsMatched, silently, by_one, by_two}
 use Rattle.cyc_lower.proofs.Evaluations.{IsStep}
 
 module _ (source : Program) (pages calls : ℕ) where
@@ -72,7 +74,7 @@ module _ (source : Program) (pages calls : ℕ) where
 
   -- a value that is returned comes to a slot, or is in that of a local
   returned : (a : Expression) (locals : ℕ → Option ℕ) (g p : ℕ) (slots : Words) (frames : List Frame) (k : List Entry) (s m : ℕ)
-      → ReturnedAt (code_of source g) (bounds_at source g) (operand_of a) (ExpressionAt (code_of source g) (bounds_at source g) a (top source g k) (top source g k) p m) (top source g k) s p m
+      → ReturnedAt (code_of source g) (bounds_at source g) (starts_at source g) (operand_of (starts_at source g) a) (ExpressionAt (code_of source g) (bounds_at source g) (starts_at source g) a (top source g k) (top source g k) p m) (top source g k) s p m
       → Holds slots (base_of source g) (held k) → ValueStack source g locals (operands.Slot s) m frames k → EvaluatingAt source a locals g p slots frames k
   returned (Copy (Local w n) t) locals g p slots frames k s m (is, end) holds stack = as_operand (operands.Slot s) m (ap operands.Slot is, end) holds stack
   returned a locals g p slots frames k s m (is, at) holds stack =
@@ -96,7 +98,7 @@ module _ (source : Program) (pages calls : ℕ) where
       (shared, facts, as_condition x y m at_a tt (loop, r, q, jump, at_s, over, at_t, stack))
       (omega arith)
   executing (While p a s) k e w c well (shared, facts, (loop, q, (x, y, m, r, enter, leave, at_a, jump, at_s, back, end, after), stack)) =
-      one source pages calls refl shared enter
+      by_one source pages calls refl shared enter
       (λ choice. (shared, facts, as_condition x y m at_a tt (c.active.next, loop, q, (x, y, m, r, leave, at_a, jump, at_s, back, after), r, jump, at_s, back, stack)))
   executing (typed.Return None) k e w c well (shared, facts, (loop, q, (s, here), stack)) =
       silently source pages calls (Running (Executing (typed.Return None)) k e w) (Running (Returning None) k e w) (plain.Running c) refl
@@ -174,9 +176,9 @@ module _ (source : Program) (pages calls : ℕ) where
   leaves_call focus active (f ∷ frames) globals store output input k e outer w s does shared facts here (holds, in_temporary least stack) =
       let results = (routine_at (lower_program source) active.function).results in
       let back = comes_back active.function s results active.slots globals f frames k e.locals outer w facts least holds in
-      one source pages calls does shared here (λ choice. (shared_returned w output input store (length frames) shared, behind_call (operands.Slot f.result) back.0 stack))
+      by_one source pages calls does shared here (λ choice. (shared_returned w output input store (length frames) shared, behind_call (operands.Slot f.result) back.0 stack))
   leaves_call focus active (f ∷ frames) globals store output input k e outer w s does shared facts here (holds, in_local below stack) =
-      one source pages calls does shared here (λ choice. (shared_returned w output input store (length frames) shared, behind_wrong f.result stack))
+      by_one source pages calls does shared here (λ choice. (shared_returned w output input store (length frames) shared, behind_wrong f.result stack))
 
   -- with a value
   hands_back : (v : Kinded) (active : Activation) (frames : List Frame) (globals : Words) (store : StoreState) (output input : List ℕ) (k : List Entry) (e outer : Environment) (w : World) (s : ℕ)
@@ -189,7 +191,7 @@ module _ (source : Program) (pages calls : ℕ) where
   hands_back v active (f ∷ frames) globals store output input k e outer w s shared facts here is single (holds, in_temporary least stack) =
       let results = (routine_at (lower_program source) active.function).results in
       let back = comes_back active.function s results active.slots globals f frames k e.locals outer w facts least holds in
-      one source pages calls refl shared here
+      by_one source pages calls refl shared here
       (λ choice. (
         shared_returned w output input store (length frames) shared,
         in_operand (operands.Slot f.result) back.0 (subst (Is v.value) (sym (value_copied active.slots f.caller.slots s results f.result single)) is) back.1 stack,
@@ -201,7 +203,7 @@ module _ (source : Program) (pages calls : ℕ) where
       let now = copied active.slots s results f.caller.slots d in
       let elsewhere : (n : ℕ) → n ≢ d → now n ≡ f.caller.slots n =
       λ n other. ap (λ many. copied active.slots s many f.caller.slots d n) single ∙ one_copied active.slots f.caller.slots s d n other in
-      one source pages calls refl shared here
+      by_one source pages calls refl shared here
       (λ choice. (
         shared_returned w output input store (length frames) shared,
         ahead d
@@ -222,11 +224,19 @@ module _ (source : Program) (pages calls : ℕ) where
   results_at : (g : ℕ) → (routine_at (lower_program source) g).results ≡ results_of (bounds_at source g).result
   results_at g = results_in source.functions g
 
+  locals_in : (h : Option Function) → (bounds_in source h).locals ≡ length (types_in source h)
+  locals_in None = refl
+  locals_in (Some h) = sym (slot_types-many h)
+
+  -- a local of a function, in its bounds
+  local_there : (g n : ℕ) → n < (bounds_at source g).locals → n < length (types_at source g)
+  local_there g n few = omega (arith, few, locals_in (slice_get source.functions g))
+
   declares : (n : ℕ) (t : Ty) (js : Items) (k : List Entry) (e : Environment) (w : World) (c : Configuration) (loop m q : ℕ)
       → IsWell (step source (Running Proceeding (Rest (MoreItems (Declare n t None) js) ∷ k) e w))
       → SharedAt source pages calls w c → DataAt source c.active.function w.objects e.locals (callers k) c.active.slots c.globals c.frames
-      → n < base_of source c.active.function → c.active.next ≡ m
-      → ItemsAt (code_of source c.active.function) (bounds_at source c.active.function) js loop (base_of source c.active.function) m q
+      → n < length (types_at source c.active.function) → c.active.next ≡ m
+      → ItemsAt (code_of source c.active.function) (bounds_at source c.active.function) (starts_at source c.active.function) js loop (base_of source c.active.function) m q
       → StatementStack source c.active.function loop q c.frames k
       → IsMatched source pages calls (Running Proceeding (Rest (MoreItems (Declare n t None) js) ∷ k) e w) (plain.Running c)
   declares n t js k e w c loop m q well shared facts few end items stack =
@@ -237,7 +247,7 @@ module _ (source : Program) (pages calls : ℕ) where
       (is_declared (region_at w e.home) Proceeding n (kind_of t) None (Rest js ∷ k) e w well) (
         shared,
         behind_statement loop (data_declared source g w.objects e (callers k) c.active.slots c.active.slots c.globals c.frames n x few (λ i less other. refl) (λ v has. absurd (none-some v has)) facts)
-            (q, subst (λ p. ItemsAt (code_of source g) (bounds_at source g) js loop (base_of source g) p q) (sym end) items, stack),
+            (q, subst (λ p. ItemsAt (code_of source g) (bounds_at source g) (starts_at source g) js loop (base_of source g) p q) (sym end) items, stack),
       )
       (omega arith)
 
@@ -250,26 +260,27 @@ module _ (source : Program) (pages calls : ℕ) where
       (shared, behind_statement loop facts (subst (λ r. StatementStack source c.active.function loop r c.frames k) (sym end) stack))
       (omega arith)
   joins k e w c loop q shared facts (by_jump jump) stack =
-      one source pages calls refl shared jump (λ choice. (shared, behind_statement loop facts stack))
+      by_one source pages calls refl shared jump (λ choice. (shared, behind_statement loop facts stack))
 
   -- a local gets its initial value
   initial : (n : ℕ) (ty : Ty) (from to : Kind) (a : Expression) (js : Items) (k : List Entry) (e : Environment) (w : World) (c : Configuration) (loop m q : ℕ)
       → SharedAt source pages calls w c → DataAt source c.active.function w.objects e.locals (callers k) c.active.slots c.globals c.frames
-      → n < base_of source c.active.function
-      → InitialAt (code_of source c.active.function) (bounds_at source c.active.function) (Convert from to a) n (base_of source c.active.function) c.active.next m
-      → ItemsAt (code_of source c.active.function) (bounds_at source c.active.function) js loop (base_of source c.active.function) m q
+      → n < length (types_at source c.active.function)
+      → InitialAt (code_of source c.active.function) (bounds_at source c.active.function) (starts_at source c.active.function) (Convert from to a) (slot_of (starts_at source c.active.function) n) (base_of source c.active.function) c.active.next m
+      → ItemsAt (code_of source c.active.function) (bounds_at source c.active.function) (starts_at source c.active.function) js loop (base_of source c.active.function) m q
       → StatementStack source c.active.function loop q c.frames k
       → IsMatched source pages calls (Running Proceeding (Rest (MoreItems (Declare n ty (Some (Convert from to a))) js) ∷ k) e w) (plain.Running c)
   initial n ty from kinds.NonNull a js k e w c loop m q shared facts few (o, s, r, at_a, check, move, end) items stack =
       let g = c.active.function in
       silently source pages calls (Running Proceeding (Rest (MoreItems (Declare n ty (Some (Convert from kinds.NonNull a))) js) ∷ k) e w)
       (Running (Evaluating a) (Needs (ConvertTo from kinds.NonNull) ∷ Needs (Initialise n (kind_of ty) js) ∷ k) e w) (plain.Running c) refl
-      (shared, facts, as_operand o s at_a tt (r, check, (loop, q, move, few, subst (λ p. ItemsAt (code_of source g) (bounds_at source g) js loop (base_of source g) p q) (sym end) items, stack)))
+      (shared, facts, as_operand o s at_a tt (r, check, (loop, q, move, few, subst (λ p. ItemsAt (code_of source g) (bounds_at source g) (starts_at source g) js loop (base_of source g) p q) (sym end) items, stack)))
       (omega arith)
   initial n ty from to a js k e w c loop m q shared facts few at_a items stack =
+      let g = c.active.function in
       silently source pages calls (Running Proceeding (Rest (MoreItems (Declare n ty (Some (Convert from to a))) js) ∷ k) e w)
       (Running (Evaluating a) (Needs (ConvertTo from to) ∷ Needs (Initialise n (kind_of ty) js) ∷ k) e w) (plain.Running c) refl
-      (shared, facts, into_slot n m at_a tt (in_local few (tt, (loop, q, refl, items, stack))))
+      (shared, facts, into_slot (slot_of (starts_at source g) n) m at_a tt (in_local (slot-inside (types_at source g) n few) (tt, (loop, q, refl, few, items, stack))))
       (omega arith)
 
   after_statement : (k : List Entry) (e : Environment) (w : World) (c : Configuration) (loop : ℕ) → IsWell (step source (Running Proceeding k e w))
@@ -284,13 +295,13 @@ module _ (source : Program) (pages calls : ℕ) where
       (shared, facts, (loop, m, at_s, (q, items, stack)))
       (omega arith)
   after_statement (Rest (MoreItems (Declare n t None) js) ∷ k) e w c loop well shared facts (q, (m, (few, end), items), stack) =
-      declares n t js k e w c loop m q well shared facts few end items stack
+      declares n t js k e w c loop m q well shared facts (local_there c.active.function n few) end items stack
   after_statement (Rest (MoreItems (Declare n t (Some (Convert from to a))) js) ∷ k) e w c loop well shared facts (q, (m, (few, at), items), stack) =
-      initial n t from to a js k e w c loop m q shared facts few at items stack
+      initial n t from to a js k e w c loop m q shared facts (local_there c.active.function n few) at items stack
   after_statement (Rest js ∷ k) e w c loop well shared facts (q, at, stack) = absurd at
   after_statement (Join ∷ k) e w c loop well shared facts (q, arrives, stack) = joins k e w c loop q shared facts arrives stack
   after_statement (Loop a s ∷ k) e w c loop well shared facts (outer, q, (x, y, m, r, leave, at_a, jump, at_s, back, after), here, stack) =
-      one source pages calls refl shared here
+      by_one source pages calls refl shared here
       (λ choice. (shared, facts, as_condition x y m at_a tt (loop, outer, q, (x, y, m, r, leave, at_a, jump, at_s, back, after), r, jump, at_s, back, stack)))
   after_statement (CloseRegion region home ∷ k) e w c loop well shared facts stack =
       let found = is_closed Proceeding region home k e w well in
@@ -333,7 +344,7 @@ module _ (source : Program) (pages calls : ℕ) where
   breaking (Join ∷ k) e w c well (shared, facts, (loop, q, here, (r, arrives, stack))) =
       silently source pages calls (Running Breaking (Join ∷ k) e w) (Running Breaking k e w) (plain.Running c) refl (shared, facts, (loop, r, here, stack)) (omega arith)
   breaking (Loop a s ∷ k) e w c well (shared, facts, (loop, q, here, (outer, r, (x, y, m, n, leave, at_a, jump, at_s, back, after), again, stack))) =
-      two source pages calls (at c (break_target loop)) refl shared shared here (λ choice. refl) leave
+      by_two source pages calls (at c (break_target loop)) refl shared shared here (λ choice. refl) leave
       (λ same.
       let jumps : r ≡ break_target loop = ap (λ (i : Instruction). target_of i) (same_Some (instructions.Jump r) (instructions.Jump (break_target loop)) (sym leave ∙ ap (slice_get (code_of source c.active.function)) (sym same) ∙ here)) in
       absurd (omega (arith, jumps, after)))
@@ -363,7 +374,7 @@ module _ (source : Program) (pages calls : ℕ) where
   continuing (Join ∷ k) e w c well (shared, facts, (loop, q, here, (r, arrives, stack))) =
       silently source pages calls (Running Continuing (Join ∷ k) e w) (Running Continuing k e w) (plain.Running c) refl (shared, facts, (loop, r, here, stack)) (omega arith)
   continuing (Loop a s ∷ k) e w c well (shared, facts, (loop, q, here, (outer, r, (x, y, m, n, leave, at_a, jump, at_s, back, after), again, stack))) =
-      one source pages calls refl shared here
+      by_one source pages calls refl shared here
       (λ choice. (shared, facts, as_condition x y m at_a tt (loop, outer, r, (x, y, m, n, leave, at_a, jump, at_s, back, after), n, jump, at_s, back, stack)))
   continuing (CloseRegion region home ∷ k) e w c well (shared, facts, (loop, q, here, stack)) =
       let found = is_closed Continuing region home k e w well in
@@ -386,7 +397,7 @@ module _ (source : Program) (pages calls : ℕ) where
       → At (code_of source active.function) active.next (instructions.Return s) → Is v (active.slots s) → IsLast source frames k
       → IsMatched source pages calls (Running (Returning (Some (record { kind = i; value = v }))) (Main ∷ k) e w) (plain.Running (record { active = active; frames = frames; globals = globals; store = store; output = output; input = input }))
   ends_main i (Int a) active [] globals store output input [] e w s well shared here is last =
-      one source pages calls refl shared here (λ choice. (ap (λ x. Returned (signed x)) is, shared.same_output))
+      by_one source pages calls refl shared here (λ choice. (ap (λ x. Returned (signed x)) is, shared.same_output))
   ends_main i (Int a) active [] globals store output input (entry ∷ k) e w s well shared here is last = absurd last
   ends_main i (Int a) active (f ∷ frames) globals store output input k e w s well shared here is last = absurd last
   ends_main i v active frames globals store output input k e w s well shared here is last = absurd (well refl)
@@ -446,7 +457,7 @@ module _ (source : Program) (pages calls : ℕ) where
 
   pub throwing : (tag value : ℕ) (k : List Entry) (e : Environment) (w : World) (c : Configuration) → IsStep source pages calls (Throwing tag value) k e w c
   throwing tag value [] e w c well (shared, fits, plain_stack, s, here, is) =
-      one source pages calls refl shared here (λ choice. (ap (λ x. Uncaught tag (signed x)) is, shared.same_output))
+      by_one source pages calls refl shared here (λ choice. (ap (λ x. Uncaught tag (signed x)) is, shared.same_output))
   throwing tag value (Needs a ∷ k) e w c well (shared, fits, plain_stack, s, here, is) =
       silently source pages calls (Running (Throwing tag value) (Needs a ∷ k) e w) (Running (Throwing tag value) k e w) (plain.Running c) refl (shared, fits, plain_stack, s, here, is) (omega arith)
   throwing tag value (Discard ∷ k) e w c well (shared, fits, plain_stack, s, here, is) =

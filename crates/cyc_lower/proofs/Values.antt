@@ -37,14 +37,16 @@ use Rattle.cyc_meaning.specs.Operators.{Gives, Raises, has_no_result, binary_wor
 use Rattle.cyc_meaning.specs.Conversion.{conversion}
 use Rattle.cyc_meaning.specs.State.{World, Environment, with_local, made, variable, written, region_at, Awaiting, ConvertTo, Operate, Chain, Apply, Decide, Store, Pass, Initialise, Choose, Test, Return, Entry, Needs, Discard, Rest, Join, Loop, Focus, Evaluating, Given, Executing, Proceeding, Calling, Returning, Throwing, State, Running}
 use Rattle.cyc_meaning.specs.Step.{wrong, object_of, computed, stored_at, declared, passes, tested, awaits_right, chosen, looped, step}
+use Rattle.cyc_lower.specs.Slots.{slot_of}
+use Rattle.cyc_lower.proofs.Slots.{slot-inside}
 use Rattle.cyc_lower.specs.Lowering.{unary_operator, binary_operator, failing_comparison, operand_of, value_slot, next_slot, is_in, jump_if_zero, jump_if_nonzero, break_target, lower_program}
 use Rattle.cyc_lower.proofs.Stands.{OperandBy, CopyBy, CopyAt, CheckAt, CheckedAt, OperatorAt, TruthAt, ExpressionAt, OperationsAt}
-use Rattle.cyc_lower.proofs.Relation.{Is, Holds, held, contents, callers, in_place, by_jump, IsQuiet, in_temporary, in_local, drops, leaves, copies, DataIn, SharedAt, StoreAt, to_slot, to_jump, ValueStack, ConditionStack, DroppedStack, AheadStack, LandsStack, HandsOnStack, AppliedStack, ReadyAt, as_operand, into_slot, as_right, in_operand, nowhere, ahead, compared, with_left, behind_statement, Related, Matches, code_of, bounds_at, base_of, top}
+use Rattle.cyc_lower.proofs.Relation.{Is, types_at, starts_at, Holds, held, contents, callers, in_place, by_jump, IsQuiet, in_temporary, in_local, drops, leaves, copies, DataIn, SharedAt, StoreAt, to_slot, to_jump, ValueStack, ConditionStack, DroppedStack, AheadStack, LandsStack, HandsOnStack, AppliedStack, ReadyAt, as_operand, into_slot, as_right, in_operand, nowhere, ahead, compared, with_left, behind_statement, Related, Matches, code_of, bounds_at, base_of, top}
 use Rattle.cyc_lower.proofs.Data.{height-least, Holds-put, Holds-local, data_same, data_put, data_assigned, data_caught_up, data_assigned_global, data_declared}
 use Rattle.cyc_lower.proofs.Accesses.{IsWell, is_fitting, is_stored, written_here, written_elsewhere, written_length, is_declared}
 use Rattle.cyc_lower.proofs.Weights.{weight}
 use Rattle.cyc_lower.proofs.Relation.{StatementStack}
-use Rattle.cyc_lower.proofs.Matched.{IsMatched, silently, one, two, three, shared_way, shared_within, lands_depth, value_depth, lands_plain, value_plain}
+use Rattle.cyc_lower.proofs.Matched.{IsMatched, silently, by_one, by_two, by_three, shared_way, shared_within, lands_depth, value_depth, lands_plain, value_plain}
 use Rattle.cyc_lower.proofs.Evaluations.{IsStep, landed, lands_at, passes_related, passes_weight, object_of_same, global_there}
 
 -- an operand of a kind, and an int
@@ -148,7 +150,7 @@ module _ (source : Program) (pages calls : ℕ) where
   converted from kinds.Nullable i Null o k e w c well does stands (q, end, stack) = kept_value from kinds.Nullable i Null o k e w c q does stands end stack
   converted from kinds.Fat i Null o k e w c well does stands (q, end, stack) = kept_value from kinds.Fat i Null o k e w c q does stands end stack
   converted from kinds.NonNull i Null o k e w c well does (shared, facts, is, holds) (q, (jump, uncaught, end), stack) =
-      one source pages calls does shared jump
+      by_one source pages calls does shared jump
       (λ choice. not_taken (Running (Throwing 1 0) k e w) c (not (operand_word c.active.slots o == 0)) q (ap (λ x. not (x == 0)) is) (
         shared,
         omega (arith, value_depth source c.active.function e.locals o q c.frames k stack, shared.fits),
@@ -201,7 +203,7 @@ module _ (source : Program) (pages calls : ℕ) where
       → OperatesAt u o k e c → GoesBehind (of_kind i (Int a)) (Needs (Operate u) ∷ k) e w c
   operates_word u i a o k e w c result (shared, facts, is, holds) (d, here, lands) =
       let x = operand_word c.active.slots o in
-      one source pages calls (ap (λ r. computed kinds.Int r k e w) result) shared here
+      by_one source pages calls (ap (λ r. computed kinds.Int r k e w) result) shared here
       (λ choice. landed source pages calls (int_of (plain_operators.unary_result (unary_operator u) a)) (plain_operators.unary_result (unary_operator u) x) d k e w c (c.active.next + 1) (ap (plain_operators.unary_result (unary_operator u)) is) shared facts holds refl lands)
 
   operates_value : (u : UnaryOperator) (i : Kind) (v : Value) (o : Operand) (k : List Entry) (e : Environment) (w : World) (c : Configuration)
@@ -214,7 +216,7 @@ module _ (source : Program) (pages calls : ℕ) where
   operates_value unary.Negate i Null o k e w c well stands stack = absurd (well refl)
   operates_value unary.Complement i Null o k e w c well stands stack = absurd (well refl)
   operates_value unary.Not i Null o k e w c well (shared, facts, is, holds) (d, here, lands) =
-      one source pages calls refl shared here
+      by_one source pages calls refl shared here
       (λ choice. landed source pages calls (int_of 1) (truth (operand_word c.active.slots o == 0)) d k e w c (c.active.next + 1) (ap (λ x. truth (x == 0)) is) shared facts holds refl lands)
   operates_value unary.Negate i (Int a) o k e w c well stands stack = operates_word unary.Negate i a o k e w c refl stands stack
   operates_value unary.Complement i (Int a) o k e w c well stands stack = operates_word unary.Complement i a o k e w c refl stands stack
@@ -260,17 +262,17 @@ module _ (source : Program) (pages calls : ℕ) where
       → ((x y : ℕ) → plain_operators.binary_result (binary_operator u) x y ≡ binary_word u x y) → (b == 0) ≡ f
       → SharedAt source pages calls w c → DataIn source c.active.slots k e w c
       → operand_word c.active.slots l ≡ a → operand_word c.active.slots r ≡ b → Holds c.active.slots (base_of source c.active.function) (held k)
-      → CheckAt (code_of source c.active.function) (bounds_at source c.active.function) division_by_zero r c.active.next m
+      → CheckAt (code_of source c.active.function) (bounds_at source c.active.function) (starts_at source c.active.function) division_by_zero r c.active.next m
       → At (code_of source c.active.function) m (instructions.Binary (binary_operator u) d l r) → m + 1 ≡ q
       → LandsStack source c.active.function e.locals d q c.frames k → GoesBehind (of_kind j (Int b)) (Needs (Apply u (of_kind i (Int a))) ∷ k) e w c
   tested_divides u i j a b true l r d k e w c m q plain_test test same zero_b shared facts is_left is holds (jump, uncaught, behind) here end lands =
       let b_is : b ≡ 0 = eqb-true b 0 zero_b in
-      one source pages calls (ap (λ x. computed kinds.Int (if x then Raises 4 else Gives (Int (binary_word u a b))) k e w) (test b ∙ zero_b)) shared jump
+      by_one source pages calls (ap (λ x. computed kinds.Int (if x then Raises 4 else Gives (Int (binary_word u a b))) k e w) (test b ∙ zero_b)) shared jump
       (λ choice. not_taken (Running (Throwing 4 0) k e w) c (not (operand_word c.active.slots r == 0)) m (ap (λ x. not (x == 0)) (is ∙ b_is))
       (shared, omega (arith, lands_depth source c.active.function e.locals d q c.frames k lands, shared.fits), lands_plain source c.active.function e.locals d q c.frames k lands, r, uncaught, is ∙ b_is))
   tested_divides u i j a b false l r d k e w c m q plain_test test same zero_b shared facts is_left is holds (jump, uncaught, behind) here end lands =
       let nonzero : (operand_word c.active.slots r == 0) ≡ false = ap (λ x. x == 0) is ∙ zero_b in
-      two source pages calls (at c m)
+      by_two source pages calls (at c m)
       (ap (λ x. computed kinds.Int (if x then Raises 4 else Gives (Int (binary_word u a b))) k e w) (test b ∙ zero_b)) shared shared
       jump (λ choice. ap (λ x. plain_step.branches c (not x) m) nonzero)
       here (λ equal. omega (arith, equal, behind))
@@ -282,11 +284,11 @@ module _ (source : Program) (pages calls : ℕ) where
       → ((x y : ℕ) → plain_operators.binary_result (binary_operator u) x y ≡ binary_word u x y)
       → SharedAt source pages calls w c → DataIn source c.active.slots k e w c
       → operand_word c.active.slots l ≡ a → operand_word c.active.slots r ≡ b → Holds c.active.slots (base_of source c.active.function) (held k)
-      → CheckedAt (code_of source c.active.function) (bounds_at source c.active.function) u d l r c.active.next q
+      → CheckedAt (code_of source c.active.function) (bounds_at source c.active.function) (starts_at source c.active.function) u d l r c.active.next q
       → LandsStack source c.active.function e.locals d q c.frames k → GoesBehind (of_kind j (Int b)) (Needs (Apply u (of_kind i (Int a))) ∷ k) e w c
   divides u i j a b l (operands.Word (suc n)) d k e w c q plain_test test same shared facts is_left is holds (m, begin, here, end) lands =
       let nonzero : (b == 0) ≡ false = ap (λ x. x == 0) (sym is) ∙ false_from_ne_true (suc n == 0) (λ h. absurd (let z : suc n ≡ 0 = eqb-true (suc n) 0 h in omega (arith, z))) in
-      one source pages calls (ap (λ x. computed kinds.Int (if x then Raises 4 else Gives (Int (binary_word u a b))) k e w) (test b ∙ nonzero)) shared
+      by_one source pages calls (ap (λ x. computed kinds.Int (if x then Raises 4 else Gives (Int (binary_word u a b))) k e w) (test b ∙ nonzero)) shared
       (subst (λ x. At (code_of source c.active.function) x (instructions.Binary (binary_operator u) d l (operands.Word (suc n)))) (sym begin) here)
       (quotient u a b l (operands.Word (suc n)) d k e w c q plain_test same nonzero shared facts is_left is holds (ap (λ x. x + 1) begin ∙ end) lands)
   divides u i j a b l (operands.Word zero) d k e w c q plain_test test same shared facts is_left is holds (m, check, here, end) lands =
@@ -297,7 +299,7 @@ module _ (source : Program) (pages calls : ℕ) where
   computes : (u : Operator) (i j : Kind) (a b : ℕ) (l r : Operand) (d : ℕ) (k : List Entry) (e : Environment) (w : World) (c : Configuration) (q : ℕ)
       → SharedAt source pages calls w c → DataIn source c.active.slots k e w c
       → operand_word c.active.slots l ≡ a → operand_word c.active.slots r ≡ b → Holds c.active.slots (base_of source c.active.function) (held k)
-      → OperatorAt (code_of source c.active.function) (bounds_at source c.active.function) u d l r c.active.next q
+      → OperatorAt (code_of source c.active.function) (bounds_at source c.active.function) (starts_at source c.active.function) u d l r c.active.next q
       → LandsStack source c.active.function e.locals d q c.frames k → GoesBehind (of_kind j (Int b)) (Needs (Apply u (of_kind i (Int a))) ∷ k) e w c
   computes operators.Divide i j a b l r d k e w c q shared facts is_left is holds here lands =
       divides operators.Divide i j a b l r d k e w c q (λ x. refl) (λ x. refl) (λ x y. refl) shared facts is_left is holds here lands
@@ -306,7 +308,7 @@ module _ (source : Program) (pages calls : ℕ) where
   computes u i j a b l r d k e w c q shared facts is_left is holds (here, end) lands =
       let x = operand_word c.active.slots l in
       let y = operand_word c.active.slots r in
-      one source pages calls refl shared here
+      by_one source pages calls refl shared here
       (λ choice. landed source pages calls (int_of (binary_word u a b)) (binary_word u x y) d k e w c q
       (ap (λ z. binary_word u z y) is_left ∙ ap (binary_word u a) is) shared facts holds end lands)
 
@@ -373,7 +375,7 @@ module _ (source : Program) (pages calls : ℕ) where
   decides_truth v o k e w c (shared, facts, is, holds) (d, q, there, (first, second, end), lands) =
       let x = c.active.slots (top source c.active.function k) in
       let is_x : Is v.value x = subst (λ z. Is v.value (operand_word c.active.slots z)) there is in
-      two source pages calls (negated c k)
+      by_two source pages calls (negated c k)
       (ap (λ z. computed kinds.Int (truth_of z) k e w) (zero_is v.value x is_x)) shared shared first (λ choice. refl) second (λ equal. omega (arith, equal))
       (λ choice. negated_twice (truth (not (x == 0))) d k e w c q refl shared facts holds end lands)
 
@@ -381,7 +383,7 @@ module _ (source : Program) (pages calls : ℕ) where
 
   -- the value of all before goes to what is left of a chain
   chain_lands : (os : Operations) (g : ℕ) (locals : ℕ → Option ℕ) (d p q : ℕ) (frames : List Frame) (k : List Entry)
-      → OperationsAt (code_of source g) (bounds_at source g) os (operands.Slot (next_slot os d (top source g k))) d (top source g k) p q
+      → OperationsAt (code_of source g) (bounds_at source g) (starts_at source g) os (operands.Slot (next_slot os d (top source g k))) d (top source g k) p q
       → LandsStack source g locals d q frames k → LandsStack source g locals (next_slot os d (top source g k)) p frames (Needs (Chain os) ∷ k)
   chain_lands NoOperations g locals d p q frames k (is, end) lands = lands_at source pages calls g locals d p q frames k end lands
   chain_lands (ThenCompute u b os) g locals d p q frames k ops lands = in_temporary (omega arith) (to_slot (d, q, ops, lands))
@@ -396,14 +398,14 @@ module _ (source : Program) (pages calls : ℕ) where
       → (c.active.slots (top source c.active.function k) == 0) ≡ f
       → SharedAt source pages calls w c → DataIn source c.active.slots k e w c
       → Holds c.active.slots (base_of source c.active.function) (held k)
-      → TruthAt (code_of source c.active.function) (bounds_at source c.active.function) (top source c.active.function k) d m r
+      → TruthAt (code_of source c.active.function) (bounds_at source c.active.function) (starts_at source c.active.function) (top source c.active.function k) d m r
       → LandsStack source c.active.function e.locals d r c.frames (Needs (Chain os) ∷ k)
       → GoesBehind v (Needs (Chain (ThenTest u b os)) ∷ k) e w c
   decided_at_once u b os v f k e w c i d m r does here jumps other told shared facts holds (first, second, end) lands =
       let code = code_of source c.active.function in
       let free = top source c.active.function k in
       let there = at c m in
-      three source pages calls there (negated there k) does shared
+      by_three source pages calls there (negated there k) does shared
       (shared_within source pages calls w there shared) (shared_way source pages calls (Given v) (Needs (Chain (ThenTest u b os)) ∷ k) e w there shared)
       (shared_within source pages calls w (negated there k) shared) (shared_way source pages calls (Given v) (Needs (Chain (ThenTest u b os)) ∷ k) e w (negated there k) shared)
       here jumps first (λ choice. refl) second
@@ -418,7 +420,7 @@ module _ (source : Program) (pages calls : ℕ) where
   -- in a place with a test, both ways
   tests : (u : LogicalOperator) (b : Expression) (os : Operations) (v : Kinded) (f : Bool) (k : List Entry) (e : Environment) (w : World) (c : Configuration) (d q : ℕ)
       → (c.active.slots (top source c.active.function k) == 0) ≡ f → Stands v (operands.Slot (top source c.active.function k)) k e w c
-      → OperationsAt (code_of source c.active.function) (bounds_at source c.active.function) (ThenTest u b os) (operands.Slot (top source c.active.function k)) d (top source c.active.function k) c.active.next q
+      → OperationsAt (code_of source c.active.function) (bounds_at source c.active.function) (starts_at source c.active.function) (ThenTest u b os) (operands.Slot (top source c.active.function k)) d (top source c.active.function k) c.active.next q
       → LandsStack source c.active.function e.locals d q c.frames k → GoesBehind v (Needs (Chain (ThenTest u b os)) ∷ k) e w c
   tests logical.AndThen b os v true k e w c d q told (shared, facts, is, holds) (m, r, there, jump, at_b, truths, ops) lands =
       let does = ap (λ (x : Option Bool). tested x logical.AndThen b os k e w) (zero_is v.value _ is ∙ ap Some told) in
@@ -428,13 +430,13 @@ module _ (source : Program) (pages calls : ℕ) where
   tests logical.AndThen b os v false k e w c d q told (shared, facts, is, holds) (m, r, there, jump, at_b, truths, ops) lands =
       let free = top source c.active.function k in
       let does = ap (λ (x : Option Bool). tested x logical.AndThen b os k e w) (zero_is v.value _ is ∙ ap Some told) in
-      one source pages calls does shared jump
+      by_one source pages calls does shared jump
       (λ choice. not_taken (Running (Evaluating b) (Needs Decide ∷ Needs (Chain os) ∷ k) e w) c _ m told
       (shared, facts, into_slot free m at_b holds (in_temporary (omega arith) (next_slot os d free, r, refl, truths, chain_lands os c.active.function e.locals d r q c.frames k ops lands))))
   tests logical.OrElse b os v true k e w c d q told (shared, facts, is, holds) (m, r, there, jump, at_b, truths, ops) lands =
       let free = top source c.active.function k in
       let does = ap (λ (x : Option Bool). tested x logical.OrElse b os k e w) (zero_is v.value _ is ∙ ap Some told) in
-      one source pages calls does shared jump
+      by_one source pages calls does shared jump
       (λ choice. not_taken (Running (Evaluating b) (Needs Decide ∷ Needs (Chain os) ∷ k) e w) c _ m (ap not told)
       (shared, facts, into_slot free m at_b holds (in_temporary (omega arith) (next_slot os d free, r, refl, truths, chain_lands os c.active.function e.locals d r q c.frames k ops lands))))
   tests logical.OrElse b os v false k e w c d q told (shared, facts, is, holds) (m, r, there, jump, at_b, truths, ops) lands =
@@ -451,11 +453,11 @@ module _ (source : Program) (pages calls : ℕ) where
 
   -- an operator: its right operand has no code, or comes behind the left one
   chain_goes_on : (known : Option Operand) (u : Operator) (b : Expression) (os : Operations) (v : Kinded) (l : Operand) (k : List Entry) (e : Environment) (w : World) (c : Configuration) (r : Operand) (m : ℕ)
-      → IsWell (step source (Running (Given v) (Needs (Chain (ThenCompute u b os)) ∷ k) e w)) → operand_of b ≡ known → Stands v l k e w c
-      → OperandBy (code_of source c.active.function) (bounds_at source c.active.function) known
+      → IsWell (step source (Running (Given v) (Needs (Chain (ThenCompute u b os)) ∷ k) e w)) → operand_of (starts_at source c.active.function) b ≡ known → Stands v l k e w c
+      → OperandBy (code_of source c.active.function) (bounds_at source c.active.function) (starts_at source c.active.function) known
       ((l ≡ operands.Slot (top source c.active.function k))
-      × ExpressionAt (code_of source c.active.function) (bounds_at source c.active.function) b (value_slot b (suc (top source c.active.function k))) (suc (top source c.active.function k)) c.active.next m)
-      (value_slot b (suc (top source c.active.function k))) r c.active.next m
+      × ExpressionAt (code_of source c.active.function) (bounds_at source c.active.function) (starts_at source c.active.function) b (value_slot (starts_at source c.active.function) b (suc (top source c.active.function k))) (suc (top source c.active.function k)) c.active.next m)
+      (value_slot (starts_at source c.active.function) b (suc (top source c.active.function k))) r c.active.next m
       → AppliedStack source c.active.function e.locals u l r m c.frames (Needs (Chain os) ∷ k)
       → GoesBehind v (Needs (Chain (ThenCompute u b os)) ∷ k) e w c
   chain_goes_on (Some known) u b os v l k e w c r m well is_known (shared, facts, is, holds) (r_is, begin) applied =
@@ -470,7 +472,7 @@ module _ (source : Program) (pages calls : ℕ) where
         shared,
         facts,
         as_operand r m
-            (subst (λ x. OperandBy (code_of source g) (bounds_at source g) x (ExpressionAt (code_of source g) (bounds_at source g) b (value_slot b free) free c.active.next m) (value_slot b free) r c.active.next m) (sym is_known) (r_is, at_b))
+            (subst (λ x. OperandBy (code_of source g) (bounds_at source g) (starts_at source g) x (ExpressionAt (code_of source g) (bounds_at source g) (starts_at source g) b (value_slot (starts_at source c.active.function) b free) free c.active.next m) (value_slot (starts_at source c.active.function) b free) r c.active.next m) (sym is_known) (r_is, at_b))
             (subst (λ x. Is v.value (operand_word c.active.slots x)) there is, holds)
             (subst (λ x. AppliedStack source g e.locals u x r m c.frames (Needs (Chain os) ∷ k)) there applied),
       )
@@ -484,10 +486,10 @@ module _ (source : Program) (pages calls : ℕ) where
       (shared, in_operand o facts is holds stack)
       (omega arith)
   chains (ThenCompute u b os) v o k e w c well stands (to_slot (d, q, (r, m, s, at_b, at, ops), lands)) =
-      chain_goes_on (operand_of b) u b os v o k e w c r m well refl stands at_b
+      chain_goes_on (operand_of (starts_at source c.active.function) b) u b os v o k e w c r m well refl stands at_b
       (to_slot (next_slot os d (top source c.active.function k), s, at, chain_lands os c.active.function e.locals d s q c.frames k ops lands))
   chains (ThenCompute u b NoOperations) v o k e w c well stands (to_jump (failing, r, q, (is, at_b), stack)) =
-      chain_goes_on (operand_of b) u b NoOperations v o k e w c r q well refl stands at_b (to_jump (failing, is, stack))
+      chain_goes_on (operand_of (starts_at source c.active.function) b) u b NoOperations v o k e w c r q well refl stands at_b (to_jump (failing, is, stack))
   chains (ThenTest u b os) v o k e w c well (shared, facts, is, holds) (to_slot (d, q, (m, r, there, jump, at_b, truths, ops), lands)) =
       tests u b os v (c.active.slots (top source c.active.function k) == 0) k e w c d q refl
       (shared, facts, subst (λ x. Is v.value (operand_word c.active.slots x)) there is, holds) (m, r, refl, jump, at_b, truths, ops) lands
@@ -544,15 +546,15 @@ module _ (source : Program) (pages calls : ℕ) where
       → At (code_of source c.active.function) c.active.next i → ((choice : Choice) → performed (lower_program source) choice c i ≡ plain.Running d) → c.active.next ≢ d.active.next
       → Handed v k e w d → IsMatched source pages calls (Running focus before e w0) (plain.Running c)
   hands_behind {focus} {before} {w0} {i} v k e w c d does shared shared_d here first other (at_once related) =
-      one source pages calls does shared here (λ choice. subst (Matches source pages calls (Running (Given v) k e w)) (sym (first choice)) related)
+      by_one source pages calls does shared here (λ choice. subst (Matches source pages calls (Running (Given v) k e w)) (sym (first choice)) related)
   hands_behind {focus} {before} {w0} {i} v k e w c d does shared shared_d here first other (by_copy j at goes) =
-      two source pages calls d does shared shared_d here first at other goes
+      by_two source pages calls d does shared shared_d here first at other goes
 
   hands_at_once : (v : Kinded) (before : List Entry) (k : List Entry) (e : Environment) (w0 w : World) (c : Configuration)
       → step source (Running (Given v) before e w0) ≡ Running (Given v) k e w → SharedAt source pages calls w0 c
       → weight (Running (Given v) k e w) < weight (Running (Given v) before e w0) → Handed v k e w c → GoesBehind v before e w0 c
   hands_at_once v before k e w0 w c does shared lighter (at_once related) = silently source pages calls (Running (Given v) before e w0) (Running (Given v) k e w) (plain.Running c) does related lighter
-  hands_at_once v before k e w0 w c does shared lighter (by_copy i at goes) = one source pages calls does shared at goes
+  hands_at_once v before k e w0 w c does shared lighter (by_copy i at goes) = by_one source pages calls does shared at goes
 
   stores : (object : ℕ) (v : Kinded) (l : Lvalue) (o to : Operand) (k : List Entry) (e : Environment) (w : World) (c : Configuration) (q : ℕ)
       → object_of e l ≡ Some object → IsWell (stored_at (Thin object 0) v (Given v) k e w) → Stands v o k e w c
@@ -562,8 +564,9 @@ module _ (source : Program) (pages calls : ℕ) where
       let g = c.active.function in
       let x = operand_word c.active.slots o in
       let stored = is_stored object v (Given v) k e w well in
-      let few : n < base_of source g = (facts.2.within n object found).0 in
-      let after : Configuration = advanced (with_slots c (put c.active.slots n x)) in
+      let slot = slot_of (starts_at source g) n in
+      let few = slot-inside (types_at source g) n (facts.2.within n object found).0 in
+      let after : Configuration = advanced (with_slots c (put c.active.slots slot x)) in
       let next = written w object 0 stored.at v.value in
       hands_behind v k e next c after stored.gives shared shared here (λ choice. refl) (λ same. omega (arith, same))
       (handed v to k e next after q end (
@@ -571,8 +574,8 @@ module _ (source : Program) (pages calls : ℕ) where
         data_assigned source g w.objects next.objects e.locals (callers k) c.active.slots c.globals c.frames n object v.value x found
             (written_here w object stored.at v.value stored.object_there stored.cell_there) (written_elsewhere w object stored.at v.value stored.object_there stored.cell_there)
             (written_length w object stored.at v.value stored.object_there stored.cell_there) is facts,
-        subst (λ z. Is v.value (operand_word after.active.slots z)) (sym there) (subst (Is v.value) (sym (put-same c.active.slots n x)) is),
-        Holds-local c.active.slots (base_of source g) (held k) n x few holds,
+        subst (λ z. Is v.value (operand_word after.active.slots z)) (sym there) (subst (Is v.value) (sym (put-same c.active.slots slot x)) is),
+        Holds-local c.active.slots (base_of source g) (held k) slot x few holds,
       ) hands)
   stores object v (Global n) o to k e w c q found well (shared, facts, is, holds) (here, end, there, few) hands =
       let g = c.active.function in
@@ -602,15 +605,16 @@ module _ (source : Program) (pages calls : ℕ) where
 
   -- the local has the value already
   catches_up : (object n old : ℕ) (v : Kinded) (k : List Entry) (e : Environment) (w : World) (c : Configuration)
-      → e.locals n ≡ Some object → IsWell (stored_at (Thin object 0) v (Given v) k e w) → SharedAt source pages calls w c → DataIn source (put c.active.slots n old) k e w c
-      → Is v.value (c.active.slots n) → Holds c.active.slots (base_of source c.active.function) (held k)
-      → HandsOnStack source c.active.function e.locals (operands.Slot n) c.active.next c.frames k → GoesBehind v (Needs (Store (Thin object 0)) ∷ k) e w c
+      → e.locals n ≡ Some object → IsWell (stored_at (Thin object 0) v (Given v) k e w) → SharedAt source pages calls w c
+      → DataIn source (put c.active.slots (slot_of (starts_at source c.active.function) n) old) k e w c
+      → Is v.value (c.active.slots (slot_of (starts_at source c.active.function) n)) → Holds c.active.slots (base_of source c.active.function) (held k)
+      → HandsOnStack source c.active.function e.locals (operands.Slot (slot_of (starts_at source c.active.function) n)) c.active.next c.frames k → GoesBehind v (Needs (Store (Thin object 0)) ∷ k) e w c
   catches_up object n old v k e w c found well shared facts is holds hands =
       let g = c.active.function in
       let stored = is_stored object v (Given v) k e w well in
       let next = written w object 0 stored.at v.value in
       hands_at_once v (Needs (Store (Thin object 0)) ∷ k) k e w next c stored.gives shared (omega arith)
-      (handed v (operands.Slot n) k e next c c.active.next refl (
+      (handed v (operands.Slot (slot_of (starts_at source g) n)) k e next c c.active.next refl (
         shared,
         data_caught_up source g w.objects next.objects e.locals (callers k) c.active.slots c.globals c.frames n object v.value old found
             (written_here w object stored.at v.value stored.object_there stored.cell_there) (written_elsewhere w object stored.at v.value stored.object_there stored.cell_there)
@@ -656,31 +660,34 @@ module _ (source : Program) (pages calls : ℕ) where
       → ValueStack source c.active.function e.locals o c.active.next c.frames (Needs (Initialise n kind js) ∷ k) → GoesBehind v (Needs (Initialise n kind js) ∷ k) e w c
   initialises n kind js v o k e w c well (shared, facts, is, holds) (loop, q, here, few, items, stack) =
       let g = c.active.function in
+      let slot = slot_of (starts_at source g) n in
       let x = operand_word c.active.slots o in
-      one source pages calls (makes_local n kind js v k e w well) shared here
+      by_one source pages calls (makes_local n kind js v k e w well) shared here
       (λ choice. (
         shared,
         behind_statement loop
-            (data_declared source g w.objects e (callers k) c.active.slots (put c.active.slots n x) c.globals c.frames n (variable e.home kind (Some v.value)) few
-            (λ m less other. put-other c.active.slots n m x other)
-            (λ u has. subst (λ y. Is u y) (sym (put-same c.active.slots n x)) (subst (λ y. Is y x) (same_Some v.value u has) is)) facts)
+            (data_declared source g w.objects e (callers k) c.active.slots (put c.active.slots slot x) c.globals c.frames n (variable e.home kind (Some v.value)) few
+            (λ m less other. put-other c.active.slots slot m x other)
+            (λ u has. subst (λ y. Is u y) (sym (put-same c.active.slots slot x)) (subst (λ y. Is y x) (same_Some v.value u has) is)) facts)
             (q, items, stack),
       ))
 
   initialises_ahead : (n old : ℕ) (kind : Kind) (js : Items) (v : Kinded) (k : List Entry) (e : Environment) (w : World) (c : Configuration) (loop : ℕ)
       → IsWell (step source (Running (Given v) (Needs (Initialise n kind js) ∷ k) e w)) → SharedAt source pages calls w c
-      → DataIn source (put c.active.slots n old) (Needs (Initialise n kind js) ∷ k) e w c → n < base_of source c.active.function → Is v.value (c.active.slots n)
+      → DataIn source (put c.active.slots (slot_of (starts_at source c.active.function) n) old) (Needs (Initialise n kind js) ∷ k) e w c
+      → n < length (types_at source c.active.function) → Is v.value (c.active.slots (slot_of (starts_at source c.active.function) n))
       → StatementStack source c.active.function loop c.active.next c.frames (Rest js ∷ k) → GoesBehind v (Needs (Initialise n kind js) ∷ k) e w c
   initialises_ahead n old kind js v k e w c loop well shared facts few is stack =
       let g = c.active.function in
+      let slot = slot_of (starts_at source g) n in
       let slots = c.active.slots in
       silently source pages calls (Running (Given v) (Needs (Initialise n kind js) ∷ k) e w)
       (Running Proceeding (Rest js ∷ k) (with_local e n (length w.objects)) (made w (variable e.home kind (Some v.value)))) (plain.Running c)
       (makes_local n kind js v k e w well) (
         shared,
         behind_statement loop
-            (data_declared source g w.objects e (callers k) (put slots n old) slots c.globals c.frames n (variable e.home kind (Some v.value)) few
-            (λ m less other. sym (put-other slots n m old other)) (λ u has. subst (λ y. Is y (slots n)) (same_Some v.value u has) is) facts)
+            (data_declared source g w.objects e (callers k) (put slots slot old) slots c.globals c.frames n (variable e.home kind (Some v.value)) few
+            (λ m less other. sym (put-other slots slot m old other)) (λ u has. subst (λ y. Is y (slots slot)) (same_Some v.value u has) is) facts)
             stack,
       )
       (omega arith)
@@ -691,10 +698,10 @@ module _ (source : Program) (pages calls : ℕ) where
       → SharedAt source pages calls w c → DataIn source c.active.slots (Needs (Choose s t) ∷ k) e w c
       → ConditionStack source c.active.function failing l r c.active.next c.frames (Needs (Choose s t) ∷ k) → GoesBehind v (Needs (Choose s t) ∷ k) e w c
   chooses s t v true failing l r k e w c fails told shared facts (loop, m, q, jump, at_s, over, at_t, stack) =
-      one source pages calls (ap (λ (x : Option Bool). chosen x s t k e w) fails) shared jump
+      by_one source pages calls (ap (λ (x : Option Bool). chosen x s t k e w) fails) shared jump
       (λ choice. taken (Running (Executing t) (Join ∷ k) e w) c _ (m + 1) told (shared, facts, (loop, q, at_t, (q, in_place refl, stack))))
   chooses s t v false failing l r k e w c fails told shared facts (loop, m, q, jump, at_s, over, at_t, stack) =
-      one source pages calls (ap (λ (x : Option Bool). chosen x s t k e w) fails) shared jump
+      by_one source pages calls (ap (λ (x : Option Bool). chosen x s t k e w) fails) shared jump
       (λ choice. not_taken (Running (Executing s) (Join ∷ k) e w) c _ (m + 1) told (shared, facts, (loop, m, at_s, (q, by_jump over, stack))))
 
   loops : (a : Expression) (s : Statement) (v : Kinded) (f : Bool) (failing : Comparison) (l r : Operand) (k : List Entry) (e : Environment) (w : World) (c : Configuration)
@@ -702,14 +709,14 @@ module _ (source : Program) (pages calls : ℕ) where
       → SharedAt source pages calls w c → DataIn source c.active.slots (Needs (Test a s) ∷ k) e w c
       → ConditionStack source c.active.function failing l r c.active.next c.frames (Needs (Test a s) ∷ k) → GoesBehind v (Needs (Test a s) ∷ k) e w c
   loops a s v true failing l r k e w c fails told shared facts (loop, outer, q, (x, y, m, n, leave, at_a, again, at_body, repeats, after), i, jump, at_s, back, stack) =
-      two source pages calls (at c (break_target loop)) (ap (λ (z : Option Bool). looped z a s k e w) fails) shared shared
+      by_two source pages calls (at c (break_target loop)) (ap (λ (z : Option Bool). looped z a s k e w) fails) shared shared
       jump (λ choice. ap (λ z. plain_step.branches c z (break_target loop)) told)
       leave
       (other_place (code_of source c.active.function) c.active.next (break_target loop) _ _ jump leave
       (λ same. let f : instructions.Branch failing l r (break_target loop) ≡ instructions.Jump q = same in cc))
       (λ choice. (shared, behind_statement outer facts stack))
   loops a s v false failing l r k e w c fails told shared facts (loop, outer, q, around, m, jump, at_s, back, stack) =
-      one source pages calls (ap (λ (z : Option Bool). looped z a s k e w) fails) shared jump
+      by_one source pages calls (ap (λ (z : Option Bool). looped z a s k e w) fails) shared jump
       (λ choice. not_taken (Running (Executing s) (Loop a s ∷ k) e w) c _ _ told (shared, facts, (loop, m, at_s, (outer, q, around, back, stack))))
 
   -- ---- all that waits for a value
@@ -763,13 +770,15 @@ module _ (source : Program) (pages calls : ℕ) where
       silently source pages calls (Running (Given v) (Needs (Chain NoOperations) ∷ k) e w) (Running (Given v) k e w) (plain.Running c) refl
       (shared, ahead n (old, facts) below is holds stack)
       (omega arith)
-  ahead_given v n old (Needs (Store place) ∷ k) e w c well shared facts below is holds (object, place_is, found, hands) =
+  ahead_given v n old (Needs (Store place) ∷ k) e w c well shared facts below is holds (number, object, place_is, found, same, hands) =
       subst (λ p. GoesBehind v (Needs (Store p) ∷ k) e w c) (sym place_is)
-      (catches_up object n old v k e w c found (subst (λ p. IsWell (stored_at p v (Given v) k e w)) place_is well) shared facts is holds hands)
-  ahead_given v n old (Needs (Initialise number kind js) ∷ k) e w c well shared facts below is holds (loop, q, same, items, stack) =
+      (catches_up object number old v k e w c found (subst (λ p. IsWell (stored_at p v (Given v) k e w)) place_is well) shared
+      (subst (λ x. DataIn source (put c.active.slots x old) k e w c) (sym same) facts) (subst (λ x. Is v.value (c.active.slots x)) (sym same) is) holds
+      (subst (λ x. HandsOnStack source c.active.function e.locals (operands.Slot x) c.active.next c.frames k) (sym same) hands))
+  ahead_given v n old (Needs (Initialise number kind js) ∷ k) e w c well shared facts below is holds (loop, q, same, few, items, stack) =
       initialises_ahead number old kind js v k e w c loop well shared
       (subst (λ x. DataIn source (put c.active.slots x old) (Needs (Initialise number kind js) ∷ k) e w c) (sym same) facts)
-      (subst (λ x. x < base_of source c.active.function) (sym same) below) (subst (λ x. Is v.value (c.active.slots x)) (sym same) is) (q, items, stack)
+      few (subst (λ x. Is v.value (c.active.slots x)) (sym same) is) (q, items, stack)
   ahead_given v n old k e w c well shared facts below is holds stack = absurd stack
 
   compared_given : (v : Kinded) (failing : Comparison) (l r : Operand) (k : List Entry) (e : Environment) (w : World) (c : Configuration) → SharedAt source pages calls w c → DataIn source c.active.slots k e w c

@@ -2,8 +2,6 @@
 use Rattle.std.proofs.Common.{◌≡◌, ℕ, zero, suc, ◌+◌, ◌-◌, ◌≤◌, ◌<◌, Bool, true, false, List, [], ◌∷◌, ◌++◌, length, map, Option, None, Some, slice_get, slice_index_or, All, IsSomeAnd, refl, sym, ap, subst, ◌∙◌, arith, length-append}
 use Rattle.std.specs.List.{AllByRecursion}
 use Rattle.std.proofs.lemmas.Option.{same_Some, none-some}
-use Rattle.cyc_syntax.specs.declared.tree.PointerKind.{PointerKind}
-use Rattle.cyc_syntax.specs.declared.tree.PointerKind.TheVariants.{Nullable, NonNull, Fat}
 use Rattle.cyc_types.specs.declared.typed.Kind.{Kind}
 use Rattle.cyc_types.specs.declared.typed.Kind.TheVariants as kinds
 use Rattle.cyc_types.specs.declared.typed.Callee.TheVariants as callees
@@ -12,8 +10,7 @@ use Rattle.cyc_types.specs.declared.typed.Operator.{Operator}
 use Rattle.cyc_types.specs.declared.typed.Operator.TheVariants as operators
 use Rattle.cyc_types.specs.declared.typed.LogicalOperator.{LogicalOperator}
 use Rattle.cyc_types.specs.declared.typed.LogicalOperator.TheVariants as logical
-use Rattle.cyc_types.specs.Types.{Ty, words_of, words_of_mark, ValueType, Void, Null, Value, result_type}
-use Rattle.cyc_types.specs.Types as types
+use Rattle.cyc_types.specs.Types.{Ty, words_of, ValueType, Void, Null, Value, result_type}
 use Rattle.cyc_types.specs.TypedTrees.{Lvalue, Local, Global, Expression, Number, Copy, Call, Unary, Binary, Assign, Converted, Convert, Arguments, NoArguments, MoreArguments, Operations, NoOperations, ThenCompute, ThenTest, type_of, Statement, Block, Empty, Evaluate, If, While, Return, Break, Continue, Items, NoItems, MoreItems, Execute, Declare, GlobalVariable, Signature, Function, Program}
 use Rattle.cyc_types.specs.typing.WellTyped.{signature_of}
 use Rattle.cyc_types.specs.Numbered.{Numbering, signatures_of, argument_count, IsWithin, IsNumbered, IsNumberedConverted, AreNumberedArguments, AreNumberedOperations, IsNumberedReturn, IsNumberedInitial, IsNumberedStatement, AreNumberedItems, numbering_of, AreNumberedFunctions, IsNumberedProgram}
@@ -29,7 +26,9 @@ use Rattle.std.specs.Prelude.{if◌then◌else◌}
 use Rattle.cyc_meaning.specs.Operators.{null_exception, division_by_zero}
 use Rattle.cyc_meaning.specs.Values.{words_of_kind}
 use Rattle.cyc_meaning.specs.FrameCount.{result_words, operand_words, converted_words, argument_words, expression_need, converted_need, arguments_need, operations_need, initial_need, statement_need, items_need, words_of_all}
-use Rattle.cyc_lower.specs.Lowering.{slot_of, unary_operator, binary_operator, operand_of, operand_or, code_unless, slot_or, code_unless_slot, left_with, left_of, value_slot, next_slot, slot_with, left_slot, value_operand, converted_operand, printed_operand, check_code, conversion_code, divisor_code, checked_code, operator_code, truth_code, load_code, low_byte, test_code, is_in, copy_code, expression_code, arguments_code, converted_code, converted_operand_code, printed_code, initial_code, assignment_code, operations_code, discarded_code, failing_comparison, compared_or, first_operand, first_code, second_code, pair_code, condition_code, condition_of, failing_jump, break_target, continue_target, return_code, declaration_code, statement_code, items_code, first_temporary, results_of, lower_function, lower_global, lower_program}
+use Rattle.cyc_lower.specs.Slots.{starts_of, slot_of}
+use Rattle.cyc_lower.specs.Lowering.{slot_types, unary_operator, binary_operator, operand_of, operand_or, code_unless, slot_or, code_unless_slot, left_with, left_of, value_slot, next_slot, slot_with, left_slot, value_operand, converted_operand, printed_operand, check_code, conversion_code, divisor_code, checked_code, operator_code, truth_code, load_code, low_byte, test_code, is_in, copy_code, expression_code, arguments_code, converted_code, converted_operand_code, printed_code, initial_code, assignment_code, operations_code, discarded_code, failing_comparison, compared_or, first_operand, first_code, second_code, pair_code, condition_code, condition_of, failing_jump, break_target, continue_target, return_code, declaration_code, statement_code, items_code, first_temporary, results_of, lower_function, lower_global, lower_program}
+use Rattle.cyc_lower.proofs.Slots.{words_positive, slot-inside, slot_types-many, slots-few}
 
 -- ---- lists
 
@@ -51,18 +50,6 @@ last_of xs x =
     at_end (y ∷ ys) = at_end ys
 
 -- ---- words
-
-mark_positive : (k : PointerKind) → 1 ≤ words_of_mark k
-mark_positive Nullable = omega arith
-mark_positive NonNull = omega arith
-mark_positive Fat = omega arith
-
-words_positive : (t : Ty) → 1 ≤ words_of t
-words_positive types.Int = omega arith
-words_positive (types.Pointer k t r) = mark_positive k
-words_positive (types.Handle r) = omega arith
-words_positive (types.Key r) = omega arith
-words_positive (types.Struct n rs) = omega arith
 
 kind_positive : (k : Kind) → 1 ≤ words_of_kind k
 kind_positive kinds.Int = omega arith
@@ -100,7 +87,7 @@ record IsKnown (program : PlainProgram) (n : ℕ) (s : Signature) : Type 0 where
   pub parameters : (routine_at program n).parameters ≡ length s.parameters
   pub results : (routine_at program n).results ≡ results_of s.result
 
-module _ (program : PlainProgram) (r : Routine) (b : Numbering) (locals : b.locals ≤ r.slots) (globals : b.globals ≡ length program.globals) (known : (n : ℕ) (s : Signature) → slice_get b.functions n ≡ Some s → IsKnown program n s) (results : r.results ≤ 1) where
+module _ (program : PlainProgram) (r : Routine) (b : Numbering) (starts : List ℕ) (locals : (n : ℕ) → n < b.locals → slot_of starts n < r.slots) (globals : b.globals ≡ length program.globals) (known : (n : ℕ) (s : Signature) → slice_get b.functions n ≡ Some s → IsKnown program n s) (results : r.results ≤ 1) where
   abbrev AreIn : List Instruction → Type 0
   AreIn code = AllByRecursion (IsInRange program r) code
 
@@ -117,26 +104,26 @@ module _ (program : PlainProgram) (r : Routine) (b : Numbering) (locals : b.loca
   unless_slot_in (Some (operands.Word n)) x p short inside = inside short
   unless_slot_in None x p short inside = inside short
 
-  slot_in : (a : Expression) (t : ℕ) → IsNumbered b a → t < r.slots → value_slot a t < r.slots
-  slot_in (Assign (Local w n) c ty) t (within, numbered) few = omega (arith, within, locals)
-  slot_in a t numbered few = few
+  slot_fits : (a : Expression) (t : ℕ) → IsNumbered b a → t < r.slots → value_slot starts a t < r.slots
+  slot_fits (Assign (Local w n) c ty) t (within, numbered) few = locals n within
+  slot_fits a t numbered few = few
 
-  value_in : (a : Expression) (t : ℕ) → IsNumbered b a → t < r.slots → IsOperand r (value_operand a t)
+  value_in : (a : Expression) (t : ℕ) → IsNumbered b a → t < r.slots → IsOperand r (value_operand starts a t)
   value_in (Number n) t numbered few = tt
-  value_in (Copy (Local w n) ty) t within few = omega (arith, within, locals)
-  value_in (Assign (Local w n) c ty) t (within, numbered) few = omega (arith, within, locals)
+  value_in (Copy (Local w n) ty) t within few = locals n within
+  value_in (Assign (Local w n) c ty) t (within, numbered) few = locals n within
   value_in a t numbered few = few
 
-  returned_in : (a : Expression) (t : ℕ) → IsNumbered b a → t < r.slots → slot_or (operand_of a) t < r.slots
-  returned_in (Copy (Local w n) ty) t within few = omega (arith, within, locals)
+  returned_in : (a : Expression) (t : ℕ) → IsNumbered b a → t < r.slots → slot_or (operand_of starts a) t < r.slots
+  returned_in (Copy (Local w n) ty) t within few = locals n within
   returned_in a t numbered few = few
 
-  converted_value_in : (c : Converted) (t : ℕ) → IsNumberedConverted b c → t < r.slots → IsOperand r (converted_operand c t)
+  converted_value_in : (c : Converted) (t : ℕ) → IsNumberedConverted b c → t < r.slots → IsOperand r (converted_operand starts c t)
   converted_value_in (Convert from to a) t numbered few = value_in a t numbered few
 
-  printed_value_in : (cs : Arguments) (o : Operand) (t : ℕ) → AreNumberedArguments b cs → IsOperand r o → t < r.slots → IsOperand r (printed_operand cs o t)
+  printed_value_in : (cs : Arguments) (o : Operand) (t : ℕ) → AreNumberedArguments b cs → IsOperand r o → t < r.slots → IsOperand r (printed_operand starts cs o t)
   printed_value_in NoArguments o t numbered inside few = inside
-  printed_value_in (MoreArguments c cs) o t (first, rest) inside few = printed_value_in cs (converted_operand c t) t rest (converted_value_in c t first few) few
+  printed_value_in (MoreArguments c cs) o t (first, rest) inside few = printed_value_in cs (converted_operand starts c t) t rest (converted_value_in c t first few) few
 
   next_in : (os : Operations) (d t : ℕ) → d < r.slots → t < r.slots → next_slot os d t < r.slots
   next_in NoOperations d t few room = few
@@ -153,22 +140,22 @@ module _ (program : PlainProgram) (r : Routine) (b : Numbering) (locals : b.loca
   has_room (ThenTest o a os) ty t left numbered some few = omega (arith, few, some)
   has_room os ty t left numbered some few = absurd numbered
 
-  slot_with_in : (known : Option Operand) (a : Expression) (t : ℕ) → IsNumbered b a → t < r.slots → slot_with known a t < r.slots
-  slot_with_in (Some o) a t numbered few = slot_in a t numbered few
+  slot_with_in : (known : Option Operand) (a : Expression) (t : ℕ) → IsNumbered b a → t < r.slots → slot_with starts known a t < r.slots
+  slot_with_in (Some o) a t numbered few = slot_fits a t numbered few
   slot_with_in None a t numbered few = few
 
-  left_with_in : (known : Option Operand) (a : Expression) (t : ℕ) → IsNumbered b a → t < r.slots → IsOperand r (operand_or (left_with known (operand_of a)) (slot_with known a t))
+  left_with_in : (known : Option Operand) (a : Expression) (t : ℕ) → IsNumbered b a → t < r.slots → IsOperand r (operand_or (left_with known (operand_of starts a)) (slot_with starts known a t))
   left_with_in (Some o) a t numbered few = value_in a t numbered few
   left_with_in None a t numbered few = few
 
-  left_slot_in : (a : Expression) (os : Operations) (d t : ℕ) → IsNumbered b a → d < r.slots → HasRoom os t → left_slot a os d t < r.slots
+  left_slot_in : (a : Expression) (os : Operations) (d t : ℕ) → IsNumbered b a → d < r.slots → HasRoom os t → left_slot starts a os d t < r.slots
   left_slot_in a NoOperations d t numbered few room = few
-  left_slot_in a (ThenCompute o c os) d t numbered few room = slot_with_in (operand_of c) a t numbered room
+  left_slot_in a (ThenCompute o c os) d t numbered few room = slot_with_in (operand_of starts c) a t numbered room
   left_slot_in a os d t numbered few room = room
 
-  left_in : (a : Expression) (os : Operations) (d t : ℕ) → IsNumbered b a → d < r.slots → HasRoom os t → IsOperand r (operand_or (left_of a os) (left_slot a os d t))
+  left_in : (a : Expression) (os : Operations) (d t : ℕ) → IsNumbered b a → d < r.slots → HasRoom os t → IsOperand r (operand_or (left_of starts a os) (left_slot starts a os d t))
   left_in a NoOperations d t numbered few room = few
-  left_in a (ThenCompute o c os) d t numbered few room = left_with_in (operand_of c) a t numbered room
+  left_in a (ThenCompute o c os) d t numbered few room = left_with_in (operand_of starts c) a t numbered room
   left_in a os d t numbered few room = room
 
   check_in : (tag : ℕ) (o : Operand) (p : ℕ) → IsOperand r o → p + 2 < length r.code → AreIn (check_code tag o p)
@@ -194,8 +181,8 @@ module _ (program : PlainProgram) (r : Routine) (b : Numbering) (locals : b.loca
   operator_in operators.Remainder l m p d few left right short = checked_in operators.Remainder l m p d few left right short
   operator_in o l m p d few left right short = ((few, left, right), tt)
 
-  load_in : (l : Lvalue) (d : ℕ) → IsWithin b l → d < r.slots → AreIn (load_code l d)
-  load_in (Local w n) d within few = ((few, omega (arith, within, locals)), tt)
+  load_in : (l : Lvalue) (d : ℕ) → IsWithin b l → d < r.slots → AreIn (load_code starts l d)
+  load_in (Local w n) d within few = ((few, locals n within), tt)
   load_in (Global n) d within few = ((few, omega (arith, within, globals)), tt)
 
   copy_in : (is : Bool) (o : Operand) (d : ℕ) → IsOperand r o → d < r.slots → AreIn (if is then [] else instructions.Move d o ∷ [])
@@ -213,23 +200,23 @@ module _ (program : PlainProgram) (r : Routine) (b : Numbering) (locals : b.loca
   -- ---- expressions
 
   mutual
-    expression_in : (a : Expression) (p d t : ℕ) → IsNumbered b a → d < r.slots → t + expression_need a ≤ r.slots → p + length (expression_code a p d t) < length r.code → AreIn (expression_code a p d t)
+    expression_in : (a : Expression) (p d t : ℕ) → IsNumbered b a → d < r.slots → t + expression_need a ≤ r.slots → p + length (expression_code starts a p d t) < length r.code → AreIn (expression_code starts a p d t)
     expression_in (Number n) p d t numbered room few short = ((room, tt), tt)
     expression_in (Copy l ty) p d t numbered room few short = load_in l d numbered room
     expression_in (Call callees.Putchar cs ty) p d t (s, signature, many, same, numbered) room few short =
-        let o = printed_operand cs (operands.Slot t) t in
-        let front = printed_code cs p t in
+        let o = printed_operand starts cs (operands.Slot t) t in
+        let front = printed_code starts cs p t in
         let back = instructions.WriteByte o ∷ low_byte o d ∷ [] in
         let gives : result_words ty ≡ 1 = ap result_words (same ∙ ap (λ (x : Signature). result_type x.result) signature) in
         let inside = printed_value_in cs (operands.Slot t) t numbered (omega (arith, few, gives)) (omega (arith, few, gives)) in
         append front back (printed_in cs p t t 0 numbered (omega (arith, few, gives)) (omega arith) (omega (arith, few)) (omega (arith, short, length-append front back)))
         (inside, ((room, inside, tt), tt))
     expression_in (Call callees.Getchar cs ty) p d t (s, signature, many, same, numbered) room few short =
-        let front = arguments_code cs p t in
+        let front = arguments_code starts cs p t in
         let back = instructions.ReadByte d ∷ [] in
         append front back (arguments_in cs p t t 0 numbered (omega arith) (omega (arith, few)) (omega (arith, few)) (omega (arith, short, length-append front back))) (room, tt)
     expression_in (Call (callees.Function g) cs ty) p d t (s, signature, many, same, numbered) room few short =
-        let front = arguments_code cs p t in
+        let front = arguments_code starts cs p t in
         let back = instructions.Call g t (argument_count cs) d ∷ [] in
         let f = known g s signature in
         append front back (arguments_in cs p t t 0 numbered (omega arith) (omega (arith, few)) (omega (arith, few)) (omega (arith, short, length-append front back))) (
@@ -242,31 +229,31 @@ module _ (program : PlainProgram) (r : Routine) (b : Numbering) (locals : b.loca
           tt,
         )
     expression_in (Unary o a) p d t numbered room few short =
-        let inner = expression_code a p (value_slot a t) t in
-        let front = code_unless (operand_of a) inner in
-        let back = instructions.Unary (unary_operator o) d (value_operand a t) ∷ [] in
+        let inner = expression_code starts a p (value_slot starts a t) t in
+        let front = code_unless (operand_of starts a) inner in
+        let back = instructions.Unary (unary_operator o) d (value_operand starts a t) ∷ [] in
         let free : t < r.slots = omega (arith, few) in
         append front back
-        (unless_in (operand_of a) inner p (omega (arith, short, length-append front back)) (λ less. expression_in a p (value_slot a t) t numbered (slot_in a t numbered free) (omega (arith, few)) less))
+        (unless_in (operand_of starts a) inner p (omega (arith, short, length-append front back)) (λ less. expression_in a p (value_slot starts a t) t numbered (slot_fits a t numbered free) (omega (arith, few)) less))
         ((room, value_in a t numbered free), tt)
     expression_in (Binary a os ty) p d t (numbered, rest) room few short =
-        let inner = expression_code a p (left_slot a os d t) t in
-        let front = code_unless (left_of a os) inner in
-        let back = operations_code os (p + length front) (operand_or (left_of a os) (left_slot a os d t)) d t in
+        let inner = expression_code starts a p (left_slot starts a os d t) t in
+        let front = code_unless (left_of starts a os) inner in
+        let back = operations_code starts os (p + length front) (operand_or (left_of starts a os) (left_slot starts a os d t)) d t in
         let some = operand_positive (type_of a) in
         let free = has_room os ty t (operand_words (type_of a)) rest some (omega (arith, few)) in
         append front back
-        (unless_in (left_of a os) inner p (omega (arith, short, length-append front back)) (λ less. expression_in a p (left_slot a os d t) t numbered (left_slot_in a os d t numbered room free) (omega (arith, few)) less))
-        (operations_in os ty (p + length front) (operand_or (left_of a os) (left_slot a os d t)) d t (operand_words (type_of a)) rest room (left_in a os d t numbered room free) some (omega (arith, few)) (omega (arith, short, length-append front back)))
+        (unless_in (left_of starts a os) inner p (omega (arith, short, length-append front back)) (λ less. expression_in a p (left_slot starts a os d t) t numbered (left_slot_in a os d t numbered room free) (omega (arith, few)) less))
+        (operations_in os ty (p + length front) (operand_or (left_of starts a os) (left_slot starts a os d t)) d t (operand_words (type_of a)) rest room (left_in a os d t numbered room free) some (omega (arith, few)) (omega (arith, short, length-append front back)))
     expression_in (Assign (Local w n) c ty) p d t (within, numbered) room few short =
-        let o = operands.Slot (slot_of n) in
-        let front = initial_code c p (slot_of n) t in
+        let o = operands.Slot (slot_of starts n) in
+        let front = initial_code starts c p (slot_of starts n) t in
         let back = copy_code o d in
-        let there : n < r.slots = omega (arith, within, locals) in
-        append front back (initial_in c p (slot_of n) t numbered there (omega (arith, few)) (omega (arith, few)) (omega (arith, short, length-append front back))) (copy_in (is_in o d) o d there room)
+        let there : slot_of starts n < r.slots = locals n within in
+        append front back (initial_in c p (slot_of starts n) t numbered there (omega (arith, few)) (omega (arith, few)) (omega (arith, short, length-append front back))) (copy_in (is_in o d) o d there room)
     expression_in (Assign (Global n) c ty) p d t (within, numbered) room few short =
-        let o = converted_operand c t in
-        let front = converted_operand_code c p t in
+        let o = converted_operand starts c t in
+        let front = converted_operand_code starts c p t in
         let store = instructions.StoreGlobal n o ∷ [] in
         let back = copy_code o d in
         let inside = converted_value_in c t numbered (omega (arith, few)) in
@@ -275,80 +262,80 @@ module _ (program : PlainProgram) (r : Routine) (b : Numbering) (locals : b.loca
         (copy_in (is_in o d) o d inside room)
     expression_in a p d t numbered room few short = absurd numbered
 
-    initial_in : (c : Converted) (p d t : ℕ) → IsNumberedConverted b c → d < r.slots → t < r.slots → t + converted_need c ≤ r.slots → p + length (initial_code c p d t) < length r.code → AreIn (initial_code c p d t)
+    initial_in : (c : Converted) (p d t : ℕ) → IsNumberedConverted b c → d < r.slots → t < r.slots → t + converted_need c ≤ r.slots → p + length (initial_code starts c p d t) < length r.code → AreIn (initial_code starts c p d t)
     initial_in (Convert from kinds.NonNull a) p d t numbered room free few short =
-        let inner = expression_code a p (value_slot a t) t in
-        let o = value_operand a t in
-        let front = code_unless (operand_of a) inner in
+        let inner = expression_code starts a p (value_slot starts a t) t in
+        let o = value_operand starts a t in
+        let front = code_unless (operand_of starts a) inner in
         let check = check_code null_exception o (p + length front) in
         let move = instructions.Move d o ∷ [] in
         let inside = value_in a t numbered free in
         let long = length-append (front ++ check) move in
         let long_front = length-append front check in
         append (front ++ check) move
-        (append front check (unless_in (operand_of a) inner p (omega (arith, short, long, long_front)) (λ less. expression_in a p (value_slot a t) t numbered (slot_in a t numbered free) few less))
+        (append front check (unless_in (operand_of starts a) inner p (omega (arith, short, long, long_front)) (λ less. expression_in a p (value_slot starts a t) t numbered (slot_fits a t numbered free) few less))
         (check_in null_exception o (p + length front) inside (omega (arith, short, long, long_front)))) ((room, inside), tt)
     initial_in (Convert from to a) p d t numbered room free few short = expression_in a p d t numbered room few short
 
-    converted_in : (c : Converted) (p t : ℕ) → IsNumberedConverted b c → t < r.slots → t + converted_need c ≤ r.slots → p + length (converted_code c p t) < length r.code → AreIn (converted_code c p t)
+    converted_in : (c : Converted) (p t : ℕ) → IsNumberedConverted b c → t < r.slots → t + converted_need c ≤ r.slots → p + length (converted_code starts c p t) < length r.code → AreIn (converted_code starts c p t)
     converted_in (Convert from to a) p t numbered room few short =
-        let front = expression_code a p t t in
+        let front = expression_code starts a p t t in
         let back = conversion_code to (operands.Slot t) (p + length front) in
         append front back (expression_in a p t t numbered room few (omega (arith, short, length-append front back)))
         (conversion_in to (operands.Slot t) (p + length front) room (omega (arith, short, length-append front back)))
 
-    converted_operand_in : (c : Converted) (p t : ℕ) → IsNumberedConverted b c → t < r.slots → t + converted_need c ≤ r.slots → p + length (converted_operand_code c p t) < length r.code → AreIn (converted_operand_code c p t)
+    converted_operand_in : (c : Converted) (p t : ℕ) → IsNumberedConverted b c → t < r.slots → t + converted_need c ≤ r.slots → p + length (converted_operand_code starts c p t) < length r.code → AreIn (converted_operand_code starts c p t)
     converted_operand_in (Convert from to a) p t numbered room few short =
-        let inner = expression_code a p (value_slot a t) t in
-        let front = code_unless (operand_of a) inner in
-        let back = conversion_code to (value_operand a t) (p + length front) in
+        let inner = expression_code starts a p (value_slot starts a t) t in
+        let front = code_unless (operand_of starts a) inner in
+        let back = conversion_code to (value_operand starts a t) (p + length front) in
         append front back
-        (unless_in (operand_of a) inner p (omega (arith, short, length-append front back)) (λ less. expression_in a p (value_slot a t) t numbered (slot_in a t numbered room) few less))
-        (conversion_in to (value_operand a t) (p + length front) (value_in a t numbered room) (omega (arith, short, length-append front back)))
+        (unless_in (operand_of starts a) inner p (omega (arith, short, length-append front back)) (λ less. expression_in a p (value_slot starts a t) t numbered (slot_fits a t numbered room) few less))
+        (conversion_in to (value_operand starts a t) (p + length front) (value_in a t numbered room) (omega (arith, short, length-append front back)))
 
     -- the arguments of `putchar`, which all are evaluated with the same temporaries
-    printed_in : (cs : Arguments) (p t first before : ℕ) → AreNumberedArguments b cs → t < r.slots → t ≤ first + before → first + arguments_need cs before ≤ r.slots → p + length (printed_code cs p t) < length r.code → AreIn (printed_code cs p t)
+    printed_in : (cs : Arguments) (p t first before : ℕ) → AreNumberedArguments b cs → t < r.slots → t ≤ first + before → first + arguments_need cs before ≤ r.slots → p + length (printed_code starts cs p t) < length r.code → AreIn (printed_code starts cs p t)
     printed_in NoArguments p t first before numbered room place few short = tt
     printed_in (MoreArguments c cs) p t first before (numbered, rest) room place few short =
-        let front = converted_operand_code c p t in
-        let back = printed_code cs (p + length front) t in
+        let front = converted_operand_code starts c p t in
+        let back = printed_code starts cs (p + length front) t in
         append front back (converted_operand_in c p t numbered room (omega (arith, few, place)) (omega (arith, short, length-append front back)))
         (printed_in cs (p + length front) t first (before + converted_words c) rest room (omega (arith, place)) (omega (arith, few)) (omega (arith, short, length-append front back)))
 
     -- the arguments begin at `first`, and those before have so many words
-    arguments_in : (cs : Arguments) (p t first before : ℕ) → AreNumberedArguments b cs → t ≤ first + before → first + (before + argument_words cs) ≤ r.slots → first + arguments_need cs before ≤ r.slots → p + length (arguments_code cs p t) < length r.code → AreIn (arguments_code cs p t)
+    arguments_in : (cs : Arguments) (p t first before : ℕ) → AreNumberedArguments b cs → t ≤ first + before → first + (before + argument_words cs) ≤ r.slots → first + arguments_need cs before ≤ r.slots → p + length (arguments_code starts cs p t) < length r.code → AreIn (arguments_code starts cs p t)
     arguments_in NoArguments p t first before numbered place few needs short = tt
     arguments_in (MoreArguments c cs) p t first before (numbered, rest) place few needs short =
-        let front = converted_code c p t in
-        let back = arguments_code cs (p + length front) (suc t) in
+        let front = converted_code starts c p t in
+        let back = arguments_code starts cs (p + length front) (suc t) in
         append front back
         (converted_in c p t numbered (omega (arith, few, place, converted_positive c)) (omega (arith, needs, place)) (omega (arith, short, length-append front back)))
         (arguments_in cs (p + length front) (suc t) first (before + converted_words c) rest (omega (arith, place, converted_positive c)) (omega (arith, few)) (omega (arith, needs)) (omega (arith, short, length-append front back)))
 
-    operations_in : (os : Operations) (ty : Ty) (p : ℕ) (l : Operand) (d t left : ℕ) → AreNumberedOperations b os → d < r.slots → IsOperand r l → 1 ≤ left → t + operations_need os ty left ≤ r.slots → p + length (operations_code os p l d t) < length r.code → AreIn (operations_code os p l d t)
+    operations_in : (os : Operations) (ty : Ty) (p : ℕ) (l : Operand) (d t left : ℕ) → AreNumberedOperations b os → d < r.slots → IsOperand r l → 1 ≤ left → t + operations_need os ty left ≤ r.slots → p + length (operations_code starts os p l d t) < length r.code → AreIn (operations_code starts os p l d t)
     operations_in NoOperations ty p l d t left numbered room inside some few short = tt
     operations_in (ThenCompute o a os) ty p l d t left (numbered, rest) room inside some few short =
-        let inner = expression_code a p (value_slot a (suc t)) (suc t) in
-        let operand = code_unless (operand_of a) inner in
+        let inner = expression_code starts a p (value_slot starts a (suc t)) (suc t) in
+        let operand = code_unless (operand_of starts a) inner in
         let next = next_slot os d t in
-        let m = value_operand a (suc t) in
+        let m = value_operand starts a (suc t) in
         let operator = operator_code o l m (p + length operand) next in
         let front = operand ++ operator in
-        let back = operations_code os (p + length front) (operands.Slot next) d t in
+        let back = operations_code starts os (p + length front) (operands.Slot next) d t in
         let long = length-append front back in
         let long_front = length-append operand operator in
         let free : suc t < r.slots = omega (arith, few, some, operand_positive (type_of a), words_positive ty) in
         let next_few = next_in os d t room (omega (arith, free)) in
         append front back
         (append operand operator
-        (unless_in (operand_of a) inner p (omega (arith, short, long, long_front)) (λ less. expression_in a p (value_slot a (suc t)) (suc t) numbered (slot_in a (suc t) numbered free) (omega (arith, few, some)) less))
+        (unless_in (operand_of starts a) inner p (omega (arith, short, long, long_front)) (λ less. expression_in a p (value_slot starts a (suc t)) (suc t) numbered (slot_fits a (suc t) numbered free) (omega (arith, few, some)) less))
         (operator_in o l m (p + length operand) next next_few inside (value_in a (suc t) numbered free) (omega (arith, short, long, long_front))))
         (operations_in os ty (p + length front) (operands.Slot next) d t (words_of ty) rest room next_few (words_positive ty) (omega (arith, few)) (omega (arith, short, long)))
     operations_in (ThenTest o a os) ty p l d t left (numbered, rest) room inside some few short =
-        let operand = expression_code a (p + 1) t t in
+        let operand = expression_code starts a (p + 1) t t in
         let next = next_slot os d t in
         let front = test_code o operand p next t in
-        let back = operations_code os (p + length front) (operands.Slot next) d t in
+        let back = operations_code starts os (p + length front) (operands.Slot next) d t in
         let long = length-append front back in
         let long_front = length-append operand (truth_code t next) in
         let free : t < r.slots = omega (arith, few, some) in
@@ -358,70 +345,70 @@ module _ (program : PlainProgram) (r : Routine) (b : Numbering) (locals : b.loca
         (operations_in os ty (p + length front) (operands.Slot next) d t (words_of ty) rest room next_few (words_positive ty) (omega (arith, few)) (omega (arith, short, long)))
     operations_in os ty p l d t left numbered room inside some few short = absurd numbered
 
-  assignment_in : (l : Lvalue) (c : Converted) (p t : ℕ) → IsWithin b l → IsNumberedConverted b c → t < r.slots → t + converted_need c ≤ r.slots → p + length (assignment_code l c p t) < length r.code → AreIn (assignment_code l c p t)
-  assignment_in (Local w n) c p t within numbered free few short = initial_in c p (slot_of n) t numbered (omega (arith, within, locals)) free few short
+  assignment_in : (l : Lvalue) (c : Converted) (p t : ℕ) → IsWithin b l → IsNumberedConverted b c → t < r.slots → t + converted_need c ≤ r.slots → p + length (assignment_code starts l c p t) < length r.code → AreIn (assignment_code starts l c p t)
+  assignment_in (Local w n) c p t within numbered free few short = initial_in c p (slot_of starts n) t numbered (locals n within) free few short
   assignment_in (Global n) c p t within numbered free few short =
-      let front = converted_operand_code c p t in
-      let store = instructions.StoreGlobal n (converted_operand c t) ∷ [] in
+      let front = converted_operand_code starts c p t in
+      let store = instructions.StoreGlobal n (converted_operand starts c t) ∷ [] in
       append front store (converted_operand_in c p t numbered free few (omega (arith, short, length-append front store))) ((omega (arith, within, globals), converted_value_in c t numbered free), tt)
 
-  discarded_in : (a : Expression) (p t : ℕ) → IsNumbered b a → t + expression_need a < r.slots → p + length (discarded_code a p t) < length r.code → AreIn (discarded_code a p t)
+  discarded_in : (a : Expression) (p t : ℕ) → IsNumbered b a → t + expression_need a < r.slots → p + length (discarded_code starts a p t) < length r.code → AreIn (discarded_code starts a p t)
   discarded_in (Call callees.Putchar cs ty) p t (s, signature, many, same, numbered) few short =
-      let front = printed_code cs p t in
-      let back = instructions.WriteByte (printed_operand cs (operands.Slot t) t) ∷ [] in
+      let front = printed_code starts cs p t in
+      let back = instructions.WriteByte (printed_operand starts cs (operands.Slot t) t) ∷ [] in
       append front back (printed_in cs p t t 0 numbered (omega (arith, few)) (omega arith) (omega (arith, few)) (omega (arith, short, length-append front back)))
       (printed_value_in cs (operands.Slot t) t numbered (omega (arith, few)) (omega (arith, few)), tt)
   discarded_in (Assign l c ty) p t (within, numbered) few short = assignment_in l c p t within numbered (omega (arith, few)) (omega (arith, few)) short
-  discarded_in a p t numbered few short = unless_in (operand_of a) (expression_code a p t t) p short (λ less. expression_in a p t t numbered (omega (arith, few)) (omega (arith, few)) less)
+  discarded_in a p t numbered few short = unless_in (operand_of starts a) (expression_code starts a p t t) p short (λ less. expression_in a p t t numbered (omega (arith, few)) (omega (arith, few)) less)
 
   -- ---- statements
 
   -- two operands that are compared, by the code of the second
-  pair_in : (a c : Expression) (p t : ℕ) → IsNumbered b a → t + expression_need a < r.slots → p + length (pair_code a c p t) < length r.code
-      → (p + length (first_code a c p t) + length (second_code c (p + length (first_code a c p t)) t) < length r.code → AreIn (second_code c (p + length (first_code a c p t)) t)) → AreIn (pair_code a c p t)
+  pair_in : (a c : Expression) (p t : ℕ) → IsNumbered b a → t + expression_need a < r.slots → p + length (pair_code starts a c p t) < length r.code
+      → (p + length (first_code starts a c p t) + length (second_code starts c (p + length (first_code starts a c p t)) t) < length r.code → AreIn (second_code starts c (p + length (first_code starts a c p t)) t)) → AreIn (pair_code starts a c p t)
   pair_in a c p t numbered few short second =
-      let slot = slot_with (operand_of c) a t in
-      let front = first_code a c p t in
-      let back = second_code c (p + length front) t in
+      let slot = slot_with starts (operand_of starts c) a t in
+      let front = first_code starts a c p t in
+      let back = second_code starts c (p + length front) t in
       let long = length-append front back in
       append front back
-      (unless_in (left_with (operand_of c) (operand_of a)) (expression_code a p slot t) p (omega (arith, short, long))
-      (λ less. expression_in a p slot t numbered (slot_with_in (operand_of c) a t numbered (omega (arith, few))) (omega (arith, few)) less))
+      (unless_in (left_with (operand_of starts c) (operand_of starts a)) (expression_code starts a p slot t) p (omega (arith, short, long))
+      (λ less. expression_in a p slot t numbered (slot_with_in (operand_of starts c) a t numbered (omega (arith, few))) (omega (arith, few)) less))
       (second (omega (arith, short, long)))
 
-  condition_in : (a : Expression) (p t : ℕ) → IsNumbered b a → t + expression_need a < r.slots → p + length (condition_code a p t) < length r.code → AreIn (condition_code a p t)
+  condition_in : (a : Expression) (p t : ℕ) → IsNumbered b a → t + expression_need a < r.slots → p + length (condition_code starts a p t) < length r.code → AreIn (condition_code starts a p t)
   condition_in (Unary unary.Not a) p t numbered few short = pair_in a (Number 0) p t numbered (omega (arith, few)) short (λ less. tt)
   condition_in (Binary a (ThenCompute o c NoOperations) ty) p t (first, (second, none)) few short = by (failing_comparison o) short
     where
-      by : (f : Option Comparison) → p + length (pair_code (compared_or f a c (Binary a (ThenCompute o c NoOperations) ty)).left (compared_or f a c (Binary a (ThenCompute o c NoOperations) ty)).right p t) < length r.code
-          → AreIn (pair_code (compared_or f a c (Binary a (ThenCompute o c NoOperations) ty)).left (compared_or f a c (Binary a (ThenCompute o c NoOperations) ty)).right p t)
+      by : (f : Option Comparison) → p + length (pair_code starts (compared_or f a c (Binary a (ThenCompute o c NoOperations) ty)).left (compared_or f a c (Binary a (ThenCompute o c NoOperations) ty)).right p t) < length r.code
+          → AreIn (pair_code starts (compared_or f a c (Binary a (ThenCompute o c NoOperations) ty)).left (compared_or f a c (Binary a (ThenCompute o c NoOperations) ty)).right p t)
       by (Some failing) short =
-          let next = p + length (first_code a c p t) in
+          let next = p + length (first_code starts a c p t) in
           let some = operand_positive (type_of a) in
           let free : suc t < r.slots = omega (arith, few, some, operand_positive (type_of c), words_positive ty) in
           pair_in a c p t first (omega (arith, few)) short
-          (λ less. unless_in (operand_of c) (expression_code c next (value_slot c (suc t)) (suc t)) next less
-          (λ fits. expression_in c next (value_slot c (suc t)) (suc t) second (slot_in c (suc t) second free) (omega (arith, few, some)) fits))
+          (λ less. unless_in (operand_of starts c) (expression_code starts c next (value_slot starts c (suc t)) (suc t)) next less
+          (λ fits. expression_in c next (value_slot starts c (suc t)) (suc t) second (slot_fits c (suc t) second free) (omega (arith, few, some)) fits))
       by None short = pair_in (Binary a (ThenCompute o c NoOperations) ty) (Number 0) p t (first, (second, none)) few short (λ less. tt)
   condition_in a p t numbered few short = pair_in a (Number 0) p t numbered few short (λ less. tt)
 
-  compared_in : (a : Expression) (t : ℕ) → IsNumbered b a → t + expression_need a < r.slots → IsOperand r (condition_of a t).left × IsOperand r (condition_of a t).right
+  compared_in : (a : Expression) (t : ℕ) → IsNumbered b a → t + expression_need a < r.slots → IsOperand r (condition_of starts a t).left × IsOperand r (condition_of starts a t).right
   compared_in (Unary unary.Not a) t numbered few = (value_in a t numbered (omega (arith, few)), tt)
   compared_in (Binary a (ThenCompute o c NoOperations) ty) t (first, (second, none)) few = by (failing_comparison o)
     where
-      by : (f : Option Comparison) → IsOperand r (first_operand (compared_or f a c (Binary a (ThenCompute o c NoOperations) ty)).left (compared_or f a c (Binary a (ThenCompute o c NoOperations) ty)).right t) × IsOperand r (value_operand (compared_or f a c (Binary a (ThenCompute o c NoOperations) ty)).right (suc t))
+      by : (f : Option Comparison) → IsOperand r (first_operand starts (compared_or f a c (Binary a (ThenCompute o c NoOperations) ty)).left (compared_or f a c (Binary a (ThenCompute o c NoOperations) ty)).right t) × IsOperand r (value_operand starts (compared_or f a c (Binary a (ThenCompute o c NoOperations) ty)).right (suc t))
       by (Some failing) =
           let free : suc t < r.slots = omega (arith, few, operand_positive (type_of a), operand_positive (type_of c), words_positive ty) in
-          (left_with_in (operand_of c) a t first (omega (arith, free)), value_in c (suc t) second free)
+          (left_with_in (operand_of starts c) a t first (omega (arith, free)), value_in c (suc t) second free)
       by None = (value_in (Binary a (ThenCompute o c NoOperations) ty) t (first, (second, none)) (omega (arith, few)), tt)
   compared_in a t numbered few = (value_in a t numbered (omega (arith, few)), tt)
 
-  return_in : (v : Option Converted) (p t : ℕ) → IsNumberedReturn b b.result v → t + initial_need v < r.slots → p + length (return_code v p t) < length r.code → AreIn (return_code v p t)
+  return_in : (v : Option Converted) (p t : ℕ) → IsNumberedReturn b b.result v → t + initial_need v < r.slots → p + length (return_code starts v p t) < length r.code → AreIn (return_code starts v p t)
   return_in None p t numbered few short = (omega (arith, few, results), tt)
   return_in (Some (Convert from to a)) p t numbered few short =
-      let s = slot_or (operand_of a) t in
-      let inner = expression_code a p t t in
-      let front = code_unless_slot (operand_of a) inner in
+      let s = slot_or (operand_of starts a) t in
+      let inner = expression_code starts a p t t in
+      let front = code_unless_slot (operand_of starts a) inner in
       let conversion = conversion_code to (operands.Slot s) (p + length front) in
       let back = instructions.Return s ∷ [] in
       let long = length-append (front ++ conversion) back in
@@ -429,29 +416,29 @@ module _ (program : PlainProgram) (r : Routine) (b : Numbering) (locals : b.loca
       let is = value_of b.result numbered in
       let there = returned_in a t is (omega (arith, few)) in
       append (front ++ conversion) back
-      (append front conversion (unless_slot_in (operand_of a) inner p (omega (arith, short, long, long_front)) (λ less. expression_in a p t t is (omega (arith, few)) (omega (arith, few)) less))
+      (append front conversion (unless_slot_in (operand_of starts a) inner p (omega (arith, short, long, long_front)) (λ less. expression_in a p t t is (omega (arith, few)) (omega (arith, few)) less))
       (conversion_in to (operands.Slot s) (p + length front) there (omega (arith, short, long, long_front)))) (omega (arith, there, results), tt)
     where
       value_of : (result : Option Ty) → IsNumberedReturn b result (Some (Convert from to a)) → IsNumbered b a
       value_of None numbered = absurd numbered
       value_of (Some ty) numbered = numbered
 
-  declaration_in : (n : ℕ) (v : Option Converted) (p t : ℕ) → n < b.locals → IsNumberedInitial b v → t + initial_need v < r.slots → p + length (declaration_code n v p t) < length r.code → AreIn (declaration_code n v p t)
+  declaration_in : (n : ℕ) (v : Option Converted) (p t : ℕ) → n < b.locals → IsNumberedInitial b v → t + initial_need v < r.slots → p + length (declaration_code starts n v p t) < length r.code → AreIn (declaration_code starts n v p t)
   declaration_in n None p t within numbered few short = tt
-  declaration_in n (Some c) p t within numbered few short = initial_in c p (slot_of n) t numbered (omega (arith, within, locals)) (omega (arith, few)) (omega (arith, few)) short
+  declaration_in n (Some c) p t within numbered few short = initial_in c p (slot_of starts n) t numbered (locals n within) (omega (arith, few)) (omega (arith, few)) short
 
   mutual
-    statement_in : (s : Statement) (in_loop : Bool) (p loop t : ℕ) → IsNumberedStatement b in_loop s → (in_loop ≡ true → loop + 2 < length r.code) → t + statement_need s < r.slots → p + length (statement_code s p loop t) < length r.code → AreIn (statement_code s p loop t)
+    statement_in : (s : Statement) (in_loop : Bool) (p loop t : ℕ) → IsNumberedStatement b in_loop s → (in_loop ≡ true → loop + 2 < length r.code) → t + statement_need s < r.slots → p + length (statement_code starts s p loop t) < length r.code → AreIn (statement_code starts s p loop t)
     statement_in (Block n js) in_loop p loop t (few_regions, numbered) around few short = items_in js in_loop p loop t numbered around few short
     statement_in Empty in_loop p loop t numbered around few short = tt
     statement_in (Evaluate a) in_loop p loop t numbered around few short = discarded_in a p t numbered few short
     statement_in (If a s u) in_loop p loop t (numbered_a, numbered_s, numbered_u) around few short =
-        let condition = condition_code a p t in
+        let condition = condition_code starts a p t in
         let m = p + length condition in
-        let first = statement_code s (m + 1) loop t in
+        let first = statement_code starts s (m + 1) loop t in
         let q = m + 1 + length first in
-        let second = statement_code u (q + 1) loop t in
-        let jump_first = failing_jump (condition_of a t) (q + 1) ∷ first in
+        let second = statement_code starts u (q + 1) loop t in
+        let jump_first = failing_jump (condition_of starts a t) (q + 1) ∷ first in
         let jump_second = instructions.Jump (q + 1 + length second) ∷ second in
         let long = length-append (condition ++ jump_first) jump_second in
         let long_front = length-append condition jump_first in
@@ -461,10 +448,10 @@ module _ (program : PlainProgram) (r : Routine) (b : Numbering) (locals : b.loca
         ((left, right, omega (arith, short, long, long_front)), statement_in s in_loop (m + 1) loop t numbered_s around (omega (arith, few)) (omega (arith, short, long, long_front))))
         (omega (arith, short, long, long_front), statement_in u in_loop (q + 1) loop t numbered_u around (omega (arith, few)) (omega (arith, short, long, long_front)))
     statement_in (While w a s) in_loop p loop t (numbered_a, numbered_s) around few short =
-        let condition = condition_code a (p + 2) t in
+        let condition = condition_code starts a (p + 2) t in
         let m = p + 2 + length condition in
-        let body = statement_code s (m + 1) p t in
-        let test = failing_jump (condition_of a t) (break_target p) ∷ body in
+        let body = statement_code starts s (m + 1) p t in
+        let test = failing_jump (condition_of starts a t) (break_target p) ∷ body in
         let again = instructions.Jump (continue_target p) ∷ [] in
         let long = length-append (condition ++ test) again in
         let long_front = length-append condition test in
@@ -483,17 +470,17 @@ module _ (program : PlainProgram) (r : Routine) (b : Numbering) (locals : b.loca
     statement_in Continue in_loop p loop t numbered around few short = (omega (arith, around numbered), tt)
     statement_in s in_loop p loop t numbered around few short = absurd numbered
 
-    items_in : (js : Items) (in_loop : Bool) (p loop t : ℕ) → AreNumberedItems b in_loop js → (in_loop ≡ true → loop + 2 < length r.code) → t + items_need js < r.slots → p + length (items_code js p loop t) < length r.code → AreIn (items_code js p loop t)
+    items_in : (js : Items) (in_loop : Bool) (p loop t : ℕ) → AreNumberedItems b in_loop js → (in_loop ≡ true → loop + 2 < length r.code) → t + items_need js < r.slots → p + length (items_code starts js p loop t) < length r.code → AreIn (items_code starts js p loop t)
     items_in NoItems in_loop p loop t numbered around few short = tt
     items_in (MoreItems (Execute s) js) in_loop p loop t (numbered, rest) around few short =
-        let front = statement_code s p loop t in
-        let back = items_code js (p + length front) loop t in
+        let front = statement_code starts s p loop t in
+        let back = items_code starts js (p + length front) loop t in
         let long = length-append front back in
         append front back (statement_in s in_loop p loop t numbered around (omega (arith, few)) (omega (arith, short, long)))
         (items_in js in_loop (p + length front) loop t rest around (omega (arith, few)) (omega (arith, short, long)))
     items_in (MoreItems (Declare n ty v) js) in_loop p loop t (within, numbered, rest) around few short =
-        let front = declaration_code n v p t in
-        let back = items_code js (p + length front) loop t in
+        let front = declaration_code starts n v p t in
+        let back = items_code starts js (p + length front) loop t in
         let long = length-append front back in
         append front back (declaration_in n v p t within numbered (omega (arith, few)) (omega (arith, short, long)))
         (items_in js in_loop (p + length front) loop t rest around (omega (arith, few)) (omega (arith, short, long)))
@@ -527,16 +514,18 @@ module _ (source : Program) (is_numbered : IsNumberedProgram source) where
       let d = first_temporary h in
       let r = lower_function h in
       let b = numbering_of (length source.globals) (signatures_of source.functions) h in
-      let body = items_code h.body 0 0 d in
+      let types = slot_types h in
+      let starts = starts_of types in
+      let body = items_code starts h.body 0 0 d in
       let end = instructions.Return d ∷ [] in
       let long = length-append body end in
       record {
-        parameters = omega arith;
+        parameters = omega (arith, types_words types, slot_types-many h);
         results = omega (arith, results_few h.result);
-        frame = omega (arith, types_words h.parameters, types_words h.locals);
+        frame = omega (arith, (slots-few h).1);
         instructions = all_of (IsInRange (lower_program source) r) (body ++ end)
             (all_append (IsInRange (lower_program source) r) body end
-            (items_in (lower_program source) r b (omega arith) (globals_counted source.globals) known_functions (results_few h.result)
+            (items_in (lower_program source) r b starts (λ n within. omega (arith, slot-inside types n (omega (arith, within, slot_types-many h)))) (globals_counted source.globals) known_functions (results_few h.result)
             h.body false 0 0 d numbered_body (λ inside. absurd (let f : false ≡ true = inside in cc)) (omega arith) (omega (arith, long)))
             (omega (arith, results_few h.result), tt));
         last = subst (λ (o : Option Instruction). IsSomeAnd o (λ i. leaves i ≡ true)) (sym (last_of body (instructions.Return d))) refl;

@@ -20,7 +20,8 @@ use Rattle.cyc_plain.specs.declared.instruction.Instruction.{Instruction}
 use Rattle.cyc_plain.specs.declared.instruction.Instruction.TheVariants as instructions
 use Rattle.cyc_plain.specs.WellFormed.{IsOfWord, HasWord, HasWords}
 use Rattle.cyc_lower.specs.Words.{IsOfWords, IsOfWordsConverted, AreOfWordsArguments, AreOfWordsOperations, IsOfWordsInitial, IsOfWordsStatement, AreOfWordsItems, IsOfWordsConstant, AreOfWordsGlobals, AreOfWordsFunctions, IsOfWordsProgram}
-use Rattle.cyc_lower.specs.Lowering.{slot_of, operand_of, operand_or, code_unless, slot_or, code_unless_slot, left_with, left_of, value_slot, next_slot, left_slot, value_operand, converted_operand, printed_operand, check_code, conversion_code, divisor_code, checked_code, operator_code, truth_code, load_code, test_code, is_in, copy_code, expression_code, arguments_code, converted_code, converted_operand_code, printed_code, initial_code, assignment_code, operations_code, discarded_code, failing_comparison, compared_or, compared_of, slot_with, first_code, second_code, pair_code, condition_code, condition_of, return_code, declaration_code, statement_code, items_code, first_temporary, initial_word, lower_function, lower_global, lower_program}
+use Rattle.cyc_lower.specs.Slots.{starts_of, slot_of}
+use Rattle.cyc_lower.specs.Lowering.{slot_types, operand_of, operand_or, code_unless, slot_or, code_unless_slot, left_with, left_of, value_slot, next_slot, left_slot, value_operand, converted_operand, printed_operand, check_code, conversion_code, divisor_code, checked_code, operator_code, truth_code, load_code, test_code, is_in, copy_code, expression_code, arguments_code, converted_code, converted_operand_code, printed_code, initial_code, assignment_code, operations_code, discarded_code, failing_comparison, compared_or, compared_of, slot_with, first_code, second_code, pair_code, condition_code, condition_of, return_code, declaration_code, statement_code, items_code, first_temporary, initial_word, lower_function, lower_global, lower_program}
 use Rattle.cyc_lower.proofs.WellFormed.{all_append, all_of}
 
 abbrev HaveWords : List Instruction → Type 0
@@ -39,27 +40,6 @@ unless_slot_words : (known : Option Operand) (x : List Instruction) → HaveWord
 unless_slot_words (Some (operands.Slot n)) x words = tt
 unless_slot_words (Some (operands.Word n)) x words = words
 unless_slot_words None x words = words
-
-known_word : (a : Expression) (slot : ℕ) → IsOfWords a → IsOfWord (operand_or (operand_of a) slot)
-known_word (Number n) slot word = word
-known_word (Copy (Local w n) ty) slot words = tt
-known_word a slot words = tt
-
-converted_word : (c : Converted) (t : ℕ) → IsOfWordsConverted c → IsOfWord (converted_operand c t)
-converted_word (Convert from to a) t words = known_word a (value_slot a t) words
-
-printed_word : (cs : Arguments) (o : Operand) (t : ℕ) → AreOfWordsArguments cs → IsOfWord o → IsOfWord (printed_operand cs o t)
-printed_word NoArguments o t words word = word
-printed_word (MoreArguments c cs) o t (first, rest) word = printed_word cs (converted_operand c t) t rest (converted_word c t first)
-
-left_with_word : (known : Option Operand) (a : Expression) (slot : ℕ) → IsOfWords a → IsOfWord (operand_or (left_with known (operand_of a)) slot)
-left_with_word (Some o) a slot words = known_word a slot words
-left_with_word None a slot words = tt
-
-left_word : (a : Expression) (os : Operations) (slot : ℕ) → IsOfWords a → IsOfWord (operand_or (left_of a os) slot)
-left_word a NoOperations slot words = tt
-left_word a (ThenCompute o b os) slot words = left_with_word (operand_of b) a slot words
-left_word a os slot words = tt
 
 -- ---- expressions
 
@@ -83,10 +63,6 @@ operator_words operators.Divide l r p d left right = checked_words operators.Div
 operator_words operators.Remainder l r p d left right = checked_words operators.Remainder l r p d left right
 operator_words o l r p d left right = ((left, right), tt)
 
-load_words : (l : Lvalue) (d : ℕ) → HaveWords (load_code l d)
-load_words (Local w n) d = (tt, tt)
-load_words (Global n) d = (tt, tt)
-
 copy_words : (is : Bool) (o : Operand) (d : ℕ) → IsOfWord o → HaveWords (if is then [] else instructions.Move d o ∷ [])
 copy_words true o d word = tt
 copy_words false o d word = (word, tt)
@@ -95,182 +71,211 @@ test_words : (o : LogicalOperator) (operand : List Instruction) (p d t : ℕ) �
 test_words logical.AndThen operand p d t all = ((tt, omega arith), append operand (truth_code t d) all (tt, (tt, tt)))
 test_words logical.OrElse operand p d t all = ((tt, omega arith), append operand (truth_code t d) all (tt, (tt, tt)))
 
-mutual
-  expression_words : (a : Expression) (p d t : ℕ) → IsOfWords a → HaveWords (expression_code a p d t)
-  expression_words (Number n) p d t word = (word, tt)
-  expression_words (Copy l ty) p d t words = load_words l d
-  expression_words (Call callees.Putchar cs ty) p d t words =
-      let byte = printed_word cs (operands.Slot t) t words tt in
-      append (printed_code cs p t) _ (printed_words cs p t words) (byte, ((byte, omega arith), tt))
-  expression_words (Call callees.Getchar cs ty) p d t words = append (arguments_code cs p t) _ (arguments_words cs p t words) (tt, tt)
-  expression_words (Call (callees.Function n) cs ty) p d t words = append (arguments_code cs p t) _ (arguments_words cs p t words) (tt, tt)
-  expression_words (Unary o a) p d t words =
-      let inner = expression_code a p (value_slot a t) t in
-      append (code_unless (operand_of a) inner) _ (unless_words (operand_of a) inner (expression_words a p (value_slot a t) t words)) (known_word a (value_slot a t) words, tt)
-  expression_words (Binary a os ty) p d t (first, rest) =
-      let inner = expression_code a p (left_slot a os d t) t in
-      let front = code_unless (left_of a os) inner in
-      let l = operand_or (left_of a os) (left_slot a os d t) in
-      append front (operations_code os (p + length front) l d t) (unless_words (left_of a os) inner (expression_words a p (left_slot a os d t) t first))
-      (operations_words os (p + length front) l d t (left_word a os (left_slot a os d t) first) rest)
-  expression_words (Assign (Local w n) c ty) p d t words =
-      let o = operands.Slot (slot_of n) in
-      append (initial_code c p (slot_of n) t) (copy_code o d) (initial_words c p (slot_of n) t words) (copy_words (is_in o d) o d tt)
-  expression_words (Assign (Global n) c ty) p d t words =
-      let o = converted_operand c t in
-      let front = converted_operand_code c p t in
-      let word = converted_word c t words in
-      append (front ++ instructions.StoreGlobal n o ∷ []) (copy_code o d) (append front _ (converted_operand_words c p t words) (word, tt)) (copy_words (is_in o d) o d word)
-  expression_words a p d t words = absurd words
+-- ---- locals that have these first slots
 
-  initial_words : (c : Converted) (p d t : ℕ) → IsOfWordsConverted c → HaveWords (initial_code c p d t)
-  initial_words (Convert from kinds.NonNull a) p d t words =
-      let inner = expression_code a p (value_slot a t) t in
-      let front = code_unless (operand_of a) inner in
-      let o = value_operand a t in
-      let word = known_word a (value_slot a t) words in
-      append (front ++ check_code null_exception o (p + length front)) _
-      (append front _ (unless_words (operand_of a) inner (expression_words a p (value_slot a t) t words)) (check_words null_exception o (p + length front) (omega arith) word)) (word, tt)
-  initial_words (Convert from to a) p d t words = expression_words a p d t words
+module _ (starts : List ℕ) where
+  known_word : (a : Expression) (slot : ℕ) → IsOfWords a → IsOfWord (operand_or (operand_of starts a) slot)
+  known_word (Number n) slot word = word
+  known_word (Copy (Local w n) ty) slot words = tt
+  known_word a slot words = tt
 
-  converted_words : (c : Converted) (p t : ℕ) → IsOfWordsConverted c → HaveWords (converted_code c p t)
-  converted_words (Convert from to a) p t words =
-      let q = p + length (expression_code a p t t) in
-      append (expression_code a p t t) (conversion_code to (operands.Slot t) q) (expression_words a p t t words) (conversion_words to (operands.Slot t) q tt)
+  converted_word : (c : Converted) (t : ℕ) → IsOfWordsConverted c → IsOfWord (converted_operand starts c t)
+  converted_word (Convert from to a) t words = known_word a (value_slot starts a t) words
 
-  converted_operand_words : (c : Converted) (p t : ℕ) → IsOfWordsConverted c → HaveWords (converted_operand_code c p t)
-  converted_operand_words (Convert from to a) p t words =
-      let inner = expression_code a p (value_slot a t) t in
-      let front = code_unless (operand_of a) inner in
-      let o = value_operand a t in
-      append front (conversion_code to o (p + length front)) (unless_words (operand_of a) inner (expression_words a p (value_slot a t) t words))
-      (conversion_words to o (p + length front) (known_word a (value_slot a t) words))
+  printed_word : (cs : Arguments) (o : Operand) (t : ℕ) → AreOfWordsArguments cs → IsOfWord o → IsOfWord (printed_operand starts cs o t)
+  printed_word NoArguments o t words word = word
+  printed_word (MoreArguments c cs) o t (first, rest) word = printed_word cs (converted_operand starts c t) t rest (converted_word c t first)
 
-  printed_words : (cs : Arguments) (p t : ℕ) → AreOfWordsArguments cs → HaveWords (printed_code cs p t)
-  printed_words NoArguments p t words = tt
-  printed_words (MoreArguments c cs) p t (first, rest) =
-      let q = p + length (converted_operand_code c p t) in
-      append (converted_operand_code c p t) (printed_code cs q t) (converted_operand_words c p t first) (printed_words cs q t rest)
+  left_with_word : (known : Option Operand) (a : Expression) (slot : ℕ) → IsOfWords a → IsOfWord (operand_or (left_with known (operand_of starts a)) slot)
+  left_with_word (Some o) a slot words = known_word a slot words
+  left_with_word None a slot words = tt
 
-  arguments_words : (cs : Arguments) (p t : ℕ) → AreOfWordsArguments cs → HaveWords (arguments_code cs p t)
-  arguments_words NoArguments p t words = tt
-  arguments_words (MoreArguments c cs) p t (first, rest) =
-      let q = p + length (converted_code c p t) in
-      append (converted_code c p t) (arguments_code cs q (suc t)) (converted_words c p t first) (arguments_words cs q (suc t) rest)
+  left_word : (a : Expression) (os : Operations) (slot : ℕ) → IsOfWords a → IsOfWord (operand_or (left_of starts a os) slot)
+  left_word a NoOperations slot words = tt
+  left_word a (ThenCompute o b os) slot words = left_with_word (operand_of starts b) a slot words
+  left_word a os slot words = tt
 
-  operations_words : (os : Operations) (p : ℕ) (l : Operand) (d t : ℕ) → IsOfWord l → AreOfWordsOperations os → HaveWords (operations_code os p l d t)
-  operations_words NoOperations p l d t left words = tt
-  operations_words (ThenCompute o a os) p l d t left (first, rest) =
-      let inner = expression_code a p (value_slot a (suc t)) (suc t) in
-      let operand = code_unless (operand_of a) inner in
-      let next = next_slot os d t in
-      let operator = operator_code o l (value_operand a (suc t)) (p + length operand) next in
-      let q = p + length (operand ++ operator) in
-      append (operand ++ operator) (operations_code os q (operands.Slot next) d t)
-      (append operand operator (unless_words (operand_of a) inner (expression_words a p (value_slot a (suc t)) (suc t) first))
-      (operator_words o l (value_operand a (suc t)) (p + length operand) next left (known_word a (value_slot a (suc t)) first)))
-      (operations_words os q (operands.Slot next) d t tt rest)
-  operations_words (ThenTest o a os) p l d t left (first, rest) =
-      let operand = expression_code a (p + 1) t t in
-      let next = next_slot os d t in
-      let q = p + length (test_code o operand p next t) in
-      append (test_code o operand p next t) (operations_code os q (operands.Slot next) d t) (test_words o operand p next t (expression_words a (p + 1) t t first))
-      (operations_words os q (operands.Slot next) d t tt rest)
-  operations_words os p l d t left words = absurd words
+  load_words : (l : Lvalue) (d : ℕ) → HaveWords (load_code starts l d)
+  load_words (Local w n) d = (tt, tt)
+  load_words (Global n) d = (tt, tt)
 
-assignment_words : (l : Lvalue) (c : Converted) (p t : ℕ) → IsOfWordsConverted c → HaveWords (assignment_code l c p t)
-assignment_words (Local w n) c p t words = initial_words c p (slot_of n) t words
-assignment_words (Global n) c p t words = append (converted_operand_code c p t) _ (converted_operand_words c p t words) (converted_word c t words, tt)
+  mutual
+    expression_words : (a : Expression) (p d t : ℕ) → IsOfWords a → HaveWords (expression_code starts a p d t)
+    expression_words (Number n) p d t word = (word, tt)
+    expression_words (Copy l ty) p d t words = load_words l d
+    expression_words (Call callees.Putchar cs ty) p d t words =
+        let byte = printed_word cs (operands.Slot t) t words tt in
+        append (printed_code starts cs p t) _ (printed_words cs p t words) (byte, ((byte, omega arith), tt))
+    expression_words (Call callees.Getchar cs ty) p d t words = append (arguments_code starts cs p t) _ (arguments_words cs p t words) (tt, tt)
+    expression_words (Call (callees.Function n) cs ty) p d t words = append (arguments_code starts cs p t) _ (arguments_words cs p t words) (tt, tt)
+    expression_words (Unary o a) p d t words =
+        let inner = expression_code starts a p (value_slot starts a t) t in
+        append (code_unless (operand_of starts a) inner) _ (unless_words (operand_of starts a) inner (expression_words a p (value_slot starts a t) t words)) (known_word a (value_slot starts a t) words, tt)
+    expression_words (Binary a os ty) p d t (first, rest) =
+        let inner = expression_code starts a p (left_slot starts a os d t) t in
+        let front = code_unless (left_of starts a os) inner in
+        let l = operand_or (left_of starts a os) (left_slot starts a os d t) in
+        append front (operations_code starts os (p + length front) l d t) (unless_words (left_of starts a os) inner (expression_words a p (left_slot starts a os d t) t first))
+        (operations_words os (p + length front) l d t (left_word a os (left_slot starts a os d t) first) rest)
+    expression_words (Assign (Local w n) c ty) p d t words =
+        let o = operands.Slot (slot_of starts n) in
+        append (initial_code starts c p (slot_of starts n) t) (copy_code o d) (initial_words c p (slot_of starts n) t words) (copy_words (is_in o d) o d tt)
+    expression_words (Assign (Global n) c ty) p d t words =
+        let o = converted_operand starts c t in
+        let front = converted_operand_code starts c p t in
+        let word = converted_word c t words in
+        append (front ++ instructions.StoreGlobal n o ∷ []) (copy_code o d) (append front _ (converted_operand_words c p t words) (word, tt)) (copy_words (is_in o d) o d word)
+    expression_words a p d t words = absurd words
 
-discarded_words : (a : Expression) (p t : ℕ) → IsOfWords a → HaveWords (discarded_code a p t)
-discarded_words (Call callees.Putchar cs ty) p t words = append (printed_code cs p t) _ (printed_words cs p t words) (printed_word cs (operands.Slot t) t words tt, tt)
-discarded_words (Assign l c ty) p t words = assignment_words l c p t words
-discarded_words a p t words = unless_words (operand_of a) (expression_code a p t t) (expression_words a p t t words)
+    initial_words : (c : Converted) (p d t : ℕ) → IsOfWordsConverted c → HaveWords (initial_code starts c p d t)
+    initial_words (Convert from kinds.NonNull a) p d t words =
+        let inner = expression_code starts a p (value_slot starts a t) t in
+        let front = code_unless (operand_of starts a) inner in
+        let o = value_operand starts a t in
+        let word = known_word a (value_slot starts a t) words in
+        append (front ++ check_code null_exception o (p + length front)) _
+        (append front _ (unless_words (operand_of starts a) inner (expression_words a p (value_slot starts a t) t words)) (check_words null_exception o (p + length front) (omega arith) word)) (word, tt)
+    initial_words (Convert from to a) p d t words = expression_words a p d t words
 
--- ---- statements
+    converted_words : (c : Converted) (p t : ℕ) → IsOfWordsConverted c → HaveWords (converted_code starts c p t)
+    converted_words (Convert from to a) p t words =
+        let q = p + length (expression_code starts a p t t) in
+        append (expression_code starts a p t t) (conversion_code to (operands.Slot t) q) (expression_words a p t t words) (conversion_words to (operands.Slot t) q tt)
 
-compared_words : (a : Expression) → IsOfWords a → IsOfWords (compared_of a).left × IsOfWords (compared_of a).right
-compared_words (Unary unary.Not a) words = (words, omega arith)
-compared_words (Binary a (ThenCompute o b NoOperations) ty) (first, (second, none)) = by (failing_comparison o)
-  where
-    by : (f : Option Comparison) → IsOfWords (compared_or f a b (Binary a (ThenCompute o b NoOperations) ty)).left × IsOfWords (compared_or f a b (Binary a (ThenCompute o b NoOperations) ty)).right
-    by (Some failing) = (first, second)
-    by None = ((first, (second, none)), omega arith)
-compared_words a words = (words, omega arith)
+    converted_operand_words : (c : Converted) (p t : ℕ) → IsOfWordsConverted c → HaveWords (converted_operand_code starts c p t)
+    converted_operand_words (Convert from to a) p t words =
+        let inner = expression_code starts a p (value_slot starts a t) t in
+        let front = code_unless (operand_of starts a) inner in
+        let o = value_operand starts a t in
+        append front (conversion_code to o (p + length front)) (unless_words (operand_of starts a) inner (expression_words a p (value_slot starts a t) t words))
+        (conversion_words to o (p + length front) (known_word a (value_slot starts a t) words))
 
--- two operands that are compared
-pair_words : (a b : Expression) (p t : ℕ) → IsOfWords a → IsOfWords b → HaveWords (pair_code a b p t)
-pair_words a b p t first second =
-    let slot = slot_with (operand_of b) a t in
-    let front = first_code a b p t in
-    let q = p + length front in
-    append front (second_code b q t) (unless_words (left_with (operand_of b) (operand_of a)) (expression_code a p slot t) (expression_words a p slot t first))
-    (unless_words (operand_of b) (expression_code b q (value_slot b (suc t)) (suc t)) (expression_words b q (value_slot b (suc t)) (suc t) second))
+    printed_words : (cs : Arguments) (p t : ℕ) → AreOfWordsArguments cs → HaveWords (printed_code starts cs p t)
+    printed_words NoArguments p t words = tt
+    printed_words (MoreArguments c cs) p t (first, rest) =
+        let q = p + length (converted_operand_code starts c p t) in
+        append (converted_operand_code starts c p t) (printed_code starts cs q t) (converted_operand_words c p t first) (printed_words cs q t rest)
 
-condition_words : (a : Expression) (p t : ℕ) → IsOfWords a → HaveWords (condition_code a p t)
-condition_words a p t words =
-    let (first, second) = compared_words a words in
-    pair_words (compared_of a).left (compared_of a).right p t first second
+    arguments_words : (cs : Arguments) (p t : ℕ) → AreOfWordsArguments cs → HaveWords (arguments_code starts cs p t)
+    arguments_words NoArguments p t words = tt
+    arguments_words (MoreArguments c cs) p t (first, rest) =
+        let q = p + length (converted_code starts c p t) in
+        append (converted_code starts c p t) (arguments_code starts cs q (suc t)) (converted_words c p t first) (arguments_words cs q (suc t) rest)
 
-condition_word : (a : Expression) (t : ℕ) → IsOfWords a → IsOfWord (condition_of a t).left × IsOfWord (condition_of a t).right
-condition_word a t words =
-    let (first, second) = compared_words a words in
-    let left = (compared_of a).left in
-    let right = (compared_of a).right in
-    (left_with_word (operand_of right) left (slot_with (operand_of right) left t) first, known_word right (value_slot right (suc t)) second)
+    operations_words : (os : Operations) (p : ℕ) (l : Operand) (d t : ℕ) → IsOfWord l → AreOfWordsOperations os → HaveWords (operations_code starts os p l d t)
+    operations_words NoOperations p l d t left words = tt
+    operations_words (ThenCompute o a os) p l d t left (first, rest) =
+        let inner = expression_code starts a p (value_slot starts a (suc t)) (suc t) in
+        let operand = code_unless (operand_of starts a) inner in
+        let next = next_slot os d t in
+        let operator = operator_code o l (value_operand starts a (suc t)) (p + length operand) next in
+        let q = p + length (operand ++ operator) in
+        append (operand ++ operator) (operations_code starts os q (operands.Slot next) d t)
+        (append operand operator (unless_words (operand_of starts a) inner (expression_words a p (value_slot starts a (suc t)) (suc t) first))
+        (operator_words o l (value_operand starts a (suc t)) (p + length operand) next left (known_word a (value_slot starts a (suc t)) first)))
+        (operations_words os q (operands.Slot next) d t tt rest)
+    operations_words (ThenTest o a os) p l d t left (first, rest) =
+        let operand = expression_code starts a (p + 1) t t in
+        let next = next_slot os d t in
+        let q = p + length (test_code o operand p next t) in
+        append (test_code o operand p next t) (operations_code starts os q (operands.Slot next) d t) (test_words o operand p next t (expression_words a (p + 1) t t first))
+        (operations_words os q (operands.Slot next) d t tt rest)
+    operations_words os p l d t left words = absurd words
 
-return_words : (v : Option Converted) (p t : ℕ) → IsOfWordsInitial v → HaveWords (return_code v p t)
-return_words None p t words = (tt, tt)
-return_words (Some (Convert from to a)) p t words =
-    let inner = expression_code a p t t in
-    let front = code_unless_slot (operand_of a) inner in
-    let s = slot_or (operand_of a) t in
-    let conversion = conversion_code to (operands.Slot s) (p + length front) in
-    append (front ++ conversion) _
-    (append front conversion (unless_slot_words (operand_of a) inner (expression_words a p t t words)) (conversion_words to (operands.Slot s) (p + length front) tt)) (tt, tt)
+  assignment_words : (l : Lvalue) (c : Converted) (p t : ℕ) → IsOfWordsConverted c → HaveWords (assignment_code starts l c p t)
+  assignment_words (Local w n) c p t words = initial_words c p (slot_of starts n) t words
+  assignment_words (Global n) c p t words = append (converted_operand_code starts c p t) _ (converted_operand_words c p t words) (converted_word c t words, tt)
 
-declaration_words : (n : ℕ) (v : Option Converted) (p t : ℕ) → IsOfWordsInitial v → HaveWords (declaration_code n v p t)
-declaration_words n None p t words = tt
-declaration_words n (Some c) p t words = initial_words c p (slot_of n) t words
+  discarded_words : (a : Expression) (p t : ℕ) → IsOfWords a → HaveWords (discarded_code starts a p t)
+  discarded_words (Call callees.Putchar cs ty) p t words = append (printed_code starts cs p t) _ (printed_words cs p t words) (printed_word cs (operands.Slot t) t words tt, tt)
+  discarded_words (Assign l c ty) p t words = assignment_words l c p t words
+  discarded_words a p t words = unless_words (operand_of starts a) (expression_code starts a p t t) (expression_words a p t t words)
 
-mutual
-  statement_words : (s : Statement) (p loop t : ℕ) → IsOfWordsStatement s → HaveWords (statement_code s p loop t)
-  statement_words (Block r js) p loop t words = items_words js p loop t words
-  statement_words Empty p loop t words = tt
-  statement_words (Evaluate a) p loop t words = discarded_words a p t words
-  statement_words (If a s u) p loop t (first, second, third) =
-      let condition = condition_code a p t in
-      let m = p + length condition in
-      let first_part = statement_code s (m + 1) loop t in
-      let q = m + 1 + length first_part in
-      append (condition ++ _ ∷ first_part) (_ ∷ statement_code u (q + 1) loop t)
-      (append condition (_ ∷ first_part) (condition_words a p t first) (condition_word a t first, statement_words s (m + 1) loop t second)) (tt, statement_words u (q + 1) loop t third)
-  statement_words (While w a s) p loop t (first, second) =
-      let condition = condition_code a (p + 2) t in
-      let m = p + 2 + length condition in
-      let body = statement_code s (m + 1) p t in
-      (tt, (tt, append (condition ++ _ ∷ body) _ (append condition (_ ∷ body) (condition_words a (p + 2) t first) (condition_word a t first, statement_words s (m + 1) p t second)) (tt, tt)))
-  statement_words (Return v) p loop t words = return_words v p t words
-  statement_words Break p loop t words = (tt, tt)
-  statement_words Continue p loop t words = (tt, tt)
-  statement_words s p loop t words = absurd words
+  -- ---- statements
 
-  items_words : (js : Items) (p loop t : ℕ) → AreOfWordsItems js → HaveWords (items_code js p loop t)
-  items_words NoItems p loop t words = tt
-  items_words (MoreItems (Execute s) js) p loop t (first, rest) =
-      let q = p + length (statement_code s p loop t) in
-      append (statement_code s p loop t) (items_code js q loop t) (statement_words s p loop t first) (items_words js q loop t rest)
-  items_words (MoreItems (Declare n ty v) js) p loop t (first, rest) =
-      let q = p + length (declaration_code n v p t) in
-      append (declaration_code n v p t) (items_code js q loop t) (declaration_words n v p t first) (items_words js q loop t rest)
-  items_words js p loop t words = absurd words
+  compared_words : (a : Expression) → IsOfWords a → IsOfWords (compared_of a).left × IsOfWords (compared_of a).right
+  compared_words (Unary unary.Not a) words = (words, omega arith)
+  compared_words (Binary a (ThenCompute o b NoOperations) ty) (first, (second, none)) = by (failing_comparison o)
+    where
+      by : (f : Option Comparison) → IsOfWords (compared_or f a b (Binary a (ThenCompute o b NoOperations) ty)).left × IsOfWords (compared_or f a b (Binary a (ThenCompute o b NoOperations) ty)).right
+      by (Some failing) = (first, second)
+      by None = ((first, (second, none)), omega arith)
+  compared_words a words = (words, omega arith)
+
+  -- two operands that are compared
+  pair_words : (a b : Expression) (p t : ℕ) → IsOfWords a → IsOfWords b → HaveWords (pair_code starts a b p t)
+  pair_words a b p t first second =
+      let slot = slot_with starts (operand_of starts b) a t in
+      let front = first_code starts a b p t in
+      let q = p + length front in
+      append front (second_code starts b q t) (unless_words (left_with (operand_of starts b) (operand_of starts a)) (expression_code starts a p slot t) (expression_words a p slot t first))
+      (unless_words (operand_of starts b) (expression_code starts b q (value_slot starts b (suc t)) (suc t)) (expression_words b q (value_slot starts b (suc t)) (suc t) second))
+
+  condition_words : (a : Expression) (p t : ℕ) → IsOfWords a → HaveWords (condition_code starts a p t)
+  condition_words a p t words =
+      let (first, second) = compared_words a words in
+      pair_words (compared_of a).left (compared_of a).right p t first second
+
+  condition_word : (a : Expression) (t : ℕ) → IsOfWords a → IsOfWord (condition_of starts a t).left × IsOfWord (condition_of starts a t).right
+  condition_word a t words =
+      let (first, second) = compared_words a words in
+      let left = (compared_of a).left in
+      let right = (compared_of a).right in
+      (left_with_word (operand_of starts right) left (slot_with starts (operand_of starts right) left t) first, known_word right (value_slot starts right (suc t)) second)
+
+  return_words : (v : Option Converted) (p t : ℕ) → IsOfWordsInitial v → HaveWords (return_code starts v p t)
+  return_words None p t words = (tt, tt)
+  return_words (Some (Convert from to a)) p t words =
+      let inner = expression_code starts a p t t in
+      let front = code_unless_slot (operand_of starts a) inner in
+      let s = slot_or (operand_of starts a) t in
+      let conversion = conversion_code to (operands.Slot s) (p + length front) in
+      append (front ++ conversion) _
+      (append front conversion (unless_slot_words (operand_of starts a) inner (expression_words a p t t words)) (conversion_words to (operands.Slot s) (p + length front) tt)) (tt, tt)
+
+  declaration_words : (n : ℕ) (v : Option Converted) (p t : ℕ) → IsOfWordsInitial v → HaveWords (declaration_code starts n v p t)
+  declaration_words n None p t words = tt
+  declaration_words n (Some c) p t words = initial_words c p (slot_of starts n) t words
+
+  mutual
+    statement_words : (s : Statement) (p loop t : ℕ) → IsOfWordsStatement s → HaveWords (statement_code starts s p loop t)
+    statement_words (Block r js) p loop t words = items_words js p loop t words
+    statement_words Empty p loop t words = tt
+    statement_words (Evaluate a) p loop t words = discarded_words a p t words
+    statement_words (If a s u) p loop t (first, second, third) =
+        let condition = condition_code starts a p t in
+        let m = p + length condition in
+        let first_part = statement_code starts s (m + 1) loop t in
+        let q = m + 1 + length first_part in
+        append (condition ++ _ ∷ first_part) (_ ∷ statement_code starts u (q + 1) loop t)
+        (append condition (_ ∷ first_part) (condition_words a p t first) (condition_word a t first, statement_words s (m + 1) loop t second)) (tt, statement_words u (q + 1) loop t third)
+    statement_words (While w a s) p loop t (first, second) =
+        let condition = condition_code starts a (p + 2) t in
+        let m = p + 2 + length condition in
+        let body = statement_code starts s (m + 1) p t in
+        (tt, (tt, append (condition ++ _ ∷ body) _ (append condition (_ ∷ body) (condition_words a (p + 2) t first) (condition_word a t first, statement_words s (m + 1) p t second)) (tt, tt)))
+    statement_words (Return v) p loop t words = return_words v p t words
+    statement_words Break p loop t words = (tt, tt)
+    statement_words Continue p loop t words = (tt, tt)
+    statement_words s p loop t words = absurd words
+
+    items_words : (js : Items) (p loop t : ℕ) → AreOfWordsItems js → HaveWords (items_code starts js p loop t)
+    items_words NoItems p loop t words = tt
+    items_words (MoreItems (Execute s) js) p loop t (first, rest) =
+        let q = p + length (statement_code starts s p loop t) in
+        append (statement_code starts s p loop t) (items_code starts js q loop t) (statement_words s p loop t first) (items_words js q loop t rest)
+    items_words (MoreItems (Declare n ty v) js) p loop t (first, rest) =
+        let q = p + length (declaration_code starts n v p t) in
+        append (declaration_code starts n v p t) (items_code starts js q loop t) (declaration_words n v p t first) (items_words js q loop t rest)
+    items_words js p loop t words = absurd words
 
 functions_words : (hs : List Function) → AreOfWordsFunctions hs → AllByRecursion (λ r. All HasWord r.code) (map lower_function hs)
 functions_words [] words = tt
 functions_words (h ∷ hs) (first, rest) =
     let d = first_temporary h in
-    let body = items_code h.body 0 0 d in
-    (all_of HasWord (body ++ instructions.Return d ∷ []) (append body (instructions.Return d ∷ []) (items_words h.body 0 0 d first) (tt, tt)), functions_words hs rest)
+    let starts = starts_of (slot_types h) in
+    let body = items_code starts h.body 0 0 d in
+    (all_of HasWord (body ++ instructions.Return d ∷ []) (append body (instructions.Return d ∷ []) (items_words starts h.body 0 0 d first) (tt, tt)), functions_words hs rest)
 
 constant_word : (c : Constant) → IsOfWordsConstant c → IsWord (initial_word c)
 constant_word (Word n) word = word

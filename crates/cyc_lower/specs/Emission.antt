@@ -31,66 +31,68 @@ Gives answer result old new code = IfOk result (λ given. (given ≡ answer) × 
 abbrev pub most_locals : ℕ
 most_locals = 2 ^ 32
 
--- the code of an expression that is an operand
-abbrev pub value_code : Expression → (p t : ℕ) → List Instruction
-value_code a p t = code_unless (operand_of a) (expression_code a p (value_slot a t) t)
-
--- a condition that is such an expression compared with 0
-abbrev pub zero_condition : Comparison → Expression → (t : ℕ) → Condition
-zero_condition failing a t = record { failing = failing; left = value_operand a t; right = Word 0 }
-
 -- this expression is a chain of these operators
 abbrev pub IsChain : (whole first : Expression) → Operations → Type 0
 IsChain whole first os = (ty : Ty) × (whole ≡ Binary first os ty)
 
--- `putchar` of its argument
-abbrev pub print_code : Arguments → (p t : ℕ) → List Instruction
-print_code cs p t = printed_code cs p t ++ WriteByte (printed_operand cs (Slot t) t) ∷ []
+-- Locals that have these first slots.
+module _ (starts : List ℕ) where
+  -- the code of an expression that is an operand
+  abbrev pub value_code : Expression → (p t : ℕ) → List Instruction
+  value_code a p t = code_unless (operand_of starts a) (expression_code starts a p (value_slot starts a t) t)
 
--- a value that is returned, converted, and its slot
-abbrev pub converted_slot : Converted → (t : ℕ) → ℕ
-converted_slot (Convert from to a) t = slot_or (operand_of a) t
+  -- a condition that is such an expression compared with 0
+  abbrev pub zero_condition : Comparison → Expression → (t : ℕ) → Condition
+  zero_condition failing a t = record { failing = failing; left = value_operand starts a t; right = Word 0 }
 
-abbrev pub converted_slot_code : Converted → (p t : ℕ) → List Instruction
-converted_slot_code (Convert from to a) p t =
-    code_unless_slot (operand_of a) (expression_code a p t t)
-    ++ conversion_code to (Slot (slot_or (operand_of a) t)) (p + length (code_unless_slot (operand_of a) (expression_code a p t t)))
+  -- `putchar` of its argument
+  abbrev pub print_code : Arguments → (p t : ℕ) → List Instruction
+  print_code cs p t = printed_code starts cs p t ++ WriteByte (printed_operand starts cs (Slot t) t) ∷ []
 
--- what brings the left operand of a chain
-abbrev pub left_code : Expression → Operations → (p d t : ℕ) → List Instruction
-left_code a os p d t = code_unless (left_of a os) (expression_code a p (left_slot a os d t) t)
+  -- a value that is returned, converted, and its slot
+  abbrev pub converted_slot : Converted → (t : ℕ) → ℕ
+  converted_slot (Convert from to a) t = slot_or (operand_of starts a) t
 
--- the first of these operators has an operand without code on its right
-abbrev pub takes_operand : Operations → Bool
-takes_operand (ThenCompute o b os) = is_some (operand_of b)
-takes_operand os = false
+  abbrev pub converted_slot_code : Converted → (p t : ℕ) → List Instruction
+  converted_slot_code (Convert from to a) p t =
+      code_unless_slot (operand_of starts a) (expression_code starts a p t t)
+      ++ conversion_code to (Slot (slot_or (operand_of starts a) t)) (p + length (code_unless_slot (operand_of starts a) (expression_code starts a p t t)))
 
--- where operators begin, the first temporary is not too high
-abbrev pub HasRoom : Operations → (t many : ℕ) → Type 0
-HasRoom (ThenCompute o b os) t many = operand_of b ≡ None → t < most_locals + many
-HasRoom os t many = t ≤ most_locals + many
+  -- what brings the left operand of a chain
+  abbrev pub left_code : Expression → Operations → (p d t : ℕ) → List Instruction
+  left_code a os p d t = code_unless (left_of starts a os) (expression_code starts a p (left_slot starts a os d t) t)
 
-abbrev pub HasRoomFor : Operation → (t many : ℕ) → Type 0
-HasRoomFor (operation.Compute o e) t many = operand_of (view_expression e) ≡ None → t < most_locals + many
-HasRoomFor o t many = t ≤ most_locals + many
+  -- the first of these operators has an operand without code on its right
+  abbrev pub takes_operand : Operations → Bool
+  takes_operand (ThenCompute o b os) = is_some (operand_of starts b)
+  takes_operand os = false
 
--- one operator of a chain with its right operand, where the left one is l
-abbrev pub operation_code : Operation → (p : ℕ) → (l : Operand) → (d t : ℕ) → List Instruction
-operation_code (operation.Compute o e) p l d t =
-    compute_code o l (value_operand (view_expression e) (suc t)) (value_code (view_expression e) p (suc t)) p d
-operation_code (operation.Test o e) p l d t = test_code o (expression_code (view_expression e) (p + 1) t t) p d t
-operation_code o p l d t = Move d (Word 0) ∷ []
+  -- where operators begin, the first temporary is not too high
+  abbrev pub HasRoom : Operations → (t many : ℕ) → Type 0
+  HasRoom (ThenCompute o b os) t many = operand_of starts b ≡ None → t < most_locals + many
+  HasRoom os t many = t ≤ most_locals + many
 
--- one item of a block
-abbrev pub item_code : Item → (p loop t : ℕ) → List Instruction
-item_code (item.Execute s) p loop t = statement_code (view_statement s) p loop t
-item_code (item.Local n ty v) p loop t = declaration_code n (option_map view_converted v) p t
-item_code i p loop t = []
+  abbrev pub HasRoomFor : Operation → (t many : ℕ) → Type 0
+  HasRoomFor (operation.Compute o e) t many = operand_of starts (view_expression e) ≡ None → t < most_locals + many
+  HasRoomFor o t many = t ≤ most_locals + many
 
--- a loop
-abbrev pub loop_code : Expression → Statement → (p t : ℕ) → List Instruction
-loop_code a s p t =
-    while_code (condition_code a (p + 2) t) (failing_jump (condition_of a t)) (statement_code s (p + 2 + length (condition_code a (p + 2) t) + 1) p t) p
+  -- one operator of a chain with its right operand, where the left one is l
+  abbrev pub operation_code : Operation → (p : ℕ) → (l : Operand) → (d t : ℕ) → List Instruction
+  operation_code (operation.Compute o e) p l d t =
+      compute_code o l (value_operand starts (view_expression e) (suc t)) (value_code (view_expression e) p (suc t)) p d
+  operation_code (operation.Test o e) p l d t = test_code o (expression_code starts (view_expression e) (p + 1) t t) p d t
+  operation_code o p l d t = Move d (Word 0) ∷ []
+
+  -- one item of a block
+  abbrev pub item_code : Item → (p loop t : ℕ) → List Instruction
+  item_code (item.Execute s) p loop t = statement_code starts (view_statement s) p loop t
+  item_code (item.Local n ty v) p loop t = declaration_code starts n (option_map view_converted v) p t
+  item_code i p loop t = []
+
+  -- a loop
+  abbrev pub loop_code : Expression → Statement → (p t : ℕ) → List Instruction
+  loop_code a s p t =
+      while_code (condition_code starts a (p + 2) t) (failing_jump (condition_of starts a t)) (statement_code starts s (p + 2 + length (condition_code starts a (p + 2) t) + 1) p t) p
 
 -- So many words a frame has at most, where its function is one of a program that is short enough to be read.
 abbrev pub most_frame_count : ℕ

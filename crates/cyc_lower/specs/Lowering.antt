@@ -2,8 +2,8 @@
 -- for a place p. An expression brings its value to a slot d by its last instruction, so d may be the slot of a local that
 -- is read on the way. Else it writes to the slots from t on alone. Numbers and locals are operands where they are used.
 --
--- Here each value is one word. It has code for the int language; a form that is not built has a constant in its place, which nothing
--- runs.
+-- A local has as many slots as its type has words, but here each value is one word, its first. It has code for the int language; a
+-- form that is not built has a constant in its place, which nothing runs.
 use Rattle.std.specs.Prelude.{ℕ, suc, ◌+◌, ◌==◌, Bool, false, if◌then◌else◌, List, [], ◌∷◌, ◌++◌, length, map, Option, None, Some}
 use Rattle.cyc_words.specs.declared.span.Span.{Span}
 use Rattle.cyc_syntax.specs.Symbols.{Place}
@@ -16,7 +16,7 @@ use Rattle.cyc_types.specs.declared.typed.Operator.{Operator}
 use Rattle.cyc_types.specs.declared.typed.Operator.TheVariants as operators
 use Rattle.cyc_types.specs.declared.typed.LogicalOperator.{LogicalOperator}
 use Rattle.cyc_types.specs.declared.typed.LogicalOperator.TheVariants as logical
-use Rattle.cyc_types.specs.Types.{Ty}
+use Rattle.cyc_types.specs.Types.{Ty, Int}
 use Rattle.cyc_types.specs.TypedTrees.{Lvalue, Local, Global, Expression, Number, Copy, Call, Unary, Binary, Assign, Converted, Convert, Arguments, NoArguments, MoreArguments, Operations, NoOperations, ThenCompute, ThenTest, ThenPointer, ThenPointerPeek, Statement, Block, Empty, Evaluate, If, While, Return, Break, Continue, Items, NoItems, MoreItems, Execute, Declare, Constant, Word, Null, GlobalVariable, Function, Program}
 use Rattle.cyc_types.specs.Numbered.{argument_count}
 use Rattle.cyc_plain.specs.declared.instruction.UnaryOperator.{UnaryOperator as PlainUnary}
@@ -31,18 +31,23 @@ use Rattle.cyc_plain.specs.declared.instruction.Instruction.{Instruction}
 use Rattle.cyc_plain.specs.declared.instruction.Instruction.TheVariants as instructions
 use Rattle.cyc_plain.specs.Program.{Routine, Program as PlainProgram}
 use Rattle.cyc_meaning.specs.Operators.{null_exception, division_by_zero}
-use Rattle.cyc_meaning.specs.FrameCount.{frame_count, items_need}
+use Rattle.cyc_meaning.specs.FrameCount.{frame_count, items_need, words_of_all}
+use Rattle.cyc_lower.specs.Slots.{starts_of, slot_of}
 use Rattle.cyc_lower.specs.declared.operands.Condition.{Condition}
 
 -- ---- slots and operators
 
--- the slot of a local, by its number
-abbrev pub slot_of : ℕ → ℕ
-slot_of number = number
+-- A parameter has one slot yet, whatever its type: an argument is passed as one word.
+abbrev pub one_word : Ty → Ty
+one_word t = Int
+
+-- the types by which a function's locals have their slots
+abbrev pub slot_types : Function → List Ty
+slot_types h = map one_word h.parameters ++ h.locals
 
 -- the first slot behind the locals of a function
 abbrev pub first_temporary : Function → ℕ
-first_temporary h = length h.parameters + length h.locals
+first_temporary h = words_of_all (slot_types h)
 
 abbrev pub unary_operator : UnaryOperator → PlainUnary
 unary_operator unary.Negate = plain_unary.Negate
@@ -79,12 +84,6 @@ failing_comparison o = None
 
 -- ---- operands
 
--- what an expression is without code: a number, or a local
-abbrev pub operand_of : Expression → Option Operand
-operand_of (Number n) = Some (operands.Word n)
-operand_of (Copy (Local p n) t) = Some (operands.Slot (slot_of n))
-operand_of a = None
-
 -- where the value is: in that operand, or in the slot to which the code brings it
 abbrev pub operand_or : Option Operand → (slot : ℕ) → Operand
 operand_or (Some o) slot = o
@@ -108,43 +107,17 @@ abbrev pub left_with : (right left : Option Operand) → Option Operand
 left_with (Some o) left = left
 left_with None left = None
 
-abbrev pub left_of : Expression → Operations → Option Operand
-left_of a (ThenCompute o b os) = left_with (operand_of b) (operand_of a)
-left_of a os = None
-
--- The slot for the value of an expression that is an operand: an assigned local has its value already.
-abbrev pub value_slot : Expression → (t : ℕ) → ℕ
-value_slot (Assign (Local w n) c ty) t = slot_of n
-value_slot a t = t
-
 -- the slot for the value of all before these operators: the destination where none is left
 abbrev pub next_slot : Operations → (d t : ℕ) → ℕ
 next_slot NoOperations d t = d
 next_slot os d t = t
 
--- the slot for the value of a left operand
-abbrev pub slot_with : (right : Option Operand) → Expression → (t : ℕ) → ℕ
-slot_with (Some o) a t = value_slot a t
-slot_with None a t = t
+-- a value comes to a slot, where it is not there yet
+abbrev pub is_in : Operand → (d : ℕ) → Bool
+is_in (operands.Slot n) d = n == d
+is_in (operands.Word n) d = false
 
-abbrev pub left_slot : Expression → Operations → (d t : ℕ) → ℕ
-left_slot a NoOperations d t = d
-left_slot a (ThenCompute o b os) d t = slot_with (operand_of b) a t
-left_slot a os d t = t
-
--- where the value of an expression that is an operand stands
-abbrev pub value_operand : Expression → (t : ℕ) → Operand
-value_operand a t = operand_or (operand_of a) (value_slot a t)
-
-abbrev pub converted_operand : Converted → (t : ℕ) → Operand
-converted_operand (Convert from to a) t = value_operand a t
-
--- the byte that `putchar` prints, which is its only argument
-abbrev pub printed_operand : Arguments → Operand → (t : ℕ) → Operand
-printed_operand NoArguments o t = o
-printed_operand (MoreArguments c cs) o t = printed_operand cs (converted_operand c t) t
-
--- ---- expressions
+-- ---- instructions
 
 -- jumps where a word is 0, and where it is another
 abbrev pub jump_if_zero : Operand → (target : ℕ) → Instruction
@@ -187,11 +160,6 @@ truth_code t d =
     ∷ instructions.Unary plain_unary.Not d (operands.Slot t)
     ∷ []
 
--- the value of a place
-abbrev pub load_code : Lvalue → (d : ℕ) → List Instruction
-load_code (Local p n) d = instructions.Move d (operands.Slot (slot_of n)) ∷ []
-load_code (Global n) d = instructions.LoadGlobal d n ∷ []
-
 -- the low 8 bits of what was printed
 abbrev pub low_byte : Operand → (d : ℕ) → Instruction
 low_byte o d = instructions.Binary plain_binary.And d o (operands.Word 255)
@@ -204,104 +172,10 @@ compute_code o l r operand p d = operand ++ operator_code o l r (p + length oper
 abbrev pub test_code : LogicalOperator → (operand : List Instruction) → (p d t : ℕ) → List Instruction
 test_code o operand p d t = test_jump o t (p + 1 + length operand) ∷ operand ++ truth_code t d
 
--- a value comes to a slot, where it is not there yet
-abbrev pub is_in : Operand → (d : ℕ) → Bool
-is_in (operands.Slot n) d = n == d
-is_in (operands.Word n) d = false
-
 abbrev pub copy_code : Operand → (d : ℕ) → List Instruction
 copy_code o d = if is_in o d then [] else instructions.Move d o ∷ []
 
--- The code of an expression that begins at place p and brings its value to slot d, with temporaries from slot t on.
-abbrev mutual
-  pub expression_code : Expression → (p d t : ℕ) → List Instruction
-  expression_code (Number n) p d t = instructions.Move d (operands.Word n) ∷ []
-  expression_code (Copy l ty) p d t = load_code l d
-  expression_code (Call callees.Putchar cs ty) p d t =
-      printed_code cs p t
-      ++ instructions.WriteByte (printed_operand cs (operands.Slot t) t)
-      ∷ low_byte (printed_operand cs (operands.Slot t) t) d
-      ∷ []
-  expression_code (Call callees.Getchar cs ty) p d t = arguments_code cs p t ++ instructions.ReadByte d ∷ []
-  expression_code (Call (callees.Function n) cs ty) p d t =
-      arguments_code cs p t ++ instructions.Call n t (argument_count cs) d ∷ []
-  expression_code (Unary o a) p d t =
-      code_unless (operand_of a) (expression_code a p (value_slot a t) t)
-      ++ instructions.Unary (unary_operator o) d (value_operand a t)
-      ∷ []
-  expression_code (Binary a os ty) p d t =
-      code_unless (left_of a os) (expression_code a p (left_slot a os d t) t)
-      ++ operations_code os (p + length (code_unless (left_of a os) (expression_code a p (left_slot a os d t) t)))
-      (operand_or (left_of a os) (left_slot a os d t)) d t
-  expression_code (Assign (Local w n) c ty) p d t = initial_code c p (slot_of n) t ++ copy_code (operands.Slot (slot_of n)) d
-  expression_code (Assign (Global n) c ty) p d t =
-      (converted_operand_code c p t ++ instructions.StoreGlobal n (converted_operand c t) ∷ []) ++ copy_code (converted_operand c t) d
-  expression_code a p d t = instructions.Move d (operands.Word 0) ∷ []
-
-  -- each argument comes into the slot behind that of the one before
-  pub arguments_code : Arguments → (p t : ℕ) → List Instruction
-  arguments_code NoArguments p t = []
-  arguments_code (MoreArguments c cs) p t = converted_code c p t ++ arguments_code cs (p + length (converted_code c p t)) (suc t)
-
-  -- the value comes to slot t and is converted there
-  pub converted_code : Converted → (p t : ℕ) → List Instruction
-  converted_code (Convert from to a) p t =
-      expression_code a p t t ++ conversion_code to (operands.Slot t) (p + length (expression_code a p t t))
-
-  -- the value is converted where it is
-  pub converted_operand_code : Converted → (p t : ℕ) → List Instruction
-  converted_operand_code (Convert from to a) p t =
-      code_unless (operand_of a) (expression_code a p (value_slot a t) t)
-      ++ conversion_code to (value_operand a t) (p + length (code_unless (operand_of a) (expression_code a p (value_slot a t) t)))
-
-  -- the arguments of `putchar`, of which there is one
-  pub printed_code : Arguments → (p t : ℕ) → List Instruction
-  printed_code NoArguments p t = []
-  printed_code (MoreArguments c cs) p t =
-      converted_operand_code c p t ++ printed_code cs (p + length (converted_operand_code c p t)) t
-
-  -- Slot d gets the value. It is the last that happens, and nothing can be raised behind it.
-  pub initial_code : Converted → (p d t : ℕ) → List Instruction
-  initial_code (Convert from kinds.NonNull a) p d t =
-      code_unless (operand_of a) (expression_code a p (value_slot a t) t)
-      ++ check_code null_exception (value_operand a t) (p + length (code_unless (operand_of a) (expression_code a p (value_slot a t) t)))
-      ++ instructions.Move d (value_operand a t)
-      ∷ []
-  initial_code (Convert from to a) p d t = expression_code a p d t
-
-  -- The left operand is l. It is t where an operator is a test, or where the right operand has code.
-  pub operations_code : Operations → (p : ℕ) → (l : Operand) → (d t : ℕ) → List Instruction
-  operations_code NoOperations p l d t = []
-  operations_code (ThenCompute o b os) p l d t =
-      compute_code o l (value_operand b (suc t)) (code_unless (operand_of b) (expression_code b p (value_slot b (suc t)) (suc t))) p (next_slot os d t)
-      ++ operations_code os
-      (p + length (compute_code o l (value_operand b (suc t)) (code_unless (operand_of b) (expression_code b p (value_slot b (suc t)) (suc t))) p (next_slot os d t)))
-      (operands.Slot (next_slot os d t)) d t
-  operations_code (ThenTest o b os) p l d t =
-      test_code o (expression_code b (p + 1) t t) p (next_slot os d t) t
-      ++ operations_code os (p + length (test_code o (expression_code b (p + 1) t t) p (next_slot os d t) t)) (operands.Slot (next_slot os d t)) d t
-  operations_code (ThenPointer o b os) p l d t =
-      instructions.Move (next_slot os d t) (operands.Word 0) ∷ operations_code os (p + 1) (operands.Slot (next_slot os d t)) d t
-  operations_code (ThenPointerPeek n o b os) p l d t =
-      instructions.Move (next_slot os d t) (operands.Word 0) ∷ operations_code os (p + 1) (operands.Slot (next_slot os d t)) d t
-
--- an assignment, and the operand where its value stands then
-abbrev pub assignment_code : Lvalue → Converted → (p t : ℕ) → List Instruction
-assignment_code (Local w n) c p t = initial_code c p (slot_of n) t
-assignment_code (Global n) c p t = converted_operand_code c p t ++ instructions.StoreGlobal n (converted_operand c t) ∷ []
-
-abbrev pub assigned_operand : Lvalue → Converted → (t : ℕ) → Operand
-assigned_operand (Local w n) c t = operands.Slot (slot_of n)
-assigned_operand (Global n) c t = converted_operand c t
-
--- the code of an expression whose value nobody wants
-abbrev pub discarded_code : Expression → (p t : ℕ) → List Instruction
-discarded_code (Call callees.Putchar cs ty) p t =
-    printed_code cs p t ++ instructions.WriteByte (printed_operand cs (operands.Slot t) t) ∷ []
-discarded_code (Assign l c ty) p t = assignment_code l c p t
-discarded_code a p t = code_unless (operand_of a) (expression_code a p t t)
-
--- ---- statements
+-- ---- conditions, branches and loops
 
 -- A condition compares two expressions, and this comparison of them holds where it fails.
 pub record Compared : Type 0 where
@@ -322,31 +196,6 @@ compared_of (Unary unary.Not a) = with_zero comparisons.NotEqual a
 compared_of (Binary a (ThenCompute o b NoOperations) ty) =
     compared_or (failing_comparison o) a b (Binary a (ThenCompute o b NoOperations) ty)
 compared_of a = with_zero comparisons.Equal a
-
--- Two operands that are compared, the left one first. It is taken without code only where the right one is too.
-abbrev pub first_operand : (a b : Expression) → (t : ℕ) → Operand
-first_operand a b t = operand_or (left_with (operand_of b) (operand_of a)) (slot_with (operand_of b) a t)
-
-abbrev pub first_code : (a b : Expression) → (p t : ℕ) → List Instruction
-first_code a b p t =
-    code_unless (left_with (operand_of b) (operand_of a)) (expression_code a p (slot_with (operand_of b) a t) t)
-
-abbrev pub second_code : Expression → (p t : ℕ) → List Instruction
-second_code b p t = code_unless (operand_of b) (expression_code b p (value_slot b (suc t)) (suc t))
-
-abbrev pub pair_code : (a b : Expression) → (p t : ℕ) → List Instruction
-pair_code a b p t = first_code a b p t ++ second_code b (p + length (first_code a b p t)) t
-
--- a condition, whose code stands before the jump that is taken where it fails
-abbrev pub condition_code : Expression → (p t : ℕ) → List Instruction
-condition_code a p t = pair_code (compared_of a).left (compared_of a).right p t
-
-abbrev pub condition_of : Expression → (t : ℕ) → Condition
-condition_of a t = record {
-  failing = (compared_of a).failing;
-  left = first_operand (compared_of a).left (compared_of a).right t;
-  right = value_operand (compared_of a).right (suc t);
-}
 
 abbrev pub failing_jump : Condition → (target : ℕ) → Instruction
 failing_jump c target = instructions.Branch c.failing c.left c.right target
@@ -379,53 +228,217 @@ while_code condition jump body p =
     ++ instructions.Jump (continue_target p)
     ∷ []
 
--- a value is returned from a slot: that of a local, or t
-abbrev pub return_code : Option Converted → (p t : ℕ) → List Instruction
-return_code None p t = instructions.Return t ∷ []
-return_code (Some (Convert from to a)) p t =
-    code_unless_slot (operand_of a) (expression_code a p t t)
-    ++ conversion_code to (operands.Slot (slot_or (operand_of a) t)) (p + length (code_unless_slot (operand_of a) (expression_code a p t t)))
-    ++ instructions.Return (slot_or (operand_of a) t)
-    ∷ []
+-- Locals that have these first slots.
+module _ (starts : List ℕ) where
+  -- ---- where values stand
 
--- a local with an initial value gets it
-abbrev pub declaration_code : (number : ℕ) → Option Converted → (p t : ℕ) → List Instruction
-declaration_code n None p t = []
-declaration_code n (Some c) p t = initial_code c p (slot_of n) t
+  -- what an expression is without code: a number, or a local
+  abbrev pub operand_of : Expression → Option Operand
+  operand_of (Number n) = Some (operands.Word n)
+  operand_of (Copy (Local p n) t) = Some (operands.Slot (slot_of starts n))
+  operand_of a = None
 
--- The code of a statement that begins at place p, with the place where the loop round it begins and the first slot for
--- temporaries.
-abbrev mutual
-  pub statement_code : Statement → (p loop t : ℕ) → List Instruction
-  statement_code (Block r js) p loop t = items_code js p loop t
-  statement_code Empty p loop t = []
-  statement_code (Evaluate a) p loop t = discarded_code a p t
-  statement_code (If a s u) p loop t =
-      if_code (condition_code a p t) (failing_jump (condition_of a t))
-      (statement_code s (p + length (condition_code a p t) + 1) loop t)
-      (statement_code u (p + length (condition_code a p t) + 1 + length (statement_code s (p + length (condition_code a p t) + 1) loop t) + 1) loop t)
-      p
-  statement_code (While w a s) p loop t =
-      while_code (condition_code a (p + 2) t) (failing_jump (condition_of a t)) (statement_code s (p + 2 + length (condition_code a (p + 2) t) + 1) p t) p
-  statement_code (Return v) p loop t = return_code v p t
-  statement_code Break p loop t = instructions.Jump (break_target loop) ∷ []
-  statement_code Continue p loop t = instructions.Jump (continue_target loop) ∷ []
-  statement_code s p loop t = []
+  abbrev pub left_of : Expression → Operations → Option Operand
+  left_of a (ThenCompute o b os) = left_with (operand_of b) (operand_of a)
+  left_of a os = None
 
-  pub items_code : Items → (p loop t : ℕ) → List Instruction
-  items_code NoItems p loop t = []
-  items_code (MoreItems (Execute s) js) p loop t =
-      statement_code s p loop t ++ items_code js (p + length (statement_code s p loop t)) loop t
-  items_code (MoreItems (Declare n ty v) js) p loop t =
-      declaration_code n v p t ++ items_code js (p + length (declaration_code n v p t)) loop t
-  items_code (MoreItems j js) p loop t = items_code js p loop t
+  -- The slot for the value of an expression that is an operand: an assigned local has its value already.
+  abbrev pub value_slot : Expression → (t : ℕ) → ℕ
+  value_slot (Assign (Local w n) c ty) t = slot_of starts n
+  value_slot a t = t
+
+  -- the slot for the value of a left operand
+  abbrev pub slot_with : (right : Option Operand) → Expression → (t : ℕ) → ℕ
+  slot_with (Some o) a t = value_slot a t
+  slot_with None a t = t
+
+  abbrev pub left_slot : Expression → Operations → (d t : ℕ) → ℕ
+  left_slot a NoOperations d t = d
+  left_slot a (ThenCompute o b os) d t = slot_with (operand_of b) a t
+  left_slot a os d t = t
+
+  -- where the value of an expression that is an operand stands
+  abbrev pub value_operand : Expression → (t : ℕ) → Operand
+  value_operand a t = operand_or (operand_of a) (value_slot a t)
+
+  abbrev pub converted_operand : Converted → (t : ℕ) → Operand
+  converted_operand (Convert from to a) t = value_operand a t
+
+  -- the byte that `putchar` prints, which is its only argument
+  abbrev pub printed_operand : Arguments → Operand → (t : ℕ) → Operand
+  printed_operand NoArguments o t = o
+  printed_operand (MoreArguments c cs) o t = printed_operand cs (converted_operand c t) t
+
+  -- ---- expressions
+
+  -- the value of a place
+  abbrev pub load_code : Lvalue → (d : ℕ) → List Instruction
+  load_code (Local p n) d = instructions.Move d (operands.Slot (slot_of starts n)) ∷ []
+  load_code (Global n) d = instructions.LoadGlobal d n ∷ []
+
+  -- The code of an expression that begins at place p and brings its value to slot d, with temporaries from slot t on.
+  abbrev mutual
+    pub expression_code : Expression → (p d t : ℕ) → List Instruction
+    expression_code (Number n) p d t = instructions.Move d (operands.Word n) ∷ []
+    expression_code (Copy l ty) p d t = load_code l d
+    expression_code (Call callees.Putchar cs ty) p d t =
+        printed_code cs p t
+        ++ instructions.WriteByte (printed_operand cs (operands.Slot t) t)
+        ∷ low_byte (printed_operand cs (operands.Slot t) t) d
+        ∷ []
+    expression_code (Call callees.Getchar cs ty) p d t = arguments_code cs p t ++ instructions.ReadByte d ∷ []
+    expression_code (Call (callees.Function n) cs ty) p d t =
+        arguments_code cs p t ++ instructions.Call n t (argument_count cs) d ∷ []
+    expression_code (Unary o a) p d t =
+        code_unless (operand_of a) (expression_code a p (value_slot a t) t)
+        ++ instructions.Unary (unary_operator o) d (value_operand a t)
+        ∷ []
+    expression_code (Binary a os ty) p d t =
+        code_unless (left_of a os) (expression_code a p (left_slot a os d t) t)
+        ++ operations_code os (p + length (code_unless (left_of a os) (expression_code a p (left_slot a os d t) t)))
+        (operand_or (left_of a os) (left_slot a os d t)) d t
+    expression_code (Assign (Local w n) c ty) p d t = initial_code c p (slot_of starts n) t ++ copy_code (operands.Slot (slot_of starts n)) d
+    expression_code (Assign (Global n) c ty) p d t =
+        (converted_operand_code c p t ++ instructions.StoreGlobal n (converted_operand c t) ∷ []) ++ copy_code (converted_operand c t) d
+    expression_code a p d t = instructions.Move d (operands.Word 0) ∷ []
+
+    -- each argument comes into the slot behind that of the one before
+    pub arguments_code : Arguments → (p t : ℕ) → List Instruction
+    arguments_code NoArguments p t = []
+    arguments_code (MoreArguments c cs) p t = converted_code c p t ++ arguments_code cs (p + length (converted_code c p t)) (suc t)
+
+    -- the value comes to slot t and is converted there
+    pub converted_code : Converted → (p t : ℕ) → List Instruction
+    converted_code (Convert from to a) p t =
+        expression_code a p t t ++ conversion_code to (operands.Slot t) (p + length (expression_code a p t t))
+
+    -- the value is converted where it is
+    pub converted_operand_code : Converted → (p t : ℕ) → List Instruction
+    converted_operand_code (Convert from to a) p t =
+        code_unless (operand_of a) (expression_code a p (value_slot a t) t)
+        ++ conversion_code to (value_operand a t) (p + length (code_unless (operand_of a) (expression_code a p (value_slot a t) t)))
+
+    -- the arguments of `putchar`, of which there is one
+    pub printed_code : Arguments → (p t : ℕ) → List Instruction
+    printed_code NoArguments p t = []
+    printed_code (MoreArguments c cs) p t =
+        converted_operand_code c p t ++ printed_code cs (p + length (converted_operand_code c p t)) t
+
+    -- Slot d gets the value. It is the last that happens, and nothing can be raised behind it.
+    pub initial_code : Converted → (p d t : ℕ) → List Instruction
+    initial_code (Convert from kinds.NonNull a) p d t =
+        code_unless (operand_of a) (expression_code a p (value_slot a t) t)
+        ++ check_code null_exception (value_operand a t) (p + length (code_unless (operand_of a) (expression_code a p (value_slot a t) t)))
+        ++ instructions.Move d (value_operand a t)
+        ∷ []
+    initial_code (Convert from to a) p d t = expression_code a p d t
+
+    -- The left operand is l. It is t where an operator is a test, or where the right operand has code.
+    pub operations_code : Operations → (p : ℕ) → (l : Operand) → (d t : ℕ) → List Instruction
+    operations_code NoOperations p l d t = []
+    operations_code (ThenCompute o b os) p l d t =
+        compute_code o l (value_operand b (suc t)) (code_unless (operand_of b) (expression_code b p (value_slot b (suc t)) (suc t))) p (next_slot os d t)
+        ++ operations_code os
+        (p + length (compute_code o l (value_operand b (suc t)) (code_unless (operand_of b) (expression_code b p (value_slot b (suc t)) (suc t))) p (next_slot os d t)))
+        (operands.Slot (next_slot os d t)) d t
+    operations_code (ThenTest o b os) p l d t =
+        test_code o (expression_code b (p + 1) t t) p (next_slot os d t) t
+        ++ operations_code os (p + length (test_code o (expression_code b (p + 1) t t) p (next_slot os d t) t)) (operands.Slot (next_slot os d t)) d t
+    operations_code (ThenPointer o b os) p l d t =
+        instructions.Move (next_slot os d t) (operands.Word 0) ∷ operations_code os (p + 1) (operands.Slot (next_slot os d t)) d t
+    operations_code (ThenPointerPeek n o b os) p l d t =
+        instructions.Move (next_slot os d t) (operands.Word 0) ∷ operations_code os (p + 1) (operands.Slot (next_slot os d t)) d t
+
+  -- an assignment, and the operand where its value stands then
+  abbrev pub assignment_code : Lvalue → Converted → (p t : ℕ) → List Instruction
+  assignment_code (Local w n) c p t = initial_code c p (slot_of starts n) t
+  assignment_code (Global n) c p t = converted_operand_code c p t ++ instructions.StoreGlobal n (converted_operand c t) ∷ []
+
+  abbrev pub assigned_operand : Lvalue → Converted → (t : ℕ) → Operand
+  assigned_operand (Local w n) c t = operands.Slot (slot_of starts n)
+  assigned_operand (Global n) c t = converted_operand c t
+
+  -- the code of an expression whose value nobody wants
+  abbrev pub discarded_code : Expression → (p t : ℕ) → List Instruction
+  discarded_code (Call callees.Putchar cs ty) p t =
+      printed_code cs p t ++ instructions.WriteByte (printed_operand cs (operands.Slot t) t) ∷ []
+  discarded_code (Assign l c ty) p t = assignment_code l c p t
+  discarded_code a p t = code_unless (operand_of a) (expression_code a p t t)
+
+  -- ---- statements
+
+  -- Two operands that are compared, the left one first. It is taken without code only where the right one is too.
+  abbrev pub first_operand : (a b : Expression) → (t : ℕ) → Operand
+  first_operand a b t = operand_or (left_with (operand_of b) (operand_of a)) (slot_with (operand_of b) a t)
+
+  abbrev pub first_code : (a b : Expression) → (p t : ℕ) → List Instruction
+  first_code a b p t =
+      code_unless (left_with (operand_of b) (operand_of a)) (expression_code a p (slot_with (operand_of b) a t) t)
+
+  abbrev pub second_code : Expression → (p t : ℕ) → List Instruction
+  second_code b p t = code_unless (operand_of b) (expression_code b p (value_slot b (suc t)) (suc t))
+
+  abbrev pub pair_code : (a b : Expression) → (p t : ℕ) → List Instruction
+  pair_code a b p t = first_code a b p t ++ second_code b (p + length (first_code a b p t)) t
+
+  -- a condition, whose code stands before the jump that is taken where it fails
+  abbrev pub condition_code : Expression → (p t : ℕ) → List Instruction
+  condition_code a p t = pair_code (compared_of a).left (compared_of a).right p t
+
+  abbrev pub condition_of : Expression → (t : ℕ) → Condition
+  condition_of a t = record {
+    failing = (compared_of a).failing;
+    left = first_operand (compared_of a).left (compared_of a).right t;
+    right = value_operand (compared_of a).right (suc t);
+  }
+
+  -- a value is returned from a slot: that of a local, or t
+  abbrev pub return_code : Option Converted → (p t : ℕ) → List Instruction
+  return_code None p t = instructions.Return t ∷ []
+  return_code (Some (Convert from to a)) p t =
+      code_unless_slot (operand_of a) (expression_code a p t t)
+      ++ conversion_code to (operands.Slot (slot_or (operand_of a) t)) (p + length (code_unless_slot (operand_of a) (expression_code a p t t)))
+      ++ instructions.Return (slot_or (operand_of a) t)
+      ∷ []
+
+  -- a local with an initial value gets it
+  abbrev pub declaration_code : (number : ℕ) → Option Converted → (p t : ℕ) → List Instruction
+  declaration_code n None p t = []
+  declaration_code n (Some c) p t = initial_code c p (slot_of starts n) t
+
+  -- The code of a statement that begins at place p, with the place where the loop round it begins and the first slot for
+  -- temporaries.
+  abbrev mutual
+    pub statement_code : Statement → (p loop t : ℕ) → List Instruction
+    statement_code (Block r js) p loop t = items_code js p loop t
+    statement_code Empty p loop t = []
+    statement_code (Evaluate a) p loop t = discarded_code a p t
+    statement_code (If a s u) p loop t =
+        if_code (condition_code a p t) (failing_jump (condition_of a t))
+        (statement_code s (p + length (condition_code a p t) + 1) loop t)
+        (statement_code u (p + length (condition_code a p t) + 1 + length (statement_code s (p + length (condition_code a p t) + 1) loop t) + 1) loop t)
+        p
+    statement_code (While w a s) p loop t =
+        while_code (condition_code a (p + 2) t) (failing_jump (condition_of a t)) (statement_code s (p + 2 + length (condition_code a (p + 2) t) + 1) p t) p
+    statement_code (Return v) p loop t = return_code v p t
+    statement_code Break p loop t = instructions.Jump (break_target loop) ∷ []
+    statement_code Continue p loop t = instructions.Jump (continue_target loop) ∷ []
+    statement_code s p loop t = []
+
+    pub items_code : Items → (p loop t : ℕ) → List Instruction
+    items_code NoItems p loop t = []
+    items_code (MoreItems (Execute s) js) p loop t =
+        statement_code s p loop t ++ items_code js (p + length (statement_code s p loop t)) loop t
+    items_code (MoreItems (Declare n ty v) js) p loop t =
+        declaration_code n v p t ++ items_code js (p + length (declaration_code n v p t)) loop t
+    items_code (MoreItems j js) p loop t = items_code js p loop t
 
 -- ---- programs
 
 -- The code of a function ends in a return, which is the end of a void function. In any other it is never reached, and
 -- stands there so that no code runs off its end.
 abbrev pub function_code : Function → List Instruction
-function_code h = items_code h.body 0 0 (first_temporary h) ++ instructions.Return (first_temporary h) ∷ []
+function_code h = items_code (starts_of (slot_types h)) h.body 0 0 (first_temporary h) ++ instructions.Return (first_temporary h) ∷ []
 
 -- the words that a function returns
 abbrev pub results_of : Option Ty → ℕ

@@ -1,6 +1,6 @@
 -- The slots of a function's locals, by their types: each has as many as its value has words, in the order of their
 -- numbers. Where every type has one word, a local's slot is its number.
-use Rattle.std.specs.Prelude.{ℕ, zero, suc, ◌+◌, List, [], ◌∷◌}
+use Rattle.std.specs.Prelude.{ℕ, zero, suc, ◌+◌, List, [], ◌∷◌, slice_get, unwrap_or}
 use Rattle.cyc_types.specs.Types.{Ty, words_of}
 
 -- the first slot of a local of this number
@@ -8,3 +8,15 @@ abbrev pub slot_in : List Ty → ℕ → ℕ
 slot_in [] number = 0
 slot_in (t ∷ ts) zero = 0
 slot_in (t ∷ ts) (suc number) = words_of t + slot_in ts number
+
+-- the first slots of locals that follow one another from a slot on, by their numbers
+abbrev pub starts_from : (slot : ℕ) → List Ty → List ℕ
+starts_from slot [] = []
+starts_from slot (t ∷ ts) = slot ∷ starts_from (slot + words_of t) ts
+
+abbrev pub starts_of : List Ty → List ℕ
+starts_of ts = starts_from 0 ts
+
+-- the first slot of the local of this number, where the locals have these first slots
+abbrev pub slot_of : (starts : List ℕ) → (number : ℕ) → ℕ
+slot_of starts number = unwrap_or (slice_get starts number) 0

@@ -4,6 +4,7 @@ ghost use Rattle.cyc_types.specs.TypedTreeView.{view_lvalue};
 ghost use Rattle.cyc_lower.specs.Lowering.{failing_jump, load_code};
 ghost use Rattle.cyc_lower.specs.Emission.{Appends};
 
+use crate::locals::slot_of;
 use crate::operands::Condition;
 use crate::operators::failing_jump;
 use cyc_plain::{Instruction, Operand};
@@ -76,13 +77,20 @@ impl Emitter {
     }
 
     /// The value of a place comes into a slot.
-    pub(crate) fn load(&mut self, source: Lvalue, slot: usize) -> Result<(), AllocError>
-        ensures { Appends result self.old self.new (load_code (view_lvalue source) slot) }
+    pub(crate) fn load(
+        &mut self,
+        starts: &[usize],
+        source: Lvalue,
+        slot: usize,
+    ) -> Result<(), AllocError>
+        ensures { Appends result self.old self.new (load_code starts.now (view_lvalue source) slot) }
     {
         self.emit(match source {
             Lvalue::Local { number, .. } => Instruction::Move {
                 destination: slot,
-                source: Operand::Slot { number },
+                source: Operand::Slot {
+                    number: slot_of(starts, number),
+                },
             },
             Lvalue::Global { number } => Instruction::LoadGlobal {
                 destination: slot,

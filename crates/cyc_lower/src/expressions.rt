@@ -10,6 +10,7 @@ ghost use Rattle.cyc_lower.specs.Lowering.{operand_of, operand_or, slot_or, code
 ghost use Rattle.cyc_lower.specs.Emission.{Appends, Gives, HasRoom, HasRoomFor, most_locals, value_code, print_code, converted_slot, converted_slot_code, left_code, operation_code, IsChain, zero_condition};
 
 use crate::emitter::Emitter;
+use crate::locals::slot_of;
 use crate::operands::{Condition, is_in, operand_of, takes_operand, value_slot};
 use crate::operators::{
     binary_operator, failing_comparison, jump_if_nonzero, test_jump, unary_operator,
@@ -119,26 +120,27 @@ impl Emitter {
     #[cycle(expression)]
     pub(crate) fn lower_expression(
         &mut self,
+        starts: &[usize],
         value: &Expr,
         slot: usize,
         free: usize,
     ) -> Result<(), AllocError>
         requires { free ≤ most_locals + length self.old.code.items }
-        ensures { Appends result self.old self.new (expression_code (view_expression value.now) (length self.old.code.items) slot free) }
+        ensures { Appends result self.old self.new (expression_code starts.now (view_expression value.now) (length self.old.code.items) slot free) }
     {
         match value {
             Expr::Number { value } => self.emit(Instruction::Move {
                 destination: slot,
                 source: Operand::Word { word: *value },
             }),
-            Expr::Copy { source, .. } => self.load(*source, slot),
+            Expr::Copy { source, .. } => self.load(starts, *source, slot),
             Expr::Call {
                 callee,
                 arguments,
                 ..
-            } => self.call(*callee, arguments, slot, free),
+            } => self.call(starts, *callee, arguments, slot, free),
             Expr::Unary { operator, operand } => {
-                let operand = self.lower_operand(operand, free)?;
+                let operand = self.lower_operand(starts, operand, free)?;
                 self.emit(Instruction::Unary {
                     operator: unary_operator(*operator),
                     destination: slot,
@@ -146,11 +148,11 @@ impl Emitter {
                 })
             }
             Expr::Binary { first, rest, .. } => {
-                let left = self.lower_left(first, rest, slot, free)?;
-                self.lower_operations(rest, left, slot, free)
+                let left = self.lower_left(starts, first, rest, slot, free)?;
+                self.lower_operations(starts, rest, left, slot, free)
             }
             Expr::Assign { target, value, .. } => {
-                let assigned = self.lower_assignment(*target, value, free)?;
+                let assigned = self.lower_assignment(starts, *target, value, free)?;
                 self.copy(assigned, slot)
             }
             _ => self.emit_missing(slot),
@@ -159,15 +161,20 @@ impl Emitter {
 
     /// An expression is an operand: it has no code, or its code brings the value to a slot.
     #[cycle(expression)]
-    pub(crate) fn lower_operand(&mut self, value: &Expr, free: usize) -> Result<Operand, AllocError>
-        requires { operand_of (view_expression value.now) ≡ None → free ≤ most_locals + length self.old.code.items }
-        ensures { Gives (value_operand (view_expression value.now) free) result self.old self.new (value_code (view_expression value.now) (length self.old.code.items) free) }
+    pub(crate) fn lower_operand(
+        &mut self,
+        starts: &[usize],
+        value: &Expr,
+        free: usize,
+    ) -> Result<Operand, AllocError>
+        requires { operand_of starts.now (view_expression value.now) ≡ None → free ≤ most_locals + length self.old.code.items }
+        ensures { Gives (value_operand starts.now (view_expression value.now) free) result self.old self.new (value_code starts.now (view_expression value.now) (length self.old.code.items) free) }
     {
-        match operand_of(value) {
+        match operand_of(starts, value) {
             Some(known) => Ok(known),
             None => {
-                let slot = value_slot(value, free);
-                self.lower_expression(value, slot, free)?;
+                let slot = value_slot(starts, value, free);
+                self.lower_expression(starts, value, slot, free)?;
                 Ok(Operand::Slot { number: slot })
             }
         }
@@ -177,17 +184,18 @@ impl Emitter {
     #[cycle(expression)]
     fn call(
         &mut self,
+        starts: &[usize],
         callee: Callee,
         arguments: &[Converted],
         slot: usize,
         free: usize,
     ) -> Result<(), AllocError>
         requires { free ≤ most_locals + length self.old.code.items }
-        ensures { Appends result self.old self.new (expression_code (Call callee (arguments_of arguments.now) Void) (length self.old.code.items) slot free) }
+        ensures { Appends result self.old self.new (expression_code starts.now (Call callee (arguments_of arguments.now) Void) (length self.old.code.items) slot free) }
     {
         match callee {
             Callee::Putchar => {
-                let byte = self.print(arguments, free)?;
+                let byte = self.print(starts, arguments, free)?;
                 self.emit(Instruction::Binary {
                     operator: BinaryOperator::And,
                     destination: slot,
@@ -196,11 +204,11 @@ impl Emitter {
                 })
             }
             Callee::Getchar => {
-                self.lower_arguments(arguments, free)?;
+                self.lower_arguments(starts, arguments, free)?;
                 self.emit(Instruction::ReadByte { destination: slot })
             }
             Callee::Function { number } => {
-                self.lower_arguments(arguments, free)?;
+                self.lower_arguments(starts, arguments, free)?;
                 self.emit(Instruction::Call {
                     function: number,
                     arguments: free,
@@ -213,13 +221,18 @@ impl Emitter {
 
     /// `putchar` of its only argument.
     #[cycle(expression)]
-    fn print(&mut self, arguments: &[Converted], free: usize) -> Result<Operand, AllocError>
+    fn print(
+        &mut self,
+        starts: &[usize],
+        arguments: &[Converted],
+        free: usize,
+    ) -> Result<Operand, AllocError>
         requires { free ≤ most_locals + length self.old.code.items }
-        ensures { Gives (printed_operand (arguments_of arguments.now) (operands.Slot free) free) result self.old self.new (print_code (arguments_of arguments.now) (length self.old.code.items) free) }
+        ensures { Gives (printed_operand starts.now (arguments_of arguments.now) (operands.Slot free) free) result self.old self.new (print_code starts.now (arguments_of arguments.now) (length self.old.code.items) free) }
     {
         let mut byte = Operand::Slot { number: free };
         for argument in arguments {
-            byte = self.lower_converted(argument, free)?;
+            byte = self.lower_converted(starts, argument, free)?;
         }
         self.emit(Instruction::WriteByte { source: byte })?;
         Ok(byte)
@@ -227,13 +240,18 @@ impl Emitter {
 
     /// Each argument comes into the slot behind that of the one before.
     #[cycle(expression)]
-    fn lower_arguments(&mut self, arguments: &[Converted], first: usize) -> Result<(), AllocError>
+    fn lower_arguments(
+        &mut self,
+        starts: &[usize],
+        arguments: &[Converted],
+        first: usize,
+    ) -> Result<(), AllocError>
         requires { first ≤ most_locals + length self.old.code.items }
-        ensures { Appends result self.old self.new (arguments_code (arguments_of arguments.now) (length self.old.code.items) first) }
+        ensures { Appends result self.old self.new (arguments_code starts.now (arguments_of arguments.now) (length self.old.code.items) first) }
     {
         let mut slot = first;
         for argument in arguments {
-            self.lower_expression(&argument.value, slot, slot)?;
+            self.lower_expression(starts, &argument.value, slot, slot)?;
             self.convert(argument.to, Operand::Slot { number: slot })?;
             slot += 1;
         }
@@ -242,11 +260,16 @@ impl Emitter {
 
     /// A value that is converted where it is.
     #[cycle(expression)]
-    fn lower_converted(&mut self, value: &Converted, free: usize) -> Result<Operand, AllocError>
+    fn lower_converted(
+        &mut self,
+        starts: &[usize],
+        value: &Converted,
+        free: usize,
+    ) -> Result<Operand, AllocError>
         requires { free ≤ most_locals + length self.old.code.items }
-        ensures { Gives (converted_operand (view_converted value.now) free) result self.old self.new (converted_operand_code (view_converted value.now) (length self.old.code.items) free) }
+        ensures { Gives (converted_operand starts.now (view_converted value.now) free) result self.old self.new (converted_operand_code starts.now (view_converted value.now) (length self.old.code.items) free) }
     {
-        let operand = self.lower_operand(&value.value, free)?;
+        let operand = self.lower_operand(starts, &value.value, free)?;
         self.convert(value.to, operand)?;
         Ok(operand)
     }
@@ -255,41 +278,44 @@ impl Emitter {
     #[cycle(expression)]
     pub(crate) fn lower_initial(
         &mut self,
+        starts: &[usize],
         value: &Converted,
         slot: usize,
         free: usize,
     ) -> Result<(), AllocError>
         requires { free ≤ most_locals + length self.old.code.items }
-        ensures { Appends result self.old self.new (initial_code (view_converted value.now) (length self.old.code.items) slot free) }
+        ensures { Appends result self.old self.new (initial_code starts.now (view_converted value.now) (length self.old.code.items) slot free) }
     {
         if matches!(value.to, Kind::NonNull) {
-            let source = self.lower_converted(value, free)?;
+            let source = self.lower_converted(starts, value, free)?;
             return self.emit(Instruction::Move {
                 destination: slot,
                 source,
             });
         }
-        self.lower_expression(&value.value, slot, free)
+        self.lower_expression(starts, &value.value, slot, free)
     }
 
     /// An assignment, and where its value stands then.
     #[cycle(expression)]
     fn lower_assignment(
         &mut self,
+        starts: &[usize],
         target: Lvalue,
         value: &Converted,
         free: usize,
     ) -> Result<Operand, AllocError>
         requires { free ≤ most_locals + length self.old.code.items }
-        ensures { Gives (assigned_operand (view_lvalue target) (view_converted value.now) free) result self.old self.new (assignment_code (view_lvalue target) (view_converted value.now) (length self.old.code.items) free) }
+        ensures { Gives (assigned_operand starts.now (view_lvalue target) (view_converted value.now) free) result self.old self.new (assignment_code starts.now (view_lvalue target) (view_converted value.now) (length self.old.code.items) free) }
     {
         match target {
             Lvalue::Local { number, .. } => {
-                self.lower_initial(value, number, free)?;
-                Ok(Operand::Slot { number })
+                let slot = slot_of(starts, number);
+                self.lower_initial(starts, value, slot, free)?;
+                Ok(Operand::Slot { number: slot })
             }
             Lvalue::Global { number } => {
-                let source = self.lower_converted(value, free)?;
+                let source = self.lower_converted(starts, value, free)?;
                 self.emit(Instruction::StoreGlobal {
                     global: number,
                     source,
@@ -303,19 +329,20 @@ impl Emitter {
     #[cycle(expression)]
     fn lower_left(
         &mut self,
+        starts: &[usize],
         first: &Expr,
         rest: &[Operation],
         slot: usize,
         free: usize,
     ) -> Result<Operand, AllocError>
         requires { free ≤ most_locals + length self.old.code.items }
-        ensures { Gives (operand_or (left_of (view_expression first.now) (operations_of rest.now)) (left_slot (view_expression first.now) (operations_of rest.now) slot free)) result self.old self.new (left_code (view_expression first.now) (operations_of rest.now) (length self.old.code.items) slot free) }
+        ensures { Gives (operand_or (left_of starts.now (view_expression first.now) (operations_of rest.now)) (left_slot starts.now (view_expression first.now) (operations_of rest.now) slot free)) result self.old self.new (left_code starts.now (view_expression first.now) (operations_of rest.now) (length self.old.code.items) slot free) }
     {
-        if takes_operand(rest) {
-            return self.lower_operand(first, free);
+        if takes_operand(starts, rest) {
+            return self.lower_operand(starts, first, free);
         }
         let to = if rest.is_empty() { slot } else { free };
-        self.lower_expression(first, to, free)?;
+        self.lower_expression(starts, first, to, free)?;
         Ok(Operand::Slot { number: to })
     }
 
@@ -323,24 +350,25 @@ impl Emitter {
     #[cycle(expression)]
     fn lower_operation(
         &mut self,
+        starts: &[usize],
         operation: &Operation,
         left: Operand,
         slot: usize,
         free: usize,
     ) -> Result<(), AllocError>
         requires low { free ≤ most_locals + length self.old.code.items }
-        requires room { HasRoomFor operation.now free (length self.old.code.items) }
-        ensures { Appends result self.old self.new (operation_code operation.now (length self.old.code.items) left slot free) }
+        requires room { HasRoomFor starts.now operation.now free (length self.old.code.items) }
+        ensures { Appends result self.old self.new (operation_code starts.now operation.now (length self.old.code.items) left slot free) }
     {
         match operation {
             Operation::Compute { operator, operand } => {
-                let right = self.lower_operand(operand, free + 1)?;
+                let right = self.lower_operand(starts, operand, free + 1)?;
                 self.lower_operator(*operator, left, right, slot)
             }
             Operation::Test { operator, operand } => {
                 let jump = self.place();
                 self.emit(test_jump(*operator, free, 0))?;
-                self.lower_expression(operand, free, free)?;
+                self.lower_expression(starts, operand, free, free)?;
                 let behind = self.place();
                 self.patch(jump, test_jump(*operator, free, behind));
                 self.make_truth(free, slot)
@@ -353,21 +381,22 @@ impl Emitter {
     #[cycle(expression)]
     fn lower_operations(
         &mut self,
+        starts: &[usize],
         operations: &[Operation],
         first: Operand,
         slot: usize,
         free: usize,
     ) -> Result<(), AllocError>
         requires low { free ≤ most_locals + length self.old.code.items }
-        requires room { HasRoom (operations_of operations.now) free (length self.old.code.items) }
-        ensures { Appends result self.old self.new (operations_code (operations_of operations.now) (length self.old.code.items) first slot free) }
+        requires room { HasRoom starts.now (operations_of operations.now) free (length self.old.code.items) }
+        ensures { Appends result self.old self.new (operations_code starts.now (operations_of operations.now) (length self.old.code.items) first slot free) }
     {
         let mut left = first;
         let mut behind = operations.len();
         for operation in operations {
             behind -= 1;
             let to = if behind == 0 { slot } else { free };
-            self.lower_operation(operation, left, to, free)?;
+            self.lower_operation(starts, operation, left, to, free)?;
             left = Operand::Slot { number: to };
         }
         Ok(())
@@ -376,40 +405,46 @@ impl Emitter {
     /// A call whose value nobody wants.
     fn discard_call(
         &mut self,
+        starts: &[usize],
         callee: Callee,
         arguments: &[Converted],
         free: usize,
     ) -> Result<(), AllocError>
         requires { free ≤ most_locals + length self.old.code.items }
-        ensures { Appends result self.old self.new (discarded_code (Call callee (arguments_of arguments.now) Void) (length self.old.code.items) free) }
+        ensures { Appends result self.old self.new (discarded_code starts.now (Call callee (arguments_of arguments.now) Void) (length self.old.code.items) free) }
     {
         match callee {
             Callee::Putchar => {
-                self.print(arguments, free)?;
+                self.print(starts, arguments, free)?;
                 Ok(())
             }
-            Callee::Getchar => self.call(callee, arguments, free, free),
-            Callee::Function { .. } => self.call(callee, arguments, free, free),
+            Callee::Getchar => self.call(starts, callee, arguments, free, free),
+            Callee::Function { .. } => self.call(starts, callee, arguments, free, free),
         }
     }
 
     /// An expression whose value nobody wants.
-    pub(crate) fn discard(&mut self, value: &Expr, free: usize) -> Result<(), AllocError>
+    pub(crate) fn discard(
+        &mut self,
+        starts: &[usize],
+        value: &Expr,
+        free: usize,
+    ) -> Result<(), AllocError>
         requires { free ≤ most_locals + length self.old.code.items }
-        ensures { Appends result self.old self.new (discarded_code (view_expression value.now) (length self.old.code.items) free) }
+        ensures { Appends result self.old self.new (discarded_code starts.now (view_expression value.now) (length self.old.code.items) free) }
     {
         match value {
             Expr::Call {
                 callee,
                 arguments,
                 ..
-            } => self.discard_call(*callee, arguments, free),
+            } => self.discard_call(starts, *callee, arguments, free),
             Expr::Assign { target, value, .. } => {
-                self.lower_assignment(*target, value, free)?;
+                self.lower_assignment(starts, *target, value, free)?;
                 Ok(())
             }
             _ => {
-                self.lower_operand(value, free)?;
+                self.lower_operand(starts, value, free)?;
                 Ok(())
             }
         }
@@ -418,14 +453,15 @@ impl Emitter {
     /// A condition that is a value compared with 0.
     fn compare_with_zero(
         &mut self,
+        starts: &[usize],
         failing: Comparison,
         value: &Expr,
         free: usize,
     ) -> Result<Condition, AllocError>
         requires { free ≤ most_locals + length self.old.code.items }
-        ensures { Gives (zero_condition failing (view_expression value.now) free) result self.old self.new (value_code (view_expression value.now) (length self.old.code.items) free) }
+        ensures { Gives (zero_condition starts.now failing (view_expression value.now) free) result self.old self.new (value_code starts.now (view_expression value.now) (length self.old.code.items) free) }
     {
-        let left = self.lower_operand(value, free)?;
+        let left = self.lower_operand(starts, value, free)?;
         Ok(Condition {
             failing,
             left,
@@ -436,6 +472,7 @@ impl Emitter {
     /// A condition that is a chain: one operator that compares is left to the jump.
     fn compare_chain(
         &mut self,
+        starts: &[usize],
         value: &Expr,
         first: &Expr,
         rest: &[Operation],
@@ -443,15 +480,15 @@ impl Emitter {
     ) -> Result<Condition, AllocError>
         requires low { free ≤ most_locals + length self.old.code.items }
         requires chain { IsChain (view_expression value.now) (view_expression first.now) (operations_of rest.now) }
-        ensures { Gives (condition_of (view_expression value.now) free) result self.old self.new (condition_code (view_expression value.now) (length self.old.code.items) free) }
+        ensures { Gives (condition_of starts.now (view_expression value.now) free) result self.old self.new (condition_code starts.now (view_expression value.now) (length self.old.code.items) free) }
     {
         if rest.len() != 1 {
-            return self.compare_with_zero(Comparison::Equal, value, free);
+            return self.compare_with_zero(starts, Comparison::Equal, value, free);
         }
         if let Some(Operation::Compute { operator, operand }) = rest.first() {
             if let Some(failing) = failing_comparison(*operator) {
-                let left = self.lower_left(first, rest, free, free)?;
-                let right = self.lower_operand(operand, free + 1)?;
+                let left = self.lower_left(starts, first, rest, free, free)?;
+                let right = self.lower_operand(starts, operand, free + 1)?;
                 return Ok(Condition {
                     failing,
                     left,
@@ -459,37 +496,45 @@ impl Emitter {
                 });
             }
         }
-        self.compare_with_zero(Comparison::Equal, value, free)
+        self.compare_with_zero(starts, Comparison::Equal, value, free)
     }
 
     /// A condition: two operands that are compared.
     pub(crate) fn lower_condition(
         &mut self,
+        starts: &[usize],
         value: &Expr,
         free: usize,
     ) -> Result<Condition, AllocError>
         requires { free ≤ most_locals + length self.old.code.items }
-        ensures { Gives (condition_of (view_expression value.now) free) result self.old self.new (condition_code (view_expression value.now) (length self.old.code.items) free) }
+        ensures { Gives (condition_of starts.now (view_expression value.now) free) result self.old self.new (condition_code starts.now (view_expression value.now) (length self.old.code.items) free) }
     {
         match value {
-            Expr::Binary { first, rest, .. } => self.compare_chain(value, first, rest, free),
+            Expr::Binary { first, rest, .. } => self.compare_chain(
+                starts, value, first, rest, free,
+            ),
             Expr::Unary {
                 operator: typed::UnaryOperator::Not,
                 operand,
-            } => self.compare_with_zero(Comparison::NotEqual, operand, free),
-            _ => self.compare_with_zero(Comparison::Equal, value, free),
+            } => self.compare_with_zero(starts, Comparison::NotEqual, operand, free),
+            _ => self.compare_with_zero(starts, Comparison::Equal, value, free),
         }
     }
 
     /// A value that is to be in a slot: in that of a local, or in `free`.
-    pub(crate) fn lower_to_slot(&mut self, value: &Expr, free: usize) -> Result<usize, AllocError>
+    pub(crate) fn lower_to_slot(
+        &mut self,
+        starts: &[usize],
+        value: &Expr,
+        free: usize,
+    ) -> Result<usize, AllocError>
         requires { free ≤ most_locals + length self.old.code.items }
-        ensures { Gives (slot_or (operand_of (view_expression value.now)) free) result self.old self.new (code_unless_slot (operand_of (view_expression value.now)) (expression_code (view_expression value.now) (length self.old.code.items) free free)) }
+        ensures { Gives (slot_or (operand_of starts.now (view_expression value.now)) free) result self.old self.new (code_unless_slot (operand_of starts.now (view_expression value.now)) (expression_code starts.now (view_expression value.now) (length self.old.code.items) free free)) }
     {
-        match operand_of(value) {
+        match operand_of(starts, value) {
             Some(Operand::Slot { number }) => Ok(number),
             Some(Operand::Word { .. }) | None => {
-                self.lower_expression(value, free, free)?;
+                self.lower_expression(starts, value, free, free)?;
                 Ok(free)
             }
         }
@@ -498,13 +543,14 @@ impl Emitter {
     /// A value that is returned, converted, and its slot.
     pub(crate) fn convert_to_slot(
         &mut self,
+        starts: &[usize],
         value: &Converted,
         free: usize,
     ) -> Result<usize, AllocError>
         requires { free ≤ most_locals + length self.old.code.items }
-        ensures { Gives (converted_slot (view_converted value.now) free) result self.old self.new (converted_slot_code (view_converted value.now) (length self.old.code.items) free) }
+        ensures { Gives (converted_slot starts.now (view_converted value.now) free) result self.old self.new (converted_slot_code starts.now (view_converted value.now) (length self.old.code.items) free) }
     {
-        let slot = self.lower_to_slot(&value.value, free)?;
+        let slot = self.lower_to_slot(starts, &value.value, free)?;
         self.convert(value.to, Operand::Slot { number: slot })?;
         Ok(slot)
     }

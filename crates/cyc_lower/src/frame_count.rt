@@ -37,7 +37,7 @@ fn words_of_kind(kind: Kind) -> usize
 }
 
 /// The words of a value of a type.
-fn words_of(of_type: &Ty) -> usize
+pub(crate) fn words_of(of_type: &Ty) -> usize
     ensures { result ≡ words_of (view_ty of_type.now) }
 {
     of_type.words() as usize

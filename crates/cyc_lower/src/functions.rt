@@ -12,6 +12,7 @@ ghost use Rattle.cyc_lower.specs.Lowered.{CanBeLowered};
 
 use crate::emitter::Emitter;
 use crate::frame_count::{frame_count, items_need};
+use crate::locals::slots_of_locals;
 use cyc_plain::{Function, Instruction, Plain};
 use cyc_types::typed::{self, Constant};
 use cyc_types::{Ty, TypedTree};
@@ -42,15 +43,15 @@ fn lower_function(alloc: Global, function: &typed::Function) -> Result<Function,
     requires { frame_count (view_function function.now) ≤ most_frame_count }
     ensures { IfOk result (λ f. routine_of f ≡ lower_function (view_function function.now)) }
 {
-    let locals = function.parameters.len() + function.locals.len();
+    let (starts, free) = slots_of_locals(alloc, function)?;
     let mut emitter = Emitter::new(alloc);
-    emitter.lower_items(&function.body, 0, locals)?;
-    emitter.emit(Instruction::Return { value: locals })?;
+    emitter.lower_items(&starts, &function.body, 0, free)?;
+    emitter.emit(Instruction::Return { value: free })?;
     Ok(Function {
         name: function.span,
         parameters: function.parameters.len(),
         results: results_of(&function.result),
-        slots: locals + items_need(&function.body) + 1,
+        slots: free + items_need(&function.body) + 1,
         frame_count: frame_count(function),
         code: emitter.code,
     })

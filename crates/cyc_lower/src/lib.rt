@@ -10,6 +10,7 @@ mod frame_count;
 mod functions;
 pub mod laws;
 mod limits;
+mod locals;
 mod operands;
 mod operators;
 mod program;

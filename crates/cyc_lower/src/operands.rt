@@ -4,6 +4,7 @@ ghost use Rattle.cyc_types.specs.TypedTreeView.{view_expression, operations_of};
 ghost use Rattle.cyc_lower.specs.Lowering.{operand_of, value_slot, is_in};
 ghost use Rattle.cyc_lower.specs.Emission.{takes_operand};
 
+use crate::locals::slot_of;
 use cyc_plain::{Comparison, Operand};
 use cyc_types::typed::{Expr, Lvalue, Operation};
 
@@ -16,13 +17,15 @@ pub(crate) struct Condition {
 }
 
 /// What an expression is without code: a number, or a local.
-pub(crate) fn operand_of(value: &Expr) -> Option<Operand>
-    ensures { result ≡ operand_of (view_expression value.now) }
+pub(crate) fn operand_of(starts: &[usize], value: &Expr) -> Option<Operand>
+    ensures { result ≡ operand_of starts.now (view_expression value.now) }
 {
     match value {
         Expr::Number { value } => Some(Operand::Word { word: *value }),
         Expr::Copy { source, .. } => match *source {
-            Lvalue::Local { number, .. } => Some(Operand::Slot { number }),
+            Lvalue::Local { number, .. } => Some(Operand::Slot {
+                number: slot_of(starts, number),
+            }),
             Lvalue::Global { .. } => None,
         },
         _ => None,
@@ -30,12 +33,12 @@ pub(crate) fn operand_of(value: &Expr) -> Option<Operand>
 }
 
 /// The slot for the value of an expression that is an operand: an assigned local has it already.
-pub(crate) fn value_slot(value: &Expr, free: usize) -> usize
-    ensures { result ≡ value_slot (view_expression value.now) free }
+pub(crate) fn value_slot(starts: &[usize], value: &Expr, free: usize) -> usize
+    ensures { result ≡ value_slot starts.now (view_expression value.now) free }
 {
     match value {
         Expr::Assign { target, .. } => match *target {
-            Lvalue::Local { number, .. } => number,
+            Lvalue::Local { number, .. } => slot_of(starts, number),
             Lvalue::Global { .. } => free,
         },
         _ => free,
@@ -43,11 +46,11 @@ pub(crate) fn value_slot(value: &Expr, free: usize) -> usize
 }
 
 /// Whether the first of these operators has an operand without code on its right.
-pub(crate) fn takes_operand(operations: &[Operation]) -> bool
-    ensures { result ≡ takes_operand (operations_of operations.now) }
+pub(crate) fn takes_operand(starts: &[usize], operations: &[Operation]) -> bool
+    ensures { result ≡ takes_operand starts.now (operations_of operations.now) }
 {
     match operations.first() {
-        Some(Operation::Compute { operand, .. }) => operand_of(operand).is_some(),
+        Some(Operation::Compute { operand, .. }) => operand_of(starts, operand).is_some(),
         _ => false,
     }
 }

@@ -5,6 +5,7 @@ ghost use Rattle.cyc_lower.specs.Lowering.{break_target, continue_target, return
 ghost use Rattle.cyc_lower.specs.Emission.{Appends, most_locals, item_code, loop_code};
 
 use crate::emitter::Emitter;
+use crate::locals::slot_of;
 use crate::operators::failing_jump;
 use cyc_plain::Instruction;
 use cyc_types::typed::{Converted, Expr, Item, Stmt};
@@ -12,12 +13,17 @@ use std::alloc::AllocError;
 
 impl Emitter {
     /// A return of a value in a slot.
-    fn lower_return(&mut self, value: &Option<Converted>, free: usize) -> Result<(), AllocError>
+    fn lower_return(
+        &mut self,
+        starts: &[usize],
+        value: &Option<Converted>,
+        free: usize,
+    ) -> Result<(), AllocError>
         requires { free ≤ most_locals + length self.old.code.items }
-        ensures { Appends result self.old self.new (return_code (option_map view_converted value.now) (length self.old.code.items) free) }
+        ensures { Appends result self.old self.new (return_code starts.now (option_map view_converted value.now) (length self.old.code.items) free) }
     {
         let from = match value {
-            Some(value) => self.convert_to_slot(value, free)?,
+            Some(value) => self.convert_to_slot(starts, value, free)?,
             None => free,
         };
         self.emit(Instruction::Return { value: from })
@@ -26,17 +32,18 @@ impl Emitter {
     /// The declaration of a local, which gets its initial value if it has one.
     fn lower_declaration(
         &mut self,
+        starts: &[usize],
         number: usize,
         value: &Option<Converted>,
         free: usize,
     ) -> Result<(), AllocError>
         requires { free ≤ most_locals + length self.old.code.items }
-        ensures { Appends result self.old self.new (declaration_code number (option_map view_converted value.now) (length self.old.code.items) free) }
+        ensures { Appends result self.old self.new (declaration_code starts.now number (option_map view_converted value.now) (length self.old.code.items) free) }
     {
         let Some(value) = value else {
             return Ok(());
         };
-        self.lower_initial(value, number, free)
+        self.lower_initial(starts, value, slot_of(starts, number), free)
     }
 
     /// A jump to the end of the loop that begins at this place, by the second of its two jumps.
@@ -58,16 +65,22 @@ impl Emitter {
     /// A loop begins with two jumps, one over the other to its condition, and one to its end. So the targets of a `break` and of
     /// a `continue` are known before the body's code is made.
     #[cycle(statement)]
-    fn lower_loop(&mut self, body: &Stmt, condition: &Expr, free: usize) -> Result<(), AllocError>
+    fn lower_loop(
+        &mut self,
+        starts: &[usize],
+        body: &Stmt,
+        condition: &Expr,
+        free: usize,
+    ) -> Result<(), AllocError>
         requires { free ≤ most_locals + length self.old.code.items }
-        ensures { Appends result self.old self.new (loop_code (view_expression condition.now) (view_statement body.now) (length self.old.code.items) free) }
+        ensures { Appends result self.old self.new (loop_code starts.now (view_expression condition.now) (view_statement body.now) (length self.old.code.items) free) }
     {
         let head = self.place();
         self.lower_continue(head)?;
         let leaving = self.reserve()?;
-        let condition = self.lower_condition(condition, free)?;
+        let condition = self.lower_condition(starts, condition, free)?;
         self.emit(failing_jump(condition, leaving))?;
-        self.lower_statement(body, head, free)?;
+        self.lower_statement(starts, body, head, free)?;
         self.lower_continue(head)?;
         self.jump_here(leaving);
         Ok(())
@@ -77,29 +90,30 @@ impl Emitter {
     #[cycle(statement)]
     fn lower_statement(
         &mut self,
+        starts: &[usize],
         statement: &Stmt,
         head: usize,
         free: usize,
     ) -> Result<(), AllocError>
         requires slots { free ≤ most_locals + length self.old.code.items }
         requires begun { head ≤ length self.old.code.items }
-        ensures { Appends result self.old self.new (statement_code (view_statement statement.now) (length self.old.code.items) head free) }
+        ensures { Appends result self.old self.new (statement_code starts.now (view_statement statement.now) (length self.old.code.items) head free) }
     {
         match statement {
-            Stmt::Block { items, .. } => self.lower_items(items, head, free),
+            Stmt::Block { items, .. } => self.lower_items(starts, items, head, free),
             Stmt::Empty => Ok(()),
-            Stmt::Evaluate { value } => self.discard(value, free),
+            Stmt::Evaluate { value } => self.discard(starts, value, free),
             Stmt::If {
                 condition,
                 then,
                 otherwise,
             } => {
-                let condition = self.lower_condition(condition, free)?;
+                let condition = self.lower_condition(starts, condition, free)?;
                 let over_then = self.reserve()?;
-                self.lower_statement(then, head, free)?;
+                self.lower_statement(starts, then, head, free)?;
                 let over_otherwise = self.reserve()?;
                 self.jump_here_if_failing(over_then, condition);
-                self.lower_statement(otherwise, head, free)?;
+                self.lower_statement(starts, otherwise, head, free)?;
                 self.jump_here(over_otherwise);
                 Ok(())
             }
@@ -107,8 +121,8 @@ impl Emitter {
                 condition,
                 body,
                 ..
-            } => self.lower_loop(body, condition, free),
-            Stmt::Return { value } => self.lower_return(value, free),
+            } => self.lower_loop(starts, body, condition, free),
+            Stmt::Return { value } => self.lower_return(starts, value, free),
             Stmt::Break => self.lower_break(head),
             Stmt::Continue => self.lower_continue(head),
             // These are not built yet, and never run.
@@ -117,14 +131,22 @@ impl Emitter {
     }
 
     #[cycle(statement)]
-    fn lower_item(&mut self, item: &Item, head: usize, free: usize) -> Result<(), AllocError>
+    fn lower_item(
+        &mut self,
+        starts: &[usize],
+        item: &Item,
+        head: usize,
+        free: usize,
+    ) -> Result<(), AllocError>
         requires slots { free ≤ most_locals + length self.old.code.items }
         requires begun { head ≤ length self.old.code.items }
-        ensures { Appends result self.old self.new (item_code item.now (length self.old.code.items) head free) }
+        ensures { Appends result self.old self.new (item_code starts.now item.now (length self.old.code.items) head free) }
     {
         match item {
-            Item::Execute { statement } => self.lower_statement(statement, head, free),
-            Item::Local { number, value, .. } => self.lower_declaration(*number, value, free),
+            Item::Execute { statement } => self.lower_statement(starts, statement, head, free),
+            Item::Local { number, value, .. } => self.lower_declaration(
+                starts, *number, value, free,
+            ),
             _ => Ok(()),
         }
     }
@@ -133,16 +155,17 @@ impl Emitter {
     #[cycle(statement)]
     pub(crate) fn lower_items(
         &mut self,
+        starts: &[usize],
         items: &[Item],
         head: usize,
         free: usize,
     ) -> Result<(), AllocError>
         requires slots { free ≤ most_locals + length self.old.code.items }
         requires begun { head ≤ length self.old.code.items }
-        ensures { Appends result self.old self.new (items_code (items_of items.now) (length self.old.code.items) head free) }
+        ensures { Appends result self.old self.new (items_code starts.now (items_of items.now) (length self.old.code.items) head free) }
     {
         for item in items {
-            self.lower_item(item, head, free)?;
+            self.lower_item(starts, item, head, free)?;
         }
         Ok(())
     }

@@ -1,8 +1,15 @@
 use Rattle.cyc_types.specs.TypedTreeView.{view_function}
-use Rattle.cyc_lower.proofs.Routines.{numbered_at}
+use Rattle.cyc_plain.specs.Program.{routine_of}
+use Rattle.cyc_lower.specs.Lowering.{lower_function}
+use Rattle.cyc_lower.proofs.Routines.{numbered_at, one_more}
 use Rattle.cyc_lower.proofs.functions.lower_functions.Goals as goal
 
 pub lower_function-requires : goal.lower_function-requires
 lower_function-requires c =
     let x = c.function-item.result in
     c.requires c.loop-function.function-index (view_function x) (numbered_at view_function c.args.functions.now c.loop-function.function-index x c.loop-function-test.true c.function-item.is)
+
+pub loop-function-preserved : goal.loop-function-preserved
+loop-function-preserved c =
+    one_more routine_of lower_function view_function c.loop-function.lowered.items c.push.new.self.items c.args.functions.now c.loop-function.function-index c.in_ok-lower_function.field-0 c.function-item.result
+    c.loop-function-test.true c.function-item.is c.in_ok-push.ensures.items c.in_ok-lower_function.ensures c.loop-function.invariant

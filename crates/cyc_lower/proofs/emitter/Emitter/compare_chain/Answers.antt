@@ -14,10 +14,10 @@ returns-then-rest-ne1 c =
     let alone = not_single (view_expression c.args.first.now) c.args.rest.now ty (λ one. omega (arith, one, c.if-rest-ne1.true)) in
     let is : compared_of whole ≡ with_zero comparisons.Equal whole = ap compared_of chain ∙ alone ∙ ap (λ (x : Expression). with_zero comparisons.Equal x) (sym chain) in
     IfOk-weaker c.compare_with_zero.result _ _
-    (λ answer made. made_alone whole whole comparisons.Equal answer c.args.self.now.code.items c.compare_with_zero.new.self.code.items c.args.free is made)
+    (λ answer made. made_alone c.args.starts.now whole whole comparisons.Equal answer c.args.self.now.code.items c.compare_with_zero.new.self.code.items c.args.free is made)
     c.compare_with_zero.ensures
 
 pub lower_operand-requires : goal.lower_operand-requires
 lower_operand-requires c =
-    room_for_first (view_expression c.args.first.now) c.args.rest.now c.in-Some-Compute.field-0.now c.in-Some-Compute.operator c.in-Some-Compute.operand c.args.self.now.code.items c.lower_left.new.self.code.items c.args.free
+    room_for_first c.args.starts.now (view_expression c.args.first.now) c.args.rest.now c.in-Some-Compute.field-0.now c.in-Some-Compute.operator c.in-Some-Compute.operand c.args.self.now.code.items c.lower_left.new.self.code.items c.args.free
     c.in-Some-Compute.ensures.value c.in-Some-Compute.field-0-is c.requires.low c.in_ok-left.ensures.1

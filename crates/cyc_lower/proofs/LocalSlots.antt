@@ -1,0 +1,40 @@
+-- The first slots of locals, as far as they are given.
+use Rattle.std.proofs.Common.{◌≡◌, ℕ, ◌+◌, ◌<◌, ◌≤◌, List, [], ◌∷◌, ◌++◌, length, get_or, drop, sym, ap, ◌∙◌, arith, append_assoc, append-nil}
+use Rattle.std.proofs.lemmas.List.{drop_all, drop_more}
+use Rattle.cyc_types.specs.declared.ty.Ty.{Ty as TyCode}
+use Rattle.cyc_types.specs.Types.{Ty, words_of}
+use Rattle.cyc_meaning.specs.FrameCount.{words_of_all}
+use Rattle.cyc_lower.specs.Slots.{starts_from}
+
+-- by the types that these stand for
+module _ (view : List TyCode → List Ty) (one : TyCode → Ty) where
+  -- what is given so far, with what is still to come, where the first of these types has its slots from there on
+  abbrev pub SlotsLeft : List TyCode → (first i slot : ℕ) → (old starts : List ℕ) → Type 0
+  SlotsLeft ts first i slot old starts =
+      (slot + words_of_all (view (drop i ts)) ≡ first + words_of_all (view ts)) × (starts ++ starts_from slot (view (drop i ts)) ≡ old ++ starts_from first (view ts))
+
+  module _ (none : view [] ≡ []) (more : (t : TyCode) (ts : List TyCode) → view (t ∷ ts) ≡ one t ∷ view ts) (ts : List TyCode) (first i slot : ℕ) (old starts : List ℕ) (left : SlotsLeft ts first i slot old starts) where
+    pub slots_on : (new : List ℕ) (t : TyCode) → i < length ts → t ≡ get_or ts i t → new ≡ starts ++ slot ∷ []
+        → (slot + words_of (one t) ≤ first + words_of_all (view ts)) × SlotsLeft ts first (i + 1) (slot + words_of (one t)) old new
+    slots_on new t inside at is =
+        let rest = drop (i + 1) ts in
+        let here : drop i ts ≡ t ∷ rest = drop_more ts i t inside ∙ ap (λ (y : TyCode). y ∷ rest) (sym at) in
+        let types : view (drop i ts) ≡ one t ∷ view rest = ap view here ∙ more t rest in
+        let words : words_of_all (view (drop i ts)) ≡ words_of (one t) + words_of_all (view rest) = ap words_of_all types in (
+          omega (arith, words, left.0),
+          (
+            omega (arith, words, left.0),
+            ap (λ (l : List ℕ). l ++ starts_from (slot + words_of (one t)) (view rest)) is
+                ∙ append_assoc starts (slot ∷ []) (starts_from (slot + words_of (one t)) (view rest))
+                ∙ ap (λ (us : List Ty). starts ++ starts_from slot us) (sym types)
+                ∙ left.1,
+          ),
+        )
+
+    pub slots_given : length ts ≤ i → (slot ≡ first + words_of_all (view ts)) × (starts ≡ old ++ starts_from first (view ts))
+    slots_given done =
+        let types : view (drop i ts) ≡ [] = ap view (drop_all i ts done) ∙ none in
+        let words : words_of_all (view (drop i ts)) ≡ 0 = ap words_of_all types in (
+          omega (arith, words, left.0),
+          sym (append-nil starts) ∙ ap (λ (us : List Ty). starts ++ starts_from slot us) (sym types) ∙ left.1,
+        )
