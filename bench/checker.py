@@ -60,7 +60,7 @@ SHAPES = {
     "functions over pointers": ("", "int f# ( int * a ) { return * a ; } ", PROGRAM_BEHIND),
     "functions with a constraint": ("", "int f# ( int * `r a , int * `s b : `r > `s ) { b = a ; return * b ; } ", PROGRAM_BEHIND),
     "calls with 64 constraints": (
-        "int f ( int * `a p , int * `b q : " + ", ".join(["`a > `b"] * 64) + " ) { return * q ; } " + IN_MAIN + "int * p = NULL ; ",
+        "int f ( int * `a p , int * `b q : " + " , ".join(["`a > `b"] * 64) + " ) { return * q ; } " + IN_MAIN + "int * p = NULL ; ",
         "f ( p , p ) ; ", BEHIND),
     "structs": ("", "struct S# { int a ; int * b ; struct S# * c ; } ; ", PROGRAM_BEHIND),
     "structs of 64 fields": ("", "struct S# { " + FIELDS + "} ; ", PROGRAM_BEHIND),
