@@ -9,6 +9,7 @@ mod excerpt;
 mod files;
 mod message;
 mod number;
+mod refusal;
 mod session;
 mod unbuilt;
 mod work;

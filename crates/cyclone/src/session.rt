@@ -7,6 +7,7 @@ use crate::console::{Keyboard, Screen};
 use crate::excerpt::Shown;
 use crate::files::{read_image, read_text, write_image};
 use crate::message::Message;
+use crate::refusal::words_for;
 use crate::unbuilt::first_unbuilt;
 use crate::work::{check, list_image, run_image};
 use clap::error::ErrorKind;
@@ -33,6 +34,7 @@ fn report_refusal(rt: &HostRuntime, name: &str, text: &[u8], fault: Fault) -> An
             text,
             fault,
             unbuilt,
+            words: words_for(rt.alloc(), text, fault),
         };
         let _ = rt.eprint(message);
     }
