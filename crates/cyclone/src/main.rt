@@ -7,6 +7,7 @@ mod arguments;
 mod console;
 mod excerpt;
 mod files;
+mod flow_cause;
 mod message;
 mod number;
 mod session;
