@@ -22,7 +22,7 @@ use Rattle.cyc_select.specs.declared.plan.Test.{Test}
 use Rattle.cyc_select.specs.declared.plan.Test.TheVariants as tests
 use Rattle.cyc_select.specs.Plans.{arithmetic_plan, immediate_plan, immediate_or, zero_plan, differs_plan, equal_plan, unary_plan, binary_plan}
 use Rattle.cyc_select.specs.Numbers.{fits_signed, negated_half, is_word, is_zero_word}
-use Rattle.cyc_select.specs.Selection.{small, or_immediate, load_upper, constant, is_tested, word_code, load_code, operand_code, operand_register, operation_code, outcome_code, operands_code, operation_of, computed_code, plan_code, test_code, loads_code, divided_code, store_slot, add_immediate, minus, word_count, load_count, operand_count, operation_count, outcome_count, count_of_operation, plan_count, test_count, operator_count}
+use Rattle.cyc_select.specs.Selection.{small, or_immediate, load_upper, constant, is_tested, word_code, load_code, operand_code, operand_register, operation_code, outcome_code, operands_code, operation_of, computed_code, plan_code, test_code, loads_code, divided_code, store_slot, add_immediate, minus, word_count, load_count, operand_count, far_plan, address_code, address_count, operation_count, outcome_count, count_of_operation, plan_count, test_count, operator_count}
 
 -- ---- few
 
@@ -97,6 +97,15 @@ test_small (tests.Operands op left right) = omega (arith, operand_small left, op
 test_small (tests.Sign op operand) = omega (arith, operand_small operand)
 test_small (tests.Computed plan) = computed_small plan
 
+address_either : (b : Bool) (near far : ℕ) → near ≤ 2 → far ≤ 5 → (if b then near else far) ≤ 5
+address_either true near far first second = omega (arith, first)
+address_either false near far first second = second
+
+pub address_small : (address : Operand) (offset : ℕ) → address_count address offset ≤ 5
+address_small address offset =
+    address_either (fits_signed offset) (operand_count address) (count_of_operation (far_plan address offset)) (operand_small address)
+    (omega (arith, operand_small address, operand_small (operands.Word offset)))
+
 operator_either : (b : Bool) (divided planned : ℕ) → divided ≤ 11 → planned ≤ 8 → (if b then divided else planned) ≤ 11
 operator_either true divided planned few small = few
 operator_either false divided planned few small = omega (arith, small)
@@ -147,6 +156,15 @@ length_operation_of : (frame : Frame) (plan : Plan) → length (operation_of fra
 length_operation_of frame plan =
     let last = operation_code plan.operation (operand_register FIRST plan.left) (operand_register SECOND plan.right) in
     omega (arith, length-append (operands_code frame plan.left plan.right) last, length_operands frame plan.left plan.right, length_operation plan.operation (operand_register FIRST plan.left) (operand_register SECOND plan.right))
+
+pub length_address : (frame : Frame) (address : Operand) (offset : ℕ) → length (address_code frame address offset) ≡ address_count address offset
+length_address frame address offset =
+    either (fits_signed offset) (operand_code frame FIRST address) (operation_of frame (far_plan address offset)) (operand_count address) (count_of_operation (far_plan address offset))
+    (length_operand frame FIRST address) (length_operation_of frame (far_plan address offset))
+  where
+    either : (b : Bool) (is js : List Instr) (m n : ℕ) → length is ≡ m → length js ≡ n → length (if b then is else js) ≡ (if b then m else n)
+    either true is js m n first second = first
+    either false is js m n first second = second
 
 pub length_computed : (frame : Frame) (plan : Plan) → length (computed_code frame plan) ≡ count_of_operation plan + outcome_count plan.outcome
 length_computed frame plan =

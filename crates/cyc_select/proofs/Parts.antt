@@ -13,7 +13,7 @@ use Rattle.cyc_plain.proofs.Placed.{routine_in}
 use Rattle.cyc_frame.specs.declared.frame.Frame.{Frame}
 use Rattle.cyc_select.specs.declared.constants.TheConstants.{START_LINES}
 use Rattle.cyc_select.specs.Selection.{body_count, behind_count, count_of, function_count, functions_count, function_line, instruction_line, start_lines, function_lines, select_of}
-use Rattle.cyc_select.proofs.Formed.{few_results, get_below, count_some}
+use Rattle.cyc_select.proofs.Formed.{few_results, get_below, range_at, count_some}
 use Rattle.cyc_select.proofs.Lines.{line_next, line_first}
 use Rattle.cyc_select.proofs.Runs.{behind_of, previous_count, body_of, own_of, previous_fits}
 use Rattle.cyc_select.proofs.Structure.{length_functions}
@@ -194,6 +194,6 @@ module _ (program : Program) where
       omega (
         arith,
         here,
-        count_some program place.function i,
+        count_some program place.function i (range_at program well place i at),
         length-range_with_len (instruction_line program place.function place.index - previous_count program (routine_at program place.function).code place.index) (previous_count program (routine_at program place.function).code place.index + body_of program place.function (slice_get (routine_at program place.function).code place.index)),
       )

@@ -216,7 +216,7 @@ module _ (program : Program) (well : IsWellFormed program) (frames : List Frame)
         globals = s.globals;
         input = s.input;
         store = s.store;
-        paged = s.paged;
+        laid = s.laid;
       } in
       walk_few code formed addresses globals_length (words_per_call * calls) 1 (size + 1) line hi c.output _ (Running d) (omega arith)
       (walk_block code formed addresses globals_length (words_per_call * calls) (loaded frame value results) 1 line line hi c.output c.input _ r w d later
@@ -229,7 +229,7 @@ module _ (program : Program) (well : IsWellFormed program) (frames : List Frame)
       (λ g returned.
       walk_end code formed addresses globals_length (words_per_call * calls) (suc (line + size)) hi c.output _ (Running g) (omega (arith, far, same_size))
       (reached program well frames fit code formed addresses pages calls few c zeros (plain.Return value) (states.Running next_state) (Running g) (zeros_allowed program (states.Running c)) at_i is_returned
-      (within program well frames fit code formed addresses pages calls few next_state s.paged (omega (arith, deep)))
+      (within program well frames fit code formed addresses pages calls few next_state s.laid.paged (omega (arith, deep)))
       (inr (record {
         run = g;
         r = after_r (loaded frame value results) r w;
@@ -305,6 +305,18 @@ pub length_stores : (f : Frame) (slot : ℕ) (sources : List ℕ) → length (st
 length_stores f slot [] = refl
 length_stores f slot (source ∷ sources) = ap suc (length_stores f (suc slot) sources)
 
+pub length_loads : (f : Frame) (slot : ℕ) (targets : List ℕ) → length (load_all f slot targets) ≡ length targets
+length_loads f slot [] = refl
+length_loads f slot (target ∷ targets) = ap suc (length_loads f (suc slot) targets)
+
+-- no more registers than words
+pub registers_few : (count : ℕ) → length (result_registers count) ≤ count
+registers_few zero = omega arith
+registers_few (suc zero) = omega arith
+registers_few (suc (suc zero)) = omega arith
+registers_few (suc (suc (suc zero))) = omega arith
+registers_few (suc (suc (suc (suc count)))) = omega arith
+
 pub length_registers : (count : ℕ) → count ≤ 3 → length (result_registers count) ≡ count
 length_registers zero few_results = refl
 length_registers (suc zero) few_results = refl
@@ -364,7 +376,7 @@ module _ (program : Program) (well : IsWellFormed program) (frames : List Frame)
     globals = s.globals;
     input = s.input;
     store = s.store;
-    paged = s.paged;
+    laid = s.laid;
   }
 
   -- the registers hold the values from this one on
@@ -466,7 +478,7 @@ module _ (program : Program) (well : IsWellFormed program) (frames : List Frame)
     globals = b.standing.globals;
     input = b.standing.input;
     store = b.standing.store;
-    paged = b.standing.paged;
+    laid = b.standing.laid;
   }
     where
       one_less : (n : ℕ) → n ≡ b.r CALLS + 1 → n + suc (length c.frames) ≡ calls
