@@ -65,7 +65,11 @@ fn body_count(plain: &Plain, function: usize, instruction: Instruction) -> usize
         } => operator_count(operator, left, right),
         Instruction::Jump { .. } => 1,
         Instruction::MoveWords { count, .. } => 2 * count,
-        Instruction::Load { address, offset, .. } => address_count(address, offset) + 2,
+        Instruction::Load {
+            address,
+            offset,
+            ..
+        } => address_count(address, offset) + 2,
         Instruction::Store {
             address,
             offset,
