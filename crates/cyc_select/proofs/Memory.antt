@@ -31,11 +31,11 @@ use Rattle.cyc_select.specs.Selection.{ordinary, store_slot, slot_offset, load_a
 use Rattle.cyc_select.proofs.Blocks.{Puts, Keeps, puts_keeps}
 use Rattle.cyc_select.proofs.Cells.{IsCell, IsLive}
 use Rattle.cyc_select.proofs.Computing.{IsHeld, operand_puts, operation_leaves, first_scratch, second_scratch}
-use Rattle.cyc_select.proofs.Counts.{length_operand, length_address}
+use Rattle.cyc_select.proofs.Counts.{length_operand, length_address, length_loads, length_stores, length_registers}
 use Rattle.cyc_select.proofs.Halves.{fits_is}
 use Rattle.cyc_select.proofs.Lines.{line_next}
 use Rattle.cyc_select.proofs.Matches.{At, Reached, reached, reached_gives, result_register, within}
-use Rattle.cyc_select.proofs.Returns.{stored, length_loads, length_stores, length_registers}
+use Rattle.cyc_select.proofs.Returns.{stored}
 use Rattle.cyc_select.proofs.Standing.{Standing, slot_cell, slot_word_is, laid_live, standing_registers, standing_at, standing_saved}
 use Rattle.cyc_select.proofs.Views.{Contents, written, saved_in}
 use Rattle.cyc_select.proofs.Walks.{Stands, stands_first, stands_behind, after_r, after_w, Walk, now_at, now_is, walk_end, walk_few, walk_block, walk_load, walk_save}
