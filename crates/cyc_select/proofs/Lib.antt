@@ -10,7 +10,7 @@ pub mod Structure
 pub mod Start
 pub mod Runs
 pub mod Simple
-pub mod Memory
+pub mod Accesses
 pub mod Calls
 pub mod Returns
 pub mod Matches
