@@ -6,6 +6,7 @@ use Rattle.std.proofs.lemmas.Bool.{cases_lt}
 use Rattle.std.proofs.lemmas.List.{get_or_past}
 use Rattle.cyc_words.specs.Word.{IsWord, signed, add_of}
 use Rattle.cyc_words.proofs.WordLemmas.{IsWord-add_of, IsWord-sub_of, IsWord-shl_of, IsWord-sar_of, IsWord-div_of, IsWord-rem_of, IsWord-slt_of, IsWord-bit_and, IsWord-bit_or, IsWord-bit_xor}
+use Rattle.cyc_store.specs.Services.{Call, Allocate, refusal, served}
 use Rattle.cyc_store.specs.State as stores
 use Rattle.cyc_store.specs.State.{StoreState, Holder, homes, holder, word_at, has_saved}
 use Rattle.cyc_plain.specs.declared.instruction.UnaryOperator.{UnaryOperator}
@@ -20,7 +21,7 @@ use Rattle.cyc_plain.specs.Operators.{truth, unary_result, binary_result, has_no
 use Rattle.cyc_words.specs.Simulation.{Run}
 use Rattle.cyc_plain.specs.Program.{Program, CodePlace, no_routine, routine_at}
 use Rattle.cyc_plain.specs.State.{Words, AreWords, put, copied, Frame, Configuration, State, Running, Ended, Stuck, place_of, HoldsWords}
-use Rattle.cyc_plain.specs.Step.{Choice, IsAllowed, gives, operand_word, returns, loads, saves, performed, executed, instruction_at, step, start, machine}
+use Rattle.cyc_plain.specs.Step.{Choice, IsAllowed, gives, operand_word, returns, loads, saves, is_served, performed, executed, instruction_at, step, start, machine}
 use Rattle.cyc_plain.specs.WellFormed.{IsOfWord, HasWord, HasWords}
 use Rattle.cyc_plain.proofs.RunLaws.{limited_either, if_either}
 use Rattle.cyc_plain.proofs.Placed.{holds_at}
@@ -89,7 +90,7 @@ known_word : (program : Program) (place : CodePlace) (i : Instruction) → HasWo
 known_word program place i words at =
     holds_at HasWord (routine_at program place.function).code place.index i (words.functions place.function no_routine (function_known program place i at)) at
 
-module _ (program : Program) (choice : Choice) (allowed : AreWords choice.contents) (c : Configuration) (slots : AreWords c.active.slots) (frames : AreFrames c.frames) (globals : AreWords c.globals) (store : stores.AreWords c.store.memory) (input : AllByRecursion IsWord c.input) where
+module _ (program : Program) (choice : Choice) (allowed : AreWords choice.contents) (address_word : IsWord choice.serving.address) (memory_words : AreWords choice.serving.memory) (c : Configuration) (slots : AreWords c.active.slots) (frames : AreFrames c.frames) (globals : AreWords c.globals) (store : stores.AreWords c.store.memory) (input : AllByRecursion IsWord c.input) where
   given : (destination word : ℕ) → IsWord word → HoldsWords (gives c destination word)
   given destination word w = (put_words c.active.slots destination word slots w, frames, globals, store, input)
 
@@ -136,6 +137,10 @@ module _ (program : Program) (choice : Choice) (allowed : AreWords choice.conten
   performs (instructions.Store address offset source) (first, second, third) =
       let at : ℕ = add_of (operand_word c.active.slots address) offset in
       saved at (operand_word c.active.slots source) (word_at c.store at) (known source third)
+  performs (instructions.Allocate destination handle words) w =
+      let call : Call = Allocate (operand_word c.active.slots handle) (operand_word c.active.slots words) in
+      if_either HoldsWords (is_served (refusal c.store call)) (gives (record c { store = served c.store call choice.serving }) destination choice.serving.address) (Stuck c.output c.input)
+      (put_words c.active.slots destination choice.serving.address slots address_word, frames, globals, memory_words, input) tt
   performs (instructions.Uncaught tag value) w = tt
 
   executes : (o : Option Instruction) → ((i : Instruction) → o ≡ Some i → HasWord i) → HoldsWords (executed program choice c o)
@@ -144,7 +149,7 @@ module _ (program : Program) (choice : Choice) (allowed : AreWords choice.conten
 
 words_step : (program : Program) (choice : Choice) (s : State) → HasWords program → IsAllowed program s choice → HoldsWords s → HoldsWords (step program choice s)
 words_step program choice (Running c) words allowed (slots, frames, globals, store, input) =
-    executes program choice allowed c slots frames globals store input (instruction_at program (place_of (Running c))) (λ i at. known_word program (place_of (Running c)) i words at)
+    executes program choice allowed.contents allowed.address allowed.memory c slots frames globals store input (instruction_at program (place_of (Running c))) (λ i at. known_word program (place_of (Running c)) i words at)
 words_step program choice (Ended ending output input) words allowed holds = tt
 words_step program choice (Stuck output input) words allowed holds = tt
 

@@ -74,6 +74,7 @@ instruction_size (instructions.LoadGlobal destination global) = 5
 instruction_size (instructions.StoreGlobal global source) = 5
 instruction_size (instructions.Load destination address offset) = 10
 instruction_size (instructions.Store address offset source) = 10
+instruction_size (instructions.Allocate destination handle words) = 11
 instruction_size (instructions.Uncaught tag value) = 7
 
 abbrev pub size : Routine → ℕ

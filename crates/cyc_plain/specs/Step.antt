@@ -1,9 +1,11 @@
 -- What a plain program does: a step is a function of the state and of what is chosen. So the steps of a program are a
 -- relation, since nothing is said of the choice but that it is allowed.
-use Rattle.std.specs.Prelude.{◌≡◌, ℕ, zero, suc, ◌+◌, ◌-◌, ◌%◌, ◌^◌, Bool, ◌&&◌, nat_le, List, [], ◌∷◌, ◌++◌, drop, Option, Some, None, unwrap_or, slice_get, slice_index, if◌then◌else◌}
-use Rattle.cyc_words.specs.Word.{signed, add_of}
+use Rattle.std.specs.Prelude.{◌≡◌, ℕ, zero, suc, ◌+◌, ◌-◌, ◌%◌, ◌^◌, Bool, true, false, ◌&&◌, nat_le, List, [], ◌∷◌, ◌++◌, drop, Option, Some, None, unwrap_or, slice_get, slice_index, if◌then◌else◌}
+use Rattle.cyc_words.specs.Word.{IsWord, signed, add_of}
 use Rattle.cyc_words.specs.Ending.{Returned, Uncaught, Full}
 use Rattle.cyc_store.specs.State.{StoreState}
+use Rattle.cyc_store.specs.Services as services
+use Rattle.cyc_store.specs.Services.{Call, Allocate, Refusal, refusal, served}
 use Rattle.cyc_plain.specs.declared.instruction.Instruction.{Instruction}
 use Rattle.cyc_plain.specs.declared.instruction.Instruction.TheVariants as instructions
 use Rattle.cyc_plain.specs.declared.instruction.Operand.{Operand}
@@ -13,13 +15,11 @@ use Rattle.cyc_plain.specs.Program.{Program, CodePlace, routine_at}
 use Rattle.cyc_words.specs.Simulation.{Machine}
 use Rattle.cyc_plain.specs.State.{Words, AreWords, put, copied, Frame, Configuration, memory_at, with_memory, State, Running, Ended, Stuck, output_of, input_of, status_of, place_of, demand, depth}
 
--- What a step may choose freely: the words that are in the slots of a new call before they are written.
+-- What a step may choose freely: the words that are in the slots of a new call before they are written, and what the
+-- store chooses where it is called.
 pub record Choice : Type 0 where
   pub contents : Words
-
--- which choices a program has in a state
-abbrev pub IsAllowed : Program → State → Choice → Type 0
-IsAllowed program s choice = AreWords choice.contents
+  pub serving : services.Choice
 
 -- Parts of a configuration changed.
 
@@ -77,6 +77,21 @@ abbrev pub saves : Configuration → (address word : ℕ) → Option ℕ → Sta
 saves c address word (Some old) = Running (advanced (with_memory c address word))
 saves c address word None = Stuck c.output c.input
 
+-- The store is called. Where there is no room for what it would come to, the limits end the run, whatever is chosen: demand
+-- goes by sizes alone. What is refused for another reason leaves a run that cannot go on.
+
+abbrev pub is_served : Option Refusal → Bool
+is_served None = true
+is_served (Some services.Full) = true
+is_served (Some why) = false
+
+-- a block is made, and its address comes to a slot
+abbrev pub allocates : services.Choice → Configuration → (destination : ℕ) → Call → State
+allocates serving c destination call =
+    if is_served (refusal c.store call)
+    then gives (record c { store = served c.store call serving }) destination serving.address
+    else Stuck c.output c.input
+
 -- what an instruction does
 abbrev pub performed : Program → Choice → Configuration → Instruction → State
 performed program choice c (instructions.Move destination source) =
@@ -108,12 +123,39 @@ performed program choice c (instructions.Load destination address offset) =
 performed program choice c (instructions.Store address offset source) =
     saves c (add_of (operand_word c.active.slots address) offset) (operand_word c.active.slots source)
     (memory_at c (add_of (operand_word c.active.slots address) offset))
+performed program choice c (instructions.Allocate destination handle words) =
+    allocates choice.serving c destination (Allocate (operand_word c.active.slots handle) (operand_word c.active.slots words))
 performed program choice c (instructions.Uncaught tag value) =
     Ended (Uncaught tag (signed (operand_word c.active.slots value))) c.output c.input
 
 -- the instruction to be executed
 abbrev pub instruction_at : Program → CodePlace → Option Instruction
 instruction_at program place = slice_get (routine_at program place.function).code place.index
+
+-- the call of the store that an instruction makes, if it makes one
+abbrev pub call_of : Words → Option Instruction → Option Call
+call_of slots (Some (instructions.Allocate destination handle words)) =
+    Some (Allocate (operand_word slots handle) (operand_word slots words))
+call_of slots (Some instruction) = None
+call_of slots None = None
+
+-- the call of the store that the next step makes
+abbrev pub asked : Program → State → Option Call
+asked program (Running c) = call_of c.active.slots (instruction_at program (place_of (Running c)))
+asked program (Ended ending output input) = None
+asked program (Stuck output input) = None
+
+-- a call that is not refused is served by a choice that the store allows
+abbrev pub MayServe : services.Choice → Option Call → State → Type 0
+MayServe serving (Some call) (Running c) = refusal c.store call ≡ None → services.IsAllowed c.store call serving
+MayServe serving call s = Unit {0}
+
+-- Which choices a program has in a state: words, of which the store takes what it allows.
+pub record IsAllowed (program : Program) (s : State) (choice : Choice) : Type 0 where
+  pub contents : AreWords choice.contents
+  pub address : IsWord choice.serving.address
+  pub memory : AreWords choice.serving.memory
+  pub serves : MayServe choice.serving (asked program s) s
 
 abbrev pub executed : Program → Choice → Configuration → Option Instruction → State
 executed program choice c (Some instruction) = performed program choice c instruction

@@ -1,6 +1,7 @@
 -- A well-formed plain program: all that it names is there, and its frames have room.
 use Rattle.std.specs.Prelude.{◌≡◌, ℕ, ◌+◌, ◌-◌, ◌<◌, ◌≤◌, Bool, true, false, length, sum_by, All, IsSomeAnd, Some, None, slice_get}
 use Rattle.cyc_words.specs.Word.{IsWord, add_of}
+use Rattle.cyc_store.specs.Services.{Call, refusal}
 use Rattle.cyc_plain.specs.declared.instruction.Instruction.{Instruction}
 use Rattle.cyc_plain.specs.declared.instruction.Instruction.TheVariants as instructions
 use Rattle.cyc_plain.specs.declared.instruction.Operand.{Operand}
@@ -8,7 +9,7 @@ use Rattle.cyc_plain.specs.declared.instruction.Operand.TheVariants as operands
 use Rattle.cyc_plain.specs.Operators.{has_no_result}
 use Rattle.cyc_plain.specs.declared.instruction.BinaryOperator.{BinaryOperator}
 use Rattle.cyc_plain.specs.State.{Configuration, State, Running, Ended, Stuck, place_of, memory_at}
-use Rattle.cyc_plain.specs.Step.{operand_word, instruction_at}
+use Rattle.cyc_plain.specs.Step.{operand_word, instruction_at, asked, is_served}
 use Rattle.cyc_plain.specs.Program.{Routine, Program, routine_at, size}
 use Rattle.cyc_plain.specs.declared.limits.TheConstants.{LAYOUT_WORDS, GREATEST_VALUE, MOST_GLOBALS, MOST_SIZE}
 
@@ -58,6 +59,8 @@ IsInRange program r (instructions.StoreGlobal global source) =
     (global < length program.globals) × IsOperand r source
 IsInRange program r (instructions.Load destination address offset) = (destination < r.slots) × IsOperand r address
 IsInRange program r (instructions.Store address offset source) = IsOperand r address × IsOperand r source
+IsInRange program r (instructions.Allocate destination handle words) =
+    (destination < r.slots) × IsOperand r handle × IsOperand r words
 IsInRange program r (instructions.Uncaught tag value) = IsOperand r value
 
 -- after these the instruction behind them is never executed next
@@ -99,6 +102,7 @@ HasWord (instructions.WriteByte source) = IsOfWord source
 HasWord (instructions.StoreGlobal global source) = IsOfWord source
 HasWord (instructions.Load destination address offset) = IsOfWord address × IsWord offset
 HasWord (instructions.Store address offset source) = IsOfWord address × IsWord offset × IsOfWord source
+HasWord (instructions.Allocate destination handle words) = IsOfWord handle × IsOfWord words
 HasWord (instructions.Uncaught tag value) = IsWord tag × IsOfWord value
 HasWord instruction = Unit {0}
 
@@ -135,3 +139,10 @@ AsksForNoWord program (Running c) =
     × (memory_at c address ≡ None)
 AsksForNoWord program (Ended ending output input) = ⊥
 AsksForNoWord program (Stuck output input) = ⊥
+
+-- the instruction to be executed next asks the store for what it refuses, not for want of room
+abbrev pub AsksInVain : Program → State → Type 0
+AsksInVain program (Running c) =
+    (call : Call) × (asked program (Running c) ≡ Some call) × (is_served (refusal c.store call) ≡ false)
+AsksInVain program (Ended ending output input) = ⊥
+AsksInVain program (Stuck output input) = ⊥

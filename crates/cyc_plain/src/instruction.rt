@@ -133,6 +133,13 @@ pub enum Instruction {
         offset: u32,
         source: Operand,
     },
+    /// The store makes a block of so many words in the region with this handle, and its address comes into a slot. Where there
+    /// is no room the run ends.
+    Allocate {
+        destination: usize,
+        handle: Operand,
+        words: Operand,
+    },
     /// The run ends, with an exception of this tag and this word that nothing caught.
     Uncaught {
         tag: u32,
