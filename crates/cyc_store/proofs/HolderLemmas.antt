@@ -46,7 +46,7 @@ module _ (h : ℕ) (x : ℕ) where
     | inr not ↦ holder_in-handle bs k (sym (in-there b bs not) ∙ found)
   ]
 
-  holder_in-uncovered : (bs : List Block) (b : Block) → covers b x ≡ false → holder_in h (bs ++ b ∷ []) x ≡ holder_in h bs x
+  pub holder_in-uncovered : (bs : List Block) (b : Block) → covers b x ≡ false → holder_in h (bs ++ b ∷ []) x ≡ holder_in h bs x
   holder_in-uncovered [] b not = in-there b [] not
   holder_in-uncovered (a ∷ bs) b not = elim (cases_Bool (covers a x)) [
     | inl inside ↦ in-here a (bs ++ b ∷ []) inside ∙ sym (in-here a bs inside)
@@ -181,7 +181,7 @@ AreSound-opened {pages} rs handle sort sound fresh = record {
 -- ---- a block that comes
 
 module _ (b : Block) (x : ℕ) where
-  holder-uncovered : (rs : List Home) (h : ℕ) → covers b x ≡ false → holder (changed handle_of (with_block b) rs h) x ≡ holder rs x
+  pub holder-uncovered : (rs : List Home) (h : ℕ) → covers b x ≡ false → holder (changed handle_of (with_block b) rs h) x ≡ holder rs x
   holder-uncovered [] h not = refl
   holder-uncovered (r ∷ rs) h not = elim (cases_eq r.handle h) [
     | inl same ↦

@@ -2,17 +2,17 @@
 use Rattle.std.proofs.Common.{◌≡◌, ℕ, suc, ◌+◌, ◌-◌, ◌*◌, ◌/◌, ◌<◌, ◌≤◌, ◌%◌, max, Bool, true, false, List, [], ◌∷◌, ◌++◌, length, Option, None, Some, refl, sym, ap, subst, ◌∙◌, inl, inr, arith}
 use Rattle.std.specs.Prelude.{◌==◌, ◌⊎◌, nat_le, is_some, if◌then◌else◌, slice_index}
 use Rattle.std.proofs.Math.Nat.{add-mul-mod_self_left, div-eq_of_lt-le, max-eq_left}
-use Rattle.std.proofs.lemmas.Bool.{cases_eq, ltb-false, ltb-true}
+use Rattle.std.proofs.lemmas.Bool.{cases_eq, cases_Bool, ltb-false, ltb-true}
 use Rattle.cyc_words.specs.Word.{IsWord}
 use Rattle.cyc_words.specs.Demand.{class_of, blocks_in_page, pages_for, demand_of, greatest_class}
 use Rattle.cyc_store.specs.Lookup.{lookup, without, changed}
-use Rattle.cyc_store.specs.State.{Memory, put, AreWords, Block, address_of, Sort, Heap, Lexical, Dynamic, Uniques, Home, handle_of, empty_home, StoreState, homes, start, covers, Holder, holder, block_in, block_at, word_in, word_at, has_saved, saved, sizes_of, sizes_in, demand, live_in, opened, lexical_count, down_to, with_block, made_in, made_unique, room}
+use Rattle.cyc_store.specs.State.{Memory, put, AreWords, Block, address_of, Sort, Heap, Lexical, Dynamic, Uniques, Home, handle_of, empty_home, StoreState, homes, start, covers, Holder, holder_in, or_else, holder, block_in, block_at, word_in, word_at, has_saved, saved, sizes_of, sizes_in, demand, live_in, opened, lexical_count, down_to, with_block, made_in, made_unique, room}
 use Rattle.cyc_store.specs.Services.{Call, OpenLexical, CloseTo, OpenDynamic, CloseDynamic, Allocate, Free, Refusal, BadMark, BadHandle, BadSize, NotABlock, Full, Answer, Refused, Choice, block_of, made, served, answer, any_choice, is_full, full_at, names_dynamic, is_size, refusal, IsPlaced, IsApart, IsAllowed, ServesBy, Serves}
 use Rattle.cyc_store.specs.Soundness.{AreSound, IsSound}
 use Rattle.cyc_store.specs.Run.{Exchange, Service, Load, Save, Exchanges, Run}
 use Rattle.cyc_store.specs.declared.range.TheConstants.{HEAP, UNIQUE}
 use Rattle.cyc_store.proofs.LookupLemmas.{when_equal, when_other, cases_option, not_both, same_some, IsPart, is_kept, IsPart-without, AreDistinct-append, AreDistinct-part, lookup-key}
-use Rattle.cyc_store.proofs.HolderLemmas.{covers_from, covers_first, AreSound-part, IsPart-down_to, AreSound-opened, AreSound-made, AreSound-freed}
+use Rattle.cyc_store.proofs.HolderLemmas.{covers_from, covers_first, holder_in-uncovered, holder-uncovered, AreSound-part, IsPart-down_to, AreSound-opened, AreSound-made, AreSound-freed}
 use Rattle.cyc_store.proofs.CountLemmas.{blocks-some, class_of-bound, raised-same, raised-other, raised-length, raised-more, live_in-append_same, AreEnough-made, AreEnough-part, demand-part, sizes-opened}
 
 -- ---- what a refusal says
@@ -194,6 +194,23 @@ made-sound s h r b memory sound there placed apart words few = elim (cases_eq h 
       subst (λ t. IsSound (record t { memory = memory })) (sym (made-in s h b other))
       (in-sound s h r b memory sound other there placed apart words (subst (λ t. demand t ≤ s.pages) (made-in s h b other) few))
 ]
+
+-- what is live behind a block that is made is of the block, or was live before
+pub made-live : (s : StoreState) (h : ℕ) (b : Block) (x : ℕ) (k : Holder) → holder (homes (made s h b)) x ≡ Some k → (covers b x ≡ true) ⊎ (holder (homes s) x ≡ Some k)
+made-live s h b x k found = elim (cases_Bool (covers b x)) [
+  | inl inside ↦ inl inside
+  | inr not ↦ inr (sym (same not) ∙ found)
+]
+  where
+    same : covers b x ≡ false → holder (homes (made s h b)) x ≡ holder (homes s) x
+    same not = elim (cases_eq h UNIQUE) [
+      | inl equal ↦
+          ap (λ (t : StoreState). holder (homes t) x) (made-unique s h b equal)
+          ∙ ap (λ (o : Option Holder). or_else o (holder s.regions x)) (holder_in-uncovered UNIQUE x s.unique b not)
+      | inr other ↦
+          ap (λ (t : StoreState). holder (homes t) x) (made-in s h b other)
+          ∙ ap (or_else (holder_in UNIQUE s.unique x)) (holder-uncovered b x s.regions h not)
+    ]
 
 freed-sound : (s : StoreState) (f : ℕ) (memory : Memory) → IsSound s → AreWords memory
     → IsSound (record s { unique = without address_of s.unique f; memory = memory })
@@ -427,7 +444,7 @@ serves-words s t call a x h serves here there =
 
 -- ---- words that are written
 
-has_saved-sound : (s : StoreState) (x w : ℕ) (o : Option ℕ) → IsSound s → IsWord w → IsSound (has_saved s x w o)
+pub has_saved-sound : (s : StoreState) (x w : ℕ) (o : Option ℕ) → IsSound s → IsWord w → IsSound (has_saved s x w o)
 has_saved-sound s x w None sound word = sound
 has_saved-sound s x w (Some old) sound word = record {
   regions = sound.regions;
