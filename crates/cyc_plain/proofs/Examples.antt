@@ -272,5 +272,22 @@ load_at_no_multiple_of_4_is_stuck = refl
 words_may_overlap : status_of (after 5 1 (program (Move 0 (Word 5) ∷ Move 1 (Word 6) ∷ instructions.MoveWords 1 0 2 ∷ Binary binary.Subtract 0 (Slot 1) (Slot 2) ∷ Return 0 ∷ [])) []) ≡ Ended (Returned (negsuc 0))
 words_may_overlap = refl
 
+-- from a new store, where each block is made at this address
+abbrev after_blocks : (pages steps : ℕ) → Program → State
+after_blocks pages steps p =
+    run p pages 1 (record { contents = λ (slot : ℕ). 0; serving = record { handle = 0; address = 0x20000000; memory = λ (address : ℕ). 0 } }) steps (start p empty_store [])
+
+block_is_made : status_of (after_blocks 3 4 (program (instructions.Allocate 0 (Word 1) (Word 2) ∷ instructions.Store (Slot 0) 4 (Word 7) ∷ instructions.Load 1 (Slot 0) 4 ∷ Return 1 ∷ []))) ≡ Ended (Returned (pos 7))
+block_is_made = refl
+
+block_past_the_pages_is_full : status_of (after_blocks 1 2 (program (instructions.Allocate 0 (Word 1) (Word 1000) ∷ instructions.Allocate 0 (Word 1) (Word 25) ∷ Return 0 ∷ []))) ≡ Ended Full
+block_past_the_pages_is_full = refl
+
+block_of_no_region_is_stuck : status_of (after_blocks 3 1 (program (instructions.Allocate 0 (Word 3) (Word 2) ∷ Return 0 ∷ []))) ≡ Failed
+block_of_no_region_is_stuck = refl
+
+block_of_no_words_is_stuck : status_of (after_blocks 3 1 (program (instructions.Allocate 0 (Word 1) (Word 0) ∷ Return 0 ∷ []))) ≡ Failed
+block_of_no_words_is_stuck = refl
+
 words_are_moved : status_of (after 4 1 (program (Move 1 (Word 5) ∷ Move 2 (Word 6) ∷ instructions.MoveWords 0 1 2 ∷ Return 1 ∷ [])) []) ≡ Ended (Returned (pos 6))
 words_are_moved = refl

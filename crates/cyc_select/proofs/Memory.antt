@@ -1,6 +1,8 @@
--- The instructions that move several words, and that load and store words of memory.
+-- The instructions that move several words, that load and store words of memory, and that make a block.
 use Rattle.std.proofs.Common.{◌≡◌, ◌≢◌, ℕ, zero, suc, ◌+◌, ◌*◌, ◌%◌, ◌^◌, ◌<◌, ◌≤◌, Bool, true, false, List, [], ◌∷◌, ◌++◌, length, Option, None, Some, refl, sym, ap, subst, ◌∙◌, arith, inl, length-append}
-use Rattle.std.specs.Prelude.{if◌then◌else◌}
+use Rattle.std.specs.Prelude.{nat_le, if◌then◌else◌}
+use Rattle.std.proofs.lemmas.Bool.{lt-leb, and_left}
+use Rattle.cyc_words.specs.Ending.{Full}
 use Rattle.cyc_words.specs.Word.{IsWord, add_of, sign_extended}
 use Rattle.cyc_words.proofs.WordLemmas.{sign_extended_low}
 use Rattle.cyc_isa.specs.Effect.{memory_address}
@@ -8,8 +10,11 @@ use Rattle.cyc_isa.specs.declared.instr.Instr.{Instr}
 use Rattle.cyc_isa.specs.declared.instr.MemoryOp.TheVariants.{LoadWord, StoreWord}
 use Rattle.cyc_isa.specs.Decoding.{register_of}
 use Rattle.cyc_machine.specs.State.{globals_length, words_per_call}
-use Rattle.cyc_machine.specs.declared.constants.TheConstants.{RETURN_ADDRESS}
-use Rattle.cyc_store.specs.State.{StoreState, saved}
+use Rattle.cyc_machine.specs.declared.constants.TheConstants.{ALLOCATE, ARGUMENT, RETURN_ADDRESS, SECOND_ARGUMENT, SERVICE}
+use Rattle.cyc_store.specs.State.{StoreState, saved, demand}
+use Rattle.cyc_store.specs.Services as services
+use Rattle.cyc_store.specs.Services.{Call, Allocate, refusal}
+use Rattle.cyc_store.proofs.ServiceLemmas.{full-past, demand-served}
 use Rattle.cyc_plain.specs.declared.instruction.Instruction.{Instruction}
 use Rattle.cyc_plain.specs.declared.instruction.Instruction.TheVariants as plain
 use Rattle.cyc_plain.specs.declared.instruction.Operand.{Operand}
@@ -17,28 +22,30 @@ use Rattle.cyc_plain.specs.declared.instruction.Operand.TheVariants as operands
 use Rattle.cyc_plain.specs.Program.{Program, routine_at}
 use Rattle.cyc_plain.specs.State as states
 use Rattle.cyc_plain.specs.State.{Words, put, copied, Configuration, memory_at}
-use Rattle.cyc_plain.specs.Step.{instruction_at, operand_word, performed, loads, saves}
+use Rattle.cyc_plain.specs.Step.{Choice, IsAllowed, MayServe, is_served, call_of, asked, instruction_at, operand_word, performed, executed, step, gives, loads, saves, is_within}
 use Rattle.cyc_plain.specs.WellFormed.{IsOperand, IsOfWord, IsWellFormed, IsMoveInRange}
-use Rattle.cyc_plain.proofs.RunLaws.{zeros, zeros_at}
+use Rattle.cyc_plain.proofs.SlotLaws.{put-same, put-other}
+use Rattle.cyc_plain.proofs.RunLaws.{zeros, zeros_at, zeros_refused, limited-full}
 use Rattle.cyc_frame.specs.Layout.{AreFrames, frame_at}
 use Rattle.cyc_frame.specs.declared.frame.Frame.{Frame}
 use Rattle.cyc_select.specs.declared.constants.TheConstants.{FIRST, SECOND, ZERO, CALLS, FRAME}
 use Rattle.cyc_select.specs.Labelled.{Labelled, IsFormed}
 use Rattle.cyc_select.specs.Machine as labelled
-use Rattle.cyc_select.specs.Machine.{State, Running}
+use Rattle.cyc_select.specs.Machine.{State, Running, Ended}
 use Rattle.cyc_select.specs.Numbers.{fits_signed, is_zero_word}
-use Rattle.cyc_select.specs.Selection.{ordinary, store_slot, slot_offset, load_all, store_all, result_registers, operand_code, operand_register, operation_of, far_plan, address_code, address_register, near_half, at_address, address_count, operand_count, body, body_count, instruction_line}
+use Rattle.cyc_select.specs.Selection.{ordinary, small, syscall, load_code, load_count, store_slot, slot_offset, load_all, store_all, result_registers, operand_code, operand_register, operation_of, far_plan, address_code, address_register, near_half, at_address, address_count, operand_count, body, body_count, instruction_line}
 use Rattle.cyc_select.proofs.Blocks.{Puts, Keeps, puts_keeps}
 use Rattle.cyc_select.proofs.Cells.{IsCell, IsLive}
-use Rattle.cyc_select.proofs.Computing.{IsHeld, operand_puts, operation_leaves, first_scratch, second_scratch}
-use Rattle.cyc_select.proofs.Counts.{length_operand, length_address}
+use Rattle.cyc_select.proofs.Computing.{IsHeld, load_puts, operand_puts, operation_leaves, first_scratch, second_scratch, argument_scratch}
+use Rattle.cyc_select.proofs.Counts.{length_load, length_operand, length_address}
 use Rattle.cyc_select.proofs.Halves.{fits_is}
 use Rattle.cyc_select.proofs.Lines.{line_next}
+use Rattle.cyc_select.proofs.Operations.{add_small}
 use Rattle.cyc_select.proofs.Matches.{At, Reached, reached, reached_gives, result_register, within}
 use Rattle.cyc_select.proofs.Returns.{stored, length_loads, length_stores, length_registers}
-use Rattle.cyc_select.proofs.Standing.{Standing, slot_cell, slot_word_is, laid_live, standing_registers, standing_at, standing_saved}
+use Rattle.cyc_select.proofs.Standing.{Standing, IsLaid, slot_address, slot_cell, slot_word_is, laid_live, made_laid, standing_registers, standing_at, standing_slot, standing_saved, standing_store}
 use Rattle.cyc_select.proofs.Views.{Contents, written, saved_in}
-use Rattle.cyc_select.proofs.Walks.{Stands, stands_first, stands_behind, after_r, after_w, Walk, now_at, now_is, walk_end, walk_few, walk_block, walk_load, walk_save}
+use Rattle.cyc_select.proofs.Walks.{Stands, stands_first, stands_behind, after_r, after_w, Walk, now_at, now_is, walk_end, walk_few, walk_block, walk_load, walk_save, walk_allocate, walk_no_room, comes_last}
 
 -- ---- several words in registers
 
