@@ -1,5 +1,5 @@
 -- How many lines operands, plans and tests have, as they are counted: so many, and few.
-use Rattle.std.proofs.Common.{◌≡◌, ℕ, ◌+◌, ◌%◌, ◌^◌, ◌≤◌, Bool, true, false, List, [], ◌∷◌, length, Option, None, Some, refl, arith, length-append}
+use Rattle.std.proofs.Common.{◌≡◌, ℕ, zero, suc, ◌+◌, ◌%◌, ◌^◌, ◌≤◌, Bool, true, false, List, [], ◌∷◌, length, Option, None, Some, refl, ap, arith, length-append}
 use Rattle.std.specs.Prelude.{◌==◌, nat_lt, if◌then◌else◌}
 use Rattle.cyc_isa.specs.declared.instr.Instr.{Instr}
 use Rattle.cyc_isa.specs.declared.instr.ArithmeticOp.{ArithmeticOp}
@@ -22,7 +22,7 @@ use Rattle.cyc_select.specs.declared.plan.Test.{Test}
 use Rattle.cyc_select.specs.declared.plan.Test.TheVariants as tests
 use Rattle.cyc_select.specs.Plans.{arithmetic_plan, immediate_plan, immediate_or, zero_plan, differs_plan, equal_plan, unary_plan, binary_plan}
 use Rattle.cyc_select.specs.Numbers.{fits_signed, negated_half, is_word, is_zero_word}
-use Rattle.cyc_select.specs.Selection.{small, or_immediate, load_upper, constant, is_tested, word_code, load_code, operand_code, operand_register, operation_code, outcome_code, operands_code, operation_of, computed_code, plan_code, test_code, loads_code, divided_code, store_slot, add_immediate, minus, word_count, load_count, operand_count, far_plan, address_code, address_count, operation_count, outcome_count, count_of_operation, plan_count, test_count, operator_count}
+use Rattle.cyc_select.specs.Selection.{load_all, store_all, result_registers, small, or_immediate, load_upper, constant, is_tested, word_code, load_code, operand_code, operand_register, operation_code, outcome_code, operands_code, operation_of, computed_code, plan_code, test_code, loads_code, divided_code, store_slot, add_immediate, minus, word_count, load_count, operand_count, far_plan, address_code, address_count, operation_count, outcome_count, count_of_operation, plan_count, test_count, operator_count}
 
 -- ---- few
 
@@ -182,3 +182,28 @@ length_test frame (tests.Computed plan) = length_operation_of frame plan
 pub length_divided : (frame : Frame) (left right : Operand) → length (divided_code frame left right) ≡ load_count left + load_count right + 1
 length_divided frame left right =
     omega (arith, length-append (load_code frame FIRST left) (load_code frame SECOND right), length-append (loads_code frame left right) (add_immediate THIRD ZERO (minus 1) ∷ []), length_load frame FIRST left, length_load frame SECOND right)
+
+-- ---- several words
+
+pub length_stores : (f : Frame) (slot : ℕ) (sources : List ℕ) → length (store_all f slot sources) ≡ length sources
+length_stores f slot [] = refl
+length_stores f slot (source ∷ sources) = ap suc (length_stores f (suc slot) sources)
+
+pub length_loads : (f : Frame) (slot : ℕ) (targets : List ℕ) → length (load_all f slot targets) ≡ length targets
+length_loads f slot [] = refl
+length_loads f slot (target ∷ targets) = ap suc (length_loads f (suc slot) targets)
+
+-- no more registers than words
+pub registers_few : (count : ℕ) → length (result_registers count) ≤ count
+registers_few zero = omega arith
+registers_few (suc zero) = omega arith
+registers_few (suc (suc zero)) = omega arith
+registers_few (suc (suc (suc zero))) = omega arith
+registers_few (suc (suc (suc (suc count)))) = omega arith
+
+pub length_registers : (count : ℕ) → count ≤ 3 → length (result_registers count) ≡ count
+length_registers zero few_results = refl
+length_registers (suc zero) few_results = refl
+length_registers (suc (suc zero)) few_results = refl
+length_registers (suc (suc (suc zero))) few_results = refl
+length_registers (suc (suc (suc (suc count)))) few_results = absurd (omega (arith, few_results))

@@ -43,7 +43,8 @@ use Rattle.cyc_select.specs.Numbers.{fits_signed, is_zero_word}
 use Rattle.cyc_select.specs.Selection.{slot_offset, ordinary, result_registers, far_plan, address_code, near_half, at_address, copies, load_all, store_all, store_slot, pop_frame, load_upper, constant, or_immediate, is_tested, part_of, plan_count, small, syscall, add_immediate, minus, upper_of_global, at_global, word_code, load_code, load_count, operand_code, operand_register, operands_code, operation_code, outcome_code, operation_of, computed_code, plan_code, test_code, branch_line, quotient_code, loads_code, divided_code, divide_code, ending_code, ending_count, operator_code, operator_count, body, behind, body_count, count_of, function_count, functions_count, function_line, instruction_line, code_lines, function_lines, start_lines, select_of}
 use Rattle.cyc_select.proofs.Lines.{line_first}
 use Rattle.cyc_select.proofs.Plans.{AllOfTest, all_unary, all_binary, all_test}
-use Rattle.cyc_select.proofs.Returns.{loaded, length_registers}
+use Rattle.cyc_select.proofs.Counts.{length_registers}
+use Rattle.cyc_select.proofs.Returns.{loaded}
 use Rattle.cyc_select.proofs.Structure.{length_body, stand}
 use Rattle.cyc_select.proofs.Walks.{Stands}
 

@@ -17,8 +17,7 @@ use Rattle.cyc_select.specs.declared.constants.TheConstants.{START_LINES}
 use Rattle.cyc_select.specs.Selection.{result_registers, ending_count, count_of, function_count, functions_count, function_line, instruction_line, code_lines, function_lines}
 use Rattle.cyc_select.specs.Plans.{test_of}
 use Rattle.cyc_select.specs.Emission.{AreReached, AreFew, most_lines, instruction_lines, function_starts, AreReady, AreTables}
-use Rattle.cyc_select.proofs.Returns.{registers_few, length_registers}
-use Rattle.cyc_select.proofs.Counts.{word_small, load_small, operand_small, address_small, unary_small, test_small, operator_small}
+use Rattle.cyc_select.proofs.Counts.{length_registers, registers_few, word_small, load_small, operand_small, address_small, unary_small, test_small, operator_small}
 
 -- ---- an instruction has few lines for each unit of its size
 

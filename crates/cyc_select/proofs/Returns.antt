@@ -34,6 +34,7 @@ use Rattle.cyc_select.proofs.Lines.{line_next}
 use Rattle.cyc_select.proofs.Operations.{add_small}
 use Rattle.cyc_select.proofs.Views.{Contents, written}
 use Rattle.cyc_select.proofs.Walks.{Stands, stands_front, stands_back, after_r, after_w, AreSafe, Walk, now_at, now_is, walk_end, walk_few, walk_from, walk_block, walk_branch, walk_return, walk_returned}
+use Rattle.cyc_select.proofs.Counts.{length_stores, length_registers}
 use Rattle.cyc_select.proofs.Standing.{Chain, Standing, behind_line, lies, slot_address, slot_cell, slot_word_is, return_cell, return_address, standing_slot}
 use Rattle.cyc_select.proofs.Matches.{At, Ready, Back, Reached, reached, within, result_register}
 
@@ -300,29 +301,6 @@ module _ (program : Program) (well : IsWellFormed program) (frames : List Frame)
   ]
 
 -- ---- behind a call
-
-pub length_stores : (f : Frame) (slot : ℕ) (sources : List ℕ) → length (store_all f slot sources) ≡ length sources
-length_stores f slot [] = refl
-length_stores f slot (source ∷ sources) = ap suc (length_stores f (suc slot) sources)
-
-pub length_loads : (f : Frame) (slot : ℕ) (targets : List ℕ) → length (load_all f slot targets) ≡ length targets
-length_loads f slot [] = refl
-length_loads f slot (target ∷ targets) = ap suc (length_loads f (suc slot) targets)
-
--- no more registers than words
-pub registers_few : (count : ℕ) → length (result_registers count) ≤ count
-registers_few zero = omega arith
-registers_few (suc zero) = omega arith
-registers_few (suc (suc zero)) = omega arith
-registers_few (suc (suc (suc zero))) = omega arith
-registers_few (suc (suc (suc (suc count)))) = omega arith
-
-pub length_registers : (count : ℕ) → count ≤ 3 → length (result_registers count) ≡ count
-length_registers zero few_results = refl
-length_registers (suc zero) few_results = refl
-length_registers (suc (suc zero)) few_results = refl
-length_registers (suc (suc (suc zero))) few_results = refl
-length_registers (suc (suc (suc (suc count)))) few_results = absurd (omega (arith, few_results))
 
 -- one word more is copied
 slots_next : (from to : Words) (source count destination slot number word : ℕ) → slot ≡ destination + count → word ≡ from (source + count)

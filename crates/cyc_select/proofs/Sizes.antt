@@ -30,8 +30,8 @@ use Rattle.cyc_select.specs.Selection.{ordinary, address_code, at_address, copie
 use Rattle.cyc_isa.specs.Decoding.{register_of}
 use Rattle.cyc_isa.specs.declared.instr.BranchOp.TheVariants as branch
 use Rattle.cyc_select.proofs.Calls.{length-copies}
-use Rattle.cyc_select.proofs.Counts.{word_small, load_small, operand_small, address_small, plan_small, unary_small, test_small, length_word, length_load, length_operand, length_address, length_plan, length_test, length_divided}
-use Rattle.cyc_select.proofs.Returns.{loaded, length_loaded, length_loads, length_stores, length_registers, registers_few}
+use Rattle.cyc_select.proofs.Counts.{length_loads, length_stores, length_registers, registers_few, word_small, load_small, operand_small, address_small, plan_small, unary_small, test_small, length_word, length_load, length_operand, length_address, length_plan, length_test, length_divided}
+use Rattle.cyc_select.proofs.Returns.{loaded, length_loaded}
 use Rattle.cyc_select.proofs.Walks.{Stands}
 
 words_ordinary : (is : List Instr) → all_words (ordinary is) ≡ length is

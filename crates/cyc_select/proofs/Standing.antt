@@ -110,7 +110,7 @@ new_laid pages store (memory, words, is) some few = subst (IsLaid pages) (sym is
   low = λ address h held. absurd (let e : None ≡ Some h = held in cc);
   high = λ address h held. absurd (let e : None ≡ Some h = held in cc);
   words = words;
-  paged = omega (arith, some);
+  paged = some;
   sound = start-sound pages memory words some;
 })
 

@@ -26,8 +26,8 @@ use Rattle.cyc_select.specs.Labelled.{Labelled}
 use Rattle.cyc_select.specs.Plans.{unary_plan, binary_plan, test_of}
 use Rattle.cyc_select.specs.Selection.{ordinary, address_code, at_address, copies, load_all, store_all, store_slot, small, syscall, upper_of_global, at_global, word_code, load_code, load_count, operand_code, operand_register, plan_code, plan_count, test_code, branch_line, quotient_code, divided_code, divide_code, is_tested, part_of, result_registers, ending_code, ending_count, operator_code, operator_count, body, behind, body_count, behind_count, count_of, function_count, functions_count, function_line, instruction_line, code_lines, function_lines, start_lines, select_of}
 use Rattle.cyc_select.proofs.Calls.{length_ordinary, length-copies}
-use Rattle.cyc_select.proofs.Counts.{length_word, length_load, length_operand, length_address, length_plan, length_test, length_divided}
-use Rattle.cyc_select.proofs.Returns.{loaded, length_loaded, length_loads, length_stores, length_registers}
+use Rattle.cyc_select.proofs.Counts.{length_loads, length_stores, length_registers, length_word, length_load, length_operand, length_address, length_plan, length_test, length_divided}
+use Rattle.cyc_select.proofs.Returns.{loaded, length_loaded}
 use Rattle.cyc_select.proofs.Walks.{Stands, stands_front, stands_back}
 
 slice_get-seam : (front : List Line) (l : Line) (rest : List Line) → slice_get (front ++ l ∷ rest) (length front) ≡ Some l
