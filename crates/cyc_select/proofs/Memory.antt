@@ -43,7 +43,7 @@ use Rattle.cyc_select.proofs.Lines.{line_next}
 use Rattle.cyc_select.proofs.Operations.{add_small}
 use Rattle.cyc_select.proofs.Matches.{At, Reached, reached, reached_gives, result_register, within}
 use Rattle.cyc_select.proofs.Returns.{stored}
-use Rattle.cyc_select.proofs.Standing.{Standing, slot_cell, slot_word_is, laid_live, standing_registers, standing_at, standing_saved}
+use Rattle.cyc_select.proofs.Standing.{Standing, IsLaid, slot_address, slot_cell, slot_word_is, laid_live, made_laid, standing_registers, standing_at, standing_slot, standing_saved, standing_store}
 use Rattle.cyc_select.proofs.Views.{Contents, written, saved_in}
 use Rattle.cyc_select.proofs.Walks.{Stands, stands_first, stands_behind, after_r, after_w, Walk, now_at, now_is, walk_end, walk_few, walk_block, walk_load, walk_save, walk_allocate, walk_no_room, comes_last}
 
