@@ -52,7 +52,7 @@ outside : (base count a : ℕ) → base + 4 * count ≤ a → is_within base cou
 outside base count a past = and_right (nat_le base a) (nat_lt a (base + 4 * count)) (le-ltb a (base + 4 * count) past)
 
 before : (base count a : ℕ) → a < base → is_within base count a ≡ false
-before base count a below = and_left (nat_le base a) (nat_lt a (base + 4 * count)) (lt-leb a base below)
+before base count a below = and_left (nat_le base a) (nat_lt a (base + 4 * count)) (lt-leb base a below)
 
 pub place_of-data : (globals stack : List ℕ) (store : StoreState) (a : ℕ) → IsData (length globals) a → place_of (memory globals stack store) a ≡ InGlobals (word_number data_base a)
 place_of-data globals stack store a (aligned, from, below) =

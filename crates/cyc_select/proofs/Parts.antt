@@ -172,7 +172,7 @@ index_below function n place (k, below, at) =
     let is : place_in function k ≡ place = sym (get_or-map-range_with_len (place_in function) 0 n k k place inside start) ∙ at in
     (sym (ap (λ (p : CodePlace). p.function) is), subst (λ (i : ℕ). i < n) (ap (λ (p : CodePlace). p.index) is) inside)
 
-module _ (program : Program) where
+module _ (program : Program) (well : IsWellFormed program) where
   places_index : (first : ℕ) (routines : List Routine) → ((k : ℕ) → k < length routines → slice_index_or routines k no_routine ≡ routine_at program (first + k)) → (place : CodePlace) → Contains (places_from first routines) place
       → place.index < length (routine_at program place.function).code
   places_index first [] same place (k, below, at) = absurd (omega (arith, below))
