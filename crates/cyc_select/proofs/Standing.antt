@@ -167,7 +167,7 @@ made_laid pages store handle size choice free allowed laid =
         | inr before ↦ laid.high address h before
       ];
       words = allowed.words;
-      paged = omega (arith, sound.demand, has);
+      paged = subst (λ (n : ℕ). demand (services.served store (Allocate handle size) choice) ≤ n) has sound.demand;
       sound = sound;
     }
   where
