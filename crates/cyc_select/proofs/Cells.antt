@@ -73,9 +73,9 @@ place_of-live globals stack store a word few_globals few_stack live =
 -- the words of the data range and of the stack do not depend on the store
 pub cell-store : (globals stack : List ℕ) (store other : StoreState) (a : ℕ) → length globals ≤ 1048576 → length stack ≤ 1048576 → IsCell (length globals) (length stack) a
     → cell (memory globals stack other) a ≡ cell (memory globals stack store) a
-cell-store globals stack store other a few_globals few_stack (inl data) =
-    ap (loaded (memory globals stack other)) (place_of-data globals stack other a data)
-    ∙ sym (ap (loaded (memory globals stack store)) (place_of-data globals stack store a data))
+cell-store globals stack store other a few_globals few_stack (inl in_data) =
+    ap (loaded (memory globals stack other)) (place_of-data globals stack other a in_data)
+    ∙ sym (ap (loaded (memory globals stack store)) (place_of-data globals stack store a in_data))
 cell-store globals stack store other a few_globals few_stack (inr on_stack) =
     ap (loaded (memory globals stack other)) (place_of-stack globals stack other a few_globals few_stack on_stack)
     ∙ sym (ap (loaded (memory globals stack store)) (place_of-stack globals stack store a few_globals few_stack on_stack))
