@@ -98,7 +98,6 @@ impl Tracked {
     }
 
     /// Behind a peek of a local.
-    #[inline(never)]
     fn look(self, span: Span, number: usize) -> Result<Tracked, Stop>
         ensures { Gives result (run (looked (place_of_span span) number (view_state self.state))) self.touched.items }
     {
@@ -109,7 +108,6 @@ impl Tracked {
     }
 
     /// Behind a use of a variable that leaves its value there.
-    #[inline(never)]
     fn use_variable(self, waiting: &[usize], variable: Lvalue) -> Result<Tracked, Stop>
         ensures { Gives result (run (used waiting.now (view_lvalue variable) (view_state self.state))) self.touched.items }
     {
@@ -123,7 +121,6 @@ impl Tracked {
     }
 
     /// Behind a use of a local's value that leaves it empty.
-    #[inline(never)]
     fn consume(self, waiting: &[usize], span: Span, number: usize) -> Result<Tracked, Stop>
         ensures { Gives result (run (moved waiting.now (place_of_span span) number (view_state self.state))) (and_local number self.touched.items) }
     {
@@ -136,7 +133,6 @@ impl Tracked {
     }
 
     /// Behind an assignment to a variable, whose value has this type.
-    #[inline(never)]
     fn assign(
         self,
         waiting: &[usize],
@@ -214,7 +210,6 @@ impl Tracked {
 
     /// Behind a place that a pointer leads to.
     #[cycle(expression)]
-    #[inline(never)]
     pub(crate) fn find(
         self,
         alloc: Global,
@@ -236,7 +231,6 @@ impl Tracked {
 
     /// Behind the handle of the region that an object is made in, if it has one.
     #[cycle(expression)]
-    #[inline(never)]
     fn place(self, alloc: Global, waiting: &[usize], placement: &Placement) -> Result<Tracked, Stop>
         ensures { Gives result (run (rule_placement waiting.now (view_placement placement.now) (view_state self.state))) (touched_placement (view_placement placement.now) self.touched.items) }
     {
@@ -249,7 +243,6 @@ impl Tracked {
 
     /// Behind what a new object holds. An array may have no elements, and its last one leaves what is known at the first.
     #[cycle(expression)]
-    #[inline(never)]
     fn initialise(
         self,
         alloc: Global,
@@ -295,7 +288,6 @@ impl Tracked {
     /// Behind the arguments of a call, or the fields of a struct.
     #[cycle(expression)]
     #[tactic(auto, using(std::proofs::lemmas::List::drop_more))]
-    #[inline(never)]
     fn pass(
         self,
         alloc: Global,
@@ -313,7 +305,6 @@ impl Tracked {
 
     /// Behind one operator of a chain and its operand, which `&&` and `||` may leave out.
     #[cycle(expression)]
-    #[inline(never)]
     fn apply_operation(
         self,
         alloc: Global,
@@ -347,7 +338,6 @@ impl Tracked {
     /// Behind the rest of a chain.
     #[cycle(expression)]
     #[tactic(auto, using(std::proofs::lemmas::List::drop_more, crate::proofs::Walks::operation_run, crate::proofs::Walks::operation_touched))]
-    #[inline(never)]
     fn apply_operations(
         self,
         alloc: Global,

@@ -141,7 +141,6 @@ impl State {
         }
     }
 
-    #[inline(never)]
     pub(crate) fn copy(&self, alloc: Global) -> Result<State, AllocError>
         ensures { IfOk result (λ s. view_state s ≡ view_state self.now) }
     {
@@ -153,7 +152,6 @@ impl State {
 }
 
 /// What is known where two branches meet.
-#[inline(never)]
 pub(crate) fn meet(one: State, other: State) -> State
     ensures { view_state result ≡ meet (view_state one) (view_state other) }
 {
