@@ -314,7 +314,13 @@ impl Tracked {
         ensures { Gives result (run (rule_operation waiting.now operation.now (view_state self.state))) (touched_operation operation.now self.touched.items) }
     {
         match operation {
-            Operation::Compute { operand, .. } => self.evaluate(alloc, waiting, operand),
+            Operation::Compute { operand, .. } => match operand {
+                Expr::Binary { first, rest, .. } => {
+                    let tracked = self.evaluate(alloc, waiting, first)?;
+                    tracked.apply_operations(alloc, waiting, rest)
+                }
+                other => self.evaluate(alloc, waiting, other),
+            },
             Operation::Test { operand, .. } => {
                 let before = self.state.copy(alloc)?;
                 let behind = self.evaluate(alloc, waiting, operand)?;

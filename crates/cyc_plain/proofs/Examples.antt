@@ -266,5 +266,11 @@ load_behind_the_block_is_stuck = refl
 store_before_the_block_is_stuck : status_of (after_with_block 1 (program (instructions.Store (Word 0x20000000) 0xfffffffc (Word 7) ∷ Return 0 ∷ []))) ≡ Failed
 store_before_the_block_is_stuck = refl
 
+load_at_no_multiple_of_4_is_stuck : status_of (after_with_block 1 (program (instructions.Load 0 (Word 0x20000000) 2 ∷ Return 0 ∷ []))) ≡ Failed
+load_at_no_multiple_of_4_is_stuck = refl
+
+words_may_overlap : status_of (after 5 1 (program (Move 0 (Word 5) ∷ Move 1 (Word 6) ∷ instructions.MoveWords 1 0 2 ∷ Binary binary.Subtract 0 (Slot 1) (Slot 2) ∷ Return 0 ∷ [])) []) ≡ Ended (Returned (negsuc 0))
+words_may_overlap = refl
+
 words_are_moved : status_of (after 4 1 (program (Move 1 (Word 5) ∷ Move 2 (Word 6) ∷ instructions.MoveWords 0 1 2 ∷ Return 1 ∷ [])) []) ≡ Ended (Returned (pos 6))
 words_are_moved = refl

@@ -2,9 +2,10 @@
 use Rattle.std.proofs.Common.{◌≡◌, ℕ, zero, suc, ◌+◌, ◌-◌, ◌<◌, Bool, true, false, List, [], ◌∷◌, length, Option, None, Some, slice_get, refl, sym, ap, subst, ◌∙◌, arith, inl, inr}
 use Rattle.std.proofs.lemmas.Bool.{cases_lt}
 use Rattle.std.proofs.lemmas.Option.{get_or_from_slice_get}
-use Rattle.std.specs.Prelude.{All, IsSomeAnd, if◌then◌else◌}
+use Rattle.std.specs.Prelude.{All, IsSomeAnd, if◌then◌else◌, ◌⊎◌}
 use Rattle.std.specs.List.{AllByRecursion}
 use Rattle.cyc_words.specs.Ending.{Full}
+use Rattle.cyc_words.specs.Word.{add_of}
 use Rattle.cyc_store.specs.State.{StoreState}
 use Rattle.cyc_plain.specs.declared.instruction.Instruction.{Instruction}
 use Rattle.cyc_plain.specs.declared.instruction.Instruction.TheVariants as instructions
@@ -14,9 +15,9 @@ use Rattle.cyc_plain.specs.Operators.{has_no_result, binary_result, compares}
 use Rattle.cyc_words.specs.Simulation as simulation
 use Rattle.cyc_words.specs.Simulation.{Run}
 use Rattle.cyc_plain.specs.Program.{Routine, Program, no_routine, routine_at}
-use Rattle.cyc_plain.specs.State.{Frame, Configuration, State, Running, Ended, Stuck, status_of, place_of}
-use Rattle.cyc_plain.specs.Step.{Choice, gives, operand_word, returns, performed, executed, instruction_at, step, Step, start, machine}
-use Rattle.cyc_plain.specs.WellFormed.{IsInRange, IsRoutine, IsWellFormed, leaves, DividesByZero}
+use Rattle.cyc_plain.specs.State.{Frame, Configuration, State, Running, Ended, Stuck, status_of, place_of, memory_at}
+use Rattle.cyc_plain.specs.Step.{Choice, gives, operand_word, returns, loads, saves, performed, executed, instruction_at, step, Step, start, machine}
+use Rattle.cyc_plain.specs.WellFormed.{IsInRange, IsRoutine, IsWellFormed, leaves, DividesByZero, AsksForNoWord}
 use Rattle.cyc_plain.proofs.RunLaws.{limited_either, if_either}
 
 -- ---- lists
@@ -97,11 +98,21 @@ module _ (program : Program) (well : IsWellFormed program) (choice : Choice) (c 
   chosen true target first second = first
   chosen false target first second = second
 
+  loaded : (destination : ℕ) (found : Option ℕ) → IsPlacedAt program c.active.function (c.active.next + 1) → IsPlaced program (loads c destination found)
+  loaded destination None next = tt
+  loaded destination (Some word) next = (next, waiting)
+
+  saved : (address word : ℕ) (found : Option ℕ) → IsPlacedAt program c.active.function (c.active.next + 1) → IsPlaced program (saves c address word found)
+  saved address word None next = tt
+  saved address word (Some old) next = (next, waiting)
+
   performs : (i : Instruction) → slice_get here.code c.active.next ≡ Some i → IsInRange program here i → IsPlaced program (performed program choice c i)
   performs (instructions.Move destination source) at range = (behind _ at refl, waiting)
-  performs (instructions.MoveWords destination source count) at range = absurd range
-  performs (instructions.Load destination address offset) at range = absurd range
-  performs (instructions.Store address offset source) at range = absurd range
+  performs (instructions.MoveWords destination source count) at range = (behind _ at refl, waiting)
+  performs (instructions.Load destination address offset) at range =
+      loaded destination (memory_at c (add_of (operand_word c.active.slots address) offset)) (behind (instructions.Load destination address offset) at refl)
+  performs (instructions.Store address offset source) at range =
+      saved (add_of (operand_word c.active.slots address) offset) (operand_word c.active.slots source) (memory_at c (add_of (operand_word c.active.slots address) offset)) (behind (instructions.Store address offset source) at refl)
   performs (instructions.Unary operator destination operand) at range = (behind _ at refl, waiting)
   performs (instructions.Binary operator destination left right) at range =
       if_either (IsPlaced program) (has_no_result operator (operand_word c.active.slots right)) (Stuck c.output c.input) (gives c destination (binary_result operator (operand_word c.active.slots left) (operand_word c.active.slots right))) tt (behind (instructions.Binary operator destination left right) at refl, waiting)
@@ -143,17 +154,35 @@ placed_start program store input well = ((well.main, has_code program (routine_a
 not_failed : (c : Configuration) → simulation.Running ≡ simulation.Failed → ⊥
 not_failed c e = cc
 
+-- why a run cannot go on
+abbrev Stops : Program → State → Type 0
+Stops program s = DividesByZero program s ⊎ AsksForNoWord program s
+
 divides : (program : Program) (c : Configuration) (operator : BinaryOperator) (destination : ℕ) (left right : Operand) (b : Bool) → has_no_result operator (operand_word c.active.slots right) ≡ b
     → instruction_at program (place_of (Running c)) ≡ Some (instructions.Binary operator destination left right)
-    → status_of (if b then Stuck c.output c.input else gives c destination (binary_result operator (operand_word c.active.slots left) (operand_word c.active.slots right))) ≡ simulation.Failed → DividesByZero program (Running c)
-divides program c operator destination left right true is at failed = (operator, destination, left, right, at, is)
+    → status_of (if b then Stuck c.output c.input else gives c destination (binary_result operator (operand_word c.active.slots left) (operand_word c.active.slots right))) ≡ simulation.Failed → Stops program (Running c)
+divides program c operator destination left right true is at failed = inl (operator, destination, left, right, at, is)
 divides program c operator destination left right false is at failed = absurd (not_failed c failed)
+
+-- a load or a store, of what is found at an address
+loads_stop : (program : Program) (c : Configuration) (destination : ℕ) (base : Operand) (offset : ℕ) (found : Option ℕ) → memory_at c (add_of (operand_word c.active.slots base) offset) ≡ found
+    → instruction_at program (place_of (Running c)) ≡ Some (instructions.Load destination base offset) → status_of (loads c destination found) ≡ simulation.Failed → Stops program (Running c)
+loads_stop program c destination base offset None is at failed =
+    inr (instructions.Load destination base offset, add_of (operand_word c.active.slots base) offset, at, refl, is)
+loads_stop program c destination base offset (Some word) is at failed = absurd (not_failed c failed)
+
+saves_stop : (program : Program) (c : Configuration) (base : Operand) (offset : ℕ) (source : Operand) (found : Option ℕ) → memory_at c (add_of (operand_word c.active.slots base) offset) ≡ found
+    → instruction_at program (place_of (Running c)) ≡ Some (instructions.Store base offset source)
+    → status_of (saves c (add_of (operand_word c.active.slots base) offset) (operand_word c.active.slots source) found) ≡ simulation.Failed → Stops program (Running c)
+saves_stop program c base offset source None is at failed =
+    inr (instructions.Store base offset source, add_of (operand_word c.active.slots base) offset, at, refl, is)
+saves_stop program c base offset source (Some old) is at failed = absurd (not_failed c failed)
 
 returns_not : (c : Configuration) (value results : ℕ) (frames : List Frame) → status_of (returns c value results frames) ≡ simulation.Failed → ⊥
 returns_not c value results [] failed = let e : status_of (returns c value results []) ≡ simulation.Failed = failed in cc
 returns_not c value results (f ∷ frames) failed = not_failed c failed
 
-fails : (program : Program) (choice : Choice) (c : Configuration) (i : Instruction) → instruction_at program (place_of (Running c)) ≡ Some i → IsInRange program (routine_at program c.active.function) i → status_of (performed program choice c i) ≡ simulation.Failed → DividesByZero program (Running c)
+fails : (program : Program) (choice : Choice) (c : Configuration) (i : Instruction) → instruction_at program (place_of (Running c)) ≡ Some i → IsInRange program (routine_at program c.active.function) i → status_of (performed program choice c i) ≡ simulation.Failed → Stops program (Running c)
 fails program choice c (instructions.Binary operator destination left right) at range failed = divides program c operator destination left right (has_no_result operator (operand_word c.active.slots right)) refl at failed
 fails program choice c (instructions.Return value) at range failed = absurd (returns_not c value (routine_at program c.active.function).results c.frames failed)
 fails program choice c (instructions.Uncaught tag value) at range failed = absurd (let e : status_of (performed program choice c (instructions.Uncaught tag value)) ≡ simulation.Failed = failed in cc)
@@ -166,11 +195,13 @@ fails program choice c (instructions.ReadByte destination) at range failed = abs
 fails program choice c (instructions.WriteByte source) at range failed = absurd (not_failed c failed)
 fails program choice c (instructions.LoadGlobal destination global) at range failed = absurd (not_failed c failed)
 fails program choice c (instructions.StoreGlobal global source) at range failed = absurd (not_failed c failed)
-fails program choice c (instructions.MoveWords destination source count) at range failed = absurd range
-fails program choice c (instructions.Load destination address offset) at range failed = absurd range
-fails program choice c (instructions.Store address offset source) at range failed = absurd range
+fails program choice c (instructions.MoveWords destination source count) at range failed = absurd (not_failed c failed)
+fails program choice c (instructions.Load destination address offset) at range failed =
+    loads_stop program c destination address offset (memory_at c (add_of (operand_word c.active.slots address) offset)) refl at failed
+fails program choice c (instructions.Store address offset source) at range failed =
+    saves_stop program c address offset source (memory_at c (add_of (operand_word c.active.slots address) offset)) refl at failed
 
-fails_placed : (program : Program) (choice : Choice) (s : State) → IsWellFormed program → IsPlaced program s → status_of s ≡ simulation.Running → status_of (step program choice s) ≡ simulation.Failed → DividesByZero program s
+fails_placed : (program : Program) (choice : Choice) (s : State) → IsWellFormed program → IsPlaced program s → status_of s ≡ simulation.Running → status_of (step program choice s) ≡ simulation.Failed → Stops program s
 fails_placed program choice (Running c) well ((inside, next), waiting) running failed =
     let (i, at) = get_below (routine_at program c.active.function).code c.active.next next in
     let range = holds_at (IsInRange program (routine_at program c.active.function)) (routine_at program c.active.function).code c.active.next i (routine_in program c.active.function well inside).instructions at in
@@ -178,12 +209,12 @@ fails_placed program choice (Running c) well ((inside, next), waiting) running f
 fails_placed program choice (Ended ending output input) well placed running failed = absurd (let e : simulation.Ended ending ≡ simulation.Running = running in cc)
 fails_placed program choice (Stuck output input) well placed running failed = absurd (let e : simulation.Failed ≡ simulation.Running = running in cc)
 
--- A run of a well-formed program gets stuck only where it divides by 0.
-pub stuck_only_by_division : (program : Program) (pages calls n : ℕ) (store : StoreState) (input : List ℕ) (old new : State) → IsWellFormed program → Run (machine program pages calls) n (start program store input) old
-    → status_of old ≡ simulation.Running → Step program pages calls old new → status_of new ≡ simulation.Failed → DividesByZero program old
-stuck_only_by_division program pages calls n store input old new well run running (choice, allowed, is) failed =
+-- A run of a well-formed program gets stuck only where it divides by 0, or asks for a word that memory does not have.
+pub few_get_stuck : (program : Program) (pages calls n : ℕ) (store : StoreState) (input : List ℕ) (old new : State) → IsWellFormed program → Run (machine program pages calls) n (start program store input) old
+    → status_of old ≡ simulation.Running → Step program pages calls old new → status_of new ≡ simulation.Failed → Stops program old
+few_get_stuck program pages calls n store input old new well run running (choice, allowed, is) failed =
     let placed = placed_run program pages calls n (start program store input) old well (placed_start program store input well) run in
-    limited_either (λ (s : State). status_of s ≡ simulation.Failed → DividesByZero program old) pages calls old (step program choice old)
+    limited_either (λ (s : State). status_of s ≡ simulation.Failed → Stops program old) pages calls old (step program choice old)
     (λ within fails. fails_placed program choice old well placed running fails)
     (λ fails. absurd (let e : simulation.Ended Full ≡ simulation.Failed = fails in cc))
     (ap status_of (sym is) ∙ failed)

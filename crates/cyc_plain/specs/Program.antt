@@ -72,8 +72,8 @@ instruction_size (instructions.ReadByte destination) = 5
 instruction_size (instructions.WriteByte source) = 5
 instruction_size (instructions.LoadGlobal destination global) = 5
 instruction_size (instructions.StoreGlobal global source) = 5
-instruction_size (instructions.Load destination address offset) = 7
-instruction_size (instructions.Store address offset source) = 7
+instruction_size (instructions.Load destination address offset) = 10
+instruction_size (instructions.Store address offset source) = 10
 instruction_size (instructions.Uncaught tag value) = 7
 
 abbrev pub size : Routine → ℕ

@@ -1,13 +1,13 @@
 -- A well-formed plain program: all that it names is there, and its frames have room.
-use Rattle.std.specs.Prelude.{◌≡◌, ℕ, ◌+◌, ◌-◌, ◌<◌, ◌≤◌, Bool, true, false, length, sum_by, All, IsSomeAnd, Some, slice_get}
-use Rattle.cyc_words.specs.Word.{IsWord}
+use Rattle.std.specs.Prelude.{◌≡◌, ℕ, ◌+◌, ◌-◌, ◌<◌, ◌≤◌, Bool, true, false, length, sum_by, All, IsSomeAnd, Some, None, slice_get}
+use Rattle.cyc_words.specs.Word.{IsWord, add_of}
 use Rattle.cyc_plain.specs.declared.instruction.Instruction.{Instruction}
 use Rattle.cyc_plain.specs.declared.instruction.Instruction.TheVariants as instructions
 use Rattle.cyc_plain.specs.declared.instruction.Operand.{Operand}
 use Rattle.cyc_plain.specs.declared.instruction.Operand.TheVariants as operands
 use Rattle.cyc_plain.specs.Operators.{has_no_result}
 use Rattle.cyc_plain.specs.declared.instruction.BinaryOperator.{BinaryOperator}
-use Rattle.cyc_plain.specs.State.{State, Running, Ended, Stuck, place_of}
+use Rattle.cyc_plain.specs.State.{Configuration, State, Running, Ended, Stuck, place_of, memory_at}
 use Rattle.cyc_plain.specs.Step.{operand_word, instruction_at}
 use Rattle.cyc_plain.specs.Program.{Routine, Program, routine_at, size}
 use Rattle.cyc_plain.specs.declared.limits.TheConstants.{LAYOUT_WORDS, GREATEST_VALUE, MOST_GLOBALS, MOST_SIZE}
@@ -29,11 +29,17 @@ abbrev pub IsOperand : Routine → Operand → Type 0
 IsOperand r (operands.Slot number) = number < r.slots
 IsOperand r (operands.Word word) = Unit {0}
 
--- The slots, targets, globals and functions that an instruction of a function names are there. No program moves several words or
--- asks memory yet.
+-- The slots of a move of several words are slots of the function, and no more words are moved than a value has.
+pub record IsMoveInRange (r : Routine) (destination source count : ℕ) : Type 0 where
+  pub some : 0 < count
+  pub few : count ≤ GREATEST_VALUE
+  pub destination_in_range : HasSlots r destination count
+  pub source_in_range : HasSlots r source count
+
+-- the slots, targets, globals and functions that an instruction of a function names are there
 abbrev pub IsInRange : Program → Routine → Instruction → Type 0
 IsInRange program r (instructions.Move destination source) = (destination < r.slots) × IsOperand r source
-IsInRange program r (instructions.MoveWords destination source count) = ⊥
+IsInRange program r (instructions.MoveWords destination source count) = IsMoveInRange r destination source count
 IsInRange program r (instructions.Unary operator destination operand) =
     (destination < r.slots) × IsOperand r operand
 IsInRange program r (instructions.Binary operator destination left right) =
@@ -50,8 +56,8 @@ IsInRange program r (instructions.LoadGlobal destination global) =
     (destination < r.slots) × (global < length program.globals)
 IsInRange program r (instructions.StoreGlobal global source) =
     (global < length program.globals) × IsOperand r source
-IsInRange program r (instructions.Load destination address offset) = ⊥
-IsInRange program r (instructions.Store address offset source) = ⊥
+IsInRange program r (instructions.Load destination address offset) = (destination < r.slots) × IsOperand r address
+IsInRange program r (instructions.Store address offset source) = IsOperand r address × IsOperand r source
 IsInRange program r (instructions.Uncaught tag value) = IsOperand r value
 
 -- after these the instruction behind them is never executed next
@@ -114,3 +120,18 @@ DividesByZero program (Running c) =
     × (has_no_result operator (operand_word c.active.slots right) ≡ true)
 DividesByZero program (Ended ending output input) = ⊥
 DividesByZero program (Stuck output input) = ⊥
+
+-- an instruction that asks for the word of memory at this address
+abbrev pub AsksAt : Configuration → (address : ℕ) → Instruction → Type 0
+AsksAt c address (instructions.Load destination base offset) =
+    add_of (operand_word c.active.slots base) offset ≡ address
+AsksAt c address (instructions.Store base offset source) = add_of (operand_word c.active.slots base) offset ≡ address
+AsksAt c address instruction = ⊥
+
+-- the instruction to be executed next asks for a word that memory does not have
+abbrev pub AsksForNoWord : Program → State → Type 0
+AsksForNoWord program (Running c) =
+    (i : Instruction) × (address : ℕ) × (instruction_at program (place_of (Running c)) ≡ Some i) × AsksAt c address i
+    × (memory_at c address ≡ None)
+AsksForNoWord program (Ended ending output input) = ⊥
+AsksForNoWord program (Stuck output input) = ⊥

@@ -1,7 +1,7 @@
 //! Laws of the definitions in `specs/`. Each function does nothing: its contract is the law, and so it is proved with
 //! the crate. The lemmas behind them stand in `proofs/` for other proofs to cite.
 
-ghost use Rattle.std.specs.Prelude.{◌≡◌, ◌≢◌, ℕ, ◌+◌, ◌<◌, ◌≤◌, List, length, ◌++◌, true, false, Some, Contains};
+ghost use Rattle.std.specs.Prelude.{◌≡◌, ◌≢◌, ◌⊎◌, ℕ, ◌+◌, ◌<◌, ◌≤◌, List, length, ◌++◌, true, false, Some, Contains};
 ghost use Rattle.std.specs.List.{AllByRecursion};
 ghost use Rattle.cyc_words.specs.Ending.{Ending, Full};
 ghost use Rattle.cyc_words.specs.Prefix.{IsPrefix};
@@ -16,7 +16,7 @@ ghost use Rattle.cyc_plain.specs.State.{Words, Configuration, State, HoldsWords,
 ghost use Rattle.cyc_plain.specs.State as state;
 ghost use Rattle.cyc_plain.specs.Step.{Choice, Step, instruction_at, is_within, limited_step, machine, start, step};
 ghost use Rattle.cyc_plain.specs.Straight.{HasAt, AreStraight, executed_in, places_behind};
-ghost use Rattle.cyc_plain.specs.WellFormed.{IsWellFormed, HasWords, DividesByZero};
+ghost use Rattle.cyc_plain.specs.WellFormed.{IsWellFormed, HasWords, DividesByZero, AsksForNoWord};
 
 /// A run that is over stays as it is.
 pub fn ended_stays()
@@ -50,11 +50,12 @@ pub fn limits_are_kept()
         → limited_step program pages calls choice old ≡ state.Ended Full (output_of old) (input_of old) }
 {}
 
-/// A run of a well-formed program is never stuck but at a division by 0.
-pub fn only_division_is_stuck()
+/// A run of a well-formed program is never stuck but at a division by 0, and where it asks for a word that memory does not have.
+pub fn few_get_stuck()
     ensures { (program : Program) (pages calls count : ℕ) (store : StoreState) (input : List ℕ) (old new : State) → IsWellFormed program
         → Run (machine program pages calls) count (start program store input) old → status_of old ≡ simulation.Running
-        → Step program pages calls old new → status_of new ≡ simulation.Failed → DividesByZero program old }
+        → Step program pages calls old new → status_of new ≡ simulation.Failed
+        → DividesByZero program old ⊎ AsksForNoWord program old }
 {}
 
 /// In a run of a program whose numbers are words, from a store of words and on an input of bytes, every value is a word.

@@ -249,7 +249,7 @@ module _ (program : Program) (well : IsWellFormed program) (frames : List Frame)
       globals = λ global below. copied_now.outside (data_base + 4 * global) (inl (omega (arith, below, well.globals, low_is, room, here_lies.1, deeper))) ∙ s1.globals global below;
       input = s.input;
       store = copied_now.store ∙ s1.store;
-      paged = s.paged;
+      laid = s.laid;
     }
       where
         left_is : (n : ℕ) → n ≡ r CALLS - 1 → n + suc (suc (length c.frames)) ≡ calls
@@ -259,7 +259,7 @@ module _ (program : Program) (well : IsWellFormed program) (frames : List Frame)
     enters d later =
         reached program well frames fit code formed addresses pages calls few c choice (plain.Call callee arguments count result) (states.Running entered) (Running d)
         (λ slot. later.w_words (low + slot_offset its slot)) at_i refl
-        (within program well frames fit code formed addresses pages calls few entered s.paged deeper)
+        (within program well frames fit code formed addresses pages calls few entered s.laid.paged deeper)
         (inl (record {
           run = d;
           r = r3;

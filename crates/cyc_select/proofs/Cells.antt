@@ -1,9 +1,10 @@
 -- The memory as a function from addresses to words: what its words of data and stack hold.
-use Rattle.std.proofs.Common.{◌≡◌, ◌≢◌, ℕ, ◌+◌, ◌-◌, ◌*◌, ◌%◌, ◌<◌, ◌≤◌, Bool, true, false, List, [], length, None, refl, sym, ap, ◌∙◌, arith, inl, inr}
+use Rattle.std.proofs.Common.{◌≡◌, ◌≢◌, ℕ, ◌+◌, ◌-◌, ◌*◌, ◌%◌, ◌<◌, ◌≤◌, Bool, true, false, List, [], length, None, Some, refl, sym, ap, ◌∙◌, arith, inl, inr}
 use Rattle.std.specs.Prelude.{◌⊎◌, nat_le, nat_lt, if◌then◌else◌, is_some, Option, slice_index_or}
-use Rattle.std.proofs.lemmas.Bool.{cases_eq, le-leb, lt-ltb, le-ltb, and_from, and_right, cond-true, cond-false}
-use Rattle.cyc_store.specs.State.{StoreState}
-use Rattle.cyc_machine.specs.State.{Memory, Place, InText, InGlobals, InStack, InStore, Nowhere, text_base, text_at, data_base, stack_end, stack_base, word_number, is_within, place_of, loaded, stored}
+use Rattle.std.proofs.lemmas.Bool.{cases_eq, le-leb, lt-ltb, le-ltb, lt-leb, and_from, and_left, and_right, cond-true, cond-false}
+use Rattle.cyc_store.specs.State.{StoreState, word_at}
+use Rattle.cyc_store.specs.declared.range.TheConstants.{STORE_BASE, PAGE_WORDS, MOST_PAGES}
+use Rattle.cyc_machine.specs.State.{Memory, Place, InText, InGlobals, InStack, InStore, Nowhere, text_base, text_at, data_base, stack_end, stack_base, store_base, words_per_page, word_number, is_within, place_of, loaded, stored}
 use Rattle.cyc_machine.proofs.MemoryLaws.{place_of-stored, loaded-stored_globals, loaded-stored_stack, loaded-stored_other}
 use Rattle.cyc_plain.specs.State.{put}
 use Rattle.cyc_plain.proofs.SlotLaws.{put-same, put-other}
@@ -17,6 +18,14 @@ IsStack stack a = (a % 4 ≡ 0) × (stack_end - 4 * stack ≤ a) × (a < stack_e
 
 abbrev pub IsCell : (globals stack : ℕ) → ℕ → Type 0
 IsCell globals stack a = IsData globals a ⊎ IsStack stack a
+
+-- the word of a live block at an address of the store's pages
+pub record IsLive (store : StoreState) (a word : ℕ) : Type 0 where
+  pub aligned : a % 4 ≡ 0
+  pub low : STORE_BASE ≤ a
+  pub high : a < STORE_BASE + 4 * (PAGE_WORDS * store.pages)
+  pub few : store.pages ≤ MOST_PAGES
+  pub there : word_at store a ≡ Some word
 
 -- what is found there
 abbrev pub cell : Memory → ℕ → ℕ
@@ -42,6 +51,9 @@ within base count a from below = and_from (nat_le base a) (nat_lt a (base + 4 * 
 outside : (base count a : ℕ) → base + 4 * count ≤ a → is_within base count a ≡ false
 outside base count a past = and_right (nat_le base a) (nat_lt a (base + 4 * count)) (le-ltb a (base + 4 * count) past)
 
+before : (base count a : ℕ) → a < base → is_within base count a ≡ false
+before base count a below = and_left (nat_le base a) (nat_lt a (base + 4 * count)) (lt-leb base a below)
+
 pub place_of-data : (globals stack : List ℕ) (store : StoreState) (a : ℕ) → IsData (length globals) a → place_of (memory globals stack store) a ≡ InGlobals (word_number data_base a)
 place_of-data globals stack store a (aligned, from, below) =
     cond-false _ _ _ (no_text a) ∙ cond-true _ _ _ (within data_base (length globals) a from below)
@@ -50,6 +62,23 @@ pub place_of-stack : (globals stack : List ℕ) (store : StoreState) (a : ℕ) �
 place_of-stack globals stack store a few_globals few_stack (aligned, from, below) =
     cond-false _ _ _ (no_text a)
     ∙ (cond-false _ _ _ (outside data_base (length globals) a (omega arith)) ∙ cond-true _ _ _ (within (stack_base stack) (length stack) a from (omega arith)))
+
+pub place_of-live : (globals stack : List ℕ) (store : StoreState) (a word : ℕ) → length globals ≤ 1048576 → length stack ≤ 1048576 → IsLive store a word → place_of (memory globals stack store) a ≡ InStore a
+place_of-live globals stack store a word few_globals few_stack live =
+    cond-false _ _ _ (no_text a)
+    ∙ (cond-false _ _ _ (outside data_base (length globals) a (omega (arith, live.low)))
+    ∙ (cond-false _ _ _ (before (stack_base stack) (length stack) a (omega (arith, live.high, live.few)))
+    ∙ cond-true _ _ _ (within store_base (words_per_page * store.pages) a live.low live.high)))
+
+-- the words of the data range and of the stack do not depend on the store
+pub cell-store : (globals stack : List ℕ) (store other : StoreState) (a : ℕ) → length globals ≤ 1048576 → length stack ≤ 1048576 → IsCell (length globals) (length stack) a
+    → cell (memory globals stack other) a ≡ cell (memory globals stack store) a
+cell-store globals stack store other a few_globals few_stack (inl in_data) =
+    ap (loaded (memory globals stack other)) (place_of-data globals stack other a in_data)
+    ∙ sym (ap (loaded (memory globals stack store)) (place_of-data globals stack store a in_data))
+cell-store globals stack store other a few_globals few_stack (inr on_stack) =
+    ap (loaded (memory globals stack other)) (place_of-stack globals stack other a few_globals few_stack on_stack)
+    ∙ sym (ap (loaded (memory globals stack store)) (place_of-stack globals stack store a few_globals few_stack on_stack))
 
 -- a store changes one word
 module _ (globals stack : List ℕ) (store : StoreState) (few_globals : length globals ≤ 1048576) (few_stack : length stack ≤ 1048576) where

@@ -134,7 +134,7 @@ module _ (globals stack : ℕ) where
     not_back = λ e. absurd (omega (arith, e));
   }
 
-  second_scratch : IsScratch globals stack SECOND
+  pub second_scratch : IsScratch globals stack SECOND
   second_scratch = record {
     not_zero = λ e. absurd (omega (arith, e));
     not_base = λ e. absurd (omega (arith, e));

@@ -1,5 +1,5 @@
 -- How many lines operands, plans and tests have, as they are counted: so many, and few.
-use Rattle.std.proofs.Common.{◌≡◌, ℕ, ◌+◌, ◌%◌, ◌^◌, ◌≤◌, Bool, true, false, List, [], ◌∷◌, length, Option, None, Some, refl, arith, length-append}
+use Rattle.std.proofs.Common.{◌≡◌, ℕ, zero, suc, ◌+◌, ◌%◌, ◌^◌, ◌≤◌, Bool, true, false, List, [], ◌∷◌, length, Option, None, Some, refl, ap, arith, length-append}
 use Rattle.std.specs.Prelude.{◌==◌, nat_lt, if◌then◌else◌}
 use Rattle.cyc_isa.specs.declared.instr.Instr.{Instr}
 use Rattle.cyc_isa.specs.declared.instr.ArithmeticOp.{ArithmeticOp}
@@ -22,7 +22,7 @@ use Rattle.cyc_select.specs.declared.plan.Test.{Test}
 use Rattle.cyc_select.specs.declared.plan.Test.TheVariants as tests
 use Rattle.cyc_select.specs.Plans.{arithmetic_plan, immediate_plan, immediate_or, zero_plan, differs_plan, equal_plan, unary_plan, binary_plan}
 use Rattle.cyc_select.specs.Numbers.{fits_signed, negated_half, is_word, is_zero_word}
-use Rattle.cyc_select.specs.Selection.{small, or_immediate, load_upper, constant, is_tested, word_code, load_code, operand_code, operand_register, operation_code, outcome_code, operands_code, operation_of, computed_code, plan_code, test_code, loads_code, divided_code, store_slot, add_immediate, minus, word_count, load_count, operand_count, operation_count, outcome_count, count_of_operation, plan_count, test_count, operator_count}
+use Rattle.cyc_select.specs.Selection.{load_all, store_all, result_registers, small, or_immediate, load_upper, constant, is_tested, word_code, load_code, operand_code, operand_register, operation_code, outcome_code, operands_code, operation_of, computed_code, plan_code, test_code, loads_code, divided_code, store_slot, add_immediate, minus, word_count, load_count, operand_count, far_plan, address_code, address_count, operation_count, outcome_count, count_of_operation, plan_count, test_count, operator_count}
 
 -- ---- few
 
@@ -97,6 +97,15 @@ test_small (tests.Operands op left right) = omega (arith, operand_small left, op
 test_small (tests.Sign op operand) = omega (arith, operand_small operand)
 test_small (tests.Computed plan) = computed_small plan
 
+address_either : (b : Bool) (near far : ℕ) → near ≤ 2 → far ≤ 5 → (if b then near else far) ≤ 5
+address_either true near far first second = omega (arith, first)
+address_either false near far first second = second
+
+pub address_small : (address : Operand) (offset : ℕ) → address_count address offset ≤ 5
+address_small address offset =
+    address_either (fits_signed offset) (operand_count address) (count_of_operation (far_plan address offset)) (operand_small address)
+    (omega (arith, operand_small address, operand_small (operands.Word offset)))
+
 operator_either : (b : Bool) (divided planned : ℕ) → divided ≤ 11 → planned ≤ 8 → (if b then divided else planned) ≤ 11
 operator_either true divided planned few small = few
 operator_either false divided planned few small = omega (arith, small)
@@ -148,6 +157,15 @@ length_operation_of frame plan =
     let last = operation_code plan.operation (operand_register FIRST plan.left) (operand_register SECOND plan.right) in
     omega (arith, length-append (operands_code frame plan.left plan.right) last, length_operands frame plan.left plan.right, length_operation plan.operation (operand_register FIRST plan.left) (operand_register SECOND plan.right))
 
+pub length_address : (frame : Frame) (address : Operand) (offset : ℕ) → length (address_code frame address offset) ≡ address_count address offset
+length_address frame address offset =
+    either (fits_signed offset) (operand_code frame FIRST address) (operation_of frame (far_plan address offset)) (operand_count address) (count_of_operation (far_plan address offset))
+    (length_operand frame FIRST address) (length_operation_of frame (far_plan address offset))
+  where
+    either : (b : Bool) (is js : List Instr) (m n : ℕ) → length is ≡ m → length js ≡ n → length (if b then is else js) ≡ (if b then m else n)
+    either true is js m n first second = first
+    either false is js m n first second = second
+
 pub length_computed : (frame : Frame) (plan : Plan) → length (computed_code frame plan) ≡ count_of_operation plan + outcome_count plan.outcome
 length_computed frame plan =
     omega (arith, length-append (operation_of frame plan) (outcome_code plan.outcome), length_operation_of frame plan, length_outcome plan.outcome)
@@ -164,3 +182,28 @@ length_test frame (tests.Computed plan) = length_operation_of frame plan
 pub length_divided : (frame : Frame) (left right : Operand) → length (divided_code frame left right) ≡ load_count left + load_count right + 1
 length_divided frame left right =
     omega (arith, length-append (load_code frame FIRST left) (load_code frame SECOND right), length-append (loads_code frame left right) (add_immediate THIRD ZERO (minus 1) ∷ []), length_load frame FIRST left, length_load frame SECOND right)
+
+-- ---- several words
+
+pub length_stores : (f : Frame) (slot : ℕ) (sources : List ℕ) → length (store_all f slot sources) ≡ length sources
+length_stores f slot [] = refl
+length_stores f slot (source ∷ sources) = ap suc (length_stores f (suc slot) sources)
+
+pub length_loads : (f : Frame) (slot : ℕ) (targets : List ℕ) → length (load_all f slot targets) ≡ length targets
+length_loads f slot [] = refl
+length_loads f slot (target ∷ targets) = ap suc (length_loads f (suc slot) targets)
+
+-- no more registers than words
+pub registers_few : (count : ℕ) → length (result_registers count) ≤ count
+registers_few zero = omega arith
+registers_few (suc zero) = omega arith
+registers_few (suc (suc zero)) = omega arith
+registers_few (suc (suc (suc zero))) = omega arith
+registers_few (suc (suc (suc (suc count)))) = omega arith
+
+pub length_registers : (count : ℕ) → count ≤ 3 → length (result_registers count) ≡ count
+length_registers zero few_results = refl
+length_registers (suc zero) few_results = refl
+length_registers (suc (suc zero)) few_results = refl
+length_registers (suc (suc (suc zero))) few_results = refl
+length_registers (suc (suc (suc (suc count)))) few_results = absurd (omega (arith, few_results))

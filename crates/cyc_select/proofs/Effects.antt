@@ -13,6 +13,7 @@ use Rattle.cyc_isa.specs.declared.instr.ExceptionOp.TheVariants.{Syscall}
 use Rattle.cyc_isa.specs.declared.operand.Register.{Register}
 use Rattle.cyc_isa.specs.declared.operand.TrapCode.{TrapCode}
 use Rattle.cyc_isa.specs.Effect.{immediate_result, load_upper_result, arithmetic_result, shift_result, high_result, low_result, memory_address}
+use Rattle.cyc_store.specs.State.{StoreState, word_at}
 use Rattle.cyc_machine.specs.declared.event.Cause.TheVariants as causes
 use Rattle.cyc_machine.specs.declared.event.End.TheVariants as ends
 use Rattle.cyc_machine.specs.declared.event.Event.{Event}
@@ -23,11 +24,11 @@ use Rattle.cyc_machine.specs.State.{Core, Place, InText, InGlobals, InStack, Now
 use Rattle.cyc_machine.specs.Step.{Action, Does, Calls, Acts, Service, GetByte, PutByte, EndReturned, EndUncaught, EndFull, Serves, service_of, asked, calls, executes, after, cause_of, first_of, is_nowhere, is_text, is_aligned}
 use Rattle.cyc_machine.specs.Run.{told}
 use Rattle.cyc_machine.proofs.StepLaws.{executes-performs}
-use Rattle.cyc_plain.specs.State.{Words}
+use Rattle.cyc_plain.specs.State.{Words, put}
 use Rattle.cyc_select.specs.Machine.{Configuration, State, Running, core_of, memory_of, machine_of, world_of, from_world, settled, Performs, word_in}
 use Rattle.cyc_select.specs.Machine as labelled
-use Rattle.cyc_select.proofs.Cells.{IsCell, cell, place_of-data, place_of-stack}
-use Rattle.cyc_select.proofs.Views.{Contents, View, does_r, does_w, IsSafe, moved, view_put, view_product, view_store}
+use Rattle.cyc_select.proofs.Cells.{IsCell, IsLive, cell, place_of-data, place_of-stack}
+use Rattle.cyc_select.proofs.Views.{Contents, saved_in, View, does_r, does_w, IsSafe, IsWritable, moved, live_place, view_put, view_product, view_store, view_saved}
 
 -- what is performed without an event leaves this
 performs_to : (c : Configuration) (i : Instr) (left : machines.State) (next : State) → executes (machine_of c) i ≡ Does Ran left → left.phase ≡ phases.Running
@@ -147,6 +148,55 @@ module _ (globals stack : ℕ) (c : Configuration) (r : Words) (w : Contents) (v
   moved_view (JumpRegister source) safe = absurd safe
   moved_view (JumpRegisterLink destination source) safe = absurd safe
   moved_view (Exception op code) safe = absurd safe
+
+-- ---- words of live blocks
+
+module _ (globals stack : ℕ) (c : Configuration) (r : Words) (w : Contents) (view : View globals stack c r w) where
+  -- nothing is wrong with a load or a store there
+  lives : (a word : ℕ) → IsLive w.store a word → (is_nowhere (place_of (memory_of c) a) ≡ false) × (is_dead (memory_of c) (place_of (memory_of c) a) ≡ false) × (is_text (place_of (memory_of c) a) ≡ false)
+  lives a word live =
+      let there = live_place globals stack c r w view a word live in
+      let found : word_at c.store a ≡ Some word = ap (λ (s : StoreState). word_at s a) view.store ∙ live.there in
+      (ap is_nowhere there, ap (is_dead (memory_of c)) there ∙ ap (λ (o : Option ℕ). is_none o) found, ap is_text there)
+
+  lies_aligned : (a word : ℕ) → IsLive w.store a word → not (is_aligned a) ≡ false
+  lies_aligned a word live = not_from_true (is_aligned a) (eq-eqb (a % 4) 0 live.aligned)
+
+  at_live : (base : Register) (offset word : ℕ) → IsLive w.store (memory_address (r base.number) offset) word → IsLive w.store (memory_address (word_in c base.number) offset) word
+  at_live base offset word live = subst (λ (n : ℕ). IsLive w.store (memory_address n offset) word) (sym (view.reg base.number base.in_range)) live
+
+  pub loads_live : (target base : Register) (offset word : ℕ) (next : State) → IsLive w.store (memory_address (r base.number) offset) word → Performs c (Memory LoadWord target base offset) next
+      → next ≡ Running (moved c (Memory LoadWord target base offset))
+  loads_live target base offset word next at goes =
+      let a : ℕ = memory_address (word_in c base.number) offset in
+      let there = lives a word (at_live base offset word at) in
+      let fine = executes-performs (machine_of c) (Memory LoadWord target base offset)
+      (no_cause false _ _ _ false refl (lies_aligned a word (at_live base offset word at)) there.0 there.1 refl) in
+      performs_to c (Memory LoadWord target base offset) (after (machine_of c) (Memory LoadWord target base offset)) next fine refl goes
+
+  pub stores_live : (source base : Register) (offset word : ℕ) (next : State) → IsLive w.store (memory_address (r base.number) offset) word → Performs c (Memory StoreWord source base offset) next
+      → next ≡ Running (moved c (Memory StoreWord source base offset))
+  stores_live source base offset word next at goes =
+      let a : ℕ = memory_address (word_in c base.number) offset in
+      let there = lives a word (at_live base offset word at) in
+      let fine = executes-performs (machine_of c) (Memory StoreWord source base offset)
+      (no_cause false _ _ _ _ refl (lies_aligned a word (at_live base offset word at)) there.0 there.1 there.2) in
+      performs_to c (Memory StoreWord source base offset) (after (machine_of c) (Memory StoreWord source base offset)) next fine refl goes
+
+  pub loaded_view : (target base : Register) (offset word : ℕ) → IsWritable target.number → IsLive w.store (memory_address (r base.number) offset) word
+      → View globals stack (moved c (Memory LoadWord target base offset)) (put r target.number word) w
+  loaded_view target base offset word writable at =
+      let a : ℕ = memory_address (word_in c base.number) offset in
+      let live = at_live base offset word at in
+      let found : word_at c.store a ≡ Some word = ap (λ (s : StoreState). word_at s a) view.store ∙ live.there in
+      view_put globals stack c r w view target.number (cell (memory_of c) a) word (c.line + 1) target.in_range writable
+      (ap (loaded (memory_of c)) (live_place globals stack c r w view a word live) ∙ ap (λ (o : Option ℕ). unwrap_or o 0) found)
+
+  pub saved_view : (source base : Register) (offset old : ℕ) → IsLive w.store (memory_address (r base.number) offset) old
+      → View globals stack (moved c (Memory StoreWord source base offset)) r (saved_in w (memory_address (r base.number) offset) (r source.number))
+  saved_view source base offset old at =
+      view_saved globals stack c r w view (memory_address (r base.number) offset) old (memory_address (word_in c base.number) offset) (word_in c source.number) (r source.number) (c.line + 1) at
+      (ap (λ (n : ℕ). memory_address n offset) (view.reg base.number base.in_range)) (view.reg source.number source.in_range)
 
 -- ---- services
 

@@ -16,13 +16,14 @@ use Rattle.cyc_plain.specs.declared.instruction.Operand.{Operand}
 use Rattle.cyc_plain.specs.declared.instruction.Operand.TheVariants as operands
 use Rattle.cyc_isa.specs.Decoding.{register_of}
 use Rattle.cyc_isa.specs.declared.instr.BranchOp.TheVariants as branch
-use Rattle.cyc_isa.specs.declared.instr.MemoryOp.TheVariants.{StoreWord}
+use Rattle.cyc_isa.specs.declared.instr.MemoryOp.TheVariants.{LoadWord, StoreWord}
 use Rattle.cyc_isa.specs.declared.instr.MoveFromOp.{MoveFromOp}
 use Rattle.cyc_machine.specs.declared.constants.TheConstants.{ARGUMENT, END_UNCAUGHT, PUT_BYTE, SECOND_ARGUMENT, SERVICE}
-use Rattle.cyc_plain.specs.Program.{Routine, Program, no_routine, routine_at}
+use Rattle.cyc_plain.specs.Program.{Routine, Program, CodePlace, no_routine, routine_at}
 use Rattle.cyc_plain.specs.Step.{instruction_at}
 use Rattle.cyc_plain.specs.WellFormed.{IsOperand, IsInRange, IsWellFormed, HasWords, IsOfWord, HasWord}
 use Rattle.cyc_plain.proofs.Placed.{holds_at, routine_in, below_of_get, has_code}
+use Rattle.cyc_plain.proofs.Steps.{function_known}
 use Rattle.cyc_frame.specs.Layout.{AreFrames, frame_at, slot_word}
 use Rattle.cyc_frame.specs.declared.frame.Frame.{Frame}
 use Rattle.cyc_select.specs.declared.constants.TheConstants.{FIRST, SECOND, THIRD, ZERO, START_LINES}
@@ -39,10 +40,11 @@ use Rattle.cyc_select.specs.declared.plan.Test.TheVariants as tests
 use Rattle.cyc_select.specs.Plans.{unary_plan, binary_plan, test_of}
 use Rattle.cyc_select.specs.Labelled.{Labelled, IsFormed, IsFormedLine}
 use Rattle.cyc_select.specs.Numbers.{fits_signed, is_zero_word}
-use Rattle.cyc_select.specs.Selection.{slot_offset, ordinary, copies, load_all, store_all, store_slot, pop_frame, load_upper, constant, or_immediate, is_tested, part_of, plan_count, small, syscall, add_immediate, minus, upper_of_global, at_global, word_code, load_code, load_count, operand_code, operand_register, operands_code, operation_code, outcome_code, operation_of, computed_code, plan_code, test_code, branch_line, quotient_code, loads_code, divided_code, divide_code, result_registers, ending_code, ending_count, operator_code, operator_count, body, behind, body_count, count_of, function_count, functions_count, function_line, instruction_line, code_lines, function_lines, start_lines, select_of}
+use Rattle.cyc_select.specs.Selection.{slot_offset, ordinary, result_registers, far_plan, address_code, near_half, at_address, copies, load_all, store_all, store_slot, pop_frame, load_upper, constant, or_immediate, is_tested, part_of, plan_count, small, syscall, add_immediate, minus, upper_of_global, at_global, word_code, load_code, load_count, operand_code, operand_register, operands_code, operation_code, outcome_code, operation_of, computed_code, plan_code, test_code, branch_line, quotient_code, loads_code, divided_code, divide_code, ending_code, ending_count, operator_code, operator_count, body, behind, body_count, count_of, function_count, functions_count, function_line, instruction_line, code_lines, function_lines, start_lines, select_of}
 use Rattle.cyc_select.proofs.Lines.{line_first}
 use Rattle.cyc_select.proofs.Plans.{AllOfTest, all_unary, all_binary, all_test}
-use Rattle.cyc_select.proofs.Returns.{loaded, length_registers}
+use Rattle.cyc_select.proofs.Counts.{length_registers}
+use Rattle.cyc_select.proofs.Returns.{loaded}
 use Rattle.cyc_select.proofs.Structure.{length_body, stand}
 use Rattle.cyc_select.proofs.Walks.{Stands}
 
@@ -104,22 +106,28 @@ some_either : (b : Bool) (m n : ℕ) → 0 < m → 0 < n → 0 < (if b then m el
 some_either true m n first second = first
 some_either false m n first second = second
 
-pub count_some : (program : Program) (function : ℕ) (i : Instruction) → 0 < body_count program function i
-count_some program function (plain.Move destination source) = omega arith
-count_some program function (plain.Unary operator destination operand) = omega arith
-count_some program function (plain.Binary operator destination left right) = some_either (is_tested operator right) _ _ (omega arith) (omega arith)
-count_some program function (plain.Jump target) = omega arith
-count_some program function (plain.Branch comparison left right target) = omega arith
-count_some program function (plain.Call callee arguments count result) = omega arith
-count_some program function (plain.Return value) = omega arith
-count_some program function (plain.ReadByte destination) = omega arith
-count_some program function (plain.WriteByte source) = omega arith
-count_some program function (plain.LoadGlobal destination global) = omega arith
-count_some program function (plain.StoreGlobal global source) = omega arith
-count_some program function (plain.MoveWords destination source count) = omega arith
-count_some program function (plain.Load destination address offset) = omega arith
-count_some program function (plain.Store address offset source) = omega arith
-count_some program function (plain.Uncaught tag value) = omega arith
+-- what an instruction of the program names is there
+pub range_at : (program : Program) → IsWellFormed program → (place : CodePlace) (i : Instruction) → instruction_at program place ≡ Some i → IsInRange program (routine_at program place.function) i
+range_at program well place i at =
+    holds_at (IsInRange program (routine_at program place.function)) (routine_at program place.function).code place.index i
+    (routine_in program place.function well (function_known program place i at)).instructions at
+
+pub count_some : (program : Program) (function : ℕ) (i : Instruction) → IsInRange program (routine_at program function) i → 0 < body_count program function i
+count_some program function (plain.Move destination source) in_range = omega arith
+count_some program function (plain.Unary operator destination operand) in_range = omega arith
+count_some program function (plain.Binary operator destination left right) in_range = some_either (is_tested operator right) _ _ (omega arith) (omega arith)
+count_some program function (plain.Jump target) in_range = omega arith
+count_some program function (plain.Branch comparison left right target) in_range = omega arith
+count_some program function (plain.Call callee arguments count result) in_range = omega arith
+count_some program function (plain.Return value) in_range = omega arith
+count_some program function (plain.ReadByte destination) in_range = omega arith
+count_some program function (plain.WriteByte source) in_range = omega arith
+count_some program function (plain.LoadGlobal destination global) in_range = omega arith
+count_some program function (plain.StoreGlobal global source) in_range = omega arith
+count_some program function (plain.MoveWords destination source count) in_range = omega (arith, length_registers count in_range.few, in_range.some)
+count_some program function (plain.Load destination address offset) in_range = omega arith
+count_some program function (plain.Store address offset source) in_range = omega arith
+count_some program function (plain.Uncaught tag value) in_range = omega arith
 
 module _ (program : Program) (well : IsWellFormed program) (words : HasWords program) (frames : List Frame) (fit : AreFrames program frames) where
   total : ℕ
@@ -139,13 +147,13 @@ module _ (program : Program) (well : IsWellFormed program) (words : HasWords pro
         arith,
         long,
         both,
-        within_code (select_of program frames) (instruction_line program function index) (body program frames function (instruction_line program function index) i ++ behind program frames function i) (omega (arith, long, both, count_some program function i)) (stand program frames (few_results program well) function index i at),
+        within_code (select_of program frames) (instruction_line program function index) (body program frames function (instruction_line program function index) i ++ behind program frames function i) (omega (arith, long, both, count_some program function i (range_at program well (record { function = function; index = index }) i at))) (stand program frames (few_results program well) function index i at),
       )
 
   target_known : (function target : ℕ) → target < length (routine_at program function).code → instruction_line program function target < length (select_of program frames).lines
   target_known function target below =
       let (i, at) = get_below (routine_at program function).code target below in
-      omega (arith, line_known function target i at, count_some program function i)
+      omega (arith, line_known function target i at, count_some program function i (range_at program well (record { function = function; index = target }) i at))
 
   function_known_line : (function : ℕ) → function < length program.functions → function_line program function < length (select_of program frames).lines
   function_known_line function below =
@@ -260,6 +268,20 @@ module _ (program : Program) (well : IsWellFormed program) (words : HasWords pro
         (formed_append (operation_of frame plan) (outcome_code plan.outcome) (operation_of_formed plan there) (outcome_formed plan.outcome))
         ((refl, slot_fits destination below), tt)
 
+    address_formed : (address : Operand) (offset : ℕ) → IsThere address → IsWord offset → Formed (ordinary (address_code frame address offset))
+    address_formed address offset there fits = go (fits_signed offset)
+      where
+        go : (b : Bool) → Formed (ordinary (if b then operand_code frame FIRST address else operation_of frame (far_plan address offset)))
+        go true = operand_formed FIRST address there
+        go false = operation_of_formed (far_plan address offset) (there, (tt, fits), tt)
+
+    near_fits : (offset : ℕ) → near_half offset < 2 ^ 16
+    near_fits offset = go (fits_signed offset)
+      where
+        go : (b : Bool) → (if b then offset % 2 ^ 16 else 0) < 2 ^ 16
+        go true = omega arith
+        go false = omega arith
+
     zero_there : IsThere (operands.Word 0)
     zero_there = (tt, omega arith)
 
@@ -360,9 +382,19 @@ module _ (program : Program) (well : IsWellFormed program) (words : HasWords pro
     body_formed (plain.StoreGlobal global source) n (a, b) fits long =
         formed_append (operand_code frame FIRST source) (upper_of_global global ∷ at_global StoreWord (operand_register FIRST source) global ∷ []) (operand_formed FIRST source (b, fits))
         ((refl, upper_fits global a), ((refl, low_fits (data_base + 4 * global)), tt))
-    body_formed (plain.MoveWords destination source count) n in_range fits long = absurd in_range
-    body_formed (plain.Load destination address offset) n in_range fits long = absurd in_range
-    body_formed (plain.Store address offset source) n in_range fits long = absurd in_range
+    body_formed (plain.MoveWords destination source count) n in_range fits long =
+        let registers = length_registers count in_range.few in
+        formed_append (load_all frame source (result_registers count)) (store_all frame destination (result_registers count))
+        (loads_formed source (result_registers count) (omega (arith, registers, in_range.source_in_range)))
+        (stores_formed destination (result_registers count) (omega (arith, registers, in_range.destination_in_range)))
+    body_formed (plain.Load destination address offset) n (a, b) (fits, near) long =
+        formed_append (address_code frame address offset) (at_address LoadWord FIRST address offset ∷ store_slot frame FIRST destination ∷ []) (address_formed address offset (b, fits) near)
+        ((refl, near_fits offset), ((refl, slot_fits destination a), tt))
+    body_formed (plain.Store address offset source) n (a, b) (fits, near, also) long =
+        let js : List Instr = operand_code frame SECOND source in
+        let last : List Instr = at_address StoreWord (operand_register SECOND source) address offset ∷ [] in
+        formed_append (address_code frame address offset) (js ++ last) (address_formed address offset (a, fits) near)
+        (formed_append js last (operand_formed SECOND source (b, also)) ((refl, near_fits offset), tt))
     body_formed (plain.Uncaught tag value) n below (tag_fits, value_fits) long =
         formed_append (word_code ARGUMENT tag) (load_code frame SECOND_ARGUMENT value ++ small SERVICE END_UNCAUGHT ∷ syscall ∷ []) (word_formed ARGUMENT tag tag_fits)
         (formed_append (load_code frame SECOND_ARGUMENT value) (small SERVICE END_UNCAUGHT ∷ syscall ∷ []) (load_formed SECOND_ARGUMENT value (below, value_fits)) ((refl, (omega arith)), ((refl, tt), tt)))
@@ -381,9 +413,9 @@ module _ (program : Program) (well : IsWellFormed program) (words : HasWords pro
     behind_formed (plain.WriteByte source) in_range = tt
     behind_formed (plain.LoadGlobal destination global) in_range = tt
     behind_formed (plain.StoreGlobal global source) in_range = tt
-    behind_formed (plain.MoveWords destination source count) in_range = absurd in_range
-    behind_formed (plain.Load destination address offset) in_range = absurd in_range
-    behind_formed (plain.Store address offset source) in_range = absurd in_range
+    behind_formed (plain.MoveWords destination source count) in_range = tt
+    behind_formed (plain.Load destination address offset) in_range = tt
+    behind_formed (plain.Store address offset source) in_range = tt
     behind_formed (plain.Uncaught tag value) in_range = tt
 
   function_formed : (function n : ℕ) → function < length program.functions → n ≡ function_line program function → Formed (code_lines program frames function n (routine_at program function).code)

@@ -10,6 +10,7 @@ pub mod Structure
 pub mod Start
 pub mod Runs
 pub mod Simple
+pub mod Accesses
 pub mod Calls
 pub mod Returns
 pub mod Matches
@@ -27,6 +28,7 @@ pub mod Halves
 pub mod Plans
 pub mod Computing
 -- how many lines there are
+pub mod Examples
 pub mod Counts
 -- what the functions inside the crate promise each other
 pub mod Emitting

@@ -110,7 +110,7 @@ module _ (program : Program) (well : IsWellFormed program) (frames : List Frame)
         let there = standing_at program well frames fit addresses pages calls few c r' w' base (r RETURN_ADDRESS) (suc (length c.frames)) (put c.active.slots destination word) in_r' d refl refl refl refl fine in
         let with_back = subst (λ (b : ℕ). Standing program frames addresses pages calls d r' w' base b (suc (length c.frames)) (put c.active.slots destination word)) (sym back_same) there in
         let line_same : line ≡ instruction_line program c.active.function (c.active.next + 1) = line_is ∙ sym (line_next program c.active.function c.active.next i at) in
-        reached c zeros i (states.Running d) (Running run) (zeros_allowed program (states.Running c)) at does (within d s.paged s.deep)
+        reached c zeros i (states.Running d) (Running run) (zeros_allowed program (states.Running c)) at does (within d s.laid.paged s.deep)
         (inl (record {
           run = run;
           r = r';
@@ -137,7 +137,7 @@ module _ (program : Program) (well : IsWellFormed program) (frames : List Frame)
         let with_depth = subst (λ (fs : List states.Frame). Standing program frames addresses pages calls d r' w base (r' RETURN_ADDRESS) (suc (length fs)) d.active.slots) (sym frames_same) with_back in
         let with_memory = subst (λ (x : Contents). Standing program frames addresses pages calls d r' x base (r' RETURN_ADDRESS) (suc (length d.frames)) d.active.slots) (sym unchanged) with_depth in
         reached c zeros i (states.Running d) (Running run) (zeros_allowed program (states.Running c)) at does
-        (within d with_memory.paged with_memory.deep)
+        (within d with_memory.laid.paged with_memory.deep)
         (inl (record {
           run = run;
           r = r';

@@ -1,5 +1,5 @@
 -- Numbers of lines: sums over what stands before.
-use Rattle.std.proofs.Common.{◌≡◌, ℕ, zero, suc, ◌+◌, ◌<◌, ◌≤◌, Bool, true, false, List, [], ◌∷◌, ◌++◌, length, drop, take, refl, ap, ◌∙◌, inl, inr, arith}
+use Rattle.std.proofs.Common.{◌≡◌, ℕ, zero, suc, ◌+◌, ◌*◌, ◌<◌, ◌≤◌, Bool, true, false, List, [], ◌∷◌, ◌++◌, length, drop, take, refl, sym, ap, ◌∙◌, inl, inr, arith}
 use Rattle.std.specs.Prelude.{sum_by, slice_index_or, if◌then◌else◌}
 use Rattle.std.proofs.lemmas.List.{drop_more}
 use Rattle.std.proofs.lemmas.List.Sums.{sum_by-cons, sum_by-drop_more, sum_by-take-drop, sum_by-take-le}
@@ -8,16 +8,16 @@ use Rattle.cyc_plain.specs.declared.instruction.BinaryOperator.TheVariants as bi
 use Rattle.cyc_plain.specs.declared.instruction.Instruction.{Instruction}
 use Rattle.cyc_plain.specs.declared.instruction.Instruction.TheVariants as plain
 use Rattle.cyc_plain.specs.Program.{Program, Routine, no_routine, routine_at, operator_size, instruction_size, size}
-use Rattle.cyc_plain.specs.WellFormed.{IsRoutine, IsWellFormed}
+use Rattle.cyc_plain.specs.WellFormed.{IsMoveInRange, IsRoutine, IsWellFormed}
 use Rattle.cyc_plain.specs.declared.limits.TheConstants.{GREATEST_VALUE, MOST_SIZE}
 use Rattle.cyc_frame.specs.declared.frame.TheConstants.{MOST_FRAME_WORDS}
 use Rattle.cyc_frame.specs.Layout.{IsFrame}
 use Rattle.cyc_frame.specs.declared.frame.Frame.{Frame}
 use Rattle.cyc_select.specs.declared.constants.TheConstants.{START_LINES}
-use Rattle.cyc_select.specs.Selection.{ending_count, count_of, function_count, functions_count, function_line, instruction_line, code_lines, function_lines}
+use Rattle.cyc_select.specs.Selection.{result_registers, ending_count, count_of, function_count, functions_count, function_line, instruction_line, code_lines, function_lines}
 use Rattle.cyc_select.specs.Plans.{test_of}
 use Rattle.cyc_select.specs.Emission.{AreReached, AreFew, most_lines, instruction_lines, function_starts, AreReady, AreTables}
-use Rattle.cyc_select.proofs.Counts.{word_small, load_small, operand_small, unary_small, test_small, operator_small}
+use Rattle.cyc_select.proofs.Counts.{length_registers, registers_few, word_small, load_small, operand_small, address_small, unary_small, test_small, operator_small}
 
 -- ---- an instruction has few lines for each unit of its size
 
@@ -46,10 +46,14 @@ count_small program function few (plain.ReadByte destination) = omega arith
 count_small program function few (plain.WriteByte source) = omega (arith, load_small source)
 count_small program function few (plain.LoadGlobal destination global) = omega arith
 count_small program function few (plain.StoreGlobal global source) = omega (arith, operand_small source)
-count_small program function few (plain.MoveWords destination source count) = omega arith
-count_small program function few (plain.Load destination address offset) = omega arith
-count_small program function few (plain.Store address offset source) = omega arith
+count_small program function few (plain.MoveWords destination source count) = omega (arith, registers_few count)
+count_small program function few (plain.Load destination address offset) = omega (arith, address_small address offset)
+count_small program function few (plain.Store address offset source) = omega (arith, address_small address offset, operand_small source)
 count_small program function few (plain.Uncaught tag value) = omega (arith, word_small tag, load_small value)
+
+-- the lines of a move of several words
+pub moved_count : (r : Routine) (destination source count : ℕ) → IsMoveInRange r destination source count → 2 * count ≡ 2 * length (result_registers count)
+moved_count r destination source count in_range = ap (λ (n : ℕ). 2 * n) (sym (length_registers count in_range.few))
 
 code_small : (program : Program) (function : ℕ) → AreFew program → (code : List Instruction) → sum_by (count_of program function) code ≤ sum_by instruction_size code
 code_small program function few [] = omega arith

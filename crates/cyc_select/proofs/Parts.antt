@@ -13,7 +13,7 @@ use Rattle.cyc_plain.proofs.Placed.{routine_in}
 use Rattle.cyc_frame.specs.declared.frame.Frame.{Frame}
 use Rattle.cyc_select.specs.declared.constants.TheConstants.{START_LINES}
 use Rattle.cyc_select.specs.Selection.{body_count, behind_count, count_of, function_count, functions_count, function_line, instruction_line, start_lines, function_lines, select_of}
-use Rattle.cyc_select.proofs.Formed.{few_results, get_below, count_some}
+use Rattle.cyc_select.proofs.Formed.{few_results, get_below, range_at, count_some}
 use Rattle.cyc_select.proofs.Lines.{line_next, line_first}
 use Rattle.cyc_select.proofs.Runs.{behind_of, previous_count, body_of, own_of, previous_fits}
 use Rattle.cyc_select.proofs.Structure.{length_functions}
@@ -171,7 +171,7 @@ index_below function n place (k, below, at) =
     let is : place_in function k ≡ place = sym (get_or-map-range_with_len (place_in function) 0 n k k place inside start) ∙ at in
     (sym (ap (λ (p : CodePlace). p.function) is), subst (λ (i : ℕ). i < n) (ap (λ (p : CodePlace). p.index) is) inside)
 
-module _ (program : Program) where
+module _ (program : Program) (well : IsWellFormed program) where
   places_index : (first : ℕ) (routines : List Routine) → ((k : ℕ) → k < length routines → slice_index_or routines k no_routine ≡ routine_at program (first + k)) → (place : CodePlace) → Contains (places_from first routines) place
       → place.index < length (routine_at program place.function).code
   places_index first [] same place (k, below, at) = absurd (omega (arith, below))
@@ -194,6 +194,6 @@ module _ (program : Program) where
       omega (
         arith,
         here,
-        count_some program place.function i,
+        count_some program place.function i (range_at program well place i at),
         length-range_with_len (instruction_line program place.function place.index - previous_count program (routine_at program place.function).code place.index) (previous_count program (routine_at program place.function).code place.index + body_of program place.function (slice_get (routine_at program place.function).code place.index)),
       )

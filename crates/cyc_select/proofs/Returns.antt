@@ -34,6 +34,7 @@ use Rattle.cyc_select.proofs.Lines.{line_next}
 use Rattle.cyc_select.proofs.Operations.{add_small}
 use Rattle.cyc_select.proofs.Views.{Contents, written}
 use Rattle.cyc_select.proofs.Walks.{Stands, stands_front, stands_back, after_r, after_w, AreSafe, Walk, now_at, now_is, walk_end, walk_few, walk_from, walk_block, walk_branch, walk_return, walk_returned}
+use Rattle.cyc_select.proofs.Counts.{length_stores, length_registers}
 use Rattle.cyc_select.proofs.Standing.{Chain, Standing, behind_line, lies, slot_address, slot_cell, slot_word_is, return_cell, return_address, standing_slot}
 use Rattle.cyc_select.proofs.Matches.{At, Ready, Back, Reached, reached, within, result_register}
 
@@ -216,7 +217,7 @@ module _ (program : Program) (well : IsWellFormed program) (frames : List Frame)
         globals = s.globals;
         input = s.input;
         store = s.store;
-        paged = s.paged;
+        laid = s.laid;
       } in
       walk_few code formed addresses globals_length (words_per_call * calls) 1 (size + 1) line hi c.output _ (Running d) (omega arith)
       (walk_block code formed addresses globals_length (words_per_call * calls) (loaded frame value results) 1 line line hi c.output c.input _ r w d later
@@ -229,7 +230,7 @@ module _ (program : Program) (well : IsWellFormed program) (frames : List Frame)
       (λ g returned.
       walk_end code formed addresses globals_length (words_per_call * calls) (suc (line + size)) hi c.output _ (Running g) (omega (arith, far, same_size))
       (reached program well frames fit code formed addresses pages calls few c zeros (plain.Return value) (states.Running next_state) (Running g) (zeros_allowed program (states.Running c)) at_i is_returned
-      (within program well frames fit code formed addresses pages calls few next_state s.paged (omega (arith, deep)))
+      (within program well frames fit code formed addresses pages calls few next_state s.laid.paged (omega (arith, deep)))
       (inr (record {
         run = g;
         r = after_r (loaded frame value results) r w;
@@ -301,17 +302,6 @@ module _ (program : Program) (well : IsWellFormed program) (frames : List Frame)
 
 -- ---- behind a call
 
-pub length_stores : (f : Frame) (slot : ℕ) (sources : List ℕ) → length (store_all f slot sources) ≡ length sources
-length_stores f slot [] = refl
-length_stores f slot (source ∷ sources) = ap suc (length_stores f (suc slot) sources)
-
-pub length_registers : (count : ℕ) → count ≤ 3 → length (result_registers count) ≡ count
-length_registers zero few_results = refl
-length_registers (suc zero) few_results = refl
-length_registers (suc (suc zero)) few_results = refl
-length_registers (suc (suc (suc zero))) few_results = refl
-length_registers (suc (suc (suc (suc count)))) few_results = absurd (omega (arith, few_results))
-
 -- one word more is copied
 slots_next : (from to : Words) (source count destination slot number word : ℕ) → slot ≡ destination + count → word ≡ from (source + count)
     → put (copied from source count to destination) slot word number ≡ copied from source (suc count) to destination number
@@ -364,7 +354,7 @@ module _ (program : Program) (well : IsWellFormed program) (frames : List Frame)
     globals = s.globals;
     input = s.input;
     store = s.store;
-    paged = s.paged;
+    laid = s.laid;
   }
 
   -- the registers hold the values from this one on
@@ -466,7 +456,7 @@ module _ (program : Program) (well : IsWellFormed program) (frames : List Frame)
     globals = b.standing.globals;
     input = b.standing.input;
     store = b.standing.store;
-    paged = b.standing.paged;
+    laid = b.standing.laid;
   }
     where
       one_less : (n : ℕ) → n ≡ b.r CALLS + 1 → n + suc (length c.frames) ≡ calls

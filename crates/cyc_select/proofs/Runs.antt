@@ -46,6 +46,7 @@ use Rattle.cyc_select.proofs.Walks.{Stands, stands_front, stands_back, Rises, ri
 use Rattle.cyc_select.proofs.Standing.{Standing, behind_line}
 use Rattle.cyc_select.proofs.Matches.{At, Ready, Matches, Reached}
 use Rattle.cyc_select.proofs.Simple.{move_goes, unary_goes, binary_goes, divide_goes, jump_goes, branch_goes, read_goes, write_goes, load_global_goes, store_global_goes, uncaught_goes}
+use Rattle.cyc_select.proofs.Accesses.{move_words_goes, load_goes, store_goes}
 use Rattle.cyc_select.proofs.Calls.{call_goes}
 use Rattle.cyc_select.proofs.Returns.{return_goes, behind_goes}
 
@@ -203,6 +204,9 @@ module _ (program : Program) (well : IsWellFormed program) (words : HasWords pro
             (ap (λ (x : Bool). if x then states.Stuck c.output c.input else gives c d (binary_result operator (operand_word c.active.slots l) (operand_word c.active.slots t))) (has_result operator t tested))
             (counted ∙ ap (λ (x : Bool). if x then load_count l + load_count t + 7 else plan_count (binary_plan operator l t)) tested) stands
 
+    stops_not : (i : Instruction) → IsAt i → performed program zeros c i ≡ states.Stuck c.output c.input → ⊥
+    stops_not i at stops = stuck_not c never (ap (executed program zeros c) at ∙ stops)
+
     instruction_goes : (i : Instruction) → IsAt i → IsInRange program (routine_at program c.active.function) i → HasWord i → StandsHere i → Goes (body_count program c.active.function i)
     instruction_goes (plain.Move destination source) at (a, b) fits stands = move_goes program well frames fit code formed addresses pages calls few c run r w base now s destination source at a (b, fits) stands
     instruction_goes (plain.Unary operator destination operand) at (a, b) fits stands = unary_goes program well frames fit code formed addresses pages calls few c run r w base now s operator destination operand at a (b, fits) stands
@@ -217,9 +221,11 @@ module _ (program : Program) (well : IsWellFormed program) (words : HasWords pro
     instruction_goes (plain.WriteByte source) at below fits stands = write_goes program well frames fit code formed addresses pages calls few c run r w base now s source at (below, fits) stands
     instruction_goes (plain.LoadGlobal destination global) at (a, b) fits stands = load_global_goes program well frames fit code formed addresses pages calls few c run r w base now s destination global at a b stands
     instruction_goes (plain.StoreGlobal global source) at (a, b) fits stands = store_global_goes program well frames fit code formed addresses pages calls few c run r w base now s global source at a (b, fits) stands
-    instruction_goes (plain.MoveWords destination source count) at in_range fits stands = absurd in_range
-    instruction_goes (plain.Load destination address offset) at in_range fits stands = absurd in_range
-    instruction_goes (plain.Store address offset source) at in_range fits stands = absurd in_range
+    instruction_goes (plain.MoveWords destination source count) at in_range fits stands = move_words_goes program well frames fit code formed addresses pages calls few c run r w base now s destination source count at in_range stands
+    instruction_goes (plain.Load destination address offset) at (a, b) (fits, near) stands =
+        load_goes program well frames fit code formed addresses pages calls few c run r w base now s destination address offset at a (b, fits) near (stops_not (plain.Load destination address offset) at) stands
+    instruction_goes (plain.Store address offset source) at (a, b) (fits, near, also) stands =
+        store_goes program well frames fit code formed addresses pages calls few c run r w base now s address offset source at (a, fits) near (b, also) (stops_not (plain.Store address offset source) at) stands
     instruction_goes (plain.Uncaught tag value) at below (tag_fits, value_fits) stands = uncaught_goes program well frames fit code formed addresses pages calls few c run r w base now s tag value at (below, value_fits) tag_fits stands
 
   -- ---- a step from a state that matches

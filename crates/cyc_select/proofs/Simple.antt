@@ -506,7 +506,7 @@ module _ (program : Program) (well : IsWellFormed program) (frames : List Frame)
       (λ e later.
       walk_end code formed addresses globals_length (words_per_call * calls) (here + length is + 2) (here + (operand_count source + 2)) c.output _ (Running e) (omega (arith, long))
       (reached program well frames fit code formed addresses pages calls few c zeros (plain.StoreGlobal global source) (states.Running d) (Running e) (zeros_allowed program (states.Running c)) at_i refl
-      (within program well frames fit code formed addresses pages calls few d s.paged s.deep)
+      (within program well frames fit code formed addresses pages calls few d s.laid.paged s.deep)
       (inl (record {
         run = e;
         r = q;

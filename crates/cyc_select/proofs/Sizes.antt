@@ -10,7 +10,7 @@ use Rattle.cyc_plain.specs.declared.instruction.Instruction.TheVariants as plain
 use Rattle.cyc_plain.specs.declared.instruction.BinaryOperator.{BinaryOperator}
 use Rattle.cyc_plain.specs.declared.instruction.BinaryOperator.TheVariants as binary
 use Rattle.cyc_plain.specs.declared.instruction.Operand.{Operand}
-use Rattle.cyc_isa.specs.declared.instr.MemoryOp.TheVariants.{StoreWord}
+use Rattle.cyc_isa.specs.declared.instr.MemoryOp.TheVariants.{LoadWord, StoreWord}
 use Rattle.cyc_isa.specs.declared.instr.MoveFromOp.{MoveFromOp}
 use Rattle.cyc_machine.specs.declared.constants.TheConstants.{ARGUMENT, END_UNCAUGHT, PUT_BYTE, SECOND_ARGUMENT, SERVICE, RETURN_ADDRESS}
 use Rattle.cyc_plain.specs.Program.{Routine, Program, routine_at, operator_size, instruction_size, size}
@@ -26,12 +26,12 @@ use Rattle.cyc_select.specs.declared.plan.Test.TheVariants as tests
 use Rattle.cyc_select.specs.Plans.{unary_plan, binary_plan, test_of}
 use Rattle.cyc_select.specs.Labelled.{Labelled, words_of, all_words}
 use Rattle.cyc_select.specs.Selected.{words_at}
-use Rattle.cyc_select.specs.Selection.{ordinary, copies, store_all, store_slot, upper_of_global, at_global, word_code, load_code, load_count, operand_code, operand_register, plan_code, test_code, branch_line, branch_code, quotient_code, divided_code, divide_code, is_tested, part_of, result_registers, ending_code, operator_code, body, behind, count_of, function_count, function_line, instruction_line, code_lines, function_lines, small, syscall, store, add_immediate, minus, push_frame, load}
+use Rattle.cyc_select.specs.Selection.{ordinary, address_code, at_address, copies, load_all, store_all, store_slot, upper_of_global, at_global, word_code, load_code, load_count, operand_code, operand_register, plan_code, test_code, branch_line, branch_code, quotient_code, divided_code, divide_code, is_tested, part_of, result_registers, ending_code, operator_code, body, behind, count_of, function_count, function_line, instruction_line, code_lines, function_lines, small, syscall, store, add_immediate, minus, push_frame, load}
 use Rattle.cyc_isa.specs.Decoding.{register_of}
 use Rattle.cyc_isa.specs.declared.instr.BranchOp.TheVariants as branch
 use Rattle.cyc_select.proofs.Calls.{length-copies}
-use Rattle.cyc_select.proofs.Counts.{word_small, load_small, operand_small, plan_small, unary_small, test_small, length_word, length_load, length_operand, length_plan, length_test, length_divided}
-use Rattle.cyc_select.proofs.Returns.{loaded, length_loaded, length_stores, length_registers}
+use Rattle.cyc_select.proofs.Counts.{length_loads, length_stores, length_registers, registers_few, word_small, load_small, operand_small, address_small, plan_small, unary_small, test_small, length_word, length_load, length_operand, length_address, length_plan, length_test, length_divided}
+use Rattle.cyc_select.proofs.Returns.{loaded, length_loaded}
 use Rattle.cyc_select.proofs.Walks.{Stands}
 
 words_ordinary : (is : List Instr) → all_words (ordinary is) ≡ length is
@@ -113,9 +113,19 @@ module _ (program : Program) (frames : List Frame) (few_results : (function : �
   body_words function here (plain.LoadGlobal destination global) = omega arith
   body_words function here (plain.StoreGlobal global source) =
       omega (arith, words_ordinary (operand_code (frame_at frames function) FIRST source ++ upper_of_global global ∷ at_global StoreWord (operand_register FIRST source) global ∷ []), length-append (operand_code (frame_at frames function) FIRST source) (upper_of_global global ∷ at_global StoreWord (operand_register FIRST source) global ∷ []), length_operand (frame_at frames function) FIRST source, operand_small source)
-  body_words function here (plain.MoveWords destination source count) = omega arith
-  body_words function here (plain.Load destination address offset) = omega arith
-  body_words function here (plain.Store address offset source) = omega arith
+  body_words function here (plain.MoveWords destination source count) =
+      let loads : List Instr = load_all (frame_at frames function) source (result_registers count) in
+      let stores : List Instr = store_all (frame_at frames function) destination (result_registers count) in
+      omega (arith, words_ordinary (loads ++ stores), length-append loads stores, length_loads (frame_at frames function) source (result_registers count), length_stores (frame_at frames function) destination (result_registers count), registers_few count)
+  body_words function here (plain.Load destination address offset) =
+      let is : List Instr = address_code (frame_at frames function) address offset in
+      let last : List Instr = at_address LoadWord FIRST address offset ∷ store_slot (frame_at frames function) FIRST destination ∷ [] in
+      omega (arith, words_ordinary (is ++ last), length-append is last, length_address (frame_at frames function) address offset, address_small address offset)
+  body_words function here (plain.Store address offset source) =
+      let is : List Instr = address_code (frame_at frames function) address offset in
+      let js : List Instr = operand_code (frame_at frames function) SECOND source in
+      let last : List Instr = at_address StoreWord (operand_register SECOND source) address offset ∷ [] in
+      omega (arith, words_ordinary (is ++ (js ++ last)), length-append is (js ++ last), length-append js last, length_address (frame_at frames function) address offset, address_small address offset, length_operand (frame_at frames function) SECOND source, operand_small source)
   body_words function here (plain.Uncaught tag value) =
       let last : List Instr = small SERVICE END_UNCAUGHT ∷ syscall ∷ [] in
       let loads : List Instr = load_code (frame_at frames function) SECOND_ARGUMENT value ++ last in

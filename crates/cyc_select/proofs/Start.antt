@@ -11,7 +11,7 @@ use Rattle.cyc_isa.specs.declared.instr.Instr.{Instr}
 use Rattle.cyc_store.specs.State as stores
 use Rattle.cyc_store.specs.State.{StoreState, Holder, homes, holder, word_at}
 use Rattle.cyc_store.specs.New.{IsNew}
-use Rattle.cyc_store.proofs.NewStores.{new_words, new_demand}
+use Rattle.cyc_store.proofs.NewStores.{new_words}
 use Rattle.cyc_machine.specs.Bounds.{AreAllowed}
 use Rattle.cyc_machine.specs.State.{Place, InText, InGlobals, InStack, InStore, Nowhere, loaded, place_of, data_base, stack_base, stack_end, word_number, globals_length, words_per_call}
 use Rattle.cyc_plain.specs.declared.instruction.Instruction.{Instruction}
@@ -36,7 +36,7 @@ use Rattle.cyc_select.proofs.Lines.{line_first}
 use Rattle.cyc_select.proofs.Operations.{take_small}
 use Rattle.cyc_select.proofs.Views.{Contents, View}
 use Rattle.cyc_select.proofs.Walks.{Stands, stands_front, stands_back, Rises, comes_map, Quiet, Walk, Now, now_at, walk_end, walk_few, walk_block, walk_jump, after_r}
-use Rattle.cyc_select.proofs.Standing.{Standing}
+use Rattle.cyc_select.proofs.Standing.{Standing, new_laid}
 use Rattle.cyc_select.proofs.Matches.{Matches}
 use Rattle.cyc_select.proofs.Runs.{own_of, matching, all_steps}
 
@@ -256,7 +256,7 @@ module _ (program : Program) (well : IsWellFormed program) (words : HasWords pro
     globals = global_word;
     input = bytes_words input bytes;
     store = refl;
-    paged = omega (arith, new_demand pages store new, allowed.enough_pages);
+    laid = new_laid pages store new (omega (arith, allowed.enough_pages)) allowed.few_pages;
   }
     where
       left_one : (n : ℕ) → n ≡ calls - 1 → n + 1 ≡ calls

@@ -9,7 +9,7 @@ use Rattle.cyc_plain.specs.declared.instruction.Operand.{Operand}
 use Rattle.cyc_isa.specs.Decoding.{register_of}
 use Rattle.cyc_isa.specs.declared.instr.Instr.{Instr}
 use Rattle.cyc_isa.specs.declared.instr.BranchOp.TheVariants as branch
-use Rattle.cyc_isa.specs.declared.instr.MemoryOp.TheVariants.{StoreWord}
+use Rattle.cyc_isa.specs.declared.instr.MemoryOp.TheVariants.{LoadWord, StoreWord}
 use Rattle.cyc_isa.specs.declared.instr.MoveFromOp.{MoveFromOp}
 use Rattle.cyc_machine.specs.declared.constants.TheConstants.{ARGUMENT, END_UNCAUGHT, PUT_BYTE, SECOND_ARGUMENT, SERVICE}
 use Rattle.cyc_plain.specs.Program.{Routine, Program, no_routine, routine_at}
@@ -24,10 +24,10 @@ use Rattle.cyc_select.specs.declared.code.Line.TheVariants as lines
 use Rattle.cyc_select.specs.declared.plan.Plan.{Plan}
 use Rattle.cyc_select.specs.Labelled.{Labelled}
 use Rattle.cyc_select.specs.Plans.{unary_plan, binary_plan, test_of}
-use Rattle.cyc_select.specs.Selection.{ordinary, copies, store_all, store_slot, small, syscall, upper_of_global, at_global, word_code, load_code, load_count, operand_code, operand_register, plan_code, plan_count, test_code, branch_line, quotient_code, divided_code, divide_code, is_tested, part_of, result_registers, ending_code, ending_count, operator_code, operator_count, body, behind, body_count, behind_count, count_of, function_count, functions_count, function_line, instruction_line, code_lines, function_lines, start_lines, select_of}
+use Rattle.cyc_select.specs.Selection.{ordinary, address_code, at_address, copies, load_all, store_all, store_slot, small, syscall, upper_of_global, at_global, word_code, load_code, load_count, operand_code, operand_register, plan_code, plan_count, test_code, branch_line, quotient_code, divided_code, divide_code, is_tested, part_of, result_registers, ending_code, ending_count, operator_code, operator_count, body, behind, body_count, behind_count, count_of, function_count, functions_count, function_line, instruction_line, code_lines, function_lines, start_lines, select_of}
 use Rattle.cyc_select.proofs.Calls.{length_ordinary, length-copies}
-use Rattle.cyc_select.proofs.Counts.{length_word, length_load, length_operand, length_plan, length_test, length_divided}
-use Rattle.cyc_select.proofs.Returns.{loaded, length_loaded, length_stores, length_registers}
+use Rattle.cyc_select.proofs.Counts.{length_loads, length_stores, length_registers, length_word, length_load, length_operand, length_address, length_plan, length_test, length_divided}
+use Rattle.cyc_select.proofs.Returns.{loaded, length_loaded}
 use Rattle.cyc_select.proofs.Walks.{Stands, stands_front, stands_back}
 
 slice_get-seam : (front : List Line) (l : Line) (rest : List Line) → slice_get (front ++ l ∷ rest) (length front) ≡ Some l
@@ -88,9 +88,19 @@ module _ (program : Program) (frames : List Frame) (few_results : (function : �
   length_body function here (plain.StoreGlobal global source) =
       let last : List Instr = upper_of_global global ∷ at_global StoreWord (operand_register FIRST source) global ∷ [] in
       omega (arith, length_ordinary (operand_code (frame_at frames function) FIRST source ++ last), length-append (operand_code (frame_at frames function) FIRST source) last, length_operand (frame_at frames function) FIRST source)
-  length_body function here (plain.MoveWords destination source count) = refl
-  length_body function here (plain.Load destination address offset) = refl
-  length_body function here (plain.Store address offset source) = refl
+  length_body function here (plain.MoveWords destination source count) =
+      let loads : List Instr = load_all (frame_at frames function) source (result_registers count) in
+      let stores : List Instr = store_all (frame_at frames function) destination (result_registers count) in
+      omega (arith, length_ordinary (loads ++ stores), length-append loads stores, length_loads (frame_at frames function) source (result_registers count), length_stores (frame_at frames function) destination (result_registers count))
+  length_body function here (plain.Load destination address offset) =
+      let is : List Instr = address_code (frame_at frames function) address offset in
+      let last : List Instr = at_address LoadWord FIRST address offset ∷ store_slot (frame_at frames function) FIRST destination ∷ [] in
+      omega (arith, length_ordinary (is ++ last), length-append is last, length_address (frame_at frames function) address offset)
+  length_body function here (plain.Store address offset source) =
+      let is : List Instr = address_code (frame_at frames function) address offset in
+      let js : List Instr = operand_code (frame_at frames function) SECOND source in
+      let last : List Instr = at_address StoreWord (operand_register SECOND source) address offset ∷ [] in
+      omega (arith, length_ordinary (is ++ (js ++ last)), length-append is (js ++ last), length-append js last, length_address (frame_at frames function) address offset, length_operand (frame_at frames function) SECOND source)
   length_body function here (plain.Uncaught tag value) =
       let last : List Instr = small SERVICE END_UNCAUGHT ∷ syscall ∷ [] in
       let loads : List Instr = load_code (frame_at frames function) SECOND_ARGUMENT value ++ last in

@@ -9,7 +9,7 @@ use Rattle.cyc_isa.specs.declared.instr.MemoryOp.TheVariants.{LoadWord, StoreWor
 use Rattle.cyc_isa.specs.declared.instr.MoveFromOp.TheVariants.{High, Low}
 use Rattle.cyc_isa.specs.declared.instr.MultiplyDivideOp.TheVariants.{Multiply, Divide}
 use Rattle.cyc_isa.specs.Effect.{immediate_result, load_upper_result, arithmetic_result, shift_result, high_result, low_result, memory_address}
-use Rattle.cyc_store.specs.State.{StoreState}
+use Rattle.cyc_store.specs.State.{StoreState, saved}
 use Rattle.cyc_machine.specs.State as machines
 use Rattle.cyc_machine.specs.State.{Core, Place, InText, InGlobals, InStack, InStore, Nowhere, register, with_register, place_of, loaded, stored, data_base, stack_base, word_number}
 use Rattle.cyc_machine.specs.Step.{after}
@@ -17,7 +17,7 @@ use Rattle.cyc_machine.proofs.MemoryLaws.{length-globals-stored, length-stack-st
 use Rattle.cyc_plain.specs.State.{Words, put}
 use Rattle.cyc_plain.proofs.SlotLaws.{put-same, put-other}
 use Rattle.cyc_select.specs.Machine.{Configuration, core_of, memory_of, machine_of, from_world, word_in}
-use Rattle.cyc_select.proofs.Cells.{IsCell, cell, place_of-data, place_of-stack, cell-stored}
+use Rattle.cyc_select.proofs.Cells.{IsCell, IsLive, cell, place_of-data, place_of-stack, place_of-live, cell-store, cell-stored}
 
 -- What memory holds: the words of the data range and the stack, by their addresses, and the store.
 pub record Contents : Type 0 where
@@ -27,6 +27,10 @@ pub record Contents : Type 0 where
 -- a word of the data range or the stack is written
 abbrev pub written : Contents → (address word : ℕ) → Contents
 written w address word = record w { words = put w.words address word }
+
+-- a word of a live block is written
+abbrev pub saved_in : Contents → (address word : ℕ) → Contents
+saved_in w address word = record w { store = saved w.store address word }
 
 -- The registers, with HI and LO as 32 and 33, and the memory of a configuration are these. The ranges have so many words.
 pub record View (globals stack : ℕ) (c : Configuration) (r : Words) (w : Contents) : Type 0 where
@@ -165,6 +169,12 @@ module _ (globals stack : ℕ) (c : Configuration) (r : Words) (w : Contents) (v
       ap (λ (p : Place). (stored (memory_of c) p word).store)
       (place_of-stack c.globals c.stack c.store a (omega (arith, view.data_words, view.few_globals)) (omega (arith, view.stack_words, view.few_stack)) (aligned, omega (arith, from, view.stack_words), below))
 
+  -- the place of a word of a live block
+  pub live_place : (a word : ℕ) → IsLive w.store a word → place_of (memory_of c) a ≡ InStore a
+  live_place a word live =
+      place_of-live c.globals c.stack c.store a word (omega (arith, view.data_words, view.few_globals)) (omega (arith, view.stack_words, view.few_stack))
+      (subst (λ (s : StoreState). IsLive s a word) (sym view.store) live)
+
   same_memory : (place : Place) (word : ℕ)
       → let m : machines.Memory = record { text = []; globals = (stored (memory_of c) place word).globals; stack = (stored (memory_of c) place word).stack; store = (stored (memory_of c) place word).store } in
       m ≡ stored (memory_of c) place word
@@ -206,3 +216,35 @@ module _ (globals stack : ℕ) (c : Configuration) (r : Words) (w : Contents) (v
         | inl equal ↦ (ap (put (cell (memory_of c)) a word) equal ∙ put-same (cell (memory_of c)) a word) ∙ sym (ap (put w.words a word) equal ∙ put-same w.words a word)
         | inr other ↦ put-other (cell (memory_of c)) a b word other ∙ (view.mem b b_at ∙ sym (put-other w.words a b word other))
       ]
+
+  -- a word of a live block is written
+  pub view_saved : (a old address v word line : ℕ) → IsLive w.store a old → address ≡ a → v ≡ word
+      → View globals stack (record c {
+        globals = (stored (memory_of c) (place_of (memory_of c) address) v).globals;
+        stack = (stored (memory_of c) (place_of (memory_of c) address) v).stack;
+        store = (stored (memory_of c) (place_of (memory_of c) address) v).store;
+        line = line;
+      }) r (saved_in w a word)
+  view_saved a old address v word line live same_address same = record {
+    wide = view.wide;
+    data_words = ap (λ (m : machines.Memory). length m.globals) is ∙ view.data_words;
+    stack_words = ap (λ (m : machines.Memory). length m.stack) is ∙ view.stack_words;
+    few_globals = view.few_globals;
+    few_stack = view.few_stack;
+    reg = view.reg;
+    high = view.high;
+    low = view.low;
+    mem = λ b b_at.
+        ap (λ (m : machines.Memory). cell m b) (same_memory (place_of (memory_of c) address) v)
+        ∙ (ap (λ (m : machines.Memory). cell m b) is
+        ∙ (cell-store c.globals c.stack c.store (saved c.store a word) b (omega (arith, view.data_words, view.few_globals)) (omega (arith, view.stack_words, view.few_stack))
+        (subst (λ (n : ℕ). IsCell n (length c.stack) b) (sym view.data_words) (subst (λ (n : ℕ). IsCell globals n b) (sym view.stack_words) b_at))
+        ∙ view.mem b b_at));
+    store = ap (λ (m : machines.Memory). m.store) is ∙ ap (λ (s : StoreState). saved s a word) view.store;
+  }
+    where
+      is : stored (memory_of c) (place_of (memory_of c) address) v ≡ record (memory_of c) { store = saved c.store a word }
+      is =
+          ap (λ (x : ℕ). stored (memory_of c) (place_of (memory_of c) x) v) same_address
+          ∙ (ap (λ (p : Place). stored (memory_of c) p v) (live_place a old live)
+          ∙ ap (λ (x : ℕ). let m : machines.Memory = record (memory_of c) { store = saved c.store a x } in m) same)

@@ -8,6 +8,7 @@ use Rattle.cyc_isa.specs.Effect.{branch_taken, branch_zero_taken, memory_address
 use Rattle.cyc_isa.specs.declared.instr.Instr.{Instr}
 use Rattle.cyc_isa.specs.declared.instr.Instr.TheVariants.{Immediate, LoadUpper, Memory, Branch, BranchZero, Jump, Shift, ShiftVariable, JumpRegister, JumpRegisterLink, Exception, MoveFrom, MultiplyDivide, Arithmetic}
 use Rattle.cyc_isa.specs.declared.instr.MemoryOp.TheVariants.{LoadWord, StoreWord}
+use Rattle.cyc_isa.specs.declared.operand.Register.{Register}
 use Rattle.cyc_isa.specs.declared.instr.MoveFromOp.TheVariants.{High, Low}
 use Rattle.cyc_words.specs.Simulation as simulation
 use Rattle.cyc_words.specs.Simulation.{Machine, Comes, IsDistinct}
@@ -27,8 +28,9 @@ use Rattle.cyc_words.specs.Word.{IsWord, signed}
 use Rattle.cyc_isa.specs.Decoding.{trap_code_of}
 use Rattle.cyc_select.specs.Machine.{Configuration, State, Running, Ended, Step, Executes, ExecutesAt, Performs, PerformsOrdinary, machine, status_of, output_of, linked, at, word_in, holds_of}
 use Rattle.cyc_select.specs.Selection.{ordinary, syscall}
-use Rattle.cyc_select.proofs.Views.{Contents, View, does_r, does_w, IsSafe, moved, view_at, view_seen, view_put}
-use Rattle.cyc_select.proofs.Effects.{performed, moved_view, byte_of, given_byte, gets_byte, printed_byte, puts_byte, ends_returned, ends_uncaught, ends_full}
+use Rattle.cyc_select.proofs.Cells.{IsLive}
+use Rattle.cyc_select.proofs.Views.{Contents, saved_in, View, does_r, does_w, IsSafe, IsWritable, moved, view_at, view_seen, view_put}
+use Rattle.cyc_select.proofs.Effects.{performed, moved_view, loads_live, stores_live, loaded_view, saved_view, byte_of, given_byte, gets_byte, printed_byte, puts_byte, ends_returned, ends_uncaught, ends_full}
 
 -- ---- rising places
 
@@ -258,6 +260,48 @@ module _ (code : Labelled) (formed : IsFormed code) (addresses : ℕ → ℕ) (g
       (λ d later.
       walk_from n (k + 1 + length is) (k + suc (length is)) hi out Goal (Running d) (omega arith)
       (goes d (now_at (k + 1 + length is) (k + suc (length is)) out input _ _ d (omega arith) later))))))
+
+  -- ---- words of live blocks
+
+  -- one comes to a register
+  pub walk_load : (n k lo hi : ℕ) (out input : List ℕ) (Goal : State → Type 0) (r : Words) (w : Contents) (c : Configuration) (target base : Register) (offset word : ℕ)
+      → Now k out input r w c → slice_get code.lines k ≡ Some (lines.Ordinary (Memory LoadWord target base offset)) → lo ≤ k → IsWritable target.number
+      → IsLive w.store (memory_address (r base.number) offset) word → IsWord word
+      → ((d : Configuration) → Now (k + 1) out input (put r target.number word) w d → Walk n (suc k) hi out Goal (Running d))
+      → Walk (suc n) lo hi out Goal (Running c)
+  walk_load n k lo hi out input Goal r w c target base offset word now stands from writable live is_word rest =
+      let i : Instr = Memory LoadWord target base offset in
+      walk_step n lo hi out Goal c (Running (moved c i)) (omega (arith, from, now.at_line)) now.output
+      (λ next step. loads_live globals stack c r w now.view target base offset word next live (performs_now k out input r w c i next now stands refl step))
+      (walk_from n (suc c.line) (suc k) hi out Goal (Running (moved c i)) (omega (arith, now.at_line))
+      (rest (moved c i) (record {
+        view = loaded_view globals stack c r w now.view target base offset word writable live;
+        r_words = put_words r target.number word now.r_words is_word;
+        w_words = now.w_words;
+        at_line = ap (λ (x : ℕ). x + 1) now.at_line;
+        output = now.output;
+        input = now.input;
+      })))
+
+  -- one is written
+  pub walk_save : (n k lo hi : ℕ) (out input : List ℕ) (Goal : State → Type 0) (r : Words) (w : Contents) (c : Configuration) (source base : Register) (offset old : ℕ)
+      → Now k out input r w c → slice_get code.lines k ≡ Some (lines.Ordinary (Memory StoreWord source base offset)) → lo ≤ k
+      → IsLive w.store (memory_address (r base.number) offset) old
+      → ((d : Configuration) → Now (k + 1) out input r (saved_in w (memory_address (r base.number) offset) (r source.number)) d → Walk n (suc k) hi out Goal (Running d))
+      → Walk (suc n) lo hi out Goal (Running c)
+  walk_save n k lo hi out input Goal r w c source base offset old now stands from live rest =
+      let i : Instr = Memory StoreWord source base offset in
+      walk_step n lo hi out Goal c (Running (moved c i)) (omega (arith, from, now.at_line)) now.output
+      (λ next step. stores_live globals stack c r w now.view source base offset old next live (performs_now k out input r w c i next now stands refl step))
+      (walk_from n (suc c.line) (suc k) hi out Goal (Running (moved c i)) (omega (arith, now.at_line))
+      (rest (moved c i) (record {
+        view = saved_view globals stack c r w now.view source base offset old live;
+        r_words = now.r_words;
+        w_words = now.w_words;
+        at_line = ap (λ (x : ℕ). x + 1) now.at_line;
+        output = now.output;
+        input = now.input;
+      })))
 
   -- ---- branches, jumps, calls and returns
 

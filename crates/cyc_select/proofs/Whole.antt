@@ -52,7 +52,7 @@ module _ (program : Program) (well : IsWellFormed program) (words : HasWords pro
     before = range_with_len 0 3;
     own = own_of program;
     parts = parts program well frames;
-    some = own_some program;
+    some = own_some program well;
     few_before = few_before;
     few_own = few_own;
     few_words = few_words;

@@ -3,7 +3,7 @@
 --
 -- Frames grow downward from the end of the stack. The return address of the call that starts the program is 0. Which
 -- registers have what is in the module `constants`.
-use Rattle.std.specs.Prelude.{ℕ, zero, suc, ◌+◌, ◌-◌, ◌*◌, ◌/◌, ◌%◌, ◌^◌, ◌==◌, Bool, false, not, nat_lt, if◌then◌else◌, List, [], ◌∷◌, ◌++◌, map, sum_by, take}
+use Rattle.std.specs.Prelude.{ℕ, zero, suc, ◌+◌, ◌-◌, ◌*◌, ◌/◌, ◌%◌, ◌^◌, ◌==◌, Bool, false, not, nat_lt, if◌then◌else◌, List, [], ◌∷◌, ◌++◌, length, map, sum_by, take}
 use Rattle.cyc_isa.specs.Decoding.{register_of, shift_amount_of, trap_code_of}
 use Rattle.cyc_isa.specs.declared.instr.Instr.{Instr}
 use Rattle.cyc_isa.specs.declared.instr.Instr.TheVariants as machine
@@ -45,7 +45,7 @@ use Rattle.cyc_select.specs.declared.plan.Plan.{Plan}
 use Rattle.cyc_select.specs.declared.plan.Test.{Test}
 use Rattle.cyc_select.specs.declared.plan.Test.TheVariants as tests
 use Rattle.cyc_select.specs.Numbers.{fits_signed, is_zero_word, is_plain_divisor}
-use Rattle.cyc_select.specs.Plans.{unary_plan, binary_plan, test_of}
+use Rattle.cyc_select.specs.Plans.{arithmetic_plan, unary_plan, binary_plan, test_of}
 
 -- ---- single instructions
 
@@ -211,6 +211,28 @@ branch_line (tests.Sign op operand) label = lines.Branch (conditions.Sign op (re
 branch_line (tests.Computed plan) label =
     lines.Branch (conditions.Registers (branch_on plan.outcome) (register_of FIRST) (register_of ZERO)) label
 
+-- ---- addresses
+
+-- An offset that fits stands in the instruction that loads or stores. Any other is added to the address before.
+
+abbrev pub far_plan : (address : Operand) → (offset : ℕ) → Plan
+far_plan address offset = arithmetic_plan arithmetic.AddUnsigned address (operands.Word offset) outcomes.AsItIs
+
+abbrev pub address_code : Frame → (address : Operand) → (offset : ℕ) → List Instr
+address_code frame address offset =
+    if fits_signed offset then operand_code frame FIRST address else operation_of frame (far_plan address offset)
+
+abbrev pub address_register : (address : Operand) → (offset : ℕ) → ℕ
+address_register address offset = if fits_signed offset then operand_register FIRST address else FIRST
+
+abbrev pub near_half : (offset : ℕ) → ℕ
+near_half offset = if fits_signed offset then offset % 2 ^ 16 else 0
+
+-- the word of memory there is loaded into a register, or stored from one
+abbrev pub at_address : MemoryOp → (register : ℕ) → (address : Operand) → (offset : ℕ) → Instr
+at_address op register address offset =
+    machine.Memory op (register_of register) (register_of (address_register address offset)) (near_half offset)
+
 -- ---- how many lines
 
 abbrev pub word_count : ℕ → ℕ
@@ -255,6 +277,10 @@ abbrev pub is_tested : BinaryOperator → (divisor : Operand) → Bool
 is_tested binary.Divide divisor = not (is_plain_divisor divisor)
 is_tested binary.Remainder divisor = not (is_plain_divisor divisor)
 is_tested operator right = false
+
+abbrev pub address_count : (address : Operand) → (offset : ℕ) → ℕ
+address_count address offset =
+    if fits_signed offset then operand_count address else count_of_operation (far_plan address offset)
 
 abbrev pub operator_count : BinaryOperator → (left right : Operand) → ℕ
 operator_count operator left right =
@@ -331,7 +357,7 @@ ending_count program function = if function == program.main then 4 else 0
 -- the lines of an instruction up to what it does
 abbrev pub body_count : Program → (function : ℕ) → Instruction → ℕ
 body_count program function (plain.Move destination source) = operand_count source + 1
-body_count program function (plain.MoveWords destination source count) = 1
+body_count program function (plain.MoveWords destination source count) = 2 * length (result_registers count)
 body_count program function (plain.Unary operator destination operand) = plan_count (unary_plan operator operand)
 body_count program function (plain.Binary operator destination left right) = operator_count operator left right
 body_count program function (plain.Jump target) = 1
@@ -343,8 +369,9 @@ body_count program function (plain.ReadByte destination) = 3
 body_count program function (plain.WriteByte source) = load_count source + 2
 body_count program function (plain.LoadGlobal destination global) = 3
 body_count program function (plain.StoreGlobal global source) = operand_count source + 2
-body_count program function (plain.Load destination address offset) = 1
-body_count program function (plain.Store address offset source) = 1
+body_count program function (plain.Load destination address offset) = address_count address offset + 2
+body_count program function (plain.Store address offset source) =
+    address_count address offset + operand_count source + 1
 body_count program function (plain.Uncaught tag value) = word_count tag + load_count value + 2
 
 -- behind a call, the lines that are executed after it returned
@@ -397,6 +424,26 @@ store_global frame global source =
     operand_code frame FIRST source
     ++ upper_of_global global ∷ at_global StoreWord (operand_register FIRST source) global ∷ [])
 
+-- Words from slots to slots. All of them are in registers before the first goes to its slot, so they may overlap.
+abbrev pub move_words : Frame → (destination source count : ℕ) → List Line
+move_words frame destination source count =
+    ordinary (
+    load_all frame source (result_registers count)
+    ++ store_all frame destination (result_registers count))
+
+-- a word of memory into a slot, and an operand into a word of memory
+abbrev pub load_word : Frame → (destination : ℕ) → (address : Operand) → (offset : ℕ) → List Line
+load_word frame destination address offset =
+    ordinary (
+    address_code frame address offset
+    ++ at_address LoadWord FIRST address offset ∷ store_slot frame FIRST destination ∷ [])
+
+abbrev pub store_word : Frame → (address : Operand) → (offset : ℕ) → (source : Operand) → List Line
+store_word frame address offset source =
+    ordinary (
+    address_code frame address offset
+    ++ (operand_code frame SECOND source ++ at_address StoreWord (operand_register SECOND source) address offset ∷ []))
+
 -- the end of a run with an exception that nothing caught
 abbrev pub uncaught_code : Frame → (tag : ℕ) → Operand → List Line
 uncaught_code frame tag value =
@@ -441,11 +488,12 @@ returning_code is_main frame here value results =
     ++ ordinary (load_all frame value (result_registers results) ++ pop_frame frame ∷ [])
     ++ lines.Return ∷ []
 
--- What an instruction does, from this line on. One that no program has yet jumps to itself.
+-- what an instruction does, from this line on
 abbrev pub body : Program → List Frame → (function here : ℕ) → Instruction → List Line
 body program frames function here (plain.Move destination source) =
     move_code (frame_at frames function) destination source
-body program frames function here (plain.MoveWords destination source count) = lines.Jump here ∷ []
+body program frames function here (plain.MoveWords destination source count) =
+    move_words (frame_at frames function) destination source count
 body program frames function here (plain.Unary operator destination operand) =
     ordinary (plan_code (frame_at frames function) (unary_plan operator operand) destination)
 body program frames function here (plain.Binary operator destination left right) =
@@ -465,8 +513,10 @@ body program frames function here (plain.LoadGlobal destination global) =
     load_global (frame_at frames function) destination global
 body program frames function here (plain.StoreGlobal global source) =
     store_global (frame_at frames function) global source
-body program frames function here (plain.Load destination address offset) = lines.Jump here ∷ []
-body program frames function here (plain.Store address offset source) = lines.Jump here ∷ []
+body program frames function here (plain.Load destination address offset) =
+    load_word (frame_at frames function) destination address offset
+body program frames function here (plain.Store address offset source) =
+    store_word (frame_at frames function) address offset source
 body program frames function here (plain.Uncaught tag value) = uncaught_code (frame_at frames function) tag value
 
 -- behind a call, the lines that are executed after it returned

@@ -82,9 +82,21 @@ impl Emitter {
             } => self.load_global(frame, destination, global),
             Instruction::StoreGlobal { global, source } => self.store_global(frame, global, source),
             Instruction::Uncaught { tag, value } => self.uncaught(frame, tag, value),
-            // No program has these yet.
-            Instruction::MoveWords { .. } | Instruction::Load { .. } | Instruction::Store { .. } =>
-                { self.line(Line::Jump { label: here }) }
+            Instruction::MoveWords {
+                destination,
+                source,
+                count,
+            } => self.move_words(frame, destination, source, count),
+            Instruction::Load {
+                destination,
+                address,
+                offset,
+            } => self.load_word(frame, destination, address, offset),
+            Instruction::Store {
+                address,
+                offset,
+                source,
+            } => self.store_word(frame, address, offset, source),
         }
     }
 

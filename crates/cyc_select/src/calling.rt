@@ -1,6 +1,6 @@
-//! The lines of calls and returns.
+//! The lines of calls and returns, and of moves of several words.
 ghost use Rattle.std.specs.Prelude.{◌≡◌, ◌+◌, ◌*◌, ◌<◌, ◌≤◌, [], ◌∷◌, ◌++◌, true, length, OnOk};
-ghost use Rattle.cyc_select.specs.Selection.{load, store_slot, slot_offset, copies, ordinary, load_all, store_all, calling_code, returned_code, ending_code, returning_code};
+ghost use Rattle.cyc_select.specs.Selection.{load, store_slot, slot_offset, copies, ordinary, load_all, store_all, move_words, calling_code, returned_code, ending_code, returning_code};
 ghost use Rattle.cyc_select.specs.Emission.{AddsLines, IsReached, AreReached, most_lines, enter_code};
 
 use crate::code::Line;
@@ -120,6 +120,23 @@ impl Emitter {
             next += 1;
         }
         Ok(())
+    }
+
+    /// Words from slots to slots.
+    pub(crate) fn move_words(
+        &mut self,
+        frame: Frame,
+        destination: usize,
+        source: usize,
+        count: usize,
+    ) -> Result<(), AllocError>
+        requires few { count ≤ GREATEST_VALUE }
+        requires source { AreReached frame source count }
+        requires target { AreReached frame destination count }
+        ensures { AddsLines result self.old self.new (move_words frame destination source count) }
+    {
+        self.load_all(frame, source, &RESULTS[..count])?;
+        self.store_all(frame, destination, &RESULTS[..count])
     }
 
     /// Behind a call: the caller has its return address and the number of calls again, and gets what was returned.

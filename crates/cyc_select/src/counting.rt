@@ -6,6 +6,7 @@ ghost use Rattle.cyc_select.specs.Selection.{operator_count, ending_count, body_
 ghost use Rattle.cyc_select.specs.Emission.{AreFew, most_lines, instruction_lines, function_starts};
 
 use crate::constants::START_LINES;
+use crate::memory::address_count;
 use crate::operands::{load_count, operand_count, word_count};
 use crate::operators::{is_tested, plan_count, test_count};
 use crate::plan::{binary_plan, test_of, unary_plan};
@@ -41,9 +42,11 @@ fn return_count(plain: &Plain, function: usize) -> usize
 }
 
 /// The lines of an instruction up to what it does.
+#[tactic(auto, using(crate::proofs::Numbering::moved_count))]
 fn body_count(plain: &Plain, function: usize, instruction: Instruction) -> usize
     requires function { function < length plain.now.functions }
     requires few { AreFew plain.now }
+    requires in_range { IsInRange plain.now (routine_at plain.now function) instruction }
     requires small { instruction_size instruction ≤ MOST_SIZE }
     ensures { result ≡ body_count plain.now function instruction }
 {
@@ -60,10 +63,18 @@ fn body_count(plain: &Plain, function: usize, instruction: Instruction) -> usize
             right,
             ..
         } => operator_count(operator, left, right),
-        Instruction::Jump { .. }
-        | Instruction::MoveWords { .. }
-        | Instruction::Load { .. }
-        | Instruction::Store { .. } => 1,
+        Instruction::Jump { .. } => 1,
+        Instruction::MoveWords { count, .. } => 2 * count,
+        Instruction::Load {
+            address,
+            offset,
+            ..
+        } => address_count(address, offset) + 2,
+        Instruction::Store {
+            address,
+            offset,
+            source,
+        } => address_count(address, offset) + operand_count(source) + 1,
         Instruction::Branch {
             comparison,
             left,

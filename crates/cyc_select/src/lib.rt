@@ -8,6 +8,7 @@ pub mod constants;
 mod counting;
 mod emitter;
 mod instructions;
+mod memory;
 mod numbers;
 mod operands;
 mod operators;

@@ -146,7 +146,7 @@ fn outcome_count(outcome: Outcome) -> usize
 }
 
 /// The lines of a plan up to its outcome.
-fn count_of_operation(plan: Plan) -> usize
+pub(crate) fn count_of_operation(plan: Plan) -> usize
     ensures value { result ≡ count_of_operation plan }
     ensures few { result ≤ 6 }
 {
@@ -280,7 +280,7 @@ impl Emitter {
     }
 
     /// A plan up to its outcome.
-    fn operation_of(&mut self, frame: Frame, plan: Plan) -> Result<(), AllocError>
+    pub(crate) fn operation_of(&mut self, frame: Frame, plan: Plan) -> Result<(), AllocError>
         requires { IsPlanFound frame plan }
         ensures { AddsLines result self.old self.new (ordinary (operation_of frame plan)) }
     {

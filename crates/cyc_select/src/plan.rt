@@ -1,5 +1,6 @@
 //! How the machine computes what an operator or a comparison says: by which instructions, and of which operands.
 ghost use Rattle.std.specs.Prelude.{◌≡◌};
+ghost use Rattle.cyc_select.specs.Selection.{far_plan};
 ghost use Rattle.cyc_select.specs.Plans.{arithmetic_plan, immediate_plan, immediate_or, shift_plan, multiply_divide_plan, mirrored, zero_plan, equal_plan, less_plan, less_unsigned_plan, at_most_plan, compared_plan, is_mirrored, comparison_plan, unary_plan, sum_plan, difference_plan, bits_plan, operator_plan, is_swapped, binary_plan, sign_of, order_test, test_of};
 
 use crate::numbers::{
@@ -86,6 +87,14 @@ fn arithmetic_plan(op: ArithmeticOp, left: Operand, right: Operand, outcome: Out
         right,
         outcome,
     }
+}
+
+/// The sum of an address and an offset, both in registers.
+pub(crate) fn far_plan(address: Operand, offset: u32) -> Plan
+    ensures { result ≡ far_plan address offset }
+{
+    let right = Operand::Word { word: offset };
+    arithmetic_plan(ArithmeticOp::AddUnsigned, address, right, Outcome::AsItIs)
 }
 
 fn immediate_plan(op: ImmediateOp, left: Operand, half: u16, outcome: Outcome) -> Plan

@@ -4,7 +4,6 @@
 -- the one of the lowest code is the fault, and at one code the first. (The order is this project's own choice.)
 use Rattle.std.specs.Prelude.{◌≡◌, ◌⊎◌, ℕ, ◌<◌, ◌≤◌, Bool, true, false, nat_lt, if◌then◌else◌, List, [], ◌∷◌, ◌++◌, Option, Some, None, Result, Ok, Err}
 use Rattle.cyc_words.specs.declared.fault.Code.{Code}
-use Rattle.cyc_words.specs.declared.fault.Code.TheVariants as codes
 use Rattle.cyc_words.specs.declared.fault.Fault.{Fault}
 use Rattle.cyc_words.specs.Fault.{number_of}
 use Rattle.cyc_syntax.specs.Symbols.{Place}
@@ -18,10 +17,6 @@ and_then (Err f) next = Err f
 
 abbrev pub fault_at : Code → Place → Fault
 fault_at c p = record { code = c; line = p.line; column = p.column }
-
--- a tree that goes beyond the int language, whatever else it breaks
-abbrev pub not_built : Fault
-not_built = record { code = codes.NotBuiltYet; line = 1; column = 1 }
 
 -- ---- demands
 

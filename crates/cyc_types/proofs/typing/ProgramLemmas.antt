@@ -1,5 +1,5 @@
 -- A program that the typing rules derive is well typed.
-use Rattle.std.proofs.Common.{◌≡◌, ◌⊎◌, ℕ, zero, suc, pred, ◌+◌, ◌≤◌, Bool, true, false, cond, not, nat_eq, ◌&&◌, ◌||◌, List, [], ◌∷◌, ◌++◌, Option, Some, None, map, length, slice_get, inl, inr, refl, sym, ap, subst, ◌∙◌, arith}
+use Rattle.std.proofs.Common.{◌≡◌, ◌⊎◌, ℕ, zero, suc, pred, ◌+◌, ◌^◌, ◌%◌, ◌-◌, ◌≤◌, Bool, true, false, cond, not, nat_eq, ◌&&◌, ◌||◌, List, [], ◌∷◌, ◌++◌, Option, Some, None, map, length, slice_get, inl, inr, refl, sym, ap, subst, ◌∙◌, arith}
 use Rattle.std.specs.Prelude.{codes as bytes}
 use Rattle.std.proofs.lemmas.Bool.{and_parts, true≢false}
 use Rattle.cyc_syntax.specs.Names.{number_of}
@@ -19,7 +19,7 @@ use Rattle.cyc_types.specs.IntPart.{is_empty, is_left_out}
 use Rattle.cyc_types.specs.Rules.{AllKept, Derives}
 use Rattle.cyc_types.specs.typing.Scopes.{signature_of_ints, RegionName, StructName, Field, Exception, Routine, Declared, Ordinary, LocalVariable, Scope, meaning_in, item_regions}
 use Rattle.cyc_types.specs.typing.Scopes as scopes
-use Rattle.cyc_types.specs.typing.Tests.{is_key, is_non_null, is_int}
+use Rattle.cyc_types.specs.typing.Tests.{is_key, is_pointer, is_non_null, is_int}
 use Rattle.cyc_types.specs.typing.Formation.{Naming, region_or, left_out_at, base_written, pointers_written, type_written, types_for, after_type, parameters_among, struct_number, type_demanded, is_global_shape, global_demanded}
 use Rattle.cyc_types.specs.typing.Statements.{exception_number, exception_among, rule_items}
 use Rattle.cyc_types.specs.typing.Heads.{Known, members_of, structs_of, fields_of, exceptions_of, parameter_naming, and_result, signature_of, declared_from, value_demanded, is_int_written, is_main_head, rule_function_head, Before, after_head, rule_heads, declares}
@@ -121,12 +121,16 @@ global_formed k w kept = go w.base w.marks ((kept_append (type_demanded k.struct
     go b (m ∷ ms) e = inr (pointer_written k.regions regions.Heap (base_written k.structs k.regions b) m ms)
 
 global_well : (t : Ty) (q : Place) (x : Named) (v : Option GlobalValue) → IsGlobalType t → AllKept (value_demanded t q v) → IsWellTypedGlobal (global_of x v t)
-global_well t q x v (inl e) kept = inl e
-global_well t q x None (inr (k, u, r, e)) (n, z) = inr (k, u, r, e, not_so (is_non_null t) n)
+global_well t q x None (inl e) kept = inl (e, (0, ap (λ s. if is_pointer s then typed.Null else typed.Word 0) e))
+global_well t q x (Some (Positive o n)) (inl e) kept = inl (e, (n, refl))
+global_well t q x (Some (Negative o n)) (inl e) kept = inl (e, ((2 ^ 32 - n) % 2 ^ 32, refl))
+global_well t q x (Some (Byte o n)) (inl e) kept = inl (e, (n, refl))
+global_well t q x (Some (NullPointer o)) (inl e) (i, (n, z)) = absurd (true≢false (sym i ∙ ap is_pointer e))
+global_well t q x None (inr (k, u, r, e)) (n, z) = inr (k, u, r, e, not_so (is_non_null t) n, ap (λ s. if is_pointer s then typed.Null else typed.Word 0) e)
 global_well t q x (Some (Positive o n)) (inr (k, u, r, e)) (i, z) = absurd (true≢false (sym i ∙ ap (λ s. is_int (Value s)) e))
 global_well t q x (Some (Negative o n)) (inr (k, u, r, e)) (i, z) = absurd (true≢false (sym i ∙ ap (λ s. is_int (Value s)) e))
 global_well t q x (Some (Byte o n)) (inr (k, u, r, e)) (i, z) = absurd (true≢false (sym i ∙ ap (λ s. is_int (Value s)) e))
-global_well t q x (Some (NullPointer o)) (inr (k, u, r, e)) (i, (n, z)) = inr (k, u, r, e, not_so (is_non_null t) n)
+global_well t q x (Some (NullPointer o)) (inr (k, u, r, e)) (i, (n, z)) = inr (k, u, r, e, not_so (is_non_null t) n, refl)
 
 globals_well : (k : Known) (b : Before) (tree : List Declaration) → Derives (rule_heads k b tree) tt → AreWellTypedGlobals (globals_of k tree)
 globals_well k b [] d = tt
@@ -137,8 +141,8 @@ globals_well k b (Global w x v ∷ ds) (u, (o, (formed, e), ((new, (main, value)
 globals_well k b (Function r x ps c ∷ ds) (u, hd, d) = globals_well k (after_head b (Function r x ps c)) ds d
 
 global_no_key : (g : typed.GlobalVariable) → IsWellTypedGlobal g → is_key g.of_type ≡ false
-global_no_key g (inl e) = ap is_key e
-global_no_key g (inr (k, u, r, e, n)) = ap is_key e
+global_no_key g (inl (e, v)) = ap is_key e
+global_no_key g (inr (k, u, r, e, n, v)) = ap is_key e
 
 -- ---- what the heads declare
 

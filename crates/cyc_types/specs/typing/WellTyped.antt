@@ -18,7 +18,7 @@ use Rattle.cyc_types.specs.declared.typed.PointerOperator.TheVariants as pointer
 use Rattle.cyc_types.specs.Types.{Ty, Int, Pointer, Handle, Key, Struct, ValueType, Void, Null, Value, result_type, substituted_ty}
 use Rattle.cyc_types.specs.Outlives.{RegionContext, OutlivesIn, live_regions}
 use Rattle.cyc_types.specs.Declarations.{declared_types, item_types, caught_types, declared_regions, item_regions}
-use Rattle.cyc_types.specs.TypedTrees.{Lvalue, Local, Global, Expression, Number, NullPointer, HeapRegion, Counter, Copy, Move, Peek, Load, AddressOf, AddressOfCell, NumberOfElements, FreeUnique, FreeKey, Call, Unary, Binary, Assign, Store, New, Dereference, Target, Member, Element, Placement, OnHeap, AsUnique, ByHandle, Initial, Plain, Fields, Array, Converted, Convert, Arguments, NoArguments, MoreArguments, Operations, NoOperations, ThenCompute, ThenTest, ThenPointer, ThenPointerPeek, Side, VariableSide, CellSide, Statement, Block, Empty, Evaluate, Swap, If, While, Return, Break, Continue, Throw, Try, Items, NoItems, MoreItems, Execute, Declare, DeclareRegion, OpenRegion, DeclareAlias, DeclareKey, Clauses, NoClauses, Default, Case, StructType, GlobalVariable, Signature, Function, Program}
+use Rattle.cyc_types.specs.TypedTrees.{Lvalue, Local, Global, Expression, Number, NullPointer, HeapRegion, Counter, Copy, Move, Peek, Load, AddressOf, AddressOfCell, NumberOfElements, FreeUnique, FreeKey, Call, Unary, Binary, Assign, Store, New, Dereference, Target, Member, Element, Placement, OnHeap, AsUnique, ByHandle, Initial, Plain, Fields, Array, Converted, Convert, Arguments, NoArguments, MoreArguments, Operations, NoOperations, ThenCompute, ThenTest, ThenPointer, ThenPointerPeek, Side, VariableSide, CellSide, Statement, Block, Empty, Evaluate, Swap, If, While, Return, Break, Continue, Throw, Try, Items, NoItems, MoreItems, Execute, Declare, DeclareRegion, OpenRegion, DeclareAlias, DeclareKey, Clauses, NoClauses, Default, Case, Word, Null, StructType, GlobalVariable, Signature, Function, Program}
 use Rattle.cyc_types.specs.typing.Scopes.{signature_of_ints, with_scope}
 use Rattle.cyc_types.specs.typing.Tests.{is_thin_mark, is_non_null, is_unique, is_key, is_struct, is_moved, is_tested, kind_of_mark, kind_of, kind_of_value}
 use Rattle.cyc_types.specs.typing.Expressions.{assigned_type, instantiated}
@@ -430,9 +430,11 @@ abbrev pub AreWellTypedFunctions : Program → List Function → Type 0
 AreWellTypedFunctions p [] = Unit {0}
 AreWellTypedFunctions p (h ∷ hs) = IsWellTypedFunction p h × AreWellTypedFunctions p hs
 
--- no global is a handle or a key, and its value is of its type
+-- No global is a handle or a key, and it begins with a value of its type: a word, or null where null may stand.
 abbrev pub IsWellTypedGlobal : GlobalVariable → Type 0
-IsWellTypedGlobal g = (g.of_type ≡ Int) ⊎ ((k : PointerKind) × (t : Ty) × (r : Region) × (g.of_type ≡ Pointer k t r) × (is_non_null g.of_type ≡ false))
+IsWellTypedGlobal g =
+    ((g.of_type ≡ Int) × ((word : ℕ) × (g.value ≡ Word word)))
+    ⊎ ((k : PointerKind) × (t : Ty) × (r : Region) × (g.of_type ≡ Pointer k t r) × (is_non_null g.of_type ≡ false) × (g.value ≡ Null))
 
 abbrev pub AreWellTypedGlobals : List GlobalVariable → Type 0
 AreWellTypedGlobals [] = Unit {0}

@@ -1,0 +1,6 @@
+-- Getting stuck.
+use Rattle.cyc_plain.proofs.Placed.{few_get_stuck}
+use Rattle.cyc_plain.proofs.laws.few_get_stuck.Goals as goal
+
+pub returns : goal.returns
+returns c = few_get_stuck

@@ -1,0 +1,350 @@
+-- The instructions that move several words, and that load and store words of memory.
+use Rattle.std.proofs.Common.{◌≡◌, ◌≢◌, ℕ, zero, suc, ◌+◌, ◌*◌, ◌%◌, ◌^◌, ◌<◌, ◌≤◌, Bool, true, false, List, [], ◌∷◌, ◌++◌, length, Option, None, Some, refl, sym, ap, subst, ◌∙◌, arith, inl}
+use Rattle.std.specs.Prelude.{if◌then◌else◌}
+use Rattle.cyc_words.specs.Word.{IsWord, add_of, sign_extended}
+use Rattle.cyc_words.proofs.WordLemmas.{sign_extended_low}
+use Rattle.cyc_isa.specs.Effect.{memory_address}
+use Rattle.cyc_isa.specs.declared.instr.Instr.{Instr}
+use Rattle.cyc_isa.specs.declared.instr.MemoryOp.TheVariants.{LoadWord, StoreWord}
+use Rattle.cyc_isa.specs.Decoding.{register_of}
+use Rattle.cyc_machine.specs.State.{globals_length, words_per_call}
+use Rattle.cyc_machine.specs.declared.constants.TheConstants.{RETURN_ADDRESS}
+use Rattle.cyc_store.specs.State.{StoreState, saved}
+use Rattle.cyc_plain.specs.declared.instruction.Instruction.{Instruction}
+use Rattle.cyc_plain.specs.declared.instruction.Instruction.TheVariants as plain
+use Rattle.cyc_plain.specs.declared.instruction.Operand.{Operand}
+use Rattle.cyc_plain.specs.declared.instruction.Operand.TheVariants as operands
+use Rattle.cyc_plain.specs.Program.{Program, routine_at}
+use Rattle.cyc_plain.specs.State as states
+use Rattle.cyc_plain.specs.State.{Words, put, copied, Configuration, memory_at}
+use Rattle.cyc_plain.specs.Step.{instruction_at, operand_word, performed, loads, saves}
+use Rattle.cyc_plain.specs.WellFormed.{IsOperand, IsOfWord, IsWellFormed, IsMoveInRange}
+use Rattle.cyc_plain.proofs.RunLaws.{zeros, zeros_allowed}
+use Rattle.cyc_frame.specs.Layout.{AreFrames, frame_at}
+use Rattle.cyc_frame.specs.declared.frame.Frame.{Frame}
+use Rattle.cyc_select.specs.declared.constants.TheConstants.{FIRST, SECOND, ZERO, FRAME}
+use Rattle.cyc_select.specs.Labelled.{Labelled, IsFormed}
+use Rattle.cyc_select.specs.Machine as labelled
+use Rattle.cyc_select.specs.Machine.{State, Running}
+use Rattle.cyc_select.specs.Numbers.{fits_signed, is_zero_word}
+use Rattle.cyc_select.specs.Selection.{store_slot, slot_offset, load_all, store_all, result_registers, operand_code, operand_register, operation_of, far_plan, address_code, address_register, near_half, at_address, address_count, operand_count, body, body_count, instruction_line}
+use Rattle.cyc_select.proofs.Blocks.{Keeps, puts_keeps}
+use Rattle.cyc_select.proofs.Cells.{IsCell, IsLive}
+use Rattle.cyc_select.proofs.Computing.{IsHeld, operand_puts, operation_leaves, first_scratch, second_scratch}
+use Rattle.cyc_select.proofs.Counts.{length_operand, length_address, length_loads, length_stores, length_registers}
+use Rattle.cyc_select.proofs.Halves.{fits_is}
+use Rattle.cyc_select.proofs.Lines.{line_next}
+use Rattle.cyc_select.proofs.Matches.{At, Reached, reached, reached_gives, result_register, within}
+use Rattle.cyc_select.proofs.Returns.{stored}
+use Rattle.cyc_select.proofs.Standing.{Standing, slot_cell, slot_word_is, laid_live, standing_registers, standing_at, standing_saved}
+use Rattle.cyc_select.proofs.Views.{Contents, written, saved_in}
+use Rattle.cyc_select.proofs.Walks.{Stands, stands_first, stands_behind, after_r, after_w, Walk, now_at, now_is, walk_end, walk_few, walk_block, walk_load, walk_save}
+
+-- ---- several words in registers
+
+module _ (globals stack : ℕ) (frame : Frame) (r : Words) (w : Contents) (slots : Words) (source number : ℕ)
+    (cell : (slot : ℕ) → slot < number → IsCell globals stack (memory_address (r FRAME) (slot_offset frame slot)))
+    (word_is : (slot : ℕ) → slot < number → w.words (memory_address (r FRAME) (slot_offset frame slot)) ≡ slots slot) where
+  -- the words of slots are in the registers of results
+  record AreTaken (count : ℕ) : Type 0 where
+    pub keeps : Keeps globals stack (load_all frame source (result_registers count)) r w
+    pub taken : (k : ℕ) → k < count → after_r (load_all frame source (result_registers count)) r w (result_register k) ≡ slots (source + k)
+
+  word_of : (slot k : ℕ) → slot ≡ source + k → slot < number → w.words (memory_address (r FRAME) (slot_offset frame slot)) ≡ slots (source + k)
+  word_of slot k is below = word_is slot below ∙ ap slots is
+
+  one_taken : (k : ℕ) (q : Words) → k < 1 → q 2 ≡ slots (source + 0) → q (result_register k) ≡ slots (source + k)
+  one_taken zero q below a = a
+  one_taken (suc k) q below a = absurd (omega (arith, below))
+
+  two_taken : (k : ℕ) (q : Words) → k < 2 → q 2 ≡ slots (source + 0) → q 3 ≡ slots (source + 1) → q (result_register k) ≡ slots (source + k)
+  two_taken zero q below a b = a
+  two_taken (suc zero) q below a b = b
+  two_taken (suc (suc k)) q below a b = absurd (omega (arith, below))
+
+  three_taken : (k : ℕ) (q : Words) → k < 3 → q 2 ≡ slots (source + 0) → q 3 ≡ slots (source + 1) → q 5 ≡ slots (source + 2) → q (result_register k) ≡ slots (source + k)
+  three_taken zero q below a b d = a
+  three_taken (suc zero) q below a b d = b
+  three_taken (suc (suc zero)) q below a b d = d
+  three_taken (suc (suc (suc k))) q below a b d = absurd (omega (arith, below))
+
+  are_taken : (count : ℕ) → count ≤ 3 → source + count ≤ number → AreTaken count
+  are_taken zero few fits = record {
+    keeps = record { safe = tt; memory = refl; zero = refl; base = refl; left = refl; back = refl };
+    taken = λ k below. absurd (omega (arith, below));
+  }
+  are_taken (suc zero) few fits = record {
+    keeps = record { safe = ((refl, cell source (omega (arith, fits))), tt); memory = refl; zero = refl; base = refl; left = refl; back = refl };
+    taken = λ k below. one_taken k (after_r (load_all frame source (result_registers 1)) r w) below (word_of source 0 (omega arith) (omega (arith, fits)));
+  }
+  are_taken (suc (suc zero)) few fits = record {
+    keeps = record {
+      safe = ((refl, cell source (omega (arith, fits))), ((refl, cell (suc source) (omega (arith, fits))), tt));
+      memory = refl;
+      zero = refl;
+      base = refl;
+      left = refl;
+      back = refl;
+    };
+    taken = λ k below.
+        two_taken k (after_r (load_all frame source (result_registers 2)) r w) below (word_of source 0 (omega arith) (omega (arith, fits)))
+        (word_of (suc source) 1 (omega arith) (omega (arith, fits)));
+  }
+  are_taken (suc (suc (suc zero))) few fits = record {
+    keeps = record {
+      safe = ((refl, cell source (omega (arith, fits))), ((refl, cell (suc source) (omega (arith, fits))), ((refl, cell (suc (suc source)) (omega (arith, fits))), tt)));
+      memory = refl;
+      zero = refl;
+      base = refl;
+      left = refl;
+      back = refl;
+    };
+    taken = λ k below.
+        three_taken k (after_r (load_all frame source (result_registers 3)) r w) below (word_of source 0 (omega arith) (omega (arith, fits)))
+        (word_of (suc source) 1 (omega arith) (omega (arith, fits))) (word_of (suc (suc source)) 2 (omega arith) (omega (arith, fits)));
+  }
+  are_taken (suc (suc (suc (suc count)))) few fits = absurd (omega (arith, few))
+
+-- ---- addresses
+
+not_second : (a b : Bool) → (if a then (if b then ZERO else FIRST) else FIRST) % 32 ≢ SECOND
+not_second true true same = absurd (omega (arith, same))
+not_second true false same = absurd (omega (arith, same))
+not_second false b same = absurd (omega (arith, same))
+
+below_32 : (n : ℕ) → n % 32 < 32
+below_32 n = omega arith
+
+module _ (globals stack : ℕ) (frame : Frame) (base : ℕ) (w : Contents) (slots : Words) (q : Words) (m : Contents) (zero_is : q ZERO ≡ 0) (same : q FRAME ≡ base) (memory : m ≡ w) where
+  -- the address of a word of memory comes of a register and of the half in the instruction
+  record IsAddressed (is : List Instr) (register half address : ℕ) : Type 0 where
+    pub keeps : Keeps globals stack is q m
+    pub comes : memory_address (after_r is q m (register % 32)) half ≡ address
+
+  is_addressed : (address : Operand) (offset : ℕ) → IsHeld globals stack frame base w slots address → IsWord offset
+      → IsAddressed (address_code frame address offset) (address_register address offset) (near_half offset) (add_of (operand_word slots address) offset)
+  is_addressed address offset held is_word = go (fits_signed offset) refl
+    where
+      near : List Instr
+      near = operand_code frame FIRST address
+
+      far : List Instr
+      far = operation_of frame (far_plan address offset)
+
+      whole : (n : ℕ) → add_of (add_of n offset) (sign_extended 0) ≡ add_of n offset
+      whole n = ap (add_of (add_of n offset)) (sign_extended_low 0 (omega arith)) ∙ (let e : add_of (add_of n offset) 0 ≡ add_of n offset = omega arith in e)
+
+      go : (b : Bool) → fits_signed offset ≡ b
+          → IsAddressed (if b then near else far) (if b then operand_register FIRST address else FIRST) (if b then offset % 2 ^ 16 else 0) (add_of (operand_word slots address) offset)
+      go true fits =
+          let puts = operand_puts globals stack frame base w slots q m zero_is same memory FIRST refl address held in
+          record {
+            keeps = puts_keeps globals stack near q m FIRST _ _ (first_scratch globals stack) puts;
+            comes = ap (λ (x : ℕ). memory_address x (offset % 2 ^ 16)) puts.result ∙ ap (add_of (operand_word slots address)) (fits_is offset is_word fits);
+          }
+      go false fits =
+          let leaves = operation_leaves globals stack frame base w slots q m zero_is same memory (far_plan address offset) held is_word tt in
+          record { keeps = leaves.keeps; comes = ap (λ (x : ℕ). memory_address x 0) leaves.result ∙ whole (operand_word slots address) }
+
+module _ (program : Program) (well : IsWellFormed program) (frames : List Frame) (fit : AreFrames program frames) (code : Labelled) (formed : IsFormed code) (addresses : ℕ → ℕ) (pages calls : ℕ) (few : calls ≤ 4096)
+    (c : Configuration)
+    (run : labelled.Configuration) (r : Words) (w : Contents) (base : ℕ)
+    (now : At program well frames fit code formed addresses pages calls few (instruction_line program c.active.function c.active.next) c.output c.input r w run)
+    (s : Standing program frames addresses pages calls c r w base (r RETURN_ADDRESS) (suc (length c.frames)) c.active.slots) where
+  abbrev here : ℕ
+  here = instruction_line program c.active.function c.active.next
+
+  abbrev frame : Frame
+  frame = frame_at frames c.active.function
+
+  abbrev slots : ℕ
+  slots = (routine_at program c.active.function).slots
+
+  abbrev Goes : (least lo hi : ℕ) → State → Type 0
+  Goes least lo hi t = Walk code formed addresses globals_length (words_per_call * calls) least lo hi c.output (Reached program well frames fit code formed addresses pages calls few c) t
+
+  abbrev IsAt : Instruction → Type 0
+  IsAt i = instruction_at program (states.place_of (states.Running c)) ≡ Some i
+
+  abbrev IsThere : Operand → Type 0
+  IsThere o = IsOperand (routine_at program c.active.function) o × IsOfWord o
+
+  abbrev word_in : Operand → ℕ
+  word_in o = operand_word c.active.slots o
+
+  cell_at : (slot : ℕ) → slot < slots → IsCell globals_length (words_per_call * calls) (memory_address (r FRAME) (slot_offset frame slot))
+  cell_at slot below = slot_cell program well frames fit addresses pages calls few c r w base (r RETURN_ADDRESS) (suc (length c.frames)) c.active.slots s slot below
+
+  slot_is : (slot : ℕ) → slot < slots → w.words (memory_address (r FRAME) (slot_offset frame slot)) ≡ c.active.slots slot
+  slot_is slot below = slot_word_is program well frames fit addresses pages calls few c r w base (r RETURN_ADDRESS) (suc (length c.frames)) c.active.slots s slot below
+
+  held : (o : Operand) → IsThere o → IsHeld globals_length (words_per_call * calls) frame (r FRAME) w c.active.slots o
+  held (operands.Slot number) (below, fits) = (cell_at number below, slot_is number below)
+  held (operands.Word word) (below, fits) = fits
+
+  is_word : (o : Operand) → IsThere o → IsWord (word_in o)
+  is_word (operands.Slot number) (below, fits) = subst IsWord (slot_is number below) (now.w_words (memory_address (r FRAME) (slot_offset frame number)))
+  is_word (operands.Word word) (below, fits) = fits
+
+  -- ---- several words
+
+  pub move_words_goes : (destination source count : ℕ) → IsAt (plain.MoveWords destination source count) → IsMoveInRange (routine_at program c.active.function) destination source count
+      → Stands code here (body program frames c.active.function here (plain.MoveWords destination source count)) → Goes 1 here (here + body_count program c.active.function (plain.MoveWords destination source count)) (Running run)
+  move_words_goes destination source count at_i in_range stands =
+      let registers : List ℕ = result_registers count in
+      let is : List Instr = load_all frame source (result_registers count) in
+      let js : List Instr = store_all frame destination (result_registers count) in
+      let q : Words = after_r is r w in
+      let v : Contents = after_w is r w in
+      let long : length is ≡ length registers = length_loads frame source registers in
+      let also : length js ≡ length registers = length_stores frame destination registers in
+      let some = length_registers count in_range.few in
+      let hi : ℕ = here + 2 * length registers in
+      let take = are_taken globals_length (words_per_call * calls) frame r w c.active.slots source slots cell_at slot_is count in_range.few in_range.source_in_range in
+      let in_q = standing_registers program well frames fit addresses pages calls few c r w base (r RETURN_ADDRESS) (suc (length c.frames)) c.active.slots s q take.keeps.zero take.keeps.base take.keeps.left in
+      let in_v = subst (λ (x : Contents). Standing program frames addresses pages calls c q x base (r RETURN_ADDRESS) (suc (length c.frames)) c.active.slots) (sym take.keeps.memory) in_q in
+      let puts = stored program well frames fit addresses pages calls few c q base (r RETURN_ADDRESS) (suc (length c.frames)) destination source c.active.slots c.active.slots count v in_range.few in_range.destination_in_range take.taken in_v in
+      let m : Contents = after_w js q v in
+      let there : Words = copied c.active.slots source count c.active.slots destination in
+      let d : Configuration = record c { active = record c.active { next = c.active.next + 1; slots = copied c.active.slots source count c.active.slots destination } } in
+      let at_d = standing_at program well frames fit addresses pages calls few c q m base (r RETURN_ADDRESS) (suc (length c.frames)) there puts.2 d refl refl refl refl s.input in
+      let with_back = subst (λ (b : ℕ). Standing program frames addresses pages calls d q m base b (suc (length c.frames)) there) (sym take.keeps.back) at_d in
+      let line : here + length is + length js ≡ instruction_line program c.active.function (c.active.next + 1) = omega (arith, line_next program c.active.function c.active.next (plain.MoveWords destination source count) at_i, long, also) in
+      walk_few code formed addresses globals_length (words_per_call * calls) 1 (length is + (length js + 0)) here hi c.output _ (Running run) (omega (arith, long, also, some, in_range.some))
+      (walk_block code formed addresses globals_length (words_per_call * calls) is (length js + 0) here here hi c.output c.input _ r w run now (stands_first code here is js stands) take.keeps.safe (omega arith)
+      (λ e before.
+      walk_block code formed addresses globals_length (words_per_call * calls) js 0 (here + length is) (here + length is) hi c.output c.input _ q v e before (stands_behind code here is js stands) puts.0 (omega arith)
+      (λ f later.
+      walk_end code formed addresses globals_length (words_per_call * calls) (here + length is + length js) hi c.output _ (Running f) (omega (arith, long, also))
+      (reached program well frames fit code formed addresses pages calls few c zeros (plain.MoveWords destination source count) (states.Running d) (Running f) (zeros_allowed program (states.Running c)) at_i refl
+      (within program well frames fit code formed addresses pages calls few d s.laid.paged s.deep)
+      (inl (record {
+        run = f;
+        r = q;
+        w = m;
+        base = base;
+        is = refl;
+        now = now_at code formed addresses globals_length (words_per_call * calls) (here + length is + length js) (instruction_line program c.active.function (c.active.next + 1)) c.output c.input q m f line
+            (now_is code formed addresses globals_length (words_per_call * calls) (here + length is + length js) c.output c.input (after_r js q v) m q m f puts.1 refl later);
+        standing = with_back;
+      }))))))
+
+  -- ---- a load
+
+  -- of a word that is there
+  loaded_goes : (destination : ℕ) (address : Operand) (offset word : ℕ) → IsAt (plain.Load destination address offset) → destination < slots → IsThere address → IsWord offset
+      → memory_at c (add_of (word_in address) offset) ≡ Some word
+      → Stands code here (body program frames c.active.function here (plain.Load destination address offset)) → Goes 1 here (here + (address_count address offset + 2)) (Running run)
+  loaded_goes destination address offset word at_i below there fits found stands =
+      let is : List Instr = address_code frame address offset in
+      let put_one : List Instr = store_slot frame FIRST destination ∷ [] in
+      let last : List Instr = at_address LoadWord FIRST address offset ∷ store_slot frame FIRST destination ∷ [] in
+      let hi : ℕ = here + (address_count address offset + 2) in
+      let long : length is ≡ address_count address offset = length_address frame address offset in
+      let q : Words = after_r is r w in
+      let v : Contents = after_w is r w in
+      let register : ℕ = address_register address offset in
+      let a : ℕ = add_of (word_in address) offset in
+      let reaches = is_addressed globals_length (words_per_call * calls) frame (r FRAME) w c.active.slots r w s.zero_is refl refl address offset (held address there) fits in
+      let lives = laid_live pages c.store a word s.laid found in
+      let live : IsLive v.store (memory_address (q (register % 32)) (near_half offset)) word =
+      subst (λ (x : ℕ). IsLive v.store x word) (sym reaches.comes)
+      (subst (λ (x : Contents). IsLive x.store a word) (sym reaches.keeps.memory) (subst (λ (x : StoreState). IsLive x a word) (sym s.store) lives.0)) in
+      let behind = stands_behind code here is last stands in
+      let p : Words = put q FIRST word in
+      let puts : written v (memory_address (q FRAME) (slot_offset frame destination)) word ≡ written w (memory_address (r FRAME) (slot_offset frame destination)) word =
+      ap (λ (x : Contents). written x (memory_address (q FRAME) (slot_offset frame destination)) word) reaches.keeps.memory
+      ∙ ap (λ (x : ℕ). written w (memory_address x (slot_offset frame destination)) word) reaches.keeps.base in
+      let safe = subst (λ (x : ℕ). IsCell globals_length (words_per_call * calls) (memory_address x (slot_offset frame destination))) (sym reaches.keeps.base) (cell_at destination below) in
+      walk_few code formed addresses globals_length (words_per_call * calls) 1 (length is + 2) here hi c.output _ (Running run) (omega arith)
+      (walk_block code formed addresses globals_length (words_per_call * calls) is 2 here here hi c.output c.input _ r w run now (stands_first code here is last stands) reaches.keeps.safe (omega arith)
+      (λ d before.
+      walk_load code formed addresses globals_length (words_per_call * calls) 1 (here + length is) (here + length is) hi c.output c.input _ q v d (register_of FIRST) (register_of register) (near_half offset) word before behind.0 (omega arith) refl live lives.1
+      (λ e later.
+      walk_block code formed addresses globals_length (words_per_call * calls) put_one 0 (here + length is + 1) (suc (here + length is)) hi c.output c.input _ p v e later behind.1 (safe, tt) (omega arith)
+      (λ f after.
+      walk_end code formed addresses globals_length (words_per_call * calls) (here + length is + 1 + 1) hi c.output _ (Running f) (omega (arith, long))
+      (reached_gives program well frames fit code formed addresses pages calls few c (plain.Load destination address offset) at_i r w base s destination word c.input (here + length is + 1 + 1) f p (after_w put_one p v)
+      below (ap (loads c destination) found) s.input (omega (arith, long)) reaches.keeps.zero reaches.keeps.base reaches.keeps.left reaches.keeps.back puts after)))))
+
+  pub load_goes : (destination : ℕ) (address : Operand) (offset : ℕ) → IsAt (plain.Load destination address offset) → destination < slots → IsThere address → IsWord offset
+      → (performed program zeros c (plain.Load destination address offset) ≡ states.Stuck c.output c.input → ⊥)
+      → Stands code here (body program frames c.active.function here (plain.Load destination address offset)) → Goes 1 here (here + (address_count address offset + 2)) (Running run)
+  load_goes destination address offset at_i below there fits never stands = go (memory_at c (add_of (word_in address) offset)) refl
+    where
+      go : (o : Option ℕ) → memory_at c (add_of (word_in address) offset) ≡ o → Goes 1 here (here + (address_count address offset + 2)) (Running run)
+      go (Some word) found = loaded_goes destination address offset word at_i below there fits found stands
+      go None found = absurd (never (ap (loads c destination) found))
+
+  -- ---- a store
+
+  saved_goes : (address : Operand) (offset : ℕ) (source : Operand) (old : ℕ) → IsAt (plain.Store address offset source) → IsThere address → IsWord offset → IsThere source
+      → memory_at c (add_of (word_in address) offset) ≡ Some old
+      → Stands code here (body program frames c.active.function here (plain.Store address offset source)) → Goes 1 here (here + (address_count address offset + operand_count source + 1)) (Running run)
+  saved_goes address offset source old at_i there fits from_there found stands =
+      let is : List Instr = address_code frame address offset in
+      let js : List Instr = operand_code frame SECOND source in
+      let last : List Instr = at_address StoreWord (operand_register SECOND source) address offset ∷ [] in
+      let hi : ℕ = here + (address_count address offset + operand_count source + 1) in
+      let long : length is ≡ address_count address offset = length_address frame address offset in
+      let more : length js ≡ operand_count source = length_operand frame SECOND source in
+      let q : Words = after_r is r w in
+      let v : Contents = after_w is r w in
+      let register : ℕ = address_register address offset in
+      let from : ℕ = operand_register SECOND source in
+      let a : ℕ = add_of (word_in address) offset in
+      let word : ℕ = word_in source in
+      let reaches = is_addressed globals_length (words_per_call * calls) frame (r FRAME) w c.active.slots r w s.zero_is refl refl address offset (held address there) fits in
+      let second = operand_puts globals_length (words_per_call * calls) frame (r FRAME) w c.active.slots q v (reaches.keeps.zero ∙ s.zero_is) reaches.keeps.base reaches.keeps.memory SECOND refl source (held source from_there) in
+      let keeps = puts_keeps globals_length (words_per_call * calls) js q v SECOND _ _ (second_scratch globals_length (words_per_call * calls)) second in
+      let p : Words = after_r js q v in
+      let u : Contents = after_w js q v in
+      let same : u ≡ w = keeps.memory ∙ reaches.keeps.memory in
+      let comes : memory_address (p (register % 32)) (near_half offset) ≡ a =
+      ap (λ (x : ℕ). memory_address x (near_half offset)) (second.others (register % 32) (below_32 register) (not_second (fits_signed offset) (is_zero_word address))) ∙ reaches.comes in
+      let lives = laid_live pages c.store a old s.laid found in
+      let live : IsLive u.store (memory_address (p (register % 32)) (near_half offset)) old =
+      subst (λ (x : ℕ). IsLive u.store x old) (sym comes)
+      (subst (λ (x : Contents). IsLive x.store a old) (sym same) (subst (λ (x : StoreState). IsLive x a old) (sym s.store) lives.0)) in
+      let x : Contents = saved_in u (memory_address (p (register % 32)) (near_half offset)) (p (from % 32)) in
+      let puts : x ≡ saved_in w a word =
+      ap (λ (y : Contents). saved_in y (memory_address (p (register % 32)) (near_half offset)) (p (from % 32))) same
+      ∙ (ap (λ (n : ℕ). saved_in w n (p (from % 32))) comes ∙ ap (saved_in w a) second.result) in
+      let d : Configuration = record c { active = record c.active { next = c.active.next + 1 }; store = saved c.store a word } in
+      let c' : Configuration = record c { store = saved c.store a word } in
+      let one = standing_saved program well frames fit addresses pages calls few c r w base (r RETURN_ADDRESS) (suc (length c.frames)) c.active.slots s a word (is_word source from_there) in
+      let two = standing_registers program well frames fit addresses pages calls few c' r (saved_in w a word) base (r RETURN_ADDRESS) (suc (length c.frames)) c.active.slots one p (keeps.zero ∙ reaches.keeps.zero) (keeps.base ∙ reaches.keeps.base) (keeps.left ∙ reaches.keeps.left) in
+      let three = standing_at program well frames fit addresses pages calls few c' p (saved_in w a word) base (r RETURN_ADDRESS) (suc (length c.frames)) c.active.slots two d refl refl refl refl s.input in
+      let with_back = subst (λ (b : ℕ). Standing program frames addresses pages calls d p (saved_in w a word) base b (suc (length c.frames)) c.active.slots) (sym (keeps.back ∙ reaches.keeps.back)) three in
+      let four = subst (λ (y : Contents). Standing program frames addresses pages calls d p y base (p RETURN_ADDRESS) (suc (length c.frames)) c.active.slots) (sym puts) with_back in
+      let line : here + length is + length js + 1 ≡ instruction_line program c.active.function (c.active.next + 1) = omega (arith, line_next program c.active.function c.active.next (plain.Store address offset source) at_i, long, more) in
+      let behind = stands_behind code here is (js ++ last) stands in
+      let at_last = stands_behind code (here + length is) js last behind in
+      walk_few code formed addresses globals_length (words_per_call * calls) 1 (length is + (length js + 1)) here hi c.output _ (Running run) (omega arith)
+      (walk_block code formed addresses globals_length (words_per_call * calls) is (length js + 1) here here hi c.output c.input _ r w run now (stands_first code here is (js ++ last) stands) reaches.keeps.safe (omega arith)
+      (λ e before.
+      walk_block code formed addresses globals_length (words_per_call * calls) js 1 (here + length is) (here + length is) hi c.output c.input _ q v e before (stands_first code (here + length is) js last behind) second.safe (omega arith)
+      (λ f after.
+      walk_save code formed addresses globals_length (words_per_call * calls) 0 (here + length is + length js) (here + length is + length js) hi c.output c.input _ p u f (register_of from) (register_of register) (near_half offset) old after at_last.0 (omega arith) live
+      (λ g later.
+      walk_end code formed addresses globals_length (words_per_call * calls) (suc (here + length is + length js)) hi c.output _ (Running g) (omega (arith, long, more))
+      (reached program well frames fit code formed addresses pages calls few c zeros (plain.Store address offset source) (states.Running d) (Running g) (zeros_allowed program (states.Running c)) at_i (ap (saves c a word) found)
+      (within program well frames fit code formed addresses pages calls few d four.laid.paged s.deep)
+      (inl (record {
+        run = g;
+        r = p;
+        w = x;
+        base = base;
+        is = refl;
+        now = now_at code formed addresses globals_length (words_per_call * calls) (here + length is + length js + 1) (instruction_line program c.active.function (c.active.next + 1)) c.output c.input p x g line later;
+        standing = four;
+      })))))))
+
+  pub store_goes : (address : Operand) (offset : ℕ) (source : Operand) → IsAt (plain.Store address offset source) → IsThere address → IsWord offset → IsThere source
+      → (performed program zeros c (plain.Store address offset source) ≡ states.Stuck c.output c.input → ⊥)
+      → Stands code here (body program frames c.active.function here (plain.Store address offset source)) → Goes 1 here (here + (address_count address offset + operand_count source + 1)) (Running run)
+  store_goes address offset source at_i there fits from_there never stands = go (memory_at c (add_of (word_in address) offset)) refl
+    where
+      go : (o : Option ℕ) → memory_at c (add_of (word_in address) offset) ≡ o → Goes 1 here (here + (address_count address offset + operand_count source + 1)) (Running run)
+      go (Some old) found = saved_goes address offset source old at_i there fits from_there found stands
+      go None found = absurd (never (ap (saves c (add_of (word_in address) offset) (word_in source)) found))

@@ -1,0 +1,47 @@
+-- How many lines some code has, proved by computation.
+use Rattle.std.proofs.Common.{◌≡◌, ℕ, List, [], ◌∷◌, refl}
+use Rattle.std.specs.Prelude.{sum_by, length}
+use Rattle.cyc_plain.specs.declared.instruction.Instruction.{Instruction}
+use Rattle.cyc_plain.specs.declared.instruction.Instruction.TheVariants.{Binary, Branch, Load, MoveWords}
+use Rattle.cyc_plain.specs.declared.instruction.Operand.TheVariants.{Slot, Word}
+use Rattle.cyc_plain.specs.declared.instruction.Comparison.TheVariants.{Equal, GreaterOrEqualUnsigned}
+use Rattle.cyc_plain.specs.declared.instruction.BinaryOperator.TheVariants.{Add, ShiftLeft}
+use Rattle.cyc_plain.specs.Program.{Program}
+use Rattle.cyc_frame.specs.declared.frame.Frame.{Frame}
+use Rattle.cyc_select.specs.Selection.{body_count, load_word, store_word}
+
+abbrev nothing : Program
+nothing = record { functions = []; globals = []; main = 0 }
+
+abbrev lines_of : List Instruction → ℕ
+lines_of code = sum_by (body_count nothing 0) code
+
+abbrev frame : Frame
+frame = record { words = 12; first_slot = 0; return_address = 11 }
+
+-- Element i of a fat pointer in the slots 0 to 2 (address, length, index), with i in the slot 3: null and range are tested,
+-- and the word comes into the slot 5.
+element_of_a_fat_pointer :
+    lines_of (
+    Branch Equal (Slot 0) (Word 0) 9
+    ∷ Binary Add 4 (Slot 2) (Slot 3)
+    ∷ Branch GreaterOrEqualUnsigned (Slot 4) (Slot 1) 9
+    ∷ Binary ShiftLeft 4 (Slot 4) (Word 2)
+    ∷ Binary Add 4 (Slot 0) (Slot 4)
+    ∷ Load 5 (Slot 4) 0
+    ∷ [])
+    ≡ 20
+element_of_a_fat_pointer = refl
+
+-- an offset that fits costs no line
+near_load : length (load_word frame 0 (Slot 1) 32767) ≡ 3
+near_load = refl
+
+far_load : length (load_word frame 0 (Slot 1) 32768) ≡ 5
+far_load = refl
+
+far_store : length (store_word frame (Slot 1) 32768 (Slot 2)) ≡ 5
+far_store = refl
+
+three_words : lines_of (MoveWords 0 3 3 ∷ []) ≡ 6
+three_words = refl

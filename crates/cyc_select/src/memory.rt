@@ -1,0 +1,112 @@
+//! The lines that load and store words of memory.
+ghost use Rattle.std.specs.Prelude.{◌≡◌, ◌+◌, ◌≤◌, OnOk};
+ghost use Rattle.cyc_select.specs.Selection.{ordinary, far_plan, address_code, address_register, near_half, at_address, address_count, load_word, store_word};
+ghost use Rattle.cyc_select.specs.Emission.{AddsLines, IsReached, IsFound};
+
+use crate::constants::{FIRST, SECOND};
+use crate::emitter::Emitter;
+use crate::instructions::{register, store_slot};
+use crate::numbers::fits_signed;
+use crate::operands::{operand_count, operand_register};
+use crate::operators::count_of_operation;
+use crate::plan::far_plan;
+use cyc_frame::Frame;
+use cyc_isa::{Instr, MemoryOp};
+use cyc_plain::Operand;
+use std::alloc::AllocError;
+
+/// The register that an offset is added to.
+fn address_register(address: Operand, offset: u32) -> u8
+    ensures { result ≡ address_register address offset }
+{
+    if fits_signed(offset) {
+        operand_register(FIRST, address)
+    } else {
+        FIRST
+    }
+}
+
+/// The offset in the instruction.
+fn near_half(offset: u32) -> u16
+    ensures { result ≡ near_half offset }
+{
+    if fits_signed(offset) {
+        (offset % 0x1_0000) as u16
+    } else {
+        0
+    }
+}
+
+/// A word of memory is loaded into a register, or stored from one.
+fn at_address(op: MemoryOp, target: u8, address: Operand, offset: u32) -> Instr
+    ensures { result ≡ at_address op target address offset }
+{
+    Instr::Memory {
+        op,
+        target: register(target),
+        base: register(address_register(address, offset)),
+        offset: near_half(offset),
+    }
+}
+
+/// The lines of an address.
+pub(crate) fn address_count(address: Operand, offset: u32) -> usize
+    ensures value { result ≡ address_count address offset }
+    ensures few { result ≤ 6 }
+{
+    if fits_signed(offset) {
+        operand_count(address)
+    } else {
+        count_of_operation(far_plan(address, offset))
+    }
+}
+
+impl Emitter {
+    /// The address comes into a register, but for an offset that fits the instruction.
+    fn address(&mut self, frame: Frame, address: Operand, offset: u32) -> Result<(), AllocError>
+        requires { IsFound frame address }
+        ensures { AddsLines result self.old self.new (ordinary (address_code frame address offset)) }
+    {
+        if fits_signed(offset) {
+            return self.operand(frame, FIRST, address);
+        }
+        self.operation_of(frame, far_plan(address, offset))
+    }
+
+    /// A word of memory comes into a slot.
+    pub(crate) fn load_word(
+        &mut self,
+        frame: Frame,
+        destination: usize,
+        address: Operand,
+        offset: u32,
+    ) -> Result<(), AllocError>
+        requires target { IsReached frame destination }
+        requires address { IsFound frame address }
+        ensures { AddsLines result self.old self.new (load_word frame destination address offset) }
+    {
+        self.address(frame, address, offset)?;
+        self.ordinary(&[
+            at_address(MemoryOp::LoadWord, FIRST, address, offset),
+            store_slot(frame, FIRST, destination),
+        ])
+    }
+
+    /// An operand goes into a word of memory.
+    pub(crate) fn store_word(
+        &mut self,
+        frame: Frame,
+        address: Operand,
+        offset: u32,
+        source: Operand,
+    ) -> Result<(), AllocError>
+        requires address { IsFound frame address }
+        requires source { IsFound frame source }
+        ensures { AddsLines result self.old self.new (store_word frame address offset source) }
+    {
+        self.address(frame, address, offset)?;
+        self.operand(frame, SECOND, source)?;
+        let from = operand_register(SECOND, source);
+        self.ordinary(&[at_address(MemoryOp::StoreWord, from, address, offset)])
+    }
+}
