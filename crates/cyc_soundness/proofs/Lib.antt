@@ -11,4 +11,6 @@ mod Supply
 mod Execution
 mod Calls
 mod Unwinding
-mod Whole
+mod BuiltLemmas
+-- what `cyc_system` cites
+pub mod Whole

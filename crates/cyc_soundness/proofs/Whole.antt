@@ -2,14 +2,18 @@
 use Rattle.std.proofs.Common.{◌≡◌, ◌≢◌, inl, inr, ℕ, zero, suc, Bool, true, false, List, [], ◌∷◌, length, map, Option, Some, None, slice_get, refl, sym, ap, subst}
 use Rattle.std.specs.Prelude.{if◌then◌else◌}
 use Rattle.std.proofs.lemmas.Bool.{eq-eqb}
+use Rattle.cyc_syntax.specs.declared.tree.PointerKind.{PointerKind}
 use Rattle.cyc_syntax.specs.declared.tree.PointerKind.TheVariants as marks
+use Rattle.cyc_types.specs.declared.region.Region.{Region}
 use Rattle.cyc_syntax.specs.Symbols.{Place}
 use Rattle.cyc_types.specs.Types.{Ty}
 use Rattle.cyc_types.specs.Types as types
 use Rattle.cyc_types.specs.TypedTrees.{GlobalVariable, Signature, Function, Program}
 use Rattle.cyc_types.specs.Rules.{AllKept, Derives}
 use Rattle.cyc_types.specs.typing.Scopes.{signature_of_ints}
-use Rattle.cyc_types.specs.typing.WellTyped.{signature_of, IsWellTypedProgram, AreWellTypedFunctions}
+use Rattle.cyc_types.specs.typing.Tests.{is_non_null}
+use Rattle.cyc_types.specs.typing.WellTyped.{signature_of, IsWellTypedProgram, AreWellTypedFunctions, IsWellTypedGlobal, AreWellTypedGlobals}
+use Rattle.cyc_types.specs.Built.{is_built}
 use Rattle.cyc_types.specs.flow.States as flow
 use Rattle.cyc_types.specs.flow.States.{is_reached}
 use Rattle.cyc_types.specs.flow.Programs.{end_demanded, rule_functions, IsAllowedProgram}
@@ -25,9 +29,10 @@ use Rattle.cyc_soundness.specs.Worlds.{ObjectType, Typing, global_type, HasType,
 use Rattle.cyc_soundness.specs.Frames.{Bound, IsBound, AreVariables, LiveIn, itself, Holds, Exits, AreGlobals}
 use Rattle.cyc_soundness.specs.Classes.{InFunctions, IsOfVariables}
 use Rattle.cyc_soundness.specs.Stacks.{IsAccepted, Val, IsStack, IsFocus, IsWell}
-use Rattle.cyc_soundness.specs.Sound.{MayBeNull, HasValue, HaveValues, IsSound}
+use Rattle.cyc_soundness.specs.Sound.{IsSound}
 use Rattle.cyc_soundness.proofs.Numbers.{some_same}
 use Rattle.cyc_soundness.proofs.TypeLemmas.{kind_meant}
+use Rattle.cyc_soundness.proofs.BuiltLemmas.{built_kept}
 use Rattle.cyc_soundness.proofs.StackLemmas.{AreAccepted}
 use Rattle.cyc_soundness.proofs.Evaluation.{running, not_true, of_map, evaluate}
 use Rattle.cyc_soundness.proofs.Supply.{given, declares_full}
@@ -99,27 +104,25 @@ accepted_among p (f ∷ hs) (one, well) (u, d, flows) (in_one, kept) (suc n) h f
 abbrev globals_typed : List GlobalVariable → Typing
 globals_typed vs = record { objects = map (λ (v : GlobalVariable). global_type (read v.of_type)) vs; full = map (λ (v : GlobalVariable). true) vs }
 
-null_typed : (g : Typing) (t : Ty) → MayBeNull t → HasType g (read t) values.Null
-null_typed g types.Int is = absurd is
-null_typed g (types.Pointer marks.Nullable t r) is = tt
-null_typed g (types.Pointer marks.NonNull t r) is = absurd (let z : true ≡ false = is in cc)
-null_typed g (types.Pointer marks.Fat t r) is = tt
-null_typed g (types.Handle r) is = absurd is
-null_typed g (types.Key r) is = absurd is
-null_typed g (types.Struct n rs) is = absurd is
+null_typed : (g : Typing) (k : PointerKind) (t : Ty) (r : Region) → is_non_null (types.Pointer k t r) ≡ false → HasType g (read (types.Pointer k t r)) values.Null
+null_typed g marks.Nullable t r is = tt
+null_typed g marks.NonNull t r is = absurd (let z : true ≡ false = is in cc)
+null_typed g marks.Fat t r is = tt
 
-value_typed : (g : Typing) (v : GlobalVariable) → HasValue v → HasType g (read v.of_type) (constant_value v.value)
+value_typed : (g : Typing) (v : GlobalVariable) → IsWellTypedGlobal v → HasType g (read v.of_type) (constant_value v.value)
 value_typed g v (inl (int, (word, is))) = subst (λ z. HasType g (read v.of_type) (constant_value z)) (sym is) (subst (λ t. HasType g (read t) (values.Int word)) (sym int) tt)
-value_typed g v (inr (null, is)) = subst (λ z. HasType g (read v.of_type) (constant_value z)) (sym is) (null_typed g v.of_type null)
+value_typed g v (inr (k, t, r, pointer, null, is)) =
+    subst (λ z. HasType g (read v.of_type) (constant_value z)) (sym is)
+    (subst (λ u. HasType g (read u) values.Null) (sym pointer) (null_typed g k t r (subst (λ u. is_non_null u ≡ false) pointer null)))
 
-global_is : (g : Typing) (v : GlobalVariable) → HasValue v → IsObject g true (global_type (read v.of_type)) (global_object v)
+global_is : (g : Typing) (v : GlobalVariable) → IsWellTypedGlobal v → IsObject g true (global_type (read v.of_type)) (global_object v)
 global_is g v has = record { owner = refl; cells = ((sym (kind_meant v.of_type), value_typed g v has), tt) }
 
 mapped_length : {A B C : Type 0} (f : A → B) (h : A → C) (xs : List A) → length (map f xs) ≡ length (map h xs)
 mapped_length f h [] = refl
 mapped_length f h (x ∷ xs) = ap suc (mapped_length f h xs)
 
-globals_each : (g : Typing) (vs : List GlobalVariable) → HaveValues vs → (n : ℕ) (t : ObjectType) → slice_get (globals_typed vs).objects n ≡ Some t
+globals_each : (g : Typing) (vs : List GlobalVariable) → AreWellTypedGlobals vs → (n : ℕ) (t : ObjectType) → slice_get (globals_typed vs).objects n ≡ Some t
     → (x : Object) × (full : Bool) × (slice_get (map global_object vs) n ≡ Some x) × (slice_get (globals_typed vs).full n ≡ Some full) × IsObject g full t x
 globals_each g [] have n t found = absurd (let z : None ≡ Some t = found in cc)
 globals_each g (v ∷ vs) (has, have) zero t found =
@@ -133,8 +136,8 @@ all_globals [] n t found = absurd (let z : None ≡ Some t = found in cc)
 all_globals (v ∷ vs) zero t found = (ap (λ u. Some (global_type (read u))) (some_same v.of_type t found), refl)
 all_globals (v ∷ vs) (suc n) t found = all_globals vs n t found
 
-well_start : (p : Program) (input : List ℕ) → AreAccepted p → IsWellTypedProgram p → HaveValues p.globals → IsWell p (start p input)
-well_start p input accepted well have =
+well_start : (p : Program) (input : List ℕ) → AreAccepted p → IsWellTypedProgram p → IsWell p (start p input)
+well_start p input accepted well =
     let (h, at, same) = of_map signature_of p.functions p.main (signature_of_ints []) well.main in
     let (end, ok) = accepted p.main h at in
     let none : h.parameters ≡ [] = ap (λ (s : Signature). s.parameters) same in
@@ -145,7 +148,7 @@ well_start p input accepted well have =
     let objects : IsTyped g w.objects = record {
       count = mapped_length global_object (λ (v : GlobalVariable). global_type (read v.of_type)) p.globals;
       flags = mapped_length global_object (λ (v : GlobalVariable). true) p.globals;
-      each = globals_each g p.globals have;
+      each = globals_each g p.globals well.globals;
     } in
     let count : 0 ≡ length h.parameters = sym (ap length none) in
     subst (λ o. IsWell p (called o [] (Main ∷ []) w)) (sym at)
@@ -155,7 +158,11 @@ well_start p input accepted well have =
 
 -- ---- the theorem
 
-pub variables_sound : (p : Program) → IsWellTypedProgram p → HaveValues p.globals → IsAllowedProgram p → IsOfVariables p → IsSound p
-variables_sound p well have allowed kept input count =
+pub variables_sound : (p : Program) → IsWellTypedProgram p → IsAllowedProgram p → IsOfVariables p → IsSound p
+variables_sound p well allowed kept input count =
     let accepted : AreAccepted p = accepted_among p p.functions well.functions allowed kept in
-    well_alive p (run p input count) (well_steps p count (start p input) accepted (nests_start p input) (well_start p input accepted well have))
+    well_alive p (run p input count) (well_steps p count (start p input) accepted (nests_start p input) (well_start p input accepted well))
+
+-- what is built stands in this class
+pub built_sound : (p : Program) → IsWellTypedProgram p → IsAllowedProgram p → is_built p ≡ true → IsSound p
+built_sound p well allowed built = variables_sound p well allowed (built_kept p built)
