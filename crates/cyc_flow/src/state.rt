@@ -76,26 +76,25 @@ impl State {
         }
     }
 
-    /// The same but for one local, of which this is known. Of code that is never run nothing is kept.
-    pub(crate) fn with_fullness(mut self, number: usize, fullness: Fullness) -> State
-        ensures { view_state result ≡ with_fullness (view_fullness fullness) (view_state self) number }
+    /// Of one local this is known now. Of code that is never run nothing is kept.
+    pub(crate) fn set(&mut self, number: usize, fullness: Fullness)
+        ensures { view_state self.new ≡ with_fullness (view_fullness fullness) (view_state self.old) number }
     {
-        if let State::Reached(locals) = &mut self {
+        if let State::Reached(locals) = self {
             if number < locals.len() {
                 locals[number] = fullness;
             }
         }
-        self
     }
 
-    /// The same of each of these locals.
+    /// The same but for these locals, of each of which this is known.
     #[tactic(auto, using(std::proofs::lemmas::List::drop_more))]
     pub(crate) fn with_each(self, numbers: &[usize], fullness: Fullness) -> State
         ensures { view_state result ≡ with_each (view_fullness fullness) numbers.now (view_state self) }
     {
         let mut state = self;
         for number in numbers {
-            state = state.with_fullness(*number, fullness);
+            state.set(*number, fullness);
         }
         state
     }
@@ -108,7 +107,7 @@ impl State {
         let mut state = self;
         for number in numbers {
             if !state.fullness(*number).is_locked() {
-                state = state.with_fullness(*number, Fullness::Vacant);
+                state.set(*number, Fullness::Vacant);
             }
         }
         state
@@ -139,6 +138,19 @@ impl State {
             (State::Reached(_), State::Unreached) => false,
             (State::Reached(here), State::Reached(there)) => are_as_full(here, there),
         }
+    }
+
+    /// The first local that is emptier here than there, or 0 where none is: only what is said to a person depends on it.
+    pub(crate) fn first_emptier(&self, other: &State) -> usize {
+        let (State::Reached(here), State::Reached(there)) = (self, other) else {
+            return 0;
+        };
+        for i in 0..here.len().min(there.len()) {
+            if !here[i].is_as_full(there[i]) {
+                return i;
+            }
+        }
+        0
     }
 
     pub(crate) fn copy(&self, alloc: Global) -> Result<State, AllocError>
