@@ -14,6 +14,8 @@ use Rattle.cyc_isa.specs.declared.operand.Register.{Register}
 use Rattle.cyc_isa.specs.declared.operand.TrapCode.{TrapCode}
 use Rattle.cyc_isa.specs.Effect.{immediate_result, load_upper_result, arithmetic_result, shift_result, high_result, low_result, memory_address}
 use Rattle.cyc_store.specs.State.{StoreState, word_at}
+use Rattle.cyc_store.specs.Services as services
+use Rattle.cyc_store.specs.Services.{Call, Allocate, refusal}
 use Rattle.cyc_machine.specs.declared.event.Cause.TheVariants as causes
 use Rattle.cyc_machine.specs.declared.event.End.TheVariants as ends
 use Rattle.cyc_machine.specs.declared.event.Event.{Event}
@@ -21,7 +23,7 @@ use Rattle.cyc_machine.specs.declared.event.Event.TheVariants.{Ran, WantsByte, P
 use Rattle.cyc_machine.specs.declared.phase.Phase.TheVariants as phases
 use Rattle.cyc_machine.specs.State as machines
 use Rattle.cyc_machine.specs.State.{Core, Place, InText, InGlobals, InStack, Nowhere, register, with_register, place_of, is_dead, loaded, stored, over, data_base, stack_base, word_number}
-use Rattle.cyc_machine.specs.Step.{Action, Does, Calls, Acts, Service, GetByte, PutByte, EndReturned, EndUncaught, EndFull, Serves, service_of, asked, calls, executes, after, cause_of, first_of, is_nowhere, is_text, is_aligned}
+use Rattle.cyc_machine.specs.Step.{Action, Does, Calls, Acts, Service, GetByte, PutByte, EndReturned, EndUncaught, EndFull, Asks, told_by, answered, with_store, Serves, service_of, asked, calls, executes, after, cause_of, first_of, is_nowhere, is_text, is_aligned}
 use Rattle.cyc_machine.specs.Run.{told}
 use Rattle.cyc_machine.proofs.StepLaws.{executes-performs}
 use Rattle.cyc_plain.specs.State.{Words, put}
@@ -268,3 +270,36 @@ pub ends_full : (c : Configuration) (code : TrapCode) (next : State) → word_in
 ends_full c code next number goes =
     let (event, s, (same_event, same), is) = serves c code EndFull 11 next number refl goes in
     seen c next event (Ended ends.Full) s (over (machine_of c) ends.Full) same_event same is
+
+-- ---- calls of the store
+
+-- the block that registers ask for
+abbrev pub asked_block : Configuration → Call
+asked_block c = Allocate (word_in c 4) (word_in c 5)
+
+abbrev pub given_block : Configuration → (address : ℕ) → StoreState → Configuration
+given_block c address store = record c {
+  registers = (with_register (core_of c) 2 address).registers;
+  store = store;
+  line = c.line + 1;
+}
+
+pub makes_block : (c : Configuration) (code : TrapCode) (next : State) → word_in c 2 ≡ 9 → refusal c.store (asked_block c) ≡ None → Performs c (Exception Syscall code) next
+    → (choice : services.Choice) × services.IsAllowed c.store (asked_block c) choice
+    × (next ≡ Running (given_block c choice.address (services.served c.store (asked_block c) choice)))
+makes_block c code next number free goes =
+    let (event, s, (answer, store, serving, same_event, same), is) = serves c code (Asks (asked_block c)) 9 next number refl goes in
+    let (choice, allowed, answer_is, store_is) = subst (λ (o : Option services.Refusal). services.ServesBy c.store (asked_block c) o answer store) free serving in
+    let left : machines.State = answered (with_store (machine_of c) (services.served c.store (asked_block c) choice)) (services.Allocated choice.address) in
+    let left_is : s ≡ left =
+    same
+    ∙ (ap (λ (a : services.Answer). answered (with_store (machine_of c) store) a) answer_is
+    ∙ ap (λ (t : StoreState). answered (with_store (machine_of c) t) (services.Allocated choice.address)) store_is) in
+    (choice, allowed, seen c next event Ran s left (same_event ∙ ap told_by answer_is) left_is is)
+
+pub has_no_room : (c : Configuration) (code : TrapCode) (next : State) → word_in c 2 ≡ 9 → refusal c.store (asked_block c) ≡ Some services.Full → Performs c (Exception Syscall code) next
+    → next ≡ labelled.Ended ending.Full c.output c.input
+has_no_room c code next number full goes =
+    let (event, s, (answer, store, serving, same_event, same), is) = serves c code (Asks (asked_block c)) 9 next number refl goes in
+    let (answer_is, store_is) = subst (λ (o : Option services.Refusal). services.ServesBy c.store (asked_block c) o answer store) full serving in
+    seen c next event (Ended ends.Full) s (over (with_store (machine_of c) store) ends.Full) (same_event ∙ ap told_by answer_is) (same ∙ ap (answered (with_store (machine_of c) store)) answer_is) is

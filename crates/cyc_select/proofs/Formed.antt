@@ -18,7 +18,7 @@ use Rattle.cyc_isa.specs.Decoding.{register_of}
 use Rattle.cyc_isa.specs.declared.instr.BranchOp.TheVariants as branch
 use Rattle.cyc_isa.specs.declared.instr.MemoryOp.TheVariants.{LoadWord, StoreWord}
 use Rattle.cyc_isa.specs.declared.instr.MoveFromOp.{MoveFromOp}
-use Rattle.cyc_machine.specs.declared.constants.TheConstants.{ARGUMENT, END_UNCAUGHT, PUT_BYTE, SECOND_ARGUMENT, SERVICE}
+use Rattle.cyc_machine.specs.declared.constants.TheConstants.{ALLOCATE, ARGUMENT, END_UNCAUGHT, PUT_BYTE, SECOND_ARGUMENT, SERVICE}
 use Rattle.cyc_plain.specs.Program.{Routine, Program, CodePlace, no_routine, routine_at}
 use Rattle.cyc_plain.specs.Step.{instruction_at}
 use Rattle.cyc_plain.specs.WellFormed.{IsOperand, IsInRange, IsWellFormed, HasWords, IsOfWord, HasWord}
@@ -127,6 +127,7 @@ count_some program function (plain.StoreGlobal global source) in_range = omega a
 count_some program function (plain.MoveWords destination source count) in_range = omega (arith, length_registers count in_range.few, in_range.some)
 count_some program function (plain.Load destination address offset) in_range = omega arith
 count_some program function (plain.Store address offset source) in_range = omega arith
+count_some program function (plain.Allocate destination handle words) in_range = omega arith
 count_some program function (plain.Uncaught tag value) in_range = omega arith
 
 module _ (program : Program) (well : IsWellFormed program) (words : HasWords program) (frames : List Frame) (fit : AreFrames program frames) where
@@ -395,6 +396,10 @@ module _ (program : Program) (well : IsWellFormed program) (words : HasWords pro
         let last : List Instr = at_address StoreWord (operand_register SECOND source) address offset ∷ [] in
         formed_append (address_code frame address offset) (js ++ last) (address_formed address offset (a, fits) near)
         (formed_append js last (operand_formed SECOND source (b, also)) ((refl, near_fits offset), tt))
+    body_formed (plain.Allocate destination handle words) n (a, b, e) (fits, also) long =
+        let last : List Instr = small SERVICE ALLOCATE ∷ syscall ∷ store_slot frame SERVICE destination ∷ [] in
+        formed_append (load_code frame ARGUMENT handle) (load_code frame SECOND_ARGUMENT words ++ last) (load_formed ARGUMENT handle (b, fits))
+        (formed_append (load_code frame SECOND_ARGUMENT words) last (load_formed SECOND_ARGUMENT words (e, also)) ((refl, (omega arith)), ((refl, tt), ((refl, slot_fits destination a), tt))))
     body_formed (plain.Uncaught tag value) n below (tag_fits, value_fits) long =
         formed_append (word_code ARGUMENT tag) (load_code frame SECOND_ARGUMENT value ++ small SERVICE END_UNCAUGHT ∷ syscall ∷ []) (word_formed ARGUMENT tag tag_fits)
         (formed_append (load_code frame SECOND_ARGUMENT value) (small SERVICE END_UNCAUGHT ∷ syscall ∷ []) (load_formed SECOND_ARGUMENT value (below, value_fits)) ((refl, (omega arith)), ((refl, tt), tt)))
@@ -416,6 +421,7 @@ module _ (program : Program) (well : IsWellFormed program) (words : HasWords pro
     behind_formed (plain.MoveWords destination source count) in_range = tt
     behind_formed (plain.Load destination address offset) in_range = tt
     behind_formed (plain.Store address offset source) in_range = tt
+    behind_formed (plain.Allocate destination handle words) in_range = tt
     behind_formed (plain.Uncaught tag value) in_range = tt
 
   function_formed : (function n : ℕ) → function < length program.functions → n ≡ function_line program function → Formed (code_lines program frames function n (routine_at program function).code)

@@ -49,6 +49,7 @@ count_small program function few (plain.StoreGlobal global source) = omega (arit
 count_small program function few (plain.MoveWords destination source count) = omega (arith, registers_few count)
 count_small program function few (plain.Load destination address offset) = omega (arith, address_small address offset)
 count_small program function few (plain.Store address offset source) = omega (arith, address_small address offset, operand_small source)
+count_small program function few (plain.Allocate destination handle words) = omega (arith, load_small handle, load_small words)
 count_small program function few (plain.Uncaught tag value) = omega (arith, word_small tag, load_small value)
 
 -- the lines of a move of several words

@@ -12,7 +12,7 @@ use Rattle.cyc_plain.specs.declared.instruction.BinaryOperator.TheVariants as bi
 use Rattle.cyc_plain.specs.declared.instruction.Operand.{Operand}
 use Rattle.cyc_isa.specs.declared.instr.MemoryOp.TheVariants.{LoadWord, StoreWord}
 use Rattle.cyc_isa.specs.declared.instr.MoveFromOp.{MoveFromOp}
-use Rattle.cyc_machine.specs.declared.constants.TheConstants.{ARGUMENT, END_UNCAUGHT, PUT_BYTE, SECOND_ARGUMENT, SERVICE, RETURN_ADDRESS}
+use Rattle.cyc_machine.specs.declared.constants.TheConstants.{ALLOCATE, ARGUMENT, END_UNCAUGHT, PUT_BYTE, SECOND_ARGUMENT, SERVICE, RETURN_ADDRESS}
 use Rattle.cyc_plain.specs.Program.{Routine, Program, routine_at, operator_size, instruction_size, size}
 use Rattle.cyc_frame.specs.Layout.{frame_at}
 use Rattle.cyc_frame.specs.declared.frame.Frame.{Frame}
@@ -126,6 +126,10 @@ module _ (program : Program) (frames : List Frame) (few_results : (function : �
       let js : List Instr = operand_code (frame_at frames function) SECOND source in
       let last : List Instr = at_address StoreWord (operand_register SECOND source) address offset ∷ [] in
       omega (arith, words_ordinary (is ++ (js ++ last)), length-append is (js ++ last), length-append js last, length_address (frame_at frames function) address offset, address_small address offset, length_operand (frame_at frames function) SECOND source, operand_small source)
+  body_words function here (plain.Allocate destination handle words) =
+      let last : List Instr = small SERVICE ALLOCATE ∷ syscall ∷ store_slot (frame_at frames function) SERVICE destination ∷ [] in
+      let more : List Instr = load_code (frame_at frames function) SECOND_ARGUMENT words ++ last in
+      omega (arith, words_ordinary (load_code (frame_at frames function) ARGUMENT handle ++ more), length-append (load_code (frame_at frames function) ARGUMENT handle) more, length-append (load_code (frame_at frames function) SECOND_ARGUMENT words) last, length_load (frame_at frames function) ARGUMENT handle, length_load (frame_at frames function) SECOND_ARGUMENT words, load_small handle, load_small words)
   body_words function here (plain.Uncaught tag value) =
       let last : List Instr = small SERVICE END_UNCAUGHT ∷ syscall ∷ [] in
       let loads : List Instr = load_code (frame_at frames function) SECOND_ARGUMENT value ++ last in

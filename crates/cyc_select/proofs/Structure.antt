@@ -11,7 +11,7 @@ use Rattle.cyc_isa.specs.declared.instr.Instr.{Instr}
 use Rattle.cyc_isa.specs.declared.instr.BranchOp.TheVariants as branch
 use Rattle.cyc_isa.specs.declared.instr.MemoryOp.TheVariants.{LoadWord, StoreWord}
 use Rattle.cyc_isa.specs.declared.instr.MoveFromOp.{MoveFromOp}
-use Rattle.cyc_machine.specs.declared.constants.TheConstants.{ARGUMENT, END_UNCAUGHT, PUT_BYTE, SECOND_ARGUMENT, SERVICE}
+use Rattle.cyc_machine.specs.declared.constants.TheConstants.{ALLOCATE, ARGUMENT, END_UNCAUGHT, PUT_BYTE, SECOND_ARGUMENT, SERVICE}
 use Rattle.cyc_plain.specs.Program.{Routine, Program, no_routine, routine_at}
 use Rattle.cyc_plain.specs.Step.{instruction_at}
 use Rattle.cyc_plain.proofs.Steps.{function_known}
@@ -101,6 +101,10 @@ module _ (program : Program) (frames : List Frame) (few_results : (function : �
       let js : List Instr = operand_code (frame_at frames function) SECOND source in
       let last : List Instr = at_address StoreWord (operand_register SECOND source) address offset ∷ [] in
       omega (arith, length_ordinary (is ++ (js ++ last)), length-append is (js ++ last), length-append js last, length_address (frame_at frames function) address offset, length_operand (frame_at frames function) SECOND source)
+  length_body function here (plain.Allocate destination handle words) =
+      let last : List Instr = small SERVICE ALLOCATE ∷ syscall ∷ store_slot (frame_at frames function) SERVICE destination ∷ [] in
+      let more : List Instr = load_code (frame_at frames function) SECOND_ARGUMENT words ++ last in
+      omega (arith, length_ordinary (load_code (frame_at frames function) ARGUMENT handle ++ more), length-append (load_code (frame_at frames function) ARGUMENT handle) more, length-append (load_code (frame_at frames function) SECOND_ARGUMENT words) last, length_load (frame_at frames function) ARGUMENT handle, length_load (frame_at frames function) SECOND_ARGUMENT words)
   length_body function here (plain.Uncaught tag value) =
       let last : List Instr = small SERVICE END_UNCAUGHT ∷ syscall ∷ [] in
       let loads : List Instr = load_code (frame_at frames function) SECOND_ARGUMENT value ++ last in
@@ -126,6 +130,7 @@ module _ (program : Program) (frames : List Frame) (few_results : (function : �
   length_behind function (plain.MoveWords destination source count) = refl
   length_behind function (plain.Load destination address offset) = refl
   length_behind function (plain.Store address offset source) = refl
+  length_behind function (plain.Allocate destination handle words) = refl
   length_behind function (plain.Uncaught tag value) = refl
 
   length_both : (function here : ℕ) (i : Instruction) → length (body program frames function here i ++ behind program frames function i) ≡ count_of program function i

@@ -217,6 +217,27 @@ module _ (globals stack : ℕ) (c : Configuration) (r : Words) (w : Contents) (v
         | inr other ↦ put-other (cell (memory_of c)) a b word other ∙ (view.mem b b_at ∙ sym (put-other w.words a b word other))
       ]
 
+  -- a register is written, and the store is another
+  pub view_served : (n word line : ℕ) (store other : StoreState) → n < 32 → IsWritable n → other ≡ store
+      → View globals stack (record c { registers = (with_register (core_of c) n word).registers; store = other; line = line }) (put r n word) (record w { store = store })
+  view_served n word line store other below writable same =
+      let put_one = view_put n word word line below writable refl in
+      record {
+        wide = put_one.wide;
+        data_words = view.data_words;
+        stack_words = view.stack_words;
+        few_globals = view.few_globals;
+        few_stack = view.few_stack;
+        reg = put_one.reg;
+        high = put_one.high;
+        low = put_one.low;
+        mem = λ a at.
+            cell-store c.globals c.stack c.store other a (omega (arith, view.data_words, view.few_globals)) (omega (arith, view.stack_words, view.few_stack))
+            (subst (λ (m : ℕ). IsCell m (length c.stack) a) (sym view.data_words) (subst (λ (m : ℕ). IsCell globals m a) (sym view.stack_words) at))
+            ∙ view.mem a at;
+        store = same;
+      }
+
   -- a word of a live block is written
   pub view_saved : (a old address v word line : ℕ) → IsLive w.store a old → address ≡ a → v ≡ word
       → View globals stack (record c {

@@ -1,5 +1,5 @@
 -- Walks: stretches of a run of labelled code through lines whose numbers rise.
-use Rattle.std.proofs.Common.{◌≡◌, ◌≢◌, ℕ, suc, ◌+◌, ◌-◌, ◌<◌, ◌≤◌, ◌%◌, drop, Bool, true, List, [], ◌∷◌, ◌++◌, length, Option, Some, slice_get, refl, sym, ap, subst, ◌∙◌, arith, inl, inr}
+use Rattle.std.proofs.Common.{◌≡◌, ◌≢◌, ℕ, suc, ◌+◌, ◌-◌, ◌<◌, ◌≤◌, ◌%◌, drop, Bool, true, List, [], ◌∷◌, ◌++◌, length, Option, Some, None, slice_get, refl, sym, ap, subst, ◌∙◌, arith, inl, inr}
 use Rattle.std.specs.Prelude.{if◌then◌else◌, Contains}
 use Rattle.std.specs.List.{AllByRecursion, range_with_len}
 use Rattle.std.proofs.lemmas.List.FromFn.{get_or-range_with_len, length-range_with_len}
@@ -12,6 +12,10 @@ use Rattle.cyc_isa.specs.declared.operand.Register.{Register}
 use Rattle.cyc_isa.specs.declared.instr.MoveFromOp.TheVariants.{High, Low}
 use Rattle.cyc_words.specs.Simulation as simulation
 use Rattle.cyc_words.specs.Simulation.{Machine, Comes, IsDistinct}
+use Rattle.cyc_store.specs.State.{StoreState}
+use Rattle.cyc_store.specs.Services as services
+use Rattle.cyc_store.specs.Services.{Call, Allocate, refusal}
+use Rattle.cyc_store.specs.declared.range.TheConstants.{MOST_PAGES}
 use Rattle.cyc_plain.specs.State.{Words, AreWords, put}
 use Rattle.cyc_plain.proofs.SlotLaws.{put-same, put-other}
 use Rattle.cyc_plain.proofs.Placed.{holds_at}
@@ -29,8 +33,8 @@ use Rattle.cyc_isa.specs.Decoding.{trap_code_of}
 use Rattle.cyc_select.specs.Machine.{Configuration, State, Running, Ended, Step, Executes, ExecutesAt, Performs, PerformsOrdinary, machine, status_of, output_of, linked, at, word_in, holds_of}
 use Rattle.cyc_select.specs.Selection.{ordinary, syscall}
 use Rattle.cyc_select.proofs.Cells.{IsLive}
-use Rattle.cyc_select.proofs.Views.{Contents, saved_in, View, does_r, does_w, IsSafe, IsWritable, moved, view_at, view_seen, view_put}
-use Rattle.cyc_select.proofs.Effects.{performed, moved_view, loads_live, stores_live, loaded_view, saved_view, byte_of, given_byte, gets_byte, printed_byte, puts_byte, ends_returned, ends_uncaught, ends_full}
+use Rattle.cyc_select.proofs.Views.{Contents, saved_in, View, does_r, does_w, IsSafe, IsWritable, moved, view_at, view_seen, view_put, view_served}
+use Rattle.cyc_select.proofs.Effects.{performed, moved_view, loads_live, stores_live, loaded_view, saved_view, asked_block, given_block, makes_block, has_no_room, byte_of, given_byte, gets_byte, printed_byte, puts_byte, ends_returned, ends_uncaught, ends_full}
 
 -- ---- rising places
 
@@ -430,5 +434,85 @@ module _ (code : Labelled) (formed : IsFormed code) (addresses : ℕ → ℕ) (g
       walk_step 0 lo hi out Goal c (Ended Full out input) (omega (arith, from, now.at_line)) now.output
       (λ next step.
       ends_full c (trap_code_of 0) next (now.view.reg 2 (omega arith) ∙ number) (syscall_now k out input r w c next now stands step)
+      ∙ ended_as k out input r w c _ _ now refl)
+      (walk_end (suc c.line) hi out Goal _ (omega (arith, below, now.at_line)) goal)
+
+  -- ---- a block
+
+  -- the last line of a stretch
+  pub comes_last : (k : ℕ) (out input : List ℕ) (Goal : State → Type 0) (r : Words) (w : Contents) (c : Configuration) (i : Instr)
+      → Now k out input r w c → slice_get code.lines k ≡ Some (lines.Ordinary i) → IsSafe globals stack i r
+      → ((d : Configuration) → Now (k + 1) out input (does_r i r w) (does_w i r w) d → Goal (Running d))
+      → Comes (machine code addresses) (Quiet out) Goal (k ∷ []) (Running c)
+  comes_last k out input Goal r w c i now stands safe goes =
+      let ordinary_one = safe_ordinary globals stack i r safe in
+      let view = moved_view globals stack c r w now.view i safe in
+      let fits = (holds_at (IsFormedLine (length code.lines)) code.lines k (lines.Ordinary i) formed stands).1 in (
+        now.at_line,
+        (refl, now.output),
+        λ next step.
+            subst Goal (sym (performed globals stack c r w now.view i next safe (performs_now k out input r w c i next now stands ordinary_one step)))
+            (goes (moved c i) (moved_now k out input r w c i now fits view)),
+      )
+
+  -- what registers ask for
+  asks_now : (k : ℕ) (out input : List ℕ) (r : Words) (w : Contents) (c : Configuration) (handle size : ℕ) → Now k out input r w c → r 4 ≡ handle → r 5 ≡ size → asked_block c ≡ Allocate handle size
+  asks_now k out input r w c handle size now first second =
+      ap (λ (x : ℕ). Allocate x (word_in c 5)) (now.view.reg 4 (omega arith) ∙ first) ∙ ap (Allocate handle) (now.view.reg 5 (omega arith) ∙ second)
+
+  -- One is made, where it is not refused. The places behind do not depend on what the store chooses.
+  pub walk_allocate : (n k lo hi : ℕ) (out input : List ℕ) (Goal : State → Type 0) (r : Words) (w : Contents) (c : Configuration) (places : List ℕ) (handle size : ℕ) (store : StoreState)
+      → Now k out input r w c → slice_get code.lines k ≡ Some (lines.Ordinary syscall) → lo ≤ k → r 2 ≡ 9 → r 4 ≡ handle → r 5 ≡ size → w.store ≡ store
+      → refusal store (Allocate handle size) ≡ None → store.pages ≤ MOST_PAGES → n ≤ length places → Rises (suc k) hi places
+      → ((choice : services.Choice) → services.IsAllowed store (Allocate handle size) choice → IsWord choice.address → (d : Configuration)
+      → Now (k + 1) out input (put r 2 choice.address) (record w { store = services.served store (Allocate handle size) choice }) d
+      → Comes (machine code addresses) (Quiet out) Goal places (Running d))
+      → Walk (suc n) lo hi out Goal (Running c)
+  walk_allocate n k lo hi out input Goal r w c places handle size store now stands from number first second store_is free few enough rises rest = record {
+    places = k ∷ places;
+    enough = omega (arith, enough);
+    rises = (from, rises);
+    comes = (
+      now.at_line,
+      (refl, now.output),
+      λ next step.
+          let (choice, allowed, is) = makes_block c (trap_code_of 0) next (now.view.reg 2 (omega arith) ∙ number) unrefused (syscall_now k out input r w c next now stands step) in
+          let may : services.IsAllowed store (Allocate handle size) choice =
+          subst (λ (s : StoreState). services.IsAllowed s (Allocate handle size) choice) here (subst (λ (call : Call). services.IsAllowed c.store call choice) asks allowed) in
+          let word : IsWord choice.address = omega (arith, may.may.0.high, few) in
+          let leaves : services.served c.store (asked_block c) choice ≡ services.served store (Allocate handle size) choice =
+          ap (λ (call : Call). services.served c.store call choice) asks ∙ ap (λ (s : StoreState). services.served s (Allocate handle size) choice) here in
+          subst (Comes (machine code addresses) (Quiet out) Goal places) (sym is)
+          (rest choice may word (given_block c choice.address (services.served c.store (asked_block c) choice)) (record {
+            view = view_served globals stack c r w now.view 2 choice.address (c.line + 1) (services.served store (Allocate handle size) choice) (services.served c.store (asked_block c) choice) (omega arith) refl leaves;
+            r_words = put_words r 2 choice.address now.r_words word;
+            w_words = now.w_words;
+            at_line = ap (λ (x : ℕ). x + 1) now.at_line;
+            output = now.output;
+            input = now.input;
+          })),
+    );
+  }
+    where
+      here : c.store ≡ store
+      here = now.view.store ∙ store_is
+
+      asks : asked_block c ≡ Allocate handle size
+      asks = asks_now k out input r w c handle size now first second
+
+      unrefused : refusal c.store (asked_block c) ≡ None
+      unrefused = ap (refusal c.store) asks ∙ (ap (λ (s : StoreState). refusal s (Allocate handle size)) here ∙ free)
+
+  -- there is no room for one
+  pub walk_no_room : (k lo hi : ℕ) (out input : List ℕ) (Goal : State → Type 0) (r : Words) (w : Contents) (c : Configuration) (handle size : ℕ) (store : StoreState)
+      → Now k out input r w c → slice_get code.lines k ≡ Some (lines.Ordinary syscall) → lo ≤ k → suc k ≤ hi → r 2 ≡ 9 → r 4 ≡ handle → r 5 ≡ size → w.store ≡ store
+      → refusal store (Allocate handle size) ≡ Some services.Full → Goal (Ended Full out input) → Walk 1 lo hi out Goal (Running c)
+  walk_no_room k lo hi out input Goal r w c handle size store now stands from below number first second store_is full goal =
+      let asks = asks_now k out input r w c handle size now first second in
+      let refused : refusal c.store (asked_block c) ≡ Some services.Full =
+      ap (refusal c.store) asks ∙ (ap (λ (s : StoreState). refusal s (Allocate handle size)) (now.view.store ∙ store_is) ∙ full) in
+      walk_step 0 lo hi out Goal c (Ended Full out input) (omega (arith, from, now.at_line)) now.output
+      (λ next step.
+      has_no_room c (trap_code_of 0) next (now.view.reg 2 (omega arith) ∙ number) refused (syscall_now k out input r w c next now stands step)
       ∙ ended_as k out input r w c _ _ now refl)
       (walk_end (suc c.line) hi out Goal _ (omega (arith, below, now.at_line)) goal)

@@ -21,7 +21,7 @@ use Rattle.cyc_isa.specs.declared.instr.MultiplyDivideOp.{MultiplyDivideOp}
 use Rattle.cyc_isa.specs.declared.instr.MultiplyDivideOp.TheVariants.{Divide}
 use Rattle.cyc_isa.specs.declared.instr.ArithmeticOp.{ArithmeticOp}
 use Rattle.cyc_isa.specs.declared.instr.ArithmeticOp.TheVariants as arithmetic
-use Rattle.cyc_machine.specs.declared.constants.TheConstants.{ARGUMENT, END_FULL, END_RETURNED, END_UNCAUGHT, GET_BYTE, PUT_BYTE, RETURN_ADDRESS, SECOND_ARGUMENT, SERVICE}
+use Rattle.cyc_machine.specs.declared.constants.TheConstants.{ALLOCATE, ARGUMENT, END_FULL, END_RETURNED, END_UNCAUGHT, GET_BYTE, PUT_BYTE, RETURN_ADDRESS, SECOND_ARGUMENT, SERVICE}
 use Rattle.cyc_machine.specs.State.{data_base}
 use Rattle.cyc_plain.specs.declared.instruction.Instruction.{Instruction}
 use Rattle.cyc_plain.specs.declared.instruction.Instruction.TheVariants as plain
@@ -372,6 +372,7 @@ body_count program function (plain.StoreGlobal global source) = operand_count so
 body_count program function (plain.Load destination address offset) = address_count address offset + 2
 body_count program function (plain.Store address offset source) =
     address_count address offset + operand_count source + 1
+body_count program function (plain.Allocate destination handle words) = load_count handle + load_count words + 3
 body_count program function (plain.Uncaught tag value) = word_count tag + load_count value + 2
 
 -- behind a call, the lines that are executed after it returned
@@ -443,6 +444,14 @@ store_word frame address offset source =
     ordinary (
     address_code frame address offset
     ++ (operand_code frame SECOND source ++ at_address StoreWord (operand_register SECOND source) address offset ∷ []))
+
+-- a block is made, and its address comes to a slot
+abbrev pub allocate_code : Frame → (destination : ℕ) → (handle words : Operand) → List Line
+allocate_code frame destination handle words =
+    ordinary (
+    load_code frame ARGUMENT handle
+    ++ (load_code frame SECOND_ARGUMENT words
+    ++ small SERVICE ALLOCATE ∷ syscall ∷ store_slot frame SERVICE destination ∷ []))
 
 -- the end of a run with an exception that nothing caught
 abbrev pub uncaught_code : Frame → (tag : ℕ) → Operand → List Line
@@ -517,6 +526,8 @@ body program frames function here (plain.Load destination address offset) =
     load_word (frame_at frames function) destination address offset
 body program frames function here (plain.Store address offset source) =
     store_word (frame_at frames function) address offset source
+body program frames function here (plain.Allocate destination handle words) =
+    allocate_code (frame_at frames function) destination handle words
 body program frames function here (plain.Uncaught tag value) = uncaught_code (frame_at frames function) tag value
 
 -- behind a call, the lines that are executed after it returned

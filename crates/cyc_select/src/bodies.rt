@@ -81,6 +81,11 @@ impl Emitter {
                 global,
             } => self.load_global(frame, destination, global),
             Instruction::StoreGlobal { global, source } => self.store_global(frame, global, source),
+            Instruction::Allocate {
+                destination,
+                handle,
+                words,
+            } => self.allocate(frame, destination, handle, words),
             Instruction::Uncaught { tag, value } => self.uncaught(frame, tag, value),
             Instruction::MoveWords {
                 destination,

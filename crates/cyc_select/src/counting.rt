@@ -86,6 +86,7 @@ fn body_count(plain: &Plain, function: usize, instruction: Instruction) -> usize
         Instruction::ReadByte { .. } | Instruction::LoadGlobal { .. } => 3,
         Instruction::WriteByte { source } => load_count(source) + 2,
         Instruction::StoreGlobal { source, .. } => operand_count(source) + 2,
+        Instruction::Allocate { handle, words, .. } => load_count(handle) + load_count(words) + 3,
         Instruction::Uncaught { tag, value } => word_count(tag) + load_count(value) + 2,
     }
 }
