@@ -13,11 +13,12 @@ use Rattle.cyc_store.proofs.NewStores.{new_demand}
 use Rattle.cyc_plain.specs.declared.instruction.Instruction.{Instruction}
 use Rattle.cyc_plain.specs.declared.instruction.Instruction.TheVariants as instructions
 use Rattle.cyc_plain.specs.Operators.{has_no_result, binary_result}
+use Rattle.cyc_plain.specs.Requests.{destination_of}
 use Rattle.cyc_words.specs.Simulation as simulation
 use Rattle.cyc_words.specs.Simulation.{Status, IsLawful, Run}
 use Rattle.cyc_plain.specs.Program.{Program, routine_at}
 use Rattle.cyc_plain.specs.State.{Frame, Configuration, State, Running, Ended, Stuck, output_of, input_of, status_of, place_of}
-use Rattle.cyc_plain.specs.Step.{Choice, IsAllowed, MayServe, gives, operand_word, returns, loads, saves, asks, call_of, asked, performed, executed, instruction_at, step, is_within, limited, limited_step, Step, start, machine}
+use Rattle.cyc_plain.specs.Step.{Choice, IsAllowed, MayServe, gives, operand_word, returns, loads, saves, asks, call_in, call_of, asked, performed, executed, instruction_at, step, is_within, limited, limited_step, Step, start, machine}
 use Rattle.cyc_words.proofs.Simulation.{Run-grows, Run-stays}
 
 -- ---- limits
@@ -99,7 +100,8 @@ performs program choice c (instructions.LoadGlobal destination global) = same c
 performs program choice c (instructions.StoreGlobal global source) = same c
 performs program choice c (instructions.Load destination address offset) = loaded c destination _
 performs program choice c (instructions.Store address offset source) = saved c _ _ _
-performs program choice c (instructions.Ask request) = served choice.serving c _ _ (refusal c.store _)
+performs program choice c (instructions.Ask request) =
+    served choice.serving c (destination_of request) (call_in c.active.slots request) (refusal c.store (call_in c.active.slots request))
 performs program choice c (instructions.Uncaught tag value) = same c
 
 executes : (program : Program) (choice : Choice) (c : Configuration) (o : Option Instruction) → GoesOn c (executed program choice c o)

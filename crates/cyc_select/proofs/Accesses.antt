@@ -1,14 +1,6 @@
-<<<<<<< ours
 -- The instructions that move several words, and that load and store words of memory.
 use Rattle.std.proofs.Common.{◌≡◌, ◌≢◌, ℕ, zero, suc, ◌+◌, ◌*◌, ◌%◌, ◌^◌, ◌<◌, ◌≤◌, Bool, true, false, List, [], ◌∷◌, ◌++◌, length, Option, None, Some, refl, sym, ap, subst, ◌∙◌, arith, inl}
 use Rattle.std.specs.Prelude.{if◌then◌else◌}
-=======
--- The instructions that move several words, that load and store words of memory, and that make a block.
-use Rattle.std.proofs.Common.{◌≡◌, ◌≢◌, ℕ, zero, suc, ◌+◌, ◌*◌, ◌%◌, ◌^◌, ◌<◌, ◌≤◌, Bool, true, false, List, [], ◌∷◌, ◌++◌, length, Option, None, Some, refl, sym, ap, subst, ◌∙◌, arith, inl, length-append}
-use Rattle.std.specs.Prelude.{nat_le, if◌then◌else◌}
-use Rattle.std.proofs.lemmas.Bool.{lt-leb, and_left}
-use Rattle.cyc_words.specs.Ending.{Full}
->>>>>>> theirs
 use Rattle.cyc_words.specs.Word.{IsWord, add_of, sign_extended}
 use Rattle.cyc_words.proofs.WordLemmas.{sign_extended_low}
 use Rattle.cyc_isa.specs.Effect.{memory_address}
@@ -16,11 +8,8 @@ use Rattle.cyc_isa.specs.declared.instr.Instr.{Instr}
 use Rattle.cyc_isa.specs.declared.instr.MemoryOp.TheVariants.{LoadWord, StoreWord}
 use Rattle.cyc_isa.specs.Decoding.{register_of}
 use Rattle.cyc_machine.specs.State.{globals_length, words_per_call}
-use Rattle.cyc_machine.specs.declared.constants.TheConstants.{ALLOCATE, ARGUMENT, RETURN_ADDRESS, SECOND_ARGUMENT, SERVICE}
-use Rattle.cyc_store.specs.State.{StoreState, saved, demand}
-use Rattle.cyc_store.specs.Services as services
-use Rattle.cyc_store.specs.Services.{Call, Allocate, refusal}
-use Rattle.cyc_store.proofs.ServiceLemmas.{full-past, demand-served}
+use Rattle.cyc_machine.specs.declared.constants.TheConstants.{RETURN_ADDRESS}
+use Rattle.cyc_store.specs.State.{StoreState, saved}
 use Rattle.cyc_plain.specs.declared.instruction.Instruction.{Instruction}
 use Rattle.cyc_plain.specs.declared.instruction.Instruction.TheVariants as plain
 use Rattle.cyc_plain.specs.declared.instruction.Operand.{Operand}
@@ -28,35 +17,28 @@ use Rattle.cyc_plain.specs.declared.instruction.Operand.TheVariants as operands
 use Rattle.cyc_plain.specs.Program.{Program, routine_at}
 use Rattle.cyc_plain.specs.State as states
 use Rattle.cyc_plain.specs.State.{Words, put, copied, Configuration, memory_at}
-use Rattle.cyc_plain.specs.Step.{Choice, IsAllowed, MayServe, is_served, call_of, asked, instruction_at, operand_word, performed, executed, step, gives, loads, saves, is_within}
+use Rattle.cyc_plain.specs.Step.{instruction_at, operand_word, performed, loads, saves}
 use Rattle.cyc_plain.specs.WellFormed.{IsOperand, IsOfWord, IsWellFormed, IsMoveInRange}
-use Rattle.cyc_plain.proofs.SlotLaws.{put-same, put-other}
-use Rattle.cyc_plain.proofs.RunLaws.{zeros, zeros_at, zeros_refused, limited-full}
+use Rattle.cyc_plain.proofs.RunLaws.{zeros, zeros_allowed}
 use Rattle.cyc_frame.specs.Layout.{AreFrames, frame_at}
 use Rattle.cyc_frame.specs.declared.frame.Frame.{Frame}
 use Rattle.cyc_select.specs.declared.constants.TheConstants.{FIRST, SECOND, ZERO, FRAME}
 use Rattle.cyc_select.specs.Labelled.{Labelled, IsFormed}
 use Rattle.cyc_select.specs.Machine as labelled
-use Rattle.cyc_select.specs.Machine.{State, Running, Ended}
+use Rattle.cyc_select.specs.Machine.{State, Running}
 use Rattle.cyc_select.specs.Numbers.{fits_signed, is_zero_word}
-<<<<<<< ours
 use Rattle.cyc_select.specs.Selection.{store_slot, slot_offset, load_all, store_all, result_registers, operand_code, operand_register, operation_of, far_plan, address_code, address_register, near_half, at_address, address_count, operand_count, body, body_count, instruction_line}
 use Rattle.cyc_select.proofs.Blocks.{Keeps, puts_keeps}
-=======
-use Rattle.cyc_select.specs.Selection.{ordinary, small, syscall, load_code, load_count, store_slot, slot_offset, load_all, store_all, result_registers, operand_code, operand_register, operation_of, far_plan, address_code, address_register, near_half, at_address, address_count, operand_count, body, body_count, instruction_line}
-use Rattle.cyc_select.proofs.Blocks.{Puts, Keeps, puts_keeps}
->>>>>>> theirs
 use Rattle.cyc_select.proofs.Cells.{IsCell, IsLive}
-use Rattle.cyc_select.proofs.Computing.{IsHeld, load_puts, operand_puts, operation_leaves, first_scratch, second_scratch, argument_scratch}
-use Rattle.cyc_select.proofs.Counts.{length_load, length_operand, length_address, length_loads, length_stores, length_registers}
+use Rattle.cyc_select.proofs.Computing.{IsHeld, operand_puts, operation_leaves, first_scratch, second_scratch}
+use Rattle.cyc_select.proofs.Counts.{length_operand, length_address, length_loads, length_stores, length_registers}
 use Rattle.cyc_select.proofs.Halves.{fits_is}
 use Rattle.cyc_select.proofs.Lines.{line_next}
-use Rattle.cyc_select.proofs.Operations.{add_small}
 use Rattle.cyc_select.proofs.Matches.{At, Reached, reached, reached_gives, result_register, within}
 use Rattle.cyc_select.proofs.Returns.{stored}
-use Rattle.cyc_select.proofs.Standing.{Standing, IsLaid, slot_address, slot_cell, slot_word_is, laid_live, made_laid, standing_registers, standing_at, standing_slot, standing_saved, standing_store}
+use Rattle.cyc_select.proofs.Standing.{Standing, slot_cell, slot_word_is, laid_live, standing_registers, standing_at, standing_saved}
 use Rattle.cyc_select.proofs.Views.{Contents, written, saved_in}
-use Rattle.cyc_select.proofs.Walks.{Stands, stands_first, stands_behind, after_r, after_w, Walk, now_at, now_is, walk_end, walk_few, walk_block, walk_load, walk_save, walk_allocate, walk_no_room, comes_last}
+use Rattle.cyc_select.proofs.Walks.{Stands, stands_first, stands_behind, after_r, after_w, Walk, now_at, now_is, walk_end, walk_few, walk_block, walk_load, walk_save}
 
 -- ---- several words in registers
 
@@ -234,7 +216,7 @@ module _ (program : Program) (well : IsWellFormed program) (frames : List Frame)
       walk_block code formed addresses globals_length (words_per_call * calls) js 0 (here + length is) (here + length is) hi c.output c.input _ q v e before (stands_behind code here is js stands) puts.0 (omega arith)
       (λ f later.
       walk_end code formed addresses globals_length (words_per_call * calls) (here + length is + length js) hi c.output _ (Running f) (omega (arith, long, also))
-      (reached program well frames fit code formed addresses pages calls few c zeros (plain.MoveWords destination source count) (states.Running d) (Running f) (zeros_at program c (plain.MoveWords destination source count) at_i refl) at_i refl
+      (reached program well frames fit code formed addresses pages calls few c zeros (plain.MoveWords destination source count) (states.Running d) (Running f) (zeros_allowed program (states.Running c)) at_i refl
       (within program well frames fit code formed addresses pages calls few d s.laid.paged s.deep)
       (inl (record {
         run = f;
@@ -282,7 +264,7 @@ module _ (program : Program) (well : IsWellFormed program) (frames : List Frame)
       walk_block code formed addresses globals_length (words_per_call * calls) put_one 0 (here + length is + 1) (suc (here + length is)) hi c.output c.input _ p v e later behind.1 (safe, tt) (omega arith)
       (λ f after.
       walk_end code formed addresses globals_length (words_per_call * calls) (here + length is + 1 + 1) hi c.output _ (Running f) (omega (arith, long))
-      (reached_gives program well frames fit code formed addresses pages calls few c (plain.Load destination address offset) at_i refl r w base s destination word c.input (here + length is + 1 + 1) f p (after_w put_one p v)
+      (reached_gives program well frames fit code formed addresses pages calls few c (plain.Load destination address offset) at_i r w base s destination word c.input (here + length is + 1 + 1) f p (after_w put_one p v)
       below (ap (loads c destination) found) s.input (omega (arith, long)) reaches.keeps.zero reaches.keeps.base reaches.keeps.left reaches.keeps.back puts after)))))
 
   pub load_goes : (destination : ℕ) (address : Operand) (offset : ℕ) → IsAt (plain.Load destination address offset) → destination < slots → IsThere address → IsWord offset
@@ -346,7 +328,7 @@ module _ (program : Program) (well : IsWellFormed program) (frames : List Frame)
       walk_save code formed addresses globals_length (words_per_call * calls) 0 (here + length is + length js) (here + length is + length js) hi c.output c.input _ p u f (register_of from) (register_of register) (near_half offset) old after at_last.0 (omega arith) live
       (λ g later.
       walk_end code formed addresses globals_length (words_per_call * calls) (suc (here + length is + length js)) hi c.output _ (Running g) (omega (arith, long, more))
-      (reached program well frames fit code formed addresses pages calls few c zeros (plain.Store address offset source) (states.Running d) (Running g) (zeros_at program c (plain.Store address offset source) at_i refl) at_i (ap (saves c a word) found)
+      (reached program well frames fit code formed addresses pages calls few c zeros (plain.Store address offset source) (states.Running d) (Running g) (zeros_allowed program (states.Running c)) at_i (ap (saves c a word) found)
       (within program well frames fit code formed addresses pages calls few d four.laid.paged s.deep)
       (inl (record {
         run = g;
@@ -366,229 +348,3 @@ module _ (program : Program) (well : IsWellFormed program) (frames : List Frame)
       go : (o : Option ℕ) → memory_at c (add_of (word_in address) offset) ≡ o → Goes 1 here (here + (address_count address offset + operand_count source + 1)) (Running run)
       go (Some old) found = saved_goes address offset source old at_i there fits from_there found stands
       go None found = absurd (never (ap (saves c (add_of (word_in address) offset) (word_in source)) found))
-
-  -- ---- a block
-
-  abbrev call_in : (handle words : Operand) → Call
-  call_in handle words = Allocate (operand_word c.active.slots handle) (operand_word c.active.slots words)
-
-  -- there is no room for one
-  full_step : (destination : ℕ) (handle words : Operand) → IsAt (plain.Allocate destination handle words) → refusal c.store (call_in handle words) ≡ Some services.Full
-      → Reached program well frames fit code formed addresses pages calls few c (Ended Full c.output c.input)
-  full_step destination handle words at_i full =
-      let i : Instruction = plain.Allocate destination handle words in
-      let call : Call = Allocate (operand_word c.active.slots handle) (operand_word c.active.slots words) in
-      let does : performed program zeros c i ≡ gives (record c { store = services.served c.store call zeros.serving }) destination 0 =
-      ap (λ (o : Option services.Refusal). if is_served o then gives (record c { store = services.served c.store call zeros.serving }) destination 0 else states.Stuck c.output c.input) full in
-      let is : step program zeros (states.Running c) ≡ gives (record c { store = services.served c.store call zeros.serving }) destination 0 = ap (executed program zeros c) at_i ∙ does in
-      let past : pages < demand (services.served c.store call zeros.serving) =
-      omega (arith, full-past c.store call full, demand-served c.store call (services.any_choice c.store) zeros.serving, s.laid.has) in
-      let over : is_within pages calls (gives (record c { store = services.served c.store call zeros.serving }) destination 0) ≡ false =
-      and_left (nat_le (demand (services.served c.store call zeros.serving)) pages) _ (lt-leb (demand (services.served c.store call zeros.serving)) pages past) in (
-        states.Ended Full c.output c.input,
-        (zeros, zeros_refused program c call services.Full (ap (call_of c.active.slots) at_i) full, sym (limited-full pages calls (states.Running c) (step program zeros (states.Running c)) (ap (is_within pages calls) is ∙ over))),
-        refl,
-      )
-
-  module _ (destination : ℕ) (handle words : Operand) (at_i : IsAt (plain.Allocate destination handle words)) (below : destination < slots) (handle_there : IsThere handle) (words_there : IsThere words)
-      (stands : Stands code here (body program frames c.active.function here (plain.Allocate destination handle words))) where
-    abbrev call : Call
-    call = call_in handle words
-
-    abbrev is : List Instr
-    is = load_code frame ARGUMENT handle
-
-    abbrev js : List Instr
-    js = load_code frame SECOND_ARGUMENT words
-
-    abbrev numbered : List Instr
-    numbered = small SERVICE ALLOCATE ∷ []
-
-    abbrev last : List Instr
-    last = small SERVICE ALLOCATE ∷ syscall ∷ store_slot frame SERVICE destination ∷ []
-
-    abbrev hi : ℕ
-    hi = here + (load_count handle + load_count words + 3)
-
-    long : length is ≡ load_count handle
-    long = length_load frame ARGUMENT handle
-
-    more : length js ≡ load_count words
-    more = length_load frame SECOND_ARGUMENT words
-
-    first : Puts globals_length (words_per_call * calls) is r w ARGUMENT ARGUMENT (word_in handle)
-    first = load_puts globals_length (words_per_call * calls) frame (r FRAME) w c.active.slots r w s.zero_is refl refl ARGUMENT refl handle (held handle handle_there)
-
-    first_keeps : Keeps globals_length (words_per_call * calls) is r w
-    first_keeps = puts_keeps globals_length (words_per_call * calls) is r w ARGUMENT _ _ (argument_scratch globals_length (words_per_call * calls)) first
-
-    abbrev q : Words
-    q = after_r is r w
-
-    abbrev v : Contents
-    v = after_w is r w
-
-    second : Puts globals_length (words_per_call * calls) js q v SECOND_ARGUMENT SECOND_ARGUMENT (word_in words)
-    second = load_puts globals_length (words_per_call * calls) frame (r FRAME) w c.active.slots q v (first_keeps.zero ∙ s.zero_is) first_keeps.base first_keeps.memory SECOND_ARGUMENT refl words (held words words_there)
-
-    abbrev p : Words
-    p = after_r js q v
-
-    unchanged : after_w js q v ≡ w
-    unchanged = second.memory ∙ first_keeps.memory
-
-    -- registers other than these two are as before
-    kept : (n : ℕ) → n < 32 → n ≢ ARGUMENT → n ≢ SECOND_ARGUMENT → p n ≡ r n
-    kept n small_n other also = second.others n small_n also ∙ first.others n small_n other
-
-    abbrev ready : Words
-    ready = put p SERVICE (add_of (p 0) (sign_extended 9))
-
-    number : add_of (p 0) (sign_extended 9) ≡ 9
-    number = ap (λ (x : ℕ). add_of x (sign_extended 9)) (kept 0 (omega arith) (λ e. absurd (omega (arith, e))) (λ e. absurd (omega (arith, e))) ∙ s.zero_is) ∙ (add_small 0 9 (omega arith) (omega arith) ∙ refl)
-
-    handle_is : ready ARGUMENT ≡ word_in handle
-    handle_is = second.others ARGUMENT (omega arith) (λ e. absurd (omega (arith, e))) ∙ first.result
-
-    words_is : ready SECOND_ARGUMENT ≡ word_in words
-    words_is = second.result
-
-    behind_lines : Stands code (here + length is) (ordinary (js ++ last))
-    behind_lines = stands_behind code here is (js ++ last) stands
-
-    last_lines : Stands code (here + length is + length js) (ordinary last)
-    last_lines = stands_behind code (here + length is) js last behind_lines
-
-    -- up to the call of the store
-    asks_goes : (n : ℕ) → 0 < n
-        → ((d : labelled.Configuration) → At program well frames fit code formed addresses pages calls few (here + length is + length js + 1) c.output c.input ready w d → Goes n (here + length is + length js + 1) hi (Running d))
-        → Goes 1 here hi (Running run)
-    asks_goes n some rest =
-        walk_few code formed addresses globals_length (words_per_call * calls) 1 (length is + (length js + (1 + n))) here hi c.output _ (Running run) (omega (arith, some))
-        (walk_block code formed addresses globals_length (words_per_call * calls) is (length js + (1 + n)) here here hi c.output c.input _ r w run now (stands_first code here is (js ++ last) stands) first.safe (omega arith)
-        (λ d before.
-        walk_block code formed addresses globals_length (words_per_call * calls) js (1 + n) (here + length is) (here + length is) hi c.output c.input _ q v d before (stands_first code (here + length is) js last behind_lines) second.safe (omega arith)
-        (λ e later.
-        walk_block code formed addresses globals_length (words_per_call * calls) numbered n (here + length is + length js) (here + length is + length js) hi c.output c.input _ p (after_w js q v) e later (last_lines.0, tt) (refl, tt) (omega arith)
-        (λ f after.
-        rest f (now_is code formed addresses globals_length (words_per_call * calls) (here + length is + length js + 1) c.output c.input ready (after_w js q v) ready w f refl unchanged after)))))
-
-    full_goes : refusal c.store call ≡ Some services.Full → Goes 1 here hi (Running run)
-    full_goes full =
-        asks_goes 1 (omega arith)
-        (λ d later.
-        walk_no_room code formed addresses globals_length (words_per_call * calls) (here + length is + length js + 1) (here + length is + length js + 1) hi c.output c.input _ ready w d (word_in handle) (word_in words) c.store later last_lines.1.0 (omega arith) (omega (arith, long, more))
-        number handle_is words_is s.store full (full_step destination handle words at_i full))
-
-    -- a block that the store makes
-    module _ (free : refusal c.store call ≡ None) (chosen : services.Choice) (allowed : services.IsAllowed c.store call chosen) (address_word : IsWord chosen.address) where
-      abbrev store : StoreState
-      store = services.served c.store call chosen
-
-      abbrev choice : Choice
-      choice = record { contents = zeros.contents; serving = chosen }
-
-      serves : MayServe chosen (asked program (states.Running c)) (states.Running c)
-      serves = subst (λ (o : Option Call). MayServe chosen o (states.Running c)) (sym (ap (call_of c.active.slots) at_i)) (λ unrefused. allowed)
-
-      is_allowed : IsAllowed program (states.Running c) choice
-      is_allowed = record { contents = λ slot. omega arith; address = address_word; memory = allowed.words; serves = serves }
-
-      abbrev next : Configuration
-      next = record c { active = record c.active { next = c.active.next + 1; slots = put c.active.slots destination chosen.address }; store = services.served c.store call chosen }
-
-      does : performed program choice c (plain.Allocate destination handle words) ≡ states.Running next
-      does = ap (λ (o : Option services.Refusal). if is_served o then gives (record c { store = services.served c.store call chosen }) destination chosen.address else states.Stuck c.output c.input) free
-
-      abbrev w1 : Contents
-      w1 = record w { store = services.served c.store call chosen }
-
-      abbrev final : Words
-      final = put ready SERVICE chosen.address
-
-      final_keeps : (n : ℕ) → n < 32 → n ≢ ARGUMENT → n ≢ SECOND_ARGUMENT → n ≢ SERVICE → final n ≡ r n
-      final_keeps n small_n other also third =
-          put-other ready SERVICE n chosen.address third ∙ (put-other p SERVICE n (add_of (p 0) (sign_extended 9)) third ∙ kept n small_n other also)
-
-      base_kept : final FRAME ≡ r FRAME
-      base_kept = final_keeps FRAME (omega arith) (λ e. absurd (omega (arith, e))) (λ e. absurd (omega (arith, e))) (λ e. absurd (omega (arith, e)))
-
-      back_kept : final RETURN_ADDRESS ≡ r RETURN_ADDRESS
-      back_kept = final_keeps RETURN_ADDRESS (omega arith) (λ e. absurd (omega (arith, e))) (λ e. absurd (omega (arith, e))) (λ e. absurd (omega (arith, e)))
-
-      abbrev c1 : Configuration
-      c1 = record c { store = services.served c.store call chosen }
-
-      laid : IsLaid pages (services.served c.store call chosen)
-      laid = made_laid pages c.store (word_in handle) (word_in words) chosen free allowed s.laid
-
-      in_store : Standing program frames addresses pages calls c1 r w1 base (r RETURN_ADDRESS) (suc (length c.frames)) c.active.slots
-      in_store = standing_store program well frames fit addresses pages calls few c r w base (r RETURN_ADDRESS) (suc (length c.frames)) c.active.slots s (services.served c.store call chosen) laid
-
-      slot_address_is : memory_address (r FRAME) (slot_offset frame destination) ≡ base + slot_offset frame destination
-      slot_address_is = slot_address program well frames fit addresses pages calls few c r w base (r RETURN_ADDRESS) (suc (length c.frames)) c.active.slots s destination below
-
-      puts : written w1 (memory_address (final FRAME) (slot_offset frame destination)) (final SERVICE) ≡ written w1 (base + slot_offset frame destination) chosen.address
-      puts =
-          ap (λ (x : ℕ). written w1 (memory_address x (slot_offset frame destination)) (final SERVICE)) base_kept
-          ∙ (ap (λ (x : ℕ). written w1 x (final SERVICE)) slot_address_is
-          ∙ ap (written w1 (base + slot_offset frame destination)) (put-same ready SERVICE chosen.address))
-
-      ends_at : Standing program frames addresses pages calls next final (written w1 (memory_address (final FRAME) (slot_offset frame destination)) (final SERVICE)) base (final RETURN_ADDRESS) (suc (length c.frames)) (put c.active.slots destination chosen.address)
-      ends_at =
-          let one = standing_slot program well frames fit addresses pages calls few c1 r w1 base (r RETURN_ADDRESS) (suc (length c.frames)) c.active.slots in_store destination chosen.address below in
-          let w2 : Contents = written w1 (base + slot_offset frame destination) chosen.address in
-          let there : Words = put c.active.slots destination chosen.address in
-          let two = standing_registers program well frames fit addresses pages calls few c1 r w2 base (r RETURN_ADDRESS) (suc (length c.frames)) there one final
-          (final_keeps 0 (omega arith) (λ e. absurd (omega (arith, e))) (λ e. absurd (omega (arith, e))) (λ e. absurd (omega (arith, e)))) base_kept
-          (final_keeps CALLS (omega arith) (λ e. absurd (omega (arith, e))) (λ e. absurd (omega (arith, e))) (λ e. absurd (omega (arith, e)))) in
-          let three = standing_at program well frames fit addresses pages calls few c1 final w2 base (r RETURN_ADDRESS) (suc (length c.frames)) there two next refl refl refl refl s.input in
-          let with_back = subst (λ (b : ℕ). Standing program frames addresses pages calls next final w2 base b (suc (length c.frames)) there) (sym back_kept) three in
-          subst (λ (x : Contents). Standing program frames addresses pages calls next final x base (final RETURN_ADDRESS) (suc (length c.frames)) there) (sym puts) with_back
-
-      line_is : here + length is + length js + 1 + 1 + 1 ≡ instruction_line program c.active.function (c.active.next + 1)
-      line_is = omega (arith, line_next program c.active.function c.active.next (plain.Allocate destination handle words) at_i, long, more)
-
-      reaches : (d : labelled.Configuration)
-          → At program well frames fit code formed addresses pages calls few (here + length is + length js + 1 + 1 + 1) c.output c.input final (written w1 (memory_address (final FRAME) (slot_offset frame destination)) (final SERVICE)) d
-          → Reached program well frames fit code formed addresses pages calls few c (Running d)
-      reaches d later =
-          reached program well frames fit code formed addresses pages calls few c choice (plain.Allocate destination handle words) (states.Running next) (Running d) is_allowed at_i does
-          (within program well frames fit code formed addresses pages calls few next laid.paged s.deep)
-          (inl (record {
-            run = d;
-            r = final;
-            w = written w1 (memory_address (final FRAME) (slot_offset frame destination)) (final SERVICE);
-            base = base;
-            is = refl;
-            now = now_at code formed addresses globals_length (words_per_call * calls) (here + length is + length js + 1 + 1 + 1) (instruction_line program c.active.function (c.active.next + 1)) c.output c.input final _ d line_is later;
-            standing = ends_at;
-          }))
-
-    made_goes : refusal c.store call ≡ None → Goes 1 here hi (Running run)
-    made_goes free =
-        let k : ℕ = here + length is + length js + 1 in
-        asks_goes 2 (omega arith)
-        (λ d later.
-        walk_allocate code formed addresses globals_length (words_per_call * calls) 1 (here + length is + length js + 1) (here + length is + length js + 1) hi c.output c.input _ ready w d (here + length is + length js + 1 + 1 ∷ []) (word_in handle) (word_in words) c.store later last_lines.1.0 (omega arith)
-        number handle_is words_is s.store free (omega (arith, s.laid.few, s.laid.has)) (omega arith) ((omega arith), (omega (arith, long, more)))
-        (λ chosen allowed address_word e served_now.
-        comes_last code formed addresses globals_length (words_per_call * calls) (here + length is + length js + 1 + 1) c.output c.input _ (put ready SERVICE chosen.address) (record w { store = services.served c.store call chosen }) e (store_slot frame SERVICE destination) served_now last_lines.1.1.0
-        (subst (λ (x : ℕ). IsCell globals_length (words_per_call * calls) (memory_address x (slot_offset frame destination))) (sym (base_kept free chosen allowed address_word)) (cell_at destination below))
-        (λ f after. reaches free chosen allowed address_word f after)))
-
-    pub allocate_goes : (performed program zeros c (plain.Allocate destination handle words) ≡ states.Stuck c.output c.input → IsAllowed program (states.Running c) zeros → ⊥) → Goes 1 here hi (Running run)
-    allocate_goes never = go (refusal c.store call) refl
-      where
-        stops : (why : services.Refusal) → is_served (Some why) ≡ false → refusal c.store call ≡ Some why → Goes 1 here hi (Running run)
-        stops why not refused =
-            absurd (never (ap (λ (b : Bool). if b then gives (record c { store = services.served c.store call zeros.serving }) destination 0 else states.Stuck c.output c.input) (ap is_served refused ∙ not))
-            (zeros_refused program c call why (ap (call_of c.active.slots) at_i) refused))
-
-        go : (o : Option services.Refusal) → refusal c.store call ≡ o → Goes 1 here hi (Running run)
-        go None free = made_goes free
-        go (Some services.Full) full = full_goes full
-        go (Some services.BadMark) refused = stops services.BadMark refl refused
-        go (Some services.BadHandle) refused = stops services.BadHandle refl refused
-        go (Some services.BadSize) refused = stops services.BadSize refl refused
-        go (Some services.NotABlock) refused = stops services.NotABlock refl refused
