@@ -15,7 +15,7 @@ use Rattle.cyc_isa.specs.declared.operand.TrapCode.{TrapCode}
 use Rattle.cyc_isa.specs.Effect.{immediate_result, load_upper_result, arithmetic_result, shift_result, high_result, low_result, memory_address}
 use Rattle.cyc_store.specs.State.{StoreState, word_at}
 use Rattle.cyc_store.specs.Services as services
-use Rattle.cyc_store.specs.Services.{Call, Allocate, refusal}
+use Rattle.cyc_store.specs.Services.{Call, Answer, refusal}
 use Rattle.cyc_machine.specs.declared.event.Cause.TheVariants as causes
 use Rattle.cyc_machine.specs.declared.event.End.TheVariants as ends
 use Rattle.cyc_machine.specs.declared.event.Event.{Event}
@@ -27,6 +27,8 @@ use Rattle.cyc_machine.specs.Step.{Action, Does, Calls, Acts, Service, GetByte, 
 use Rattle.cyc_machine.specs.Run.{told}
 use Rattle.cyc_machine.proofs.StepLaws.{executes-performs}
 use Rattle.cyc_plain.specs.State.{Words, put}
+use Rattle.cyc_plain.specs.declared.instruction.Request.{Request}
+use Rattle.cyc_plain.specs.declared.instruction.Request.TheVariants as requests
 use Rattle.cyc_select.specs.Machine.{Configuration, State, Running, core_of, memory_of, machine_of, world_of, from_world, settled, Performs, word_in}
 use Rattle.cyc_select.specs.Machine as labelled
 use Rattle.cyc_select.proofs.Cells.{IsCell, IsLive, cell, place_of-data, place_of-stack}
@@ -273,33 +275,68 @@ ends_full c code next number goes =
 
 -- ---- calls of the store
 
--- the block that registers ask for
-abbrev pub asked_block : Configuration → Call
-asked_block c = Allocate (word_in c 4) (word_in c 5)
+-- the call that registers ask for
+abbrev pub call_by : Request → (first second : ℕ) → Call
+call_by (requests.OpenLexical destination) first second = services.OpenLexical
+call_by (requests.CloseTo mark) first second = services.CloseTo first
+call_by (requests.OpenDynamic destination) first second = services.OpenDynamic
+call_by (requests.CloseDynamic handle) first second = services.CloseDynamic first
+call_by (requests.Allocate destination handle words) first second = services.Allocate first second
+call_by (requests.Free address) first second = services.Free first
 
-abbrev pub given_block : Configuration → (address : ℕ) → StoreState → Configuration
-given_block c address store = record c {
-  registers = (with_register (core_of c) 2 address).registers;
-  store = store;
-  line = c.line + 1;
-}
+abbrev pub asked_call : Request → Configuration → Call
+asked_call request c = call_by request (word_in c 4) (word_in c 5)
 
-pub makes_block : (c : Configuration) (code : TrapCode) (next : State) → word_in c 2 ≡ 9 → refusal c.store (asked_block c) ≡ None → Performs c (Exception Syscall code) next
-    → (choice : services.Choice) × services.IsAllowed c.store (asked_block c) choice
-    × (next ≡ Running (given_block c choice.address (services.served c.store (asked_block c) choice)))
-makes_block c code next number free goes =
-    let (event, s, (answer, store, serving, same_event, same), is) = serves c code (Asks (asked_block c)) 9 next number refl goes in
-    let (choice, allowed, answer_is, store_is) = subst (λ (o : Option services.Refusal). services.ServesBy c.store (asked_block c) o answer store) free serving in
-    let left : machines.State = answered (with_store (machine_of c) (services.served c.store (asked_block c) choice)) (services.Allocated choice.address) in
+service_is : (c : Configuration) (request : Request) → service_of (core_of c) (service_number request) ≡ Some (Asks (asked_call request c))
+service_is c (requests.OpenLexical destination) = refl
+service_is c (requests.CloseTo mark) = refl
+service_is c (requests.OpenDynamic destination) = refl
+service_is c (requests.CloseDynamic handle) = refl
+service_is c (requests.Allocate destination handle words) = refl
+service_is c (requests.Free address) = refl
+
+-- the store's answer is in registers
+abbrev pub given_answer : Configuration → Answer → StoreState → Configuration
+given_answer c a store = record c { registers = answered_registers c a; store = store; line = c.line + 1 }
+
+-- the state that is seen behind an answer
+abbrev behind_answer : Configuration → Answer → StoreState → State
+behind_answer c a store =
+    settled (told (world_of c) (told_by a) (answered (with_store (machine_of c) store) a)) (c.line + 1)
+    (told (world_of c) (told_by a) (answered (with_store (machine_of c) store) a)).machine.phase
+
+goes_on : (c : Configuration) (old : StoreState) (call : Call) (choice : services.Choice) (store : StoreState)
+    → behind_answer c (services.answer old call choice) store ≡ Running (given_answer c (services.answer old call choice) store)
+goes_on c old services.OpenLexical choice store = refl
+goes_on c old (services.CloseTo mark) choice store = refl
+goes_on c old services.OpenDynamic choice store = refl
+goes_on c old (services.CloseDynamic handle) choice store = refl
+goes_on c old (services.Allocate handle words) choice store = refl
+goes_on c old (services.Free address) choice store = refl
+
+pub store_serves : (c : Configuration) (code : TrapCode) (next : State) (request : Request) → word_in c 2 ≡ service_number request → refusal c.store (asked_call request c) ≡ None → Performs c (Exception Syscall code) next
+    → (choice : services.Choice) × services.IsAllowed c.store (asked_call request c) choice
+    × (next ≡ Running (given_answer c (services.answer c.store (asked_call request c) choice) (services.served c.store (asked_call request c) choice)))
+store_serves c code next request number free goes =
+    let call : Call = asked_call request c in
+    let (event, s, (answer, store, serving, same_event, same), is) = serves c code (Asks (asked_call request c)) (service_number request) next number (service_is c request) goes in
+    let (choice, allowed, answer_is, store_is) = subst (λ (o : Option services.Refusal). services.ServesBy c.store (asked_call request c) o answer store) free serving in
+    let given : Answer = services.answer c.store (asked_call request c) choice in
+    let left : machines.State = answered (with_store (machine_of c) (services.served c.store (asked_call request c) choice)) (services.answer c.store (asked_call request c) choice) in
     let left_is : s ≡ left =
     same
-    ∙ (ap (λ (a : services.Answer). answered (with_store (machine_of c) store) a) answer_is
-    ∙ ap (λ (t : StoreState). answered (with_store (machine_of c) t) (services.Allocated choice.address)) store_is) in
-    (choice, allowed, seen c next event Ran s left (same_event ∙ ap told_by answer_is) left_is is)
+    ∙ (ap (λ (a : Answer). answered (with_store (machine_of c) store) a) answer_is
+    ∙ ap (λ (t : StoreState). answered (with_store (machine_of c) t) (services.answer c.store (asked_call request c) choice)) store_is) in
+    (
+      choice,
+      allowed,
+      seen c next event (told_by (services.answer c.store (asked_call request c) choice)) s left (same_event ∙ ap told_by answer_is) left_is is
+          ∙ goes_on c c.store (asked_call request c) choice (services.served c.store (asked_call request c) choice),
+    )
 
-pub has_no_room : (c : Configuration) (code : TrapCode) (next : State) → word_in c 2 ≡ 9 → refusal c.store (asked_block c) ≡ Some services.Full → Performs c (Exception Syscall code) next
+pub store_is_full : (c : Configuration) (code : TrapCode) (next : State) (request : Request) → word_in c 2 ≡ service_number request → refusal c.store (asked_call request c) ≡ Some services.Full → Performs c (Exception Syscall code) next
     → next ≡ labelled.Ended ending.Full c.output c.input
-has_no_room c code next number full goes =
-    let (event, s, (answer, store, serving, same_event, same), is) = serves c code (Asks (asked_block c)) 9 next number refl goes in
-    let (answer_is, store_is) = subst (λ (o : Option services.Refusal). services.ServesBy c.store (asked_block c) o answer store) full serving in
-    seen c next event (Ended ends.Full) s (over (with_store (machine_of c) store) ends.Full) (same_event ∙ ap told_by answer_is) (same ∙ ap (answered (with_store (machine_of c) store)) answer_is) is
+store_is_full c code next request number full goes =
+    let (event, s, (answer, store, serving, same_event, same), is) = serves c code (Asks (asked_call request c)) (service_number request) next number (service_is c request) goes in
+    let (answer_is, store_is) = subst (λ (o : Option services.Refusal). services.ServesBy c.store (asked_call request c) o answer store) full serving in
+    seen c next event (Ended ends.Full) s (over (with_store (machine_of c) store) ends.Full) (same_event ∙ ap told_by answer_is) (same ∙ ap (λ (a : Answer). answered (with_store (machine_of c) store) a) answer_is) is

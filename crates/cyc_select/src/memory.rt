@@ -1,18 +1,17 @@
-//! The lines that load and store words of memory, and that make a block.
+//! The lines that load and store words of memory.
 ghost use Rattle.std.specs.Prelude.{◌≡◌, ◌+◌, ◌≤◌, OnOk};
-ghost use Rattle.cyc_select.specs.Selection.{ordinary, far_plan, address_code, address_register, near_half, at_address, address_count, load_word, store_word, allocate_code};
+ghost use Rattle.cyc_select.specs.Selection.{ordinary, far_plan, address_code, address_register, near_half, at_address, address_count, load_word, store_word};
 ghost use Rattle.cyc_select.specs.Emission.{AddsLines, IsReached, IsFound};
 
 use crate::constants::{FIRST, SECOND};
 use crate::emitter::Emitter;
-use crate::instructions::{register, small, store_slot, syscall};
+use crate::instructions::{register, store_slot};
 use crate::numbers::fits_signed;
 use crate::operands::{operand_count, operand_register};
 use crate::operators::count_of_operation;
 use crate::plan::far_plan;
 use cyc_frame::Frame;
 use cyc_isa::{Instr, MemoryOp};
-use cyc_machine::constants::{ALLOCATE, ARGUMENT, SECOND_ARGUMENT, SERVICE};
 use cyc_plain::Operand;
 use std::alloc::AllocError;
 
@@ -109,27 +108,5 @@ impl Emitter {
         self.operand(frame, SECOND, source)?;
         let from = operand_register(SECOND, source);
         self.ordinary(&[at_address(MemoryOp::StoreWord, from, address, offset)])
-    }
-
-    /// A block is made, and its address comes into a slot.
-    pub(crate) fn allocate(
-        &mut self,
-        frame: Frame,
-        destination: usize,
-        handle: Operand,
-        words: Operand,
-    ) -> Result<(), AllocError>
-        requires target { IsReached frame destination }
-        requires handle { IsFound frame handle }
-        requires words { IsFound frame words }
-        ensures { AddsLines result self.old self.new (allocate_code frame destination handle words) }
-    {
-        self.load(frame, ARGUMENT, handle)?;
-        self.load(frame, SECOND_ARGUMENT, words)?;
-        self.ordinary(&[
-            small(SERVICE, ALLOCATE as u16),
-            syscall(),
-            store_slot(frame, SERVICE, destination),
-        ])
     }
 }
