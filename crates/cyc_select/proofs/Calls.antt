@@ -259,7 +259,7 @@ module _ (program : Program) (well : IsWellFormed program) (frames : List Frame)
     enters d later =
         reached program well frames fit code formed addresses pages calls few c choice (plain.Call callee arguments count result) (states.Running entered) (Running d)
         (let zero = zeros_at program c (plain.Call callee arguments count result) at_i refl in
-        record { contents = λ slot. later.w_words (low + slot_offset its slot); address = zero.address; memory = zero.memory; serves = zero.serves }) at_i refl
+        record { contents = λ slot. later.w_words (low + slot_offset its slot); serves = zero.serves }) at_i refl
         (within program well frames fit code formed addresses pages calls few entered s.laid.paged deeper)
         (inl (record {
           run = d;

@@ -29,10 +29,11 @@ use Rattle.cyc_machine.proofs.StepLaws.{executes-performs}
 use Rattle.cyc_plain.specs.State.{Words, put}
 use Rattle.cyc_plain.specs.declared.instruction.Request.{Request}
 use Rattle.cyc_plain.specs.declared.instruction.Request.TheVariants as requests
+use Rattle.cyc_select.specs.Selection.{service_number}
 use Rattle.cyc_select.specs.Machine.{Configuration, State, Running, core_of, memory_of, machine_of, world_of, from_world, settled, Performs, word_in}
 use Rattle.cyc_select.specs.Machine as labelled
 use Rattle.cyc_select.proofs.Cells.{IsCell, IsLive, cell, place_of-data, place_of-stack}
-use Rattle.cyc_select.proofs.Views.{Contents, saved_in, View, does_r, does_w, IsSafe, IsWritable, moved, live_place, view_put, view_product, view_store, view_saved}
+use Rattle.cyc_select.proofs.Views.{Contents, saved_in, View, answered_registers, does_r, does_w, IsSafe, IsWritable, moved, live_place, view_put, view_product, view_store, view_saved}
 
 -- what is performed without an event leaves this
 performs_to : (c : Configuration) (i : Instr) (left : machines.State) (next : State) → executes (machine_of c) i ≡ Does Ran left → left.phase ≡ phases.Running
@@ -326,8 +327,7 @@ store_serves c code next request number free goes =
     let left_is : s ≡ left =
     same
     ∙ (ap (λ (a : Answer). answered (with_store (machine_of c) store) a) answer_is
-    ∙ ap (λ (t : StoreState). answered (with_store (machine_of c) t) (services.answer c.store (asked_call request c) choice)) store_is) in
-    (
+    ∙ ap (λ (t : StoreState). answered (with_store (machine_of c) t) (services.answer c.store (asked_call request c) choice)) store_is) in (
       choice,
       allowed,
       seen c next event (told_by (services.answer c.store (asked_call request c) choice)) s left (same_event ∙ ap told_by answer_is) left_is is

@@ -46,7 +46,8 @@ use Rattle.cyc_select.proofs.Walks.{Stands, stands_front, stands_back, Rises, ri
 use Rattle.cyc_select.proofs.Standing.{Standing, behind_line}
 use Rattle.cyc_select.proofs.Matches.{At, Ready, Matches, Reached}
 use Rattle.cyc_select.proofs.Simple.{move_goes, unary_goes, binary_goes, divide_goes, jump_goes, branch_goes, read_goes, write_goes, load_global_goes, store_global_goes, uncaught_goes}
-use Rattle.cyc_select.proofs.Accesses.{move_words_goes, load_goes, store_goes, allocate_goes}
+use Rattle.cyc_select.proofs.Accesses.{move_words_goes, load_goes, store_goes}
+use Rattle.cyc_select.proofs.Asking.{ask_goes}
 use Rattle.cyc_select.proofs.Calls.{call_goes}
 use Rattle.cyc_select.proofs.Returns.{return_goes, behind_goes}
 
@@ -226,9 +227,9 @@ module _ (program : Program) (well : IsWellFormed program) (words : HasWords pro
         load_goes program well frames fit code formed addresses pages calls few c run r w base now s destination address offset at a (b, fits) near (stops_not (plain.Load destination address offset) at (zeros_at program c (plain.Load destination address offset) at refl)) stands
     instruction_goes (plain.Store address offset source) at (a, b) (fits, near, also) stands =
         store_goes program well frames fit code formed addresses pages calls few c run r w base now s address offset source at (a, fits) near (b, also) (stops_not (plain.Store address offset source) at (zeros_at program c (plain.Store address offset source) at refl)) stands
-    instruction_goes (plain.Allocate destination handle words) at (a, b, e) (fits, also) stands =
-        allocate_goes program well frames fit code formed addresses pages calls few c run r w base now s destination handle words at a (b, fits) (e, also) stands
-        (λ stops allowed. stops_not (plain.Allocate destination handle words) at allowed stops)
+    instruction_goes (plain.Ask request) at in_range fits stands =
+        ask_goes program well frames fit code formed addresses pages calls few c run r w base now s request at in_range fits stands
+        (λ stops allowed. stops_not (plain.Ask request) at allowed stops)
     instruction_goes (plain.Uncaught tag value) at below (tag_fits, value_fits) stands = uncaught_goes program well frames fit code formed addresses pages calls few c run r w base now s tag value at (below, value_fits) tag_fits stands
 
   -- ---- a step from a state that matches

@@ -10,7 +10,7 @@ use Rattle.cyc_store.specs.State.{StoreState, saved}
 use Rattle.cyc_plain.specs.declared.instruction.Instruction.TheVariants as plain
 use Rattle.cyc_plain.specs.Program.{Program, routine_at}
 use Rattle.cyc_plain.specs.State as states
-use Rattle.cyc_plain.specs.State.{Words, AreWords, put, copied, Activation, Configuration}
+use Rattle.cyc_plain.specs.State.{Words, put, Configuration}
 use Rattle.cyc_plain.specs.Step.{instruction_at}
 use Rattle.cyc_plain.specs.WellFormed.{IsWellFormed}
 use Rattle.cyc_plain.proofs.SlotLaws.{put-same, put-other}

@@ -78,11 +78,23 @@ impl Emitter {
         ensures { AddsLines result self.old self.new (ordinary (answer_code frame request)) }
     {
         match request {
-            Request::OpenLexical { destination } => self.store_all(frame, destination, &RESULTS[..2]),
+            Request::OpenLexical { destination } => self.store_all(
+                frame,
+                destination,
+                &RESULTS[..2],
+            ),
             Request::CloseTo { .. } => Ok(()),
-            Request::OpenDynamic { destination } => self.store_all(frame, destination, &RESULTS[..1]),
+            Request::OpenDynamic { destination } => self.store_all(
+                frame,
+                destination,
+                &RESULTS[..1],
+            ),
             Request::CloseDynamic { .. } => Ok(()),
-            Request::Allocate { destination, .. } => self.store_all(frame, destination, &RESULTS[..1]),
+            Request::Allocate { destination, .. } => self.store_all(
+                frame,
+                destination,
+                &RESULTS[..1],
+            ),
             Request::Free { .. } => Ok(()),
         }
     }
