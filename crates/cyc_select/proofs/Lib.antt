@@ -11,7 +11,7 @@ pub mod Start
 pub mod Runs
 pub mod Simple
 pub mod Accesses
-pub mod Asking
+pub mod Requests
 pub mod Calls
 pub mod Returns
 pub mod Matches

@@ -47,7 +47,7 @@ use Rattle.cyc_select.proofs.Standing.{Standing, behind_line}
 use Rattle.cyc_select.proofs.Matches.{At, Ready, Matches, Reached}
 use Rattle.cyc_select.proofs.Simple.{move_goes, unary_goes, binary_goes, divide_goes, jump_goes, branch_goes, read_goes, write_goes, load_global_goes, store_global_goes, uncaught_goes}
 use Rattle.cyc_select.proofs.Accesses.{move_words_goes, load_goes, store_goes}
-use Rattle.cyc_select.proofs.Asking.{ask_goes}
+use Rattle.cyc_select.proofs.Requests.{ask_goes}
 use Rattle.cyc_select.proofs.Calls.{call_goes}
 use Rattle.cyc_select.proofs.Returns.{return_goes, behind_goes}
 
