@@ -228,7 +228,8 @@ module _ (program : Program) (well : IsWellFormed program) (frames : List Frame)
     number : ready SERVICE ≡ service_number request
     number =
         ap (λ (x : ℕ). add_of x (sign_extended (service_number request))) (kept 0 (omega arith) (λ e. absurd (omega (arith, e))) (λ e. absurd (omega (arith, e))) ∙ s.zero_is)
-        ∙ add_small 0 (service_number request) (omega (arith, service_small request)) (omega (arith, service_small request))
+        ∙ (add_small 0 (service_number request) (omega (arith, service_small request)) (omega (arith, service_small request))
+        ∙ (let e : 0 + service_number request ≡ service_number request = omega arith in e))
 
     call_is : call_by request (ready 4) (ready 5) ≡ call
     call_is =
