@@ -1,22 +1,25 @@
 -- The typing of stacks: it stays when the typing of the world grows, and what is found of the locals in scope.
-use Rattle.std.proofs.Common.{◌≡◌, ◌≢◌, inl, inr, ℕ, ◌≤◌, Bool, true, false, List, [], ◌∷◌, Option, Some, None, slice_get, eqb, refl, sym, ap, subst, ◌∙◌, arith}
+use Rattle.std.proofs.Common.{◌≡◌, ◌≢◌, inl, inr, ℕ, ◌≤◌, ◌<◌, Bool, true, false, List, [], ◌∷◌, Option, Some, None, slice_get, eqb, refl, sym, ap, subst, ◌∙◌, arith}
 use Rattle.std.specs.Prelude.{if◌then◌else◌}
 use Rattle.std.proofs.lemmas.Bool.{eqb-true, eq-eqb, false_from_ne_true}
+use Rattle.cyc_syntax.specs.declared.tree.PointerKind.TheVariants as marks
+use Rattle.cyc_types.specs.declared.typed.PointerOperator.{PointerOperator}
 use Rattle.cyc_types.specs.Types.{Ty, ValueType, result_type}
 use Rattle.cyc_types.specs.Types as types
 use Rattle.cyc_types.specs.TypedTrees.{Operations, NoOperations, ThenCompute, ThenTest, ThenPointer, ThenPointerPeek, Function, Program}
 use Rattle.cyc_types.specs.typing.Tests.{is_tested}
-use Rattle.cyc_types.specs.typing.WellTyped.{LocalInScope, Context, HasLocal, HasPlace, Converts, IsChain}
+use Rattle.cyc_types.specs.typing.WellTyped.{LocalInScope, Context, HasLocal, HasPlace, Converts, PointerOperation, adds, subtracts, equals, differs, thin_null, thin_there, fat_null, fat_there, null_is, null_is_not, IsChain}
 use Rattle.cyc_types.specs.flow.States as flow
 use Rattle.cyc_types.specs.flow.States.{Full, with_fullness}
-use Rattle.cyc_meaning.specs.State.{Region, Access, Found, Closed, Missing, found_region, is_open, globals_number, Environment, with_local, Awaiting, Entry, Needs, Discard, Rest, Join, Loop, CloseRegion, CloseLexical, Handler, Caller, Main}
-use Rattle.cyc_meaning.specs.Nesting.{ends_of, IsFound, AreOpen, IsHome}
+use Rattle.cyc_meaning.specs.State.{Region, Access, Found, Closed, Missing, found_region, is_open, heap_number, globals_number, World, Environment, with_local, Awaiting, Entry, Needs, NeedsPlace, Discard, Rest, Join, Loop, CloseRegion, CloseLexical, Handler, Caller, Main}
+use Rattle.cyc_meaning.specs.Nesting.{ends_of, IsFound, AreOpen, IsHome, IsNested}
+use Rattle.cyc_meaning.specs.Nesting as nesting
 use Rattle.cyc_soundness.specs.Lives.{RunTy, RunValue, Void, Null, Value, read, read_value}
 use Rattle.cyc_soundness.specs.Lives as lives
 use Rattle.cyc_soundness.specs.Worlds.{Typing, IsFull, variable_type, Grows}
 use Rattle.cyc_soundness.specs.Frames.{IsAmong, first, later, Bound, IsScope, AreBelow, IsBound, AreVariables, LiveIn, Within, itself, older, IsSet, AreSet, Holds, Exits}
 use Rattle.cyc_soundness.specs.Classes.{InOperations}
-use Rattle.cyc_soundness.specs.Stacks.{IsAccepted, Want, Nothing, Val, Go, held, Waits, IsStack}
+use Rattle.cyc_soundness.specs.Stacks.{IsAccepted, Want, Nothing, Val, PlaceOf, Go, held, Waits, IsStack}
 use Rattle.cyc_soundness.specs.Stacks as stacks
 use Rattle.cyc_soundness.proofs.Numbers.{same_or_other}
 use Rattle.cyc_soundness.proofs.FlowLemmas.{other_set}
@@ -32,6 +35,7 @@ module _ (p : Program) (g h : Typing) (grows : Grows g h) where
   pub stack_grown : (x : Exits) (bs : List Bound) (w : Want) (k : List Entry) → IsStack p g x bs w k → IsStack p h x bs w k
   stack_grown x bs Nothing [] is = tt
   stack_grown x bs (Val r f) (Needs a ∷ k) (ts, cs, next, waits, are, rest) = (ts, cs, next, waits, operands_grown g h grows ts (held a) are, stack_grown x cs next k rest)
+  stack_grown x bs (PlaceOf t f) (NeedsPlace a ∷ k) (next, waits, rest) = (next, waits, stack_grown x bs next k rest)
   stack_grown x bs (Val r f) (Discard ∷ k) is = stack_grown x bs (Go f) k is
   stack_grown x bs (Go f) (Discard ∷ k) is = stack_grown x bs (Go f) k is
   stack_grown x bs (Go f) (Rest js ∷ k) (cs, c, end, within, stands, continues, rest) = (cs, c, end, within, stands, continues, stack_grown x cs (Go end) k rest)
@@ -69,18 +73,46 @@ void_converts c (types.Handle r) conv = conv
 void_converts c (types.Key r) conv = conv
 void_converts c (types.Struct n rs) conv = conv
 
+-- neither operand of an operator of pointers
+pub pointer_left : {c : Context} {o : PointerOperator} {u v w : ValueType} → PointerOperation c o u v w → u ≡ types.Void → ⊥
+pointer_left (adds t r other) e = let k : types.Value (types.Pointer marks.Fat t r) ≡ types.Void = e in absurd (cc)
+pointer_left (subtracts t r other) e = let k : types.Value (types.Pointer marks.Fat t r) ≡ types.Void = e in absurd (cc)
+pointer_left (equals k l t r s one two here there) e = let z : types.Value (types.Pointer k t r) ≡ types.Void = e in absurd (cc)
+pointer_left (differs k l t r s one two here there) e = let z : types.Value (types.Pointer k t r) ≡ types.Void = e in absurd (cc)
+pointer_left (thin_null k t r thin) e = let z : types.Value (types.Pointer k t r) ≡ types.Void = e in absurd (cc)
+pointer_left (thin_there k t r thin) e = let z : types.Value (types.Pointer k t r) ≡ types.Void = e in absurd (cc)
+pointer_left (fat_null k t r fat) e = let z : types.Value (types.Pointer k t r) ≡ types.Void = e in absurd (cc)
+pointer_left (fat_there k t r fat) e = let z : types.Value (types.Pointer k t r) ≡ types.Void = e in absurd (cc)
+pointer_left (null_is k t r) e = let z : types.Null ≡ types.Void = e in absurd (cc)
+pointer_left (null_is_not k t r) e = let z : types.Null ≡ types.Void = e in absurd (cc)
+
+value_void : (t : RunTy) → Value t ≡ Void → ⊥
+value_void t e = let k : Value t ≡ Void = e in absurd (cc)
+
+null_void : Null ≡ Void → ⊥
+null_void e = cc
+
+pointer_right : {c : Context} {o : PointerOperator} {u v w : ValueType} → PointerOperation c o u v w → read_value v ≡ Void → ⊥
+pointer_right (adds t r other) e = value_void lives.Int e
+pointer_right (subtracts t r other) e = value_void lives.Int e
+pointer_right (equals k l t r s one two here there) e = value_void (read (types.Pointer l t s)) e
+pointer_right (differs k l t r s one two here there) e = value_void (read (types.Pointer l t s)) e
+pointer_right (thin_null k t r thin) e = null_void e
+pointer_right (thin_there k t r thin) e = null_void e
+pointer_right (fat_null k t r fat) e = null_void e
+pointer_right (fat_there k t r fat) e = null_void e
+pointer_right (null_is k t r) e = value_void (read (types.Pointer k t r)) e
+pointer_right (null_is_not k t r) e = value_void (read (types.Pointer k t r)) e
+
 void_chain : (c : Context) (os : Operations) (t : Ty) → IsChain c types.Void os t → InOperations os → ⊥
 void_chain c NoOperations t e kept = absurd (let k : types.Void ≡ types.Value t = e in cc)
 void_chain c (ThenCompute o a os) t (e, well, chain) kept = absurd (let k : types.Void ≡ types.Value types.Int = e in cc)
 void_chain c (ThenTest o a os) t (e, well, chain) kept = absurd (let k : false ≡ true = e in cc)
-void_chain c (ThenPointer o a os) t chain kept = kept
-void_chain c (ThenPointerPeek n o a os) t chain kept = kept
+void_chain c (ThenPointer o a os) t (v, w, well, op, chain) kept = pointer_left op refl
+void_chain c (ThenPointerPeek n o a os) t (v, w, well, op, chain) kept = pointer_left op refl
 
 void_tested : (v : ValueType) → read_value v ≡ Void → is_tested v ≡ true → ⊥
 void_tested v e tested = let k : false ≡ true = subst (λ z. is_tested z ≡ true) (void_read v e) tested in absurd (cc)
-
-value_void : (t : RunTy) → Value t ≡ Void → ⊥
-value_void t e = let k : Value t ≡ Void = e in absurd (cc)
 
 void_waits : {p : Program} {x : Exits} {bs cs : List Bound} {a : Awaiting} {ts : List RunTy} {r : RunValue} {f : flow.State} {next : Want} → Waits p x bs a ts r f cs next → r ≡ Void → ⊥
 void_waits (stacks.converts c v t f conv from to) e = void_converts c t (subst (λ z. Converts c z t) (void_read v e) conv)
@@ -92,6 +124,17 @@ void_waits (stacks.applies f) e = value_void lives.Int e
 void_waits (stacks.decides v f h tested i) e = void_tested v e tested
 void_waits (stacks.stores_local b t f among same) e = value_void (read t) e
 void_waits (stacks.stores_global number t f there) e = value_void (read t) e
+void_waits (stacks.points c t v w f op) e = pointer_right op e
+void_waits (stacks.null_points c v w f op) e = pointer_right op e
+void_waits (stacks.stores_cell t f) e = value_void (read t) e
+void_waits (stacks.follows m t f kind) e = value_void (stacks.pointer m (read t)) e
+void_waits (stacks.follows_member m n ls s t f kind struct fields field) e = value_void (stacks.pointer m (lives.Struct n ls)) e
+void_waits (stacks.indexes c t f h stands evaluates) e = value_void (stacks.pointer marks.Fat (read t)) e
+void_waits (stacks.advances t f) e = value_void lives.Int e
+void_waits (stacks.counts_elements t f) e = value_void (stacks.pointer marks.Fat (read t)) e
+void_waits (stacks.places_by c m t f h stands makes) e = value_void (lives.Handle (lives.OfRegion 0)) e
+void_waits (stacks.makes_plain t f owner kind) e = value_void (read t) e
+void_waits (stacks.makes_fields c done t ts n ls f h owner stands passes fields) e = value_void (read t) e
 void_waits (stacks.passes c done t ts r f h stands passes called) e = value_void (read t) e
 void_waits (stacks.initialises cs c t f h within stands number kind continues) e = value_void (read t) e
 void_waits (stacks.chooses c d v f g h i tested first_stands second_stands one two j k) e = void_tested v e tested
@@ -211,6 +254,16 @@ globals_among (CloseRegion region home ∷ k) = later region (ends_of k) (global
 globals_among (CloseLexical region ∷ k) = later region (ends_of k) (globals_among k)
 globals_among (entry ∷ k) = globals_among k
 
+-- the heap is none of them
+above_globals : (bound : ℕ) (k : List Entry) → nesting.AreBelow bound (ends_of k) → globals_number < bound
+above_globals bound [] (less, are) = less
+above_globals bound (CloseRegion region home ∷ k) (less, are) = let past : globals_number < region = above_globals region k are in omega (arith, less, past)
+above_globals bound (CloseLexical region ∷ k) (less, are) = let past : globals_number < region = above_globals region k are in omega (arith, less, past)
+above_globals bound (entry ∷ k) are = above_globals bound k are
+
+pub not_heap : (region home : ℕ) (k : List Entry) (e : Environment) (w : World) → IsNested (CloseRegion region home ∷ k) e w → heap_number ≢ region
+not_heap region home k e w nests same = let past : globals_number < region = above_globals region k nests.1.1 in absurd (omega (arith, past, same))
+
 pub home_among : (home : ℕ) (k : List Entry) → IsHome home k → IsAmong home (ends_of k)
 home_among home [] is = subst (λ n. IsAmong n (globals_number ∷ [])) (sym is) (first [])
 home_among home (CloseRegion region outer ∷ k) is = subst (λ n. IsAmong n (region ∷ ends_of k)) (sym is.0) (first (ends_of k))
@@ -233,6 +286,17 @@ waits_within {bs = bs} (stacks.applies f) = itself bs
 waits_within {bs = bs} (stacks.decides v f h tested i) = itself bs
 waits_within {bs = bs} (stacks.stores_local b t f among same) = itself bs
 waits_within {bs = bs} (stacks.stores_global number t f there) = itself bs
+waits_within {bs = bs} (stacks.points c t v w f op) = itself bs
+waits_within {bs = bs} (stacks.null_points c v w f op) = itself bs
+waits_within {bs = bs} (stacks.stores_cell t f) = itself bs
+waits_within {bs = bs} (stacks.follows m t f kind) = itself bs
+waits_within {bs = bs} (stacks.follows_member m n ls s t f kind struct fields field) = itself bs
+waits_within {bs = bs} (stacks.indexes c t f h stands evaluates) = itself bs
+waits_within {bs = bs} (stacks.advances t f) = itself bs
+waits_within {bs = bs} (stacks.counts_elements t f) = itself bs
+waits_within {bs = bs} (stacks.places_by c m t f h stands makes) = itself bs
+waits_within {bs = bs} (stacks.makes_plain t f owner kind) = itself bs
+waits_within {bs = bs} (stacks.makes_fields c done t ts n ls f h owner stands passes fields) = itself bs
 waits_within {bs = bs} (stacks.passes c done t ts r f h stands passes called) = itself bs
 waits_within (stacks.initialises cs c t f h within stands number kind continues) = within
 waits_within {bs = bs} (stacks.chooses c d v f g h i tested first_stands second_stands one two j k) = itself bs

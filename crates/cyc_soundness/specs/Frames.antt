@@ -2,12 +2,12 @@
 use Rattle.std.specs.Prelude.{◌≡◌, ℕ, ◌<◌, Bool, true, false, List, [], ◌∷◌, map, Option, Some, None, slice_get}
 use Rattle.cyc_syntax.specs.Symbols.{Place}
 use Rattle.cyc_types.specs.Types.{Ty}
-use Rattle.cyc_types.specs.TypedTrees.{GlobalVariable, Program}
+use Rattle.cyc_types.specs.TypedTrees.{StructType, GlobalVariable, Program}
 use Rattle.cyc_types.specs.typing.WellTyped.{LocalInScope, Context, signature_of}
 use Rattle.cyc_types.specs.flow.States as flow
 use Rattle.cyc_types.specs.flow.States.{fullness, is_vacant, is_reached}
 use Rattle.cyc_types.specs.flow.Statements.{Loop, Around}
-use Rattle.cyc_soundness.specs.Lives.{RunTy, read}
+use Rattle.cyc_soundness.specs.Lives.{Life, RunTy, read}
 use Rattle.cyc_soundness.specs.Worlds.{Typing, IsFull, variable_type, global_type}
 
 pub data IsAmong {A : Type 0} (a : A) : List A → Type 0 where
@@ -105,13 +105,14 @@ is_loop (Some l) = true
 pub record IsContext (p : Program) (x : Exits) (bs : List Bound) (c : Context) : Type 0 where
   pub globals : c.globals ≡ map (λ (g : GlobalVariable). g.of_type) p.globals
   pub functions : c.functions ≡ map signature_of p.functions
+  pub structs : c.structs ≡ p.structs
   pub result : c.result ≡ x.result
   pub loop : c.in_loop ≡ true → is_loop x.loop ≡ true
   pub scope : IsScope c.locals bs
   pub below : AreBelow c.next_local bs
 
--- the globals are the first objects
-abbrev pub AreGlobals : Typing → Program → Type 0
-AreGlobals g p =
-    (number : ℕ) (t : Ty) → slice_get (map (λ (v : GlobalVariable). v.of_type) p.globals) number ≡ Some t
-    → (slice_get g.objects number ≡ Some (global_type (read t))) × IsFull g number
+-- what is known of a program: its globals are the first objects, and its structs have the cells of their fields
+pub record KnowsProgram (g : Typing) (p : Program) : Type 0 where
+  pub globals : (number : ℕ) (t : Ty) → slice_get (map (λ (v : GlobalVariable). v.of_type) p.globals) number ≡ Some t
+      → (slice_get g.objects number ≡ Some (global_type (read t))) × IsFull g number
+  pub structs : (number : ℕ) (s : StructType) (ls : List Life) → slice_get p.structs number ≡ Some s → g.fields number ls ≡ Some (map read s.fields)

@@ -1,32 +1,38 @@
 -- THE TYPING OF STATES. Each entry of the control stack is typed from what it awaits to what it hands on. Typed trees on it keep their
 -- judgements, types and flow in one; the locals in scope are an index, of which an entry may forget the newest.
-use Rattle.std.specs.Prelude.{◌≡◌, ◌⊎◌, ℕ, ◌+◌, true, false, List, [], ◌∷◌, length, map, Option, Some, None, slice_get}
+use Rattle.std.specs.Prelude.{◌≡◌, ◌⊎◌, ℕ, zero, suc, ◌+◌, true, false, List, [], ◌∷◌, length, map, Option, Some, None, slice_get}
+use Rattle.cyc_syntax.specs.declared.tree.PointerKind.{PointerKind}
+use Rattle.cyc_syntax.specs.declared.tree.PointerKind.TheVariants as marks
+use Rattle.cyc_types.specs.declared.region.Region.{Region}
 use Rattle.cyc_types.specs.declared.typed.Kind.{Kind}
+use Rattle.cyc_types.specs.declared.typed.Kind.TheVariants as kinds
 use Rattle.cyc_types.specs.declared.typed.Callee.{Callee}
 use Rattle.cyc_types.specs.declared.typed.Callee.TheVariants as callees
 use Rattle.cyc_types.specs.declared.typed.Operator.{Operator}
+use Rattle.cyc_types.specs.declared.typed.PointerOperator.{PointerOperator}
 use Rattle.cyc_types.specs.declared.typed.UnaryOperator.TheVariants as unary
 use Rattle.cyc_types.specs.Types.{Ty, ValueType, result_type}
 use Rattle.cyc_types.specs.Types as types
-use Rattle.cyc_types.specs.TypedTrees.{Expression, Arguments, Operations, Statement, Items, Clauses, GlobalVariable, Function, Program}
+use Rattle.cyc_types.specs.TypedTrees.{Expression, Dereference, Initial, Convert, Arguments, Operations, Statement, Items, Clauses, StructType, GlobalVariable, Function, Program}
 use Rattle.cyc_types.specs.Rules.{Derives}
-use Rattle.cyc_types.specs.typing.Tests.{is_tested, kind_of, kind_of_value}
+use Rattle.cyc_types.specs.typing.Tests.{is_struct, is_tested, kind_of_mark, kind_of, kind_of_value}
 use Rattle.cyc_types.specs.typing.Expressions.{assigned_type}
-use Rattle.cyc_types.specs.typing.WellTyped.{LocalInScope, Context, WellTyped, IsPeek, ArePassed, Converts, IsChain, in_body, with_local, WellTypedStatement, WellTypedItems, WellTypedClauses, IsWellTypedFunction, parameters_in_scope}
+use Rattle.cyc_types.specs.typing.WellTyped.{LocalInScope, Context, WellTyped, IsPeek, IsCell, ArePassed, IsMade, Converts, PointerOperation, IsChain, in_body, with_local, WellTypedStatement, WellTypedItems, WellTypedClauses, IsWellTypedFunction, parameters_in_scope}
 use Rattle.cyc_types.specs.flow.States as flow
 use Rattle.cyc_types.specs.flow.States.{Unreached, Full, with_fullness, is_reached}
-use Rattle.cyc_types.specs.flow.Expressions.{rule, rule_arguments, rule_operations}
+use Rattle.cyc_types.specs.flow.Expressions.{rule, rule_place, rule_initial, rule_arguments, rule_operations}
 use Rattle.cyc_types.specs.flow.Statements.{rule_statement, rule_items, rule_clauses}
 use Rattle.cyc_types.specs.flow.Programs.{start_of, in_function}
 use Rattle.cyc_meaning.specs.Values.{Operand}
 use Rattle.cyc_meaning.specs.Values as values
-use Rattle.cyc_meaning.specs.State.{Awaiting, ConvertTo, Operate, Chain, Apply, Decide, Store, Pass, Initialise, Choose, Test, Return, ThrowWith, Entry, Needs, Discard, Rest, Join, Loop, CloseRegion, Handler, Caller, Main, Environment, World, Focus, Evaluating, Given, Executing, Proceeding, Calling, Entering, Binding, Naming, Breaking, Continuing, Returning, Throwing, Catching, State, Running, Ended, Dead, Wrong}
+use Rattle.cyc_meaning.specs.State.{Owner, Awaiting, ConvertTo, Operate, Chain, Apply, ApplyPointer, Decide, Store, StoreCell, Pass, Follow, FollowMember, Index, Advance, CountElements, PlaceBy, MakePlain, MakeFields, Initialise, Choose, Test, Return, ThrowWith, AwaitingPlace, LoadFrom, TakeAddress, StoreTo, Write, Entry, Needs, NeedsPlace, Discard, Rest, Join, Loop, CloseRegion, Handler, Caller, Main, Environment, World, Focus, Evaluating, Locating, Given, GivenPlace, Executing, Proceeding, Calling, Entering, Binding, Naming, Writing, Breaking, Continuing, Returning, Throwing, Catching, State, Running, Ended, Dead, Wrong}
+use Rattle.cyc_meaning.specs.Allocation.{writes_from}
 use Rattle.cyc_meaning.specs.Nesting.{ends_of}
-use Rattle.cyc_soundness.specs.Lives.{RunTy, RunValue, Value, read, read_value}
+use Rattle.cyc_soundness.specs.Lives.{Life, OfRegion, RunTy, RunValue, Value, read, read_value}
 use Rattle.cyc_soundness.specs.Lives as lives
-use Rattle.cyc_soundness.specs.Worlds.{Typing, IsFull, IsResult, AreOperands, IsTyped}
-use Rattle.cyc_soundness.specs.Frames.{IsAmong, Bound, IsScope, AreBelow, IsBound, AreVariables, LiveIn, Within, Holds, Implies, LoopExit, Exits, around, AreBreaks, is_loop, IsContext, AreGlobals}
-use Rattle.cyc_soundness.specs.Classes.{KeepsToVariables, InArguments, InOperations, InStatement, InItems, InClauses}
+use Rattle.cyc_soundness.specs.Worlds.{ObjectType, Typing, IsFilled, IsFull, HasType, IsResult, AreOperands, IsOwner, IsTyped}
+use Rattle.cyc_soundness.specs.Frames.{IsAmong, Bound, IsScope, AreBelow, IsBound, AreVariables, LiveIn, Within, Holds, Implies, LoopExit, Exits, around, AreBreaks, is_loop, IsContext, KnowsProgram}
+use Rattle.cyc_soundness.specs.Classes.{KeepsToHeap, InPlace, InInitial, InArguments, InOperations, InStatement, InItems, InClauses}
 
 -- ---- trees, with what is known before and behind them
 
@@ -35,7 +41,7 @@ pub record Evaluates (c : Context) (a : Expression) (f : flow.State) (t : ValueT
   pub waiting : List ℕ
   pub typed : WellTyped c a t ⊎ IsPeek c a t
   pub flows : Derives (rule waiting a f) h
-  pub kept : KeepsToVariables a
+  pub kept : KeepsToHeap a
 
 pub record Computes (c : Context) (left : ValueType) (os : Operations) (f : flow.State) (t : Ty) (h : flow.State) : Type 0 where
   pub waiting : List ℕ
@@ -48,6 +54,21 @@ pub record Passes (c : Context) (ts : List Ty) (as' : Arguments) (f h : flow.Sta
   pub typed : ArePassed c ts as'
   pub flows : Derives (rule_arguments waiting as' f) h
   pub kept : InArguments as'
+
+-- a place that a pointer leads to, of this type
+pub record Locates (c : Context) (d : Dereference) (f : flow.State) (t : Ty) (h : flow.State) : Type 0 where
+  pub waiting : List ℕ
+  pub region : Region
+  pub typed : IsCell c d t region
+  pub flows : Derives (rule_place waiting d f) h
+  pub kept : InPlace d
+
+-- what a new object holds, of this type, to which the pointer has this mark
+pub record Makes (c : Context) (i : Initial) (m : PointerKind) (t : Ty) (f h : flow.State) : Type 0 where
+  pub waiting : List ℕ
+  pub typed : IsMade c i m t
+  pub flows : Derives (rule_initial waiting i f) h
+  pub kept : InInitial i
 
 -- behind a statement this is known, which is what the breaks in it leave to the loop around
 pub record Executes (x : Exits) (c : Context) (s : Statement) (f h : flow.State) : Type 0 where
@@ -90,13 +111,19 @@ pub data Want : Type 0 where
   Nothing : Want
   -- a value, or nothing where no value is used, and this is known
   Val : RunValue → flow.State → Want
+  -- a place of this type
+  PlaceOf : RunTy → flow.State → Want
   -- the end of a statement
   Go : flow.State → Want
 
 -- the operands that wait in an entry
 abbrev pub held : Awaiting → List Operand
 held (Apply operator left) = left ∷ []
+held (ApplyPointer peek operator left) = left ∷ []
+held (StoreCell peek place) = record { kind = kinds.NonNull; value = place } ∷ []
 held (Pass callee before rest) = before
+held (Advance peek base) = base ∷ []
+held (MakeFields owner before rest) = before
 held a = []
 
 -- these operands, the newest first, and then those of the second list
@@ -110,6 +137,17 @@ IsCalled p callees.Putchar ts r = (ts ≡ lives.Int ∷ []) × (r ≡ Value live
 IsCalled p callees.Getchar ts r = (ts ≡ []) × (r ≡ Value lives.Int)
 IsCalled p (callees.Function number) ts r =
     (h : Function) × (slice_get p.functions number ≡ Some h) × (ts ≡ map read h.parameters) × (r ≡ read_value (result_type h.result))
+
+-- these are the types of a struct's fields
+abbrev pub AreFields : Program → (struct : ℕ) → List RunTy → Type 0
+AreFields p n ts = (s : StructType) × (slice_get p.structs n ≡ Some s) × (ts ≡ map read s.fields)
+
+-- A pointer as a run reads it. Nothing ends that it may lead to.
+abbrev pub pointer : PointerKind → RunTy → RunTy
+pointer m t = lives.Pointer m t (OfRegion 0)
+
+abbrev pub null : Operand
+null = record { kind = kinds.Nullable; value = values.Null }
 
 -- in the body of this loop
 abbrev pub inside : Exits → LoopExit → Exits
@@ -142,6 +180,28 @@ pub data Waits (p : Program) (x : Exits) (bs : List Bound) : Awaiting → List R
       → Waits p x bs (Store (values.Thin b.object 0)) [] (Value (read t)) f bs (Val (read_value (assigned_type t)) (with_fullness Full f b.number))
   stores_global : (number : ℕ) (t : Ty) (f : flow.State) → slice_get (map (λ (v : GlobalVariable). v.of_type) p.globals) number ≡ Some t
       → Waits p x bs (Store (values.Thin number 0)) [] (Value (read t)) f bs (Val (read_value (assigned_type t)) f)
+  points : {peek : Option ℕ} {o : PointerOperator} {left : Operand} (c : Context) (t : Ty) (v w : ValueType) (f : flow.State) → PointerOperation c o (types.Value t) v w
+      → Waits p x bs (ApplyPointer peek o left) (read t ∷ []) (read_value v) f bs (Val (read_value w) f)
+  null_points : {peek : Option ℕ} {o : PointerOperator} (c : Context) (v w : ValueType) (f : flow.State) → PointerOperation c o types.Null v w
+      → Waits p x bs (ApplyPointer peek o null) (pointer marks.Nullable lives.Int ∷ []) (read_value v) f bs (Val (read_value w) f)
+  stores_cell : {peek : Option ℕ} {place : values.Value} (t : Ty) (f : flow.State)
+      → Waits p x bs (StoreCell peek place) (pointer marks.NonNull (read t) ∷ []) (Value (read t)) f bs (Val (read_value (assigned_type t)) f)
+  follows : {k : Kind} (m : PointerKind) (t : Ty) (f : flow.State) → k ≡ kind_of_mark m → Waits p x bs (Follow k) [] (Value (pointer m (read t))) f bs (PlaceOf (read t) f)
+  follows_member : {k : Kind} {fields : List Kind} {field : ℕ} (m : PointerKind) (n : ℕ) (ls : List Life) (s : StructType) (t : Ty) (f : flow.State) → k ≡ kind_of_mark m
+      → slice_get p.structs n ≡ Some s → fields ≡ map values.kind_of s.fields → slice_get s.fields field ≡ Some t
+      → Waits p x bs (FollowMember k fields field) [] (Value (pointer m (lives.Struct n ls))) f bs (PlaceOf (read t) f)
+  indexes : {peek : Option ℕ} {index : Expression} (c : Context) (t : Ty) (f h : flow.State) → IsContext p x bs c → Evaluates c index f (types.Value types.Int) h
+      → Waits p x bs (Index peek index) [] (Value (pointer marks.Fat (read t))) f bs (PlaceOf (read t) h)
+  advances : {peek : Option ℕ} {base : Operand} (t : Ty) (f : flow.State)
+      → Waits p x bs (Advance peek base) (pointer marks.Fat (read t) ∷ []) (Value lives.Int) f bs (PlaceOf (read t) f)
+  counts_elements : (t : Ty) (f : flow.State) → Waits p x bs CountElements [] (Value (pointer marks.Fat (read t))) f bs (Val (Value lives.Int) f)
+  places_by : {i : Initial} (c : Context) (m : PointerKind) (t : Ty) (f h : flow.State) → IsContext p x bs c → Makes c i m t f h
+      → Waits p x bs (PlaceBy i) [] (Value (lives.Handle (OfRegion 0))) f bs (Val (Value (pointer m (read t))) h)
+  makes_plain : {owner : Owner} {kind : Kind} (t : Ty) (f : flow.State) → IsOwner (OfRegion 0) owner → kind ≡ kind_of t
+      → Waits p x bs (MakePlain owner kind) [] (Value (read t)) f bs (Val (Value (pointer marks.NonNull (read t))) f)
+  makes_fields : {owner : Owner} {before : List Operand} {rest : Arguments} (c : Context) (done : List RunTy) (t : Ty) (ts : List Ty) (n : ℕ) (ls : List Life) (f h : flow.State)
+      → IsOwner (OfRegion 0) owner → IsContext p x bs c → Passes c ts rest f h → AreFields p n (turned (read t ∷ done) (map read ts))
+      → Waits p x bs (MakeFields owner before rest) done (Value (read t)) f bs (Val (Value (pointer marks.NonNull (lives.Struct n ls))) h)
   passes : {callee : Callee} {before : List Operand} {rest : Arguments} (c : Context) (done : List RunTy) (t : Ty) (ts : List Ty) (r : ValueType) (f h : flow.State)
       → IsContext p x bs c → Passes c ts rest f h → IsCalled p callee (turned (read t ∷ done) (map read ts)) (read_value r)
       → Waits p x bs (Pass callee before rest) done (Value (read t)) f bs (Val (read_value r) h)
@@ -154,6 +214,13 @@ pub data Waits (p : Program) (x : Exits) (bs : List Bound) : Awaiting → List R
   returns : (t : Ty) (f h : flow.State) → x.result ≡ Some t → Waits p x bs Return [] (Value (read t)) f bs (Go h)
   throws : {tag : ℕ} (f h : flow.State) → Waits p x bs (ThrowWith tag) [] (Value lives.Int) f bs (Go h)
 
+-- what waits for a place, of this type, and what goes on then
+pub data WaitsPlace (p : Program) (x : Exits) (bs : List Bound) : AwaitingPlace → RunTy → flow.State → Want → Type 0 where
+  loads_from : {kind : Kind} (t : Ty) (f : flow.State) → is_struct t ≡ false → kind ≡ values.kind_of t → WaitsPlace p x bs (LoadFrom kind) (read t) f (Val (Value (read t)) f)
+  takes_address : (t : RunTy) (f : flow.State) → WaitsPlace p x bs TakeAddress t f (Val (Value (pointer marks.NonNull t)) f)
+  stores_to : {peek : Option ℕ} {from to : Kind} {a : Expression} (c : Context) (v : ValueType) (t : Ty) (f h : flow.State) → IsContext p x bs c → Evaluates c a f v h
+      → Converts c v t → from ≡ kind_of_value v → to ≡ kind_of t → WaitsPlace p x bs (StoreTo peek (Convert from to a)) (read t) f (Val (read_value (assigned_type t)) h)
+
 -- ---- the control stack
 
 -- a function with a result never comes to its end
@@ -165,6 +232,7 @@ abbrev pub IsStack : Program → Typing → Exits → List Bound → Want → Li
 IsStack p g x bs Nothing [] = Unit {0}
 IsStack p g x bs (Val r f) (Needs a ∷ k) =
     (ts : List RunTy) × (cs : List Bound) × (next : Want) × Waits p x bs a ts r f cs next × AreOperands g ts (held a) × IsStack p g x cs next k
+IsStack p g x bs (PlaceOf t f) (NeedsPlace a ∷ k) = (next : Want) × WaitsPlace p x bs a t f next × IsStack p g x bs next k
 IsStack p g x bs (Val r f) (Discard ∷ k) = IsStack p g x bs (Go f) k
 IsStack p g x bs (Go f) (Discard ∷ k) = IsStack p g x bs (Go f) k
 -- the locals that a block declares are out of scope behind its items
@@ -182,6 +250,34 @@ IsStack p g x bs (Go f) (Caller e ∷ k) =
     × IsStack p g y cs (Val (read_value (result_type x.result)) h) k
 IsStack p g x bs (Go f) (Main ∷ k) = (is_loop x.loop ≡ false) × (x.result ≡ Some types.Int) × (is_reached f ≡ false) × IsStack p g x bs Nothing k
 IsStack p g x bs w k = ⊥
+
+-- ---- new objects
+
+-- operands for the cells from this one on
+abbrev pub AreNext : Typing → (offset : ℕ) → List RunTy → List Operand → Type 0
+AreNext g zero ts vs = AreOperands g ts vs
+AreNext g (suc i) [] vs = ⊥
+AreNext g (suc i) (t ∷ ts) vs = AreNext g i ts vs
+
+-- an object of this type is, as a whole, of that type
+abbrev pub IsWhole : Typing → ObjectType → RunTy → Type 0
+IsWhole g y (lives.Struct n ls) = g.fields n ls ≡ Some y.cells
+IsWhole g y t = y.cells ≡ t ∷ []
+
+-- A new object holds something up to a cell. These writes give its other cells what they are to hold, and then this pointer leads to it.
+pub record IsMaking (g : Typing) (writes : List Write) (v : Operand) (t : RunTy) : Type 0 where
+  pub object : ℕ
+  pub offset : ℕ
+  pub operands : List Operand
+  pub of_type : ObjectType
+  pub these : writes ≡ writes_from object offset operands
+  pub handed : v ≡ record { kind = kinds.NonNull; value = values.Thin object 0 }
+  pub there : slice_get g.objects object ≡ Some of_type
+  pub shown : of_type.is_hidden ≡ false
+  pub life : of_type.life ≡ OfRegion 0
+  pub filled : IsFilled g object offset
+  pub rest : AreNext g offset of_type.cells operands
+  pub whole : IsWhole g of_type t
 
 -- ---- states
 
@@ -202,6 +298,12 @@ IsBody x h = (x.loop ≡ None) × (x.result ≡ h.result)
 abbrev pub IsFocus : Program → Typing → Exits → List Bound → Focus → List Entry → Type 0
 IsFocus p g x bs (Evaluating a) k =
     (c : Context) × (t : ValueType) × (f h : flow.State) × IsContext p x bs c × Holds g f bs × Evaluates c a f t h × IsStack p g x bs (Val (read_value t) h) k
+IsFocus p g x bs (Locating d) k =
+    (c : Context) × (t : Ty) × (f h : flow.State) × IsContext p x bs c × Holds g f bs × Locates c d f t h × IsStack p g x bs (PlaceOf (read t) h) k
+IsFocus p g x bs (GivenPlace place) k =
+    (t : RunTy) × (f : flow.State) × Holds g f bs × HasType g (pointer marks.NonNull t) place × IsStack p g x bs (PlaceOf t f) k
+IsFocus p g x bs (Writing writes (Some v)) k =
+    (t : RunTy) × (f : flow.State) × Holds g f bs × IsMaking g writes v t × IsStack p g x bs (Val (Value (pointer marks.NonNull t)) f) k
 IsFocus p g x bs (Given v) k = (r : RunValue) × (f : flow.State) × Holds g f bs × IsResult g r v × IsStack p g x bs (Val r f) k
 IsFocus p g x bs (Executing s) k =
     (c : Context) × (f h : flow.State) × IsContext p x bs c × Holds g f bs × Executes x c s f h × IsStack p g x bs (Go h) k
@@ -228,8 +330,8 @@ pub record IsRunning (p : Program) (focus : Focus) (k : List Entry) (e : Environ
   pub typing : Typing
   pub exits : Exits
   pub locals : List Bound
-  pub objects : IsTyped typing w.objects
-  pub globals : AreGlobals typing p
+  pub objects : IsTyped typing w.regions w.objects
+  pub globals : KnowsProgram typing p
   pub bound : IsBound e.locals locals
   pub variables : AreVariables typing locals
   pub live : LiveIn (ends_of k) locals
