@@ -26,7 +26,7 @@ use Rattle.cyc_meaning.specs.Step.{called, values_of, prints, reads, step_callin
 use Rattle.cyc_soundness.specs.Lives.{RunTy, RunValue, Value, read}
 use Rattle.cyc_soundness.specs.Lives as lives
 use Rattle.cyc_soundness.specs.Worlds.{Typing, HasType, AreOperands, IsTyped, Grows}
-use Rattle.cyc_soundness.specs.Frames.{Bound, IsScope, AreBelow, IsBound, AreVariables, LiveIn, Within, itself, older, AreSet, Holds, Implies, Exits, loop_of, around, AreBreaks, IsContext, KnowsProgram}
+use Rattle.cyc_soundness.specs.Frames.{InScope, Variable, Level, IsScope, AreBelow, IsBound, AreVariables, LiveIn, Within, itself, older, AreSet, Holds, Implies, Exits, loop_of, around, AreBreaks, IsContext, KnowsProgram}
 use Rattle.cyc_soundness.specs.Classes.{InItems, InClauses}
 use Rattle.cyc_soundness.specs.Stacks.{Continues, Catches, IsAccepted, Val, Go, turned, IsCalled, IsBlocked, AreFull, IsBody, IsStack, IsWell}
 use Rattle.cyc_soundness.proofs.TypeLemmas.{is_kind_same, kind_meant}
@@ -58,16 +58,18 @@ pub blocked_of : (o : Option Ty) (f : flow.State) → ((t : Ty) → o ≡ Some t
 blocked_of None f ends = tt
 blocked_of (Some t) f ends = ends t refl
 
-all_set : (g : Typing) (f : flow.State) (bs : List Bound) → AreFull g bs → AreSet g f bs
+all_set : (g : Typing) (f : flow.State) (bs : List InScope) → AreFull g bs → AreSet g f bs
 all_set g f [] are = tt
-all_set g f (b ∷ bs) (is, are) = (λ s. is, all_set g f bs are)
+all_set g f (Variable b ∷ bs) (is, are) = (λ s. is, all_set g f bs are)
+all_set g f (Level l ∷ bs) (is, are) = (tt, all_set g f bs are)
 
-full_grown : (g h : Typing) → Grows g h → (bs : List Bound) → AreFull g bs → AreFull h bs
+full_grown : (g h : Typing) → Grows g h → (bs : List InScope) → AreFull g bs → AreFull h bs
 full_grown g h grows [] are = tt
-full_grown g h grows (b ∷ bs) (is, are) = (grows.filled b.object 1 is, full_grown g h grows bs are)
+full_grown g h grows (Variable b ∷ bs) (is, are) = (grows.filled b.object 1 is, full_grown g h grows bs are)
+full_grown g h grows (Level l ∷ bs) (is, are) = (tt, full_grown g h grows bs are)
 
 module _ (p : Program) (accepted : AreAccepted p) where
-  module _ (g : Typing) (x : Exits) (bs : List Bound) (e : Environment) (w : World) (typed : IsTyped g w.regions w.objects) (globals : KnowsProgram g p) (bound : IsBound e.locals bs) (variables : AreVariables g bs) where
+  module _ (g : Typing) (x : Exits) (bs : List InScope) (e : Environment) (w : World) (typed : IsTyped g w.regions w.objects) (globals : KnowsProgram g p) (bound : IsBound e.locals e.counters bs) (variables : AreVariables g bs) where
     -- ---- calls
 
     printed_on : (ts : List RunTy) (vs : List Operand) (k : List Entry) (f : flow.State) → LiveIn (ends_of k) bs → Holds g f bs → turned ts [] ≡ lives.Int ∷ [] → AreOperands g ts vs
@@ -118,9 +120,9 @@ module _ (p : Program) (accepted : AreAccepted p) where
     enter h vs k end ok body none are stack =
         let count : 0 + length h.parameters ≡ length h.parameters = omega arith in
         running p g x [] (inside e w) (opened w) (opened_typed g w.regions (new_region Stack ∷ []) w.objects typed) globals tt tt (Binding 0 h.parameters vs h.body) (region_end e w ∷ k) tt
-        (h, end, [], [], itself [], ok, body, refl, refl, count, are, tt, tt, tt, (end, implies_self end, tt, subst (λ cs. IsStack p g x cs (Go end) k) none stack))
+        (h, end, [], [], itself [], ok, body, refl, refl, count, are, refl, tt, tt, (end, implies_self end, tt, subst (λ cs. IsStack p g x cs (Go end) k) none stack))
 
-    begin : (h : Function) (number : ℕ) (js : Items) (k : List Entry) (end : flow.State) (vs : List LocalInScope) (cs : List Bound) → LiveIn (ends_of k) bs → Within cs bs → IsAccepted p h end → IsBody x h → js ≡ h.body
+    begin : (h : Function) (number : ℕ) (js : Items) (k : List Entry) (end : flow.State) (vs : List LocalInScope) (cs : List InScope) → LiveIn (ends_of k) bs → Within cs bs → IsAccepted p h end → IsBody x h → js ≡ h.body
         → vs ≡ parameters_in_scope h.parameters 0 [] → number + 0 ≡ length h.parameters → IsScope vs bs → AreBelow number bs → AreFull g bs → IsStack p g x cs (Go end) k
         → IsWell p (Running Proceeding (Rest js ∷ k) e w)
     begin h number js k end vs cs live within ok (loop, result) body scope_is count scope below full stack =
@@ -136,12 +138,13 @@ module _ (p : Program) (accepted : AreAccepted p) where
           loop = λ no. (let z : false ≡ true = no in absurd (cc));
           scope = subst (λ z. IsScope z bs) scope_is scope;
           below = below_more number (length h.parameters) bs last below;
+          counters = λ l less. absurd (omega (arith, less));
         } in
         subst (λ z. IsWell p (Running Proceeding (Rest z ∷ k) e w)) (sym body)
         (running p g x bs e w typed globals bound variables Proceeding (Rest h.body ∷ k) live
         (start_of h, (refl, all_set g (start_of h) bs full), (cs, body_context p h, end, within, stands, rest, stack)))
 
-    pub bind : (number : ℕ) (ts : List Ty) (arguments : List Operand) (js : Items) (k : List Entry) (h : Function) (end : flow.State) (vs : List LocalInScope) (cs : List Bound) → IsNested k e w → LiveIn (ends_of k) bs
+    pub bind : (number : ℕ) (ts : List Ty) (arguments : List Operand) (js : Items) (k : List Entry) (h : Function) (end : flow.State) (vs : List LocalInScope) (cs : List InScope) → IsNested k e w → LiveIn (ends_of k) bs
         → Within cs bs → IsAccepted p h end → IsBody x h → js ≡ h.body → parameters_in_scope ts number vs ≡ parameters_in_scope h.parameters 0 [] → number + length ts ≡ length h.parameters
         → AreOperands g (map read ts) arguments → IsScope vs bs → AreBelow number bs → AreFull g bs → IsStack p g x cs (Go end) k → IsWell p (step_binding number ts arguments js k e w)
     bind number [] [] js k h end vs cs nests live within ok body body_is scope_is count are scope below full stack = begin h number js k end vs cs live within ok body body_is scope_is count scope below full stack
@@ -165,7 +168,7 @@ module _ (p : Program) (accepted : AreAccepted p) where
           scope_is,
           more,
           operands_grown g _ grows (map read ts) arguments are,
-          ((refl, refl), scope),
+          (vs, (_, refl, refl, refl), scope),
           ((let less : number < suc number = omega arith in less), below_more number (suc number) bs (let le : number ≤ suc number = omega arith in le) below),
           (filled, full_grown g _ grows bs full),
           stack_grown p g _ grows x cs (Go end) k stack,
@@ -222,6 +225,7 @@ module _ (p : Program) (accepted : AreAccepted p) where
           scope = stands.scope;
           below = below_more c.next_local (c.next_local + (length (caught_types v) + length (item_types js))) bs
               (let le : c.next_local ≤ c.next_local + (length (caught_types v) + length (item_types js)) = omega arith in le) stands.below;
+          counters = stands.counters;
         }
 
         next : Catches x (behind_clause c v js) start ds (or_clause f js l).now h

@@ -16,7 +16,7 @@ use Rattle.cyc_meaning.specs.Nesting.{ends_of, AreOpen}
 use Rattle.cyc_soundness.specs.Lives.{Life, OfRegion, RunTy, Int, Pointer, Handle, Key, Struct, Value, kind_at}
 use Rattle.cyc_soundness.specs.Lives as lives
 use Rattle.cyc_soundness.specs.Worlds.{ObjectType, Typing, Outlasts, alike, heap as for_ever, globals as with_globals, IsFilled, IsPart, IsTarget, HasType, IsResult, IsOwner, IsTyped, Grows}
-use Rattle.cyc_soundness.specs.Frames.{Bound, IsBound, AreVariables, LiveIn, Holds, Exits, KnowsProgram}
+use Rattle.cyc_soundness.specs.Frames.{InScope, IsBound, AreVariables, LiveIn, Holds, Exits, KnowsProgram}
 use Rattle.cyc_soundness.specs.Stacks.{Val, IsStack, IsFocus, IsWell}
 use Rattle.cyc_soundness.proofs.Numbers.{slice_get-set_same, some_same}
 use Rattle.cyc_soundness.proofs.TypeLemmas.{is_kind_same}
@@ -24,7 +24,7 @@ use Rattle.cyc_soundness.proofs.WorldLemmas.{cell_there, live_owner, risen, rise
 use Rattle.cyc_soundness.proofs.StackLemmas.{open_of, globals_among}
 
 -- a typed state, by its parts
-pub running : (p : Program) (g : Typing) (x : Exits) (bs : List Bound) (e : Environment) (w : World) → IsTyped g w.regions w.objects → KnowsProgram g p → IsBound e.locals bs → AreVariables g bs
+pub running : (p : Program) (g : Typing) (x : Exits) (bs : List InScope) (e : Environment) (w : World) → IsTyped g w.regions w.objects → KnowsProgram g p → IsBound e.locals e.counters bs → AreVariables g bs
     → (focus : Focus) (k : List Entry) → LiveIn (ends_of k) bs → IsFocus p g x bs focus k → IsWell p (Running focus k e w)
 running p g x bs e w typed globals bound variables focus k live stands =
     record { typing = g; exits = x; locals = bs; objects = typed; globals = globals; bound = bound; variables = variables; live = live; stands = stands }
@@ -82,7 +82,7 @@ stored_part g object x (Struct n ls) offset v has is = absurd has
 
 -- ---- reads and writes
 
-module _ (p : Program) (g : Typing) (x : Exits) (bs : List Bound) (e : Environment) (w : World) (typed : IsTyped g w.regions w.objects) (globals : KnowsProgram g p) (bound : IsBound e.locals bs) (variables : AreVariables g bs) where
+module _ (p : Program) (g : Typing) (x : Exits) (bs : List InScope) (e : Environment) (w : World) (typed : IsTyped g w.regions w.objects) (globals : KnowsProgram g p) (bound : IsBound e.locals e.counters bs) (variables : AreVariables g bs) where
   -- a cell is read
   pub reads : (k : List Entry) (kind : Kind) (number offset region : ℕ) (t : RunTy) (y : ObjectType) (f : flow.State) → LiveIn (ends_of k) bs → Holds g f bs
       → slice_get g.objects number ≡ Some y → slice_get y.cells offset ≡ Some t → y.life ≡ OfRegion region → is_open (slice_get w.regions region) ≡ true → IsFilled g number (suc offset) → kind_at t ≡ kind

@@ -11,7 +11,7 @@ use Rattle.cyc_types.specs.declared.typed.UnaryOperator.TheVariants as unary
 use Rattle.cyc_types.specs.declared.region.Region.{Region}
 use Rattle.cyc_types.specs.Types.{Ty, ValueType, result_type, substituted_ty}
 use Rattle.cyc_types.specs.Types as types
-use Rattle.cyc_types.specs.TypedTrees.{Local, Global, Expression, Number, NullPointer, HeapRegion, Copy, Move, Peek, Load, AddressOf, AddressOfCell, NumberOfElements, Call, Unary, Binary, Assign, New, OnHeap, AsUnique, ByHandle, type_of_place, peeked, Convert, Arguments, NoArguments, MoreArguments, Operations, NoOperations, ThenCompute, ThenTest, ThenPointer, ThenPointerPeek, GlobalVariable, Signature, Function, Program}
+use Rattle.cyc_types.specs.TypedTrees.{Local, Global, Expression, Number, NullPointer, HeapRegion, Counter, Copy, Move, Peek, Load, AddressOf, AddressOfCell, NumberOfElements, Call, Unary, Binary, Assign, New, OnHeap, AsUnique, ByHandle, type_of_place, peeked, Convert, Arguments, NoArguments, MoreArguments, Operations, NoOperations, ThenCompute, ThenTest, ThenPointer, ThenPointerPeek, GlobalVariable, Signature, Function, Program}
 use Rattle.cyc_types.specs.TypedTrees as typed'
 use Rattle.cyc_types.specs.Rules.{Derives}
 use Rattle.cyc_types.specs.typing.Tests.{is_moved, is_tested}
@@ -29,11 +29,11 @@ use Rattle.cyc_meaning.specs.Pointers.{takes_kind}
 use Rattle.cyc_meaning.specs.State.{InRegion, Unique, World, heap_number, cell_at, Environment, ConvertTo, Operate, Chain, Apply, ApplyPointer, Decide, Store, Pass, CountElements, PlaceBy, LoadFrom, TakeAddress, StoreTo, Entry, Needs, NeedsPlace, Focus, Evaluating, Locating, Given, Calling, Running}
 use Rattle.cyc_meaning.specs.Parts.{wrong, computed, loaded_from, stored}
 use Rattle.cyc_meaning.specs.Nesting.{ends_of, AreOpen}
-use Rattle.cyc_meaning.specs.Step.{step_evaluating, passes, assigned, decided, tested, awaits_right, chained, converts}
+use Rattle.cyc_meaning.specs.Step.{step_evaluating, counts, passes, assigned, decided, tested, awaits_right, chained, converts}
 use Rattle.cyc_soundness.specs.Lives.{RunTy, RunValue, Value, kind_at, read_value, OfRegion}
 use Rattle.cyc_soundness.specs.Lives as lives
 use Rattle.cyc_soundness.specs.Worlds.{Typing, IsFull, variable_type, global_type, globals as with_globals, IsResult, AreOperands, IsTyped}
-use Rattle.cyc_soundness.specs.Frames.{IsAmong, Bound, IsBound, AreVariables, LiveIn, IsSet, Holds, Implies, Exits, IsContext, KnowsProgram}
+use Rattle.cyc_soundness.specs.Frames.{IsAmong, Bound, InScope, Variable, IsBound, AreVariables, LiveIn, IsSet, Holds, Implies, Exits, IsContext, KnowsProgram}
 use Rattle.cyc_soundness.specs.Classes.{KeepsToHeap, InArguments, InOperations}
 use Rattle.cyc_soundness.specs.Stacks.{Evaluates, Val, turned, IsCalled, pointer, null, IsStack, IsFocus, IsWell}
 use Rattle.cyc_soundness.specs.Stacks as stacks
@@ -41,7 +41,7 @@ use Rattle.cyc_soundness.proofs.Numbers.{some_same}
 use Rattle.cyc_soundness.proofs.TypeLemmas.{is_kind_same, kind_read, kind_meant, instances_read, result_read}
 use Rattle.cyc_soundness.proofs.FlowLemmas.{implies_self, meet_first, meet_second, vacant_implied, holds_implied, reached_with}
 use Rattle.cyc_soundness.proofs.WorldLemmas.{risen, with_filled, result_grown, holds_grown}
-use Rattle.cyc_soundness.proofs.StackLemmas.{stack_grown, pointer_left, bound_of, place_local, among_bound, among_variable, among_live, among_set, set_stored, open_of, globals_among}
+use Rattle.cyc_soundness.proofs.StackLemmas.{stack_grown, pointer_left, bound_of, place_local, among_bound, among_variable, among_live, among_level, among_set, set_stored, open_of, globals_among}
 use Rattle.cyc_soundness.proofs.ValueLemmas.{zero_is, converted, kind_given}
 use Rattle.cyc_soundness.proofs.Cells.{running, part_at, reads, writes}
 use Rattle.cyc_soundness.proofs.Objects.{makes_on}
@@ -77,7 +77,7 @@ module _ (p : Program) where
           let (h, at, same) = of_map signature_of p.functions n s (ap (λ ss. slice_get ss n) (sym functions) ∙ is) in
           subst (λ (z : Signature). IsCalled p (callees.Function n) (map lives.read z.parameters) (read_value (result_type z.result))) same (h, at, refl, refl)
 
-  module _ (g : Typing) (x : Exits) (bs : List Bound) (e : Environment) (w : World) (typed : IsTyped g w.regions w.objects) (globals : KnowsProgram g p) (bound : IsBound e.locals bs) (variables : AreVariables g bs) where
+  module _ (g : Typing) (x : Exits) (bs : List InScope) (e : Environment) (w : World) (typed : IsTyped g w.regions w.objects) (globals : KnowsProgram g p) (bound : IsBound e.locals e.counters bs) (variables : AreVariables g bs) where
     on : (focus : Focus) (k : List Entry) → LiveIn (ends_of k) bs → IsFocus p g x bs focus k → IsWell p (Running focus k e w)
     on focus k live stands = running p g x bs e w typed globals bound variables focus k live stands
 
@@ -146,6 +146,10 @@ module _ (p : Program) where
         hands k (read_value t) lives.Null (record { kind = kinds.Nullable; value = values.Null }) f h live holds same (ap read_value is) (refl, refl) stack
     evaluate HeapRegion k c t f h q opens live stands holds (inl is) (u, same) kept stack =
         hands k (read_value t) (Value (lives.Handle (OfRegion 0))) (record { kind = kinds.Handle; value = values.Handle 0 }) f h live holds same (ap read_value is) (refl, refl) stack
+    evaluate (Counter l) k c t f h q opens live stands holds (inl (less, is)) (u, same) kept stack =
+        let (index, counted) = among_level e (stands.counters l less) bound in
+        subst (λ o. IsWell p (counts o k e w)) (sym counted)
+        (hands k (read_value t) (Value lives.Int) (record { kind = kinds.Int; value = values.Int index }) f h live holds same (ap read_value is) (refl, tt) stack)
     evaluate (Copy (Local place n) u) k c t f h q opens live stands holds (inl ((has, there), moved, same)) (demands, known) kept stack =
         from_local k c n u t f h opens live stands holds has (not_true (is_vacant (fullness f n)) demands.0) (subst (λ z. Implies f z) (sym known) (implies_self f)) same stack
     evaluate (Copy (Global n) u) k c t f h q opens live stands holds (inl (there, moved, same)) (demands, known) kept stack =
@@ -449,7 +453,7 @@ module _ (p : Program) where
     handed h t v true is = tt
     handed h t v false is = is
 
-    pub writes_local : (v : Operand) (k : List Entry) (b : Bound) (t : Ty) (f : flow.State) → AreOpen w.regions (ends_of k) → LiveIn (ends_of k) bs → IsAmong b bs → b.of_type ≡ lives.read t
+    pub writes_local : (v : Operand) (k : List Entry) (b : Bound) (t : Ty) (f : flow.State) → AreOpen w.regions (ends_of k) → LiveIn (ends_of k) bs → IsAmong (Variable b) bs → b.of_type ≡ lives.read t
         → Holds g f bs → IsResult g (Value (lives.read t)) v → IsStack p g x bs (Val (read_value (assigned_type t)) (with_fullness Full f b.number)) k
         → IsWell p (stored (cell_at w b.object 0) b.object 0 v (Given v) k e w)
     writes_local v k b t f opens live among of_type (reached, are) is stack =

@@ -2,6 +2,15 @@
 use Rattle.std.proofs.Common.{◌≡◌, ℕ, zero, suc, ◌<◌, Bool, true, false, List, [], ◌∷◌, ◌++◌, length, map, set, Some, None, refl, ap, inl, inr, arith}
 use Rattle.std.specs.Prelude.{◌≢◌, ◌⊎◌, ◌&&◌, slice_get}
 
+pub less_or_same : (l n : ℕ) → l < suc n → (l < n) ⊎ (l ≡ n)
+less_or_same zero zero less = inr refl
+less_or_same zero (suc n) less = inl (omega arith)
+less_or_same (suc l) zero less = absurd (omega (arith, less))
+less_or_same (suc l) (suc n) less = elim (less_or_same l n (let e : l < suc n = omega (arith, less) in e)) [
+  | inl is ↦ inl (let e : suc l < suc n = omega (arith, is) in e)
+  | inr same ↦ inr (ap suc same)
+]
+
 pub same_or_other : (i j : ℕ) → (i ≡ j) ⊎ (i ≢ j)
 same_or_other zero zero = inl refl
 same_or_other zero (suc j) = inr (λ e. let k : zero ≡ suc j = e in absurd (cc))

@@ -33,7 +33,7 @@ use Rattle.cyc_meaning.specs.Step.{tells, applies_pointer}
 use Rattle.cyc_soundness.specs.Lives.{Life, OfRegion, RunTy, RunValue, Value, kind_at, as_heap, read, read_value}
 use Rattle.cyc_soundness.specs.Lives as lives
 use Rattle.cyc_soundness.specs.Worlds.{Typing, IsFilled, IsTarget, HasType, IsResult, Fits, AreCells, IsTyped}
-use Rattle.cyc_soundness.specs.Frames.{Bound, IsBound, AreVariables, LiveIn, Holds, Exits, IsContext, KnowsProgram}
+use Rattle.cyc_soundness.specs.Frames.{InScope, IsBound, AreVariables, LiveIn, Holds, Exits, IsContext, KnowsProgram}
 use Rattle.cyc_soundness.specs.Classes.{InPlace}
 use Rattle.cyc_soundness.specs.Stacks.{Evaluates, Val, PlaceOf, pointer, null, WaitsPlace, IsStack, IsFocus, IsWell}
 use Rattle.cyc_soundness.specs.Stacks as stacks
@@ -121,7 +121,7 @@ place_type c (Target k a u) t r (m, well, alive, kind, same) = same
 place_type c (Member k a n field u) t r (m, rs, s, v, well, thin, alive, kind, at, there, of, same) = same
 place_type c (Element a i u) t r (well, index, alive, same) = same
 
-module _ (p : Program) (g : Typing) (x : Exits) (bs : List Bound) (e : Environment) (w : World) (typed : IsTyped g w.regions w.objects) (globals : KnowsProgram g p) (bound : IsBound e.locals bs) (variables : AreVariables g bs) where
+module _ (p : Program) (g : Typing) (x : Exits) (bs : List InScope) (e : Environment) (w : World) (typed : IsTyped g w.regions w.objects) (globals : KnowsProgram g p) (bound : IsBound e.locals e.counters bs) (variables : AreVariables g bs) where
   on : (focus : Focus) (k : List Entry) → LiveIn (ends_of k) bs → IsFocus p g x bs focus k → IsWell p (Running focus k e w)
   on focus k live stands = running p g x bs e w typed globals bound variables focus k live stands
 

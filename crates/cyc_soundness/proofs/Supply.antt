@@ -26,9 +26,9 @@ use Rattle.cyc_meaning.proofs.ListLemmas.{slice_get-end}
 use Rattle.cyc_meaning.proofs.NestingLemmas.{home_found}
 use Rattle.cyc_soundness.specs.Lives.{OfRegion, RunTy, RunValue, Value, kind_at, read}
 use Rattle.cyc_soundness.specs.Lives as lives
-use Rattle.cyc_soundness.specs.Worlds.{Typing, IsFilled, variable_type, HasType, IsResult, AreOperands, AreCells, IsObject, IsTyped, Grows}
-use Rattle.cyc_soundness.specs.Frames.{Bound, AreBelow, IsBound, AreVariables, LiveIn, Within, older, Holds, Implies, LoopExit, Exits, IsContext, KnowsProgram}
-use Rattle.cyc_soundness.specs.Stacks.{Executes, Continues, IsLoop, Want, Val, Go, held, pointer, inside, Waits, IsReturn, IsStack, IsFocus, IsWell}
+use Rattle.cyc_soundness.specs.Worlds.{Typing, IsFilled, variable_type, HasType, IsResult, AreCells, IsObject, IsTyped, Grows}
+use Rattle.cyc_soundness.specs.Frames.{later, Bound, InScope, Variable, AreBelow, IsBound, AreVariables, LiveIn, Within, older, Holds, Implies, LoopExit, Exits, IsContext, KnowsProgram}
+use Rattle.cyc_soundness.specs.Stacks.{Executes, Continues, IsLoop, Want, Val, Go, held, Keeps, pointer, inside, Waits, IsReturn, IsStack, IsFocus, IsWell}
 use Rattle.cyc_soundness.specs.Stacks as stacks
 use Rattle.cyc_soundness.proofs.TypeLemmas.{is_kind_same, kind_read}
 use Rattle.cyc_soundness.proofs.FlowLemmas.{holds_implied, reached_with, vacant_now}
@@ -37,23 +37,24 @@ use Rattle.cyc_soundness.proofs.StackLemmas.{stack_grown, below_more, local_new,
 use Rattle.cyc_soundness.proofs.ValueLemmas.{negated, complemented, combined, zero_is}
 use Rattle.cyc_soundness.specs.Classes.{InInitial}
 use Rattle.cyc_soundness.proofs.Cells.{running}
-use Rattle.cyc_soundness.proofs.Objects.{plain_on, fields_on, makes_on}
+use Rattle.cyc_soundness.proofs.Objects.{plain_on, fields_on, array_on, fill_on, makes_on}
 use Rattle.cyc_soundness.proofs.Places.{gives, follow_on, member_on, index_on, advance_on, count_on, cell_stored, point_on, null_point_on}
 use Rattle.cyc_soundness.proofs.Evaluation.{pass_on, chain_on, converted_on, denied_on, decided_on, writes_local, writes_global}
 
 -- a scope with one local more
-pub context_more : (p : Program) (x : Exits) (bs : List Bound) (c : Context) (t : Ty) (b : Bound) → IsContext p x bs c → b.number ≡ c.next_local → b.of_type ≡ read t → IsContext p x (b ∷ bs) (with_local true t c)
+pub context_more : (p : Program) (x : Exits) (bs : List InScope) (c : Context) (t : Ty) (b : Bound) → IsContext p x bs c → b.number ≡ c.next_local → b.of_type ≡ read t → IsContext p x (Variable b ∷ bs) (with_local true t c)
 context_more p x bs c t b stands number of_type = record {
   globals = stands.globals;
   functions = stands.functions;
   structs = stands.structs;
   result = stands.result;
   loop = stands.loop;
-  scope = ((sym number, sym of_type), stands.scope);
+  scope = (c.locals, (_, refl, sym number, sym of_type), stands.scope);
   below = ((let less : b.number < suc c.next_local = omega (arith, number) in less), below_more c.next_local (suc c.next_local) bs (let le : c.next_local ≤ suc c.next_local = omega arith in le) stands.below);
+  counters = λ l less. later (Variable b) bs (stands.counters l less);
 }
 
-module _ (p : Program) (g : Typing) (x : Exits) (bs : List Bound) (e : Environment) (w : World) (typed : IsTyped g w.regions w.objects) (globals : KnowsProgram g p) (bound : IsBound e.locals bs) (variables : AreVariables g bs) where
+module _ (p : Program) (g : Typing) (x : Exits) (bs : List InScope) (e : Environment) (w : World) (typed : IsTyped g w.regions w.objects) (globals : KnowsProgram g p) (bound : IsBound e.locals e.counters bs) (variables : AreVariables g bs) where
   on : (focus : Focus) (k : List Entry) → LiveIn (ends_of k) bs → IsFocus p g x bs focus k → IsWell p (Running focus k e w)
   on focus k live stands = running p g x bs e w typed globals bound variables focus k live stands
 
@@ -68,7 +69,7 @@ module _ (p : Program) (g : Typing) (x : Exits) (bs : List Bound) (e : Environme
 
   pub declares : (number : ℕ) (kind : Kind) (t : Ty) (content : Option values.Value) (n : ℕ) (focus : Focus) (stack : List Entry) → IsNested stack e w → LiveIn (ends_of stack) bs → AreBelow number bs
       → (Grows g (new_typing t n) → AreCells (new_typing t n) (read t ∷ []) (record { kind = kind; content = content } ∷ []) n)
-      → (Grows g (new_typing t n) → IsFilled (new_typing t n) (length w.objects) n → IsFocus p (new_typing t n) x (new_local number t ∷ bs) focus stack)
+      → (Grows g (new_typing t n) → IsFilled (new_typing t n) (length w.objects) n → IsFocus p (new_typing t n) x (Variable (new_local number t) ∷ bs) focus stack)
       → IsWell p (declared (region_at w e.home) focus number kind content stack e w)
   declares number kind t content n focus stack nests live below cells goes =
       let h = new_typing t n in
@@ -78,14 +79,14 @@ module _ (p : Program) (g : Typing) (x : Exits) (bs : List Bound) (e : Environme
       let there = subst (λ i. slice_get h.objects i ≡ Some (variable_type (read t) e.home)) (sym typed.count) (slice_get-end g.objects (variable_type (read t) e.home)) in
       let flag = subst (λ i. slice_get h.filled i ≡ Some n) (sym typed.counts) (slice_get-end g.filled n) in
       subst (λ a. IsWell p (declared a focus number kind content stack e w)) (sym found)
-      (running p h x (new_local number t ∷ bs) (state.with_local e number (length w.objects)) (made w (variable e.home kind content))
+      (running p h x (Variable (new_local number t) ∷ bs) (state.with_local e number (length w.objects)) (made w (variable e.home kind content))
       (object_typed g w.regions w.objects (variable_type (read t) e.home) n (variable e.home kind content) typed is) (globals_grown g h grows p globals)
       (local_new e number (length w.objects), bound_more e number (length w.objects) bs below bound) (there, variables_grown g h grows bs variables)
       focus stack (home_among e.home stack nests.2, live)
       (goes grows (n, flag, (let most : n ≤ n = omega arith in most))))
 
   -- with a value, and the rest of its block goes on
-  pub declares_full : (number : ℕ) (kind : Kind) (v : values.Value) (t : Ty) (js : Items) (cs : List Bound) (c : Context) (f h : flow.State) (k : List Entry) → IsNested k e w → LiveIn (ends_of k) bs
+  pub declares_full : (number : ℕ) (kind : Kind) (v : values.Value) (t : Ty) (js : Items) (cs : List InScope) (c : Context) (f h : flow.State) (k : List Entry) → IsNested k e w → LiveIn (ends_of k) bs
       → Within cs bs → IsContext p x bs c → Holds g f bs → number ≡ c.next_local → kind ≡ kind_at (read t) → HasType g (read t) v → Continues x (with_local true t c) js (with_fullness Full f number) h
       → IsStack p g x cs (Go h) k → IsWell p (declared (region_at w e.home) Proceeding number kind (Some v) (Rest js ∷ k) e w)
   declares_full number kind v t js cs c f h k nests live within stands (reached, are) number_is kind_is has continues stack =
@@ -98,7 +99,7 @@ module _ (p : Program) (g : Typing) (x : Exits) (bs : List Bound) (e : Environme
           cs,
           with_local true t c,
           h,
-          older (new_local number t) cs bs within,
+          older (Variable (new_local number t)) cs bs within,
           context_more p x bs c t (new_local number t) stands number_is refl,
           continues,
           stack_grown p g (new_typing t 1) grows x cs (Go h) k stack,
@@ -106,7 +107,7 @@ module _ (p : Program) (g : Typing) (x : Exits) (bs : List Bound) (e : Environme
       ))
 
   -- without one
-  pub declares_blank : (number : ℕ) (kind : Kind) (t : Ty) (js : Items) (cs : List Bound) (c : Context) (f h : flow.State) (k : List Entry) → IsNested k e w → LiveIn (ends_of k) bs
+  pub declares_blank : (number : ℕ) (kind : Kind) (t : Ty) (js : Items) (cs : List InScope) (c : Context) (f h : flow.State) (k : List Entry) → IsNested k e w → LiveIn (ends_of k) bs
       → Within cs bs → IsContext p x bs c → Holds g f bs → number ≡ c.next_local → kind ≡ kind_at (read t) → Continues x (with_local true t c) js (with_fullness Vacant f number) h
       → IsStack p g x cs (Go h) k → IsWell p (declared (region_at w e.home) Proceeding number kind None (Rest js ∷ k) e w)
   declares_blank number kind t js cs c f h k nests live within stands (reached, are) number_is kind_is continues stack =
@@ -119,7 +120,7 @@ module _ (p : Program) (g : Typing) (x : Exits) (bs : List Bound) (e : Environme
           cs,
           with_local true t c,
           h,
-          older (new_local number t) cs bs within,
+          older (Variable (new_local number t)) cs bs within,
           context_more p x bs c t (new_local number t) stands number_is refl,
           continues,
           stack_grown p g (new_typing t 0) grows x cs (Go h) k stack,
@@ -149,6 +150,7 @@ module _ (p : Program) (g : Typing) (x : Exits) (bs : List Bound) (e : Environme
           loop = λ u. refl;
           scope = loop.stands.scope;
           below = loop.stands.below;
+          counters = loop.stands.counters;
         },
         holds,
         loop.again,
@@ -169,8 +171,8 @@ module _ (p : Program) (g : Typing) (x : Exits) (bs : List Bound) (e : Environme
 
   -- ---- all that waits
 
-  pub given : {a : Awaiting} {ts : List RunTy} {r : RunValue} {f : flow.State} {cs : List Bound} {next : Want} (v : Operand) (k : List Entry) → IsNested k e w → LiveIn (ends_of k) bs → Holds g f bs → IsResult g r v
-      → Waits p x bs a ts r f cs next → AreOperands g ts (held a) → IsStack p g x cs next k → IsWell p (supplied a v k e w)
+  pub given : {a : Awaiting} {ts : List RunTy} {r : RunValue} {f : flow.State} {cs : List InScope} {next : Want} (v : Operand) (k : List Entry) → IsNested k e w → LiveIn (ends_of k) bs → Holds g f bs → IsResult g r v
+      → Waits p x bs a ts r f cs next → Keeps g a ts → IsStack p g x cs next k → IsWell p (supplied a v k e w)
   given v k nests live holds is (stacks.converts {from} {to} c s t f conv from_is to_is) are stack =
       converted_on p g x bs e w typed globals bound variables from to v k c s t f live holds is conv from_is to_is stack
   given v k nests live holds is (stacks.negates f) are stack =
@@ -203,6 +205,10 @@ module _ (p : Program) (g : Typing) (x : Exits) (bs : List Bound) (e : Environme
   given v k nests live holds is (stacks.makes_plain {owner} {kind} t f owned kind_is) are stack = plain_on p g x bs e w typed globals bound variables owner kind v t k f live holds owned kind_is is stack
   given v k nests live holds is (stacks.makes_fields {owner} {before} {rest} c done t ts n ls f h owned stands passes fields) are stack =
       fields_on p g x bs e w typed globals bound variables k owner (v ∷ before) (read t ∷ done) rest ts c n ls f h passes.waiting live stands holds owned passes.typed passes.flows passes.kept (is, are) fields stack
+  given v k nests live holds is (stacks.makes_array {owner} {level} {kind} {element} c t f owned stands repeats) are stack =
+      array_on p g x bs e w typed globals bound variables owner level kind element v.value k c t f live stands holds owned repeats is.1 stack
+  given v k nests live holds is (stacks.fills {object} {count} {index} {level} {kind} {element} cs c t f h within stands repeats back) (less, array) stack =
+      fill_on p g x bs e w typed globals bound variables object count index level kind element v k cs c t f h live within stands holds repeats back less array is stack
   given v k nests live holds is (stacks.passes {callee} {before} {rest} c done t ts r f h stands passes called) are stack =
       pass_on p g x bs e w typed globals bound variables k callee (v ∷ before) (read t ∷ done) rest ts c r f h passes.waiting live stands holds passes.typed passes.flows passes.kept (is, are) called stack
   given v k nests live holds is (stacks.initialises {number} {kind} {js} cs c t f h within stands number_is kind_is continues) are stack =

@@ -14,7 +14,7 @@ use Rattle.cyc_meaning.specs.Step.{step_proceeding, step_breaking, step_continui
 use Rattle.cyc_soundness.specs.Lives.{Value, read, read_value}
 use Rattle.cyc_soundness.specs.Lives as lives
 use Rattle.cyc_soundness.specs.Worlds.{Typing, HasType, IsTyped}
-use Rattle.cyc_soundness.specs.Frames.{Bound, IsBound, AreVariables, LiveIn, Holds, LoopExit, Exits, is_loop, KnowsProgram}
+use Rattle.cyc_soundness.specs.Frames.{InScope, IsBound, AreVariables, LiveIn, Holds, LoopExit, Exits, is_loop, KnowsProgram}
 use Rattle.cyc_soundness.specs.Stacks.{IsLoop, Want, Nothing, Val, PlaceOf, Go, IsBlocked, IsReturn, IsStack, IsFocus, IsWell}
 use Rattle.cyc_soundness.specs.Stacks as stacks
 use Rattle.cyc_soundness.proofs.Numbers.{some_same}
@@ -28,7 +28,7 @@ never_loop : (o : Option LoopExit) (l : LoopExit) → is_loop o ≡ false → o 
 never_loop o l none same = let z : true ≡ false = subst (λ u. is_loop u ≡ false) same none in absurd (cc)
 
 module _ (p : Program) (g : Typing) (e : Environment) (w : World) (typed : IsTyped g w.regions w.objects) (globals : KnowsProgram g p) where
-  module _ (x : Exits) (bs : List Bound) (bound : IsBound e.locals bs) (variables : AreVariables g bs) where
+  module _ (x : Exits) (bs : List InScope) (bound : IsBound e.locals e.counters bs) (variables : AreVariables g bs) where
     on : (focus : Focus) (k : List Entry) → LiveIn (ends_of k) bs → IsFocus p g x bs focus k → IsWell p (Running focus k e w)
     on focus k live stands = running p g x bs e w typed globals bound variables focus k live stands
 

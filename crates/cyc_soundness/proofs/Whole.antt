@@ -18,7 +18,7 @@ use Rattle.cyc_types.specs.flow.States as flow
 use Rattle.cyc_types.specs.flow.States.{is_reached}
 use Rattle.cyc_types.specs.flow.Programs.{end_demanded, rule_functions, IsAllowedProgram}
 use Rattle.cyc_meaning.specs.Values as values
-use Rattle.cyc_meaning.specs.State.{World, Object, Environment, no_locals, first_world, global_object, constant_value, Entry, Needs, NeedsPlace, Discard, Main, Focus, Evaluating, Locating, Given, GivenPlace, Writing, Executing, Proceeding, Calling, Entering, Binding, Naming, Breaking, Continuing, Returning, Throwing, Catching, State, Running, Ended, Dead, Wrong, GoesOn, HasEnded, IsDead, IsWrong, status_of}
+use Rattle.cyc_meaning.specs.State.{World, Object, Environment, no_locals, first_world, global_object, constant_value, Entry, Needs, NeedsPlace, Discard, Main, Focus, Evaluating, Locating, Given, GivenPlace, Writing, Beginning, Repeating, Executing, Proceeding, Calling, Entering, Binding, Naming, Breaking, Continuing, Returning, Throwing, Catching, State, Running, Ended, Dead, Wrong, GoesOn, HasEnded, IsDead, IsWrong, status_of}
 use Rattle.cyc_meaning.specs.Parts.{wrong}
 use Rattle.cyc_meaning.specs.Nesting.{ends_of, IsNested, Nests}
 use Rattle.cyc_meaning.specs.Places.{step_given_place}
@@ -27,7 +27,7 @@ use Rattle.cyc_meaning.specs.Run.{start, steps, run}
 use Rattle.cyc_meaning.proofs.Nested.{nests_step, nests_start}
 use Rattle.cyc_soundness.specs.Lives.{RunTy, RunValue, read}
 use Rattle.cyc_soundness.specs.Worlds.{ObjectType, Typing, global_type, HasType, IsResult, AreOperands, IsObject, IsTyped}
-use Rattle.cyc_soundness.specs.Frames.{Bound, IsBound, AreVariables, LiveIn, itself, Holds, Exits, KnowsProgram}
+use Rattle.cyc_soundness.specs.Frames.{InScope, IsBound, AreVariables, LiveIn, itself, Holds, Exits, KnowsProgram}
 use Rattle.cyc_soundness.specs.Classes.{InFunctions, IsOfTheHeap}
 use Rattle.cyc_soundness.specs.Stacks.{IsAccepted, Val, PlaceOf, pointer, IsStack, IsFocus, IsWell}
 use Rattle.cyc_soundness.specs.Sound.{IsSound}
@@ -36,7 +36,7 @@ use Rattle.cyc_soundness.proofs.TypeLemmas.{kind_meant}
 use Rattle.cyc_soundness.proofs.BuiltLemmas.{built_kept}
 use Rattle.cyc_soundness.proofs.StackLemmas.{AreAccepted}
 use Rattle.cyc_soundness.proofs.Cells.{running}
-use Rattle.cyc_soundness.proofs.Objects.{write_on}
+use Rattle.cyc_soundness.proofs.Objects.{begin_array, repeat_on, write_on}
 use Rattle.cyc_soundness.proofs.Places.{locate, place_given}
 use Rattle.cyc_soundness.proofs.Evaluation.{not_true, of_map, evaluate}
 use Rattle.cyc_soundness.proofs.Supply.{given, declares_full}
@@ -46,7 +46,7 @@ use Rattle.cyc_soundness.proofs.Unwinding.{proceed, breaks, continues, returns_o
 
 -- ---- a step
 
-module _ (p : Program) (accepted : AreAccepted p) (e : Environment) (w : World) (g : Typing) (x : Exits) (bs : List Bound) (objects : IsTyped g w.regions w.objects) (globals : KnowsProgram g p) (bound : IsBound e.locals bs) (variables : AreVariables g bs) where
+module _ (p : Program) (accepted : AreAccepted p) (e : Environment) (w : World) (g : Typing) (x : Exits) (bs : List InScope) (objects : IsTyped g w.regions w.objects) (globals : KnowsProgram g p) (bound : IsBound e.locals e.counters bs) (variables : AreVariables g bs) where
   given_on : (v : values.Operand) (k : List Entry) (r : RunValue) (f : flow.State) → IsNested k e w → LiveIn (ends_of k) bs → Holds g f bs → IsResult g r v → IsStack p g x bs (Val r f) k → IsWell p (step_given v k e w)
   given_on v (Needs a ∷ k) r f nests live holds is (ts, cs, next, waits, are, stack) = given p g x bs e w objects globals bound variables v k nests live holds is waits are stack
   given_on v (Discard ∷ k) r f nests live holds is stack = running p g x bs e w objects globals bound variables Proceeding k live (f, holds, stack)
@@ -74,6 +74,10 @@ module _ (p : Program) (accepted : AreAccepted p) (e : Environment) (w : World) 
       locate p g x bs e w objects globals bound variables d k c t f h locates.waiting locates.region live stands holds locates.typed locates.flows locates.kept stack
   step_well (GivenPlace place) k nests live (t, f, holds, has, stack) = place_on place k t f nests live holds has stack
   step_well (Writing these (Some v)) k nests live (t, f, holds, making, stack) = write_on p g x bs e w objects globals bound variables these v t k f live holds making stack
+  step_well (Beginning owner count level kind element) k nests live (c, t, f, stands, holds, owned, repeats, stack) =
+      begin_array p g x bs e w objects globals bound variables owner count level kind element k c t f live stands holds owned repeats stack
+  step_well (Repeating object count index level kind element) k nests live (c, t, f, stands, holds, repeats, array, stack) =
+      repeat_on p g x bs e w objects globals bound variables object count index level kind element k c t f live stands holds repeats array stack
   step_well Breaking k nests live (l, f, same, holds, stack) = breaks p g e w objects globals x bs bound variables k l f nests live same holds stack
   step_well Continuing k nests live (l, f, same, holds, stack) = continues p g e w objects globals x bs bound variables k l f nests live same holds stack
   step_well (Returning v) k nests live (f, is, stack) = returns_on p g e w objects globals x bs bound variables k v f nests live is stack

@@ -10,7 +10,7 @@ use Rattle.cyc_meaning.specs.State.{Region, Owner, InRegion, Unique, Object, Wor
 use Rattle.cyc_meaning.proofs.ListLemmas.{slice_get-append, slice_get-end, slice_get-set_other}
 use Rattle.cyc_soundness.specs.Lives.{Life, OfRegion, RunTy, Int, Pointer, Handle, Key, Struct, RunValue, Void, Null, Value, kind_at, read}
 use Rattle.cyc_soundness.specs.Worlds.{ObjectType, Typing, IsFilled, IsPart, IsTarget, HasType, IsResult, AreOperands, IsContent, AreCells, IsOwner, IsObject, IsTyped, Grows}
-use Rattle.cyc_soundness.specs.Frames.{Bound, AreVariables, AreSet, Holds, KnowsProgram}
+use Rattle.cyc_soundness.specs.Frames.{InScope, Variable, Level, IsOfVariable, HoldsIts, AreVariables, AreSet, Holds, KnowsProgram}
 use Rattle.cyc_types.specs.flow.States as flow
 use Rattle.cyc_soundness.proofs.Numbers.{same_or_other, slice_get-set_same, appended, some_same}
 
@@ -63,15 +63,23 @@ module _ (g h : Typing) (grows : Grows g h) where
   pub object_grown : (n : ℕ) (t : ObjectType) (x : Object) → IsObject g n t x → IsObject h n t x
   object_grown n t x is = record { owner = is.owner; cells = cells_grown t.cells x.cells n is.cells }
 
-  pub variables_grown : (bs : List Bound) → AreVariables g bs → AreVariables h bs
+  variable_grown : (b : InScope) → IsOfVariable g b → IsOfVariable h b
+  variable_grown (Variable b) is = grows.objects b.object _ is
+  variable_grown (Level l) is = tt
+
+  pub variables_grown : (bs : List InScope) → AreVariables g bs → AreVariables h bs
   variables_grown [] are = tt
-  variables_grown (b ∷ bs) (is, are) = (grows.objects b.object _ is, variables_grown bs are)
+  variables_grown (b ∷ bs) (is, are) = (variable_grown b is, variables_grown bs are)
 
-  pub set_grown : (f : flow.State) (bs : List Bound) → AreSet g f bs → AreSet h f bs
+  one_set_grown : (f : flow.State) (b : InScope) → HoldsIts g f b → HoldsIts h f b
+  one_set_grown f (Variable b) is = λ s. grows.filled b.object 1 (is s)
+  one_set_grown f (Level l) is = tt
+
+  pub set_grown : (f : flow.State) (bs : List InScope) → AreSet g f bs → AreSet h f bs
   set_grown f [] are = tt
-  set_grown f (b ∷ bs) (is, are) = (λ s. grows.filled b.object 1 (is s), set_grown f bs are)
+  set_grown f (b ∷ bs) (is, are) = (one_set_grown f b is, set_grown f bs are)
 
-  pub holds_grown : (f : flow.State) (bs : List Bound) → Holds g f bs → Holds h f bs
+  pub holds_grown : (f : flow.State) (bs : List InScope) → Holds g f bs → Holds h f bs
   holds_grown f bs (reached, are) = (reached, set_grown f bs are)
 
   pub globals_grown : (p : Program) → KnowsProgram g p → KnowsProgram h p

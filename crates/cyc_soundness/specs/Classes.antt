@@ -1,15 +1,16 @@
 -- CLASSES OF PROGRAMS that a theorem speaks of. Each is a predicate on typed trees, empty for the nodes that are not in it yet.
 use Rattle.std.specs.Prelude.{List, [], ◌∷◌, Option, Some, None}
-use Rattle.cyc_types.specs.TypedTrees.{Global, Expression, Number, NullPointer, HeapRegion, Copy, Move, Peek, Load, AddressOf, AddressOfCell, NumberOfElements, Call, Unary, Binary, Assign, Store, New, Dereference, Target, Member, Element, Placement, OnHeap, AsUnique, ByHandle, Initial, Plain, Fields, Converted, Convert, Arguments, NoArguments, MoreArguments, Operations, NoOperations, ThenCompute, ThenTest, ThenPointer, ThenPointerPeek, Statement, Block, Empty, Evaluate, If, While, Return, Break, Continue, Throw, Try, Items, NoItems, MoreItems, Execute, Declare, Clauses, NoClauses, Default, Case, Function, Program}
+use Rattle.cyc_types.specs.TypedTrees.{Global, Expression, Number, NullPointer, HeapRegion, Counter, Copy, Move, Peek, Load, AddressOf, AddressOfCell, NumberOfElements, Call, Unary, Binary, Assign, Store, New, Dereference, Target, Member, Element, Placement, OnHeap, AsUnique, ByHandle, Initial, Plain, Fields, Array, Converted, Convert, Arguments, NoArguments, MoreArguments, Operations, NoOperations, ThenCompute, ThenTest, ThenPointer, ThenPointerPeek, Statement, Block, Empty, Evaluate, If, While, Return, Break, Continue, Throw, Try, Items, NoItems, MoreItems, Execute, Declare, Clauses, NoClauses, Default, Case, Function, Program}
 
 -- Programs in which nothing ends that can be reached: they declare no region, key or alias, give nothing back, and take the address of no
 -- local. All types are there, and so are objects in the heap and unique ones, places behind pointers, functions with regions, conversions
--- between all marks, loops and exceptions; arrays and swaps are not.
+-- between all marks, loops and exceptions; swaps are not.
 abbrev mutual
   pub KeepsToHeap : Expression → Type 0
   KeepsToHeap (Number n) = Unit {0}
   KeepsToHeap NullPointer = Unit {0}
   KeepsToHeap HeapRegion = Unit {0}
+  KeepsToHeap (Counter l) = Unit {0}
   KeepsToHeap (Copy l t) = Unit {0}
   KeepsToHeap (Move p n t) = Unit {0}
   KeepsToHeap (Peek p n t) = Unit {0}
@@ -38,7 +39,7 @@ abbrev mutual
   pub InInitial : Initial → Type 0
   InInitial (Plain k a) = KeepsToHeap a
   InInitial (Fields as') = InArguments as'
-  InInitial i = ⊥
+  InInitial (Array p l n k a) = KeepsToHeap n × KeepsToHeap a
 
   pub InConverted : Converted → Type 0
   InConverted (Convert from to a) = KeepsToHeap a

@@ -13,7 +13,7 @@ ghost use Rattle.cyc_meaning.specs.Conversion.{conversion};
 ghost use Rattle.cyc_meaning.specs.State.{Entry};
 ghost use Rattle.cyc_soundness.specs.Lives.{RunTy, read, read_value};
 ghost use Rattle.cyc_soundness.specs.Worlds.{Typing, HasType, IsResult, Fits, Grows};
-ghost use Rattle.cyc_soundness.specs.Frames.{Bound, Exits};
+ghost use Rattle.cyc_soundness.specs.Frames.{InScope, Exits};
 ghost use Rattle.cyc_soundness.specs.Stacks.{Want, IsStack};
 ghost use Rattle.cyc_soundness.specs.Classes.{IsOfTheHeap};
 ghost use Rattle.cyc_soundness.specs.Sound.{IsSound};
@@ -22,7 +22,7 @@ ghost use Rattle.cyc_soundness.specs.Sound.{IsSound};
 /// control stack.
 pub fn typings_stay()
     ensures values { (g h : Typing) → Grows g h → (t : RunTy) (v : Value) → HasType g t v → HasType h t v }
-    ensures stacks { (p : Program) (g h : Typing) → Grows g h → (x : Exits) (locals : List Bound) (want : Want) (stack : List Entry)
+    ensures stacks { (p : Program) (g h : Typing) → Grows g h → (x : Exits) (locals : List InScope) (want : Want) (stack : List Entry)
         → IsStack p g x locals want stack → IsStack p h x locals want stack }
 {}
 
