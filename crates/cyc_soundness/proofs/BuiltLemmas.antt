@@ -1,18 +1,18 @@
 -- What is built so far stands in the class that a theorem speaks of.
-use Rattle.std.proofs.Common.{◌≡◌, Bool, true, false, List, [], ◌∷◌, Option, Some, None}
+use Rattle.std.proofs.Common.{◌≡◌, true, false, List, [], ◌∷◌, Option, Some, None}
 use Rattle.std.specs.Prelude.{◌&&◌}
 use Rattle.std.specs.List.{list_all}
-use Rattle.cyc_types.specs.TypedTrees.{Expression, Number, Copy, Call, Unary, Binary, Assign, Converted, Convert, Arguments, NoArguments, MoreArguments, Operations, NoOperations, ThenCompute, ThenTest, Statement, Block, Empty, Evaluate, If, While, Return, Break, Continue, Items, NoItems, MoreItems, Execute, Declare, GlobalVariable, Function, Program}
+use Rattle.cyc_types.specs.TypedTrees.{Expression, Number, Copy, Call, Unary, Binary, Assign, Converted, Convert, Arguments, NoArguments, MoreArguments, Operations, NoOperations, ThenCompute, ThenTest, Statement, Block, Empty, Evaluate, If, While, Return, Break, Continue, Items, NoItems, MoreItems, Execute, Declare, Function, Program}
 use Rattle.cyc_types.specs.IntPart.{is_empty}
 use Rattle.cyc_types.specs.Built.{is_built_type, is_built_result, is_built_expression, is_built_converted, are_built_arguments, are_built_operations, is_built_value, is_built_statement, are_built_items, is_built_global, is_built_function, is_built}
-use Rattle.cyc_soundness.specs.Classes.{KeepsToVariables, InConverted, InArguments, InOperations, InValue, InStatement, InItems, InFunctions, IsOfVariables}
+use Rattle.cyc_soundness.specs.Classes.{KeepsToHeap, InConverted, InArguments, InOperations, InValue, InStatement, InItems, InFunctions, IsOfTheHeap}
 use Rattle.cyc_soundness.proofs.Numbers.{both_true}
 
 not_built : {A : Type 0} → false ≡ true → A
 not_built e = absurd (let k : false ≡ true = e in cc)
 
 mutual
-  expression_kept : (a : Expression) → is_built_expression a ≡ true → KeepsToVariables a
+  expression_kept : (a : Expression) → is_built_expression a ≡ true → KeepsToHeap a
   expression_kept (Number n) e = tt
   expression_kept (Copy l t) e = tt
   expression_kept (Call f cs t) e = arguments_kept cs e
@@ -82,7 +82,7 @@ functions_kept (h ∷ hs) e =
     let body = both_true (is_built_result h.result) (are_built_items h.body) parts.1 in
     (items_kept h.body body.1, functions_kept hs whole.1)
 
-pub built_kept : (p : Program) → is_built p ≡ true → IsOfVariables p
+pub built_kept : (p : Program) → is_built p ≡ true → IsOfTheHeap p
 built_kept p e =
     let first = both_true (is_empty p.structs) (is_empty p.exceptions && (list_all is_built_global p.globals && list_all is_built_function p.functions)) e in
     let second = both_true (is_empty p.exceptions) (list_all is_built_global p.globals && list_all is_built_function p.functions) first.1 in

@@ -6,6 +6,9 @@ mod RuleLemmas
 mod WorldLemmas
 mod StackLemmas
 mod ValueLemmas
+mod Cells
+mod Objects
+mod Places
 mod Evaluation
 mod Supply
 mod Execution

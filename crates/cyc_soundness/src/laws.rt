@@ -13,16 +13,16 @@ ghost use Rattle.cyc_meaning.specs.Conversion.{conversion};
 ghost use Rattle.cyc_meaning.specs.State.{Entry};
 ghost use Rattle.cyc_soundness.specs.Lives.{RunTy, read, read_value};
 ghost use Rattle.cyc_soundness.specs.Worlds.{Typing, HasType, IsResult, Fits, Grows};
-ghost use Rattle.cyc_soundness.specs.Frames.{Bound, Exits};
+ghost use Rattle.cyc_soundness.specs.Frames.{InScope, Exits};
 ghost use Rattle.cyc_soundness.specs.Stacks.{Want, IsStack};
-ghost use Rattle.cyc_soundness.specs.Classes.{IsOfVariables};
+ghost use Rattle.cyc_soundness.specs.Classes.{IsOfTheHeap};
 ghost use Rattle.cyc_soundness.specs.Sound.{IsSound};
 
 /// What is known of a world only grows, and what was typed stays so: a value keeps its type for good, and so does a
 /// control stack.
 pub fn typings_stay()
     ensures values { (g h : Typing) → Grows g h → (t : RunTy) (v : Value) → HasType g t v → HasType h t v }
-    ensures stacks { (p : Program) (g h : Typing) → Grows g h → (x : Exits) (locals : List Bound) (want : Want) (stack : List Entry)
+    ensures stacks { (p : Program) (g h : Typing) → Grows g h → (x : Exits) (locals : List InScope) (want : Want) (stack : List Entry)
         → IsStack p g x locals want stack → IsStack p h x locals want stack }
 {}
 
@@ -32,10 +32,10 @@ pub fn conversions_fit()
         → Fits g (read t) (conversion (kind_of t) v.value) }
 {}
 
-/// No run of a program whose values live in variables alone is ever dead or wrong, where the typing rules and the flow
-/// rules accept it.
-pub fn variables_are_sound()
-    ensures { (p : Program) → IsWellTypedProgram p → IsAllowedProgram p → IsOfVariables p → IsSound p }
+/// No run of a program in which nothing ends that can be reached, but its calls and blocks, is ever dead or wrong, where
+/// the typing rules and the flow rules accept it.
+pub fn heap_programs_are_sound()
+    ensures { (p : Program) → IsWellTypedProgram p → IsAllowedProgram p → IsOfTheHeap p → IsSound p }
 {}
 
 /// No run of a program that is built and that both sets of rules accept is ever dead or wrong.
