@@ -24,7 +24,7 @@ use Rattle.cyc_plain.proofs.SlotLaws.{put-same}
 use Rattle.cyc_meaning.specs.Values.{Int, Thin, Operand as Kinded, kind_of}
 use Rattle.cyc_meaning.specs.SourceMachine.{status_in}
 use Rattle.cyc_meaning.specs.State.{status_of, World, Environment, ConvertTo, Operate, Chain, Apply, Store, Pass, Choose, Test, Entry, Needs, Discard, Focus, Evaluating, Given, Running}
-use Rattle.cyc_meaning.specs.Step.{object_of, assigned, passes, step}
+use Rattle.cyc_meaning.specs.Step.{target_by, object_of, assigned, passes, step}
 use Rattle.cyc_lower.specs.Slots.{slot_of}
 use Rattle.cyc_lower.proofs.Slots.{slot-inside}
 use Rattle.cyc_lower.specs.Lowering.{failing_comparison, operand_of, left_with, slot_with, compared_or, compared_of}
@@ -173,7 +173,7 @@ module _ (source : Program) (pages calls : ℕ) where
   assigns (Local p n) from kinds.NonNull a t k e w c (Some object) o m found (well, shared, facts, holds) (there, (r, s, u, at_a, check, move, end)) hands =
       let g = c.active.function in
       silently source pages calls (Running (Evaluating (Assign (Local p n) (Convert from kinds.NonNull a) t)) k e w)
-      (Running (Evaluating a) (Needs (ConvertTo from kinds.NonNull) ∷ Needs (Store (Thin object 0)) ∷ k) e w) (plain.Running c)
+      (Running (Evaluating a) (Needs (ConvertTo from kinds.NonNull (target_by a)) ∷ Needs (Store (Thin object 0)) ∷ k) e w) (plain.Running c)
       (ap (λ x. assigned x (Convert from kinds.NonNull a) k e w) found)
       (shared, facts, as_operand r s at_a holds (u, check, (Local p n, o, m, (move, end, there), (object, refl, found), hands)))
       (omega arith)
@@ -181,13 +181,13 @@ module _ (source : Program) (pages calls : ℕ) where
       let g = c.active.function in
       let below = slot-inside (types_at source g) n (facts.2.within n object found).0 in
       silently source pages calls (Running (Evaluating (Assign (Local p n) (Convert from to a) t)) k e w)
-      (Running (Evaluating a) (Needs (ConvertTo from to) ∷ Needs (Store (Thin object 0)) ∷ k) e w) (plain.Running c)
+      (Running (Evaluating a) (Needs (ConvertTo from to (target_by a)) ∷ Needs (Store (Thin object 0)) ∷ k) e w) (plain.Running c)
       (ap (λ x. assigned x (Convert from to a) k e w) found)
       (shared, facts, into_slot (slot_of (starts_at source g) n) m at_a holds (in_local below (tt, (n, object, refl, found, refl, subst (λ x. HandsOnStack source g e.locals x m c.frames k) there hands))))
       (omega arith)
   assigns (Global n) from to a t k e w c (Some object) o m found (well, shared, facts, holds) (s, (r, at_a, at_to), few, store, end) hands =
       silently source pages calls (Running (Evaluating (Assign (Global n) (Convert from to a) t)) k e w)
-      (Running (Evaluating a) (Needs (ConvertTo from to) ∷ Needs (Store (Thin object 0)) ∷ k) e w) (plain.Running c)
+      (Running (Evaluating a) (Needs (ConvertTo from to (target_by a)) ∷ Needs (Store (Thin object 0)) ∷ k) e w) (plain.Running c)
       (ap (λ x. assigned x (Convert from to a) k e w) found)
       (shared, facts, as_operand o r at_a holds (s, at_to, (Global n, o, m, (store, end, refl, few), (object, refl, found), hands)))
       (omega arith)
@@ -199,7 +199,7 @@ module _ (source : Program) (pages calls : ℕ) where
   prints NoArguments t k e w c o m known at stack = absurd at
   prints (MoreArguments (Convert from to a) NoArguments) t k e w c o m (well, shared, facts, holds) (s, at_a, at_to) (write, stack) =
       silently source pages calls (Running (Evaluating (Call callees.Putchar (MoreArguments (Convert from to a) NoArguments) t)) k e w)
-      (Running (Evaluating a) (Needs (ConvertTo from to) ∷ Needs (Pass callees.Putchar [] NoArguments) ∷ k) e w) (plain.Running c) refl
+      (Running (Evaluating a) (Needs (ConvertTo from to (target_by a)) ∷ Needs (Pass callees.Putchar [] NoArguments) ∷ k) e w) (plain.Running c) refl
       (shared, facts, as_operand o s at_a holds (m, at_to, (refl, refl, write, stack)))
       (omega arith)
   prints (MoreArguments c' (MoreArguments c'' cs)) t k e w c o m known at stack = absurd at

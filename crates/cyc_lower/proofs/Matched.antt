@@ -60,7 +60,7 @@ module _ (source : Program) where
   mutual
     pub value_depth : (g : ℕ) (locals : ℕ → Option ℕ) (o : Operand) (p : ℕ) (frames : List Frame) (k : List Entry) → ValueStack source g locals o p frames k → HasDepth frames k
     value_depth g locals o p frames [] stack = absurd stack
-    value_depth g locals o p frames (Needs (ConvertTo from to) ∷ k) (q, at, stack) = value_depth g locals o q frames k stack
+    value_depth g locals o p frames (Needs (ConvertTo from to target) ∷ k) (q, at, stack) = value_depth g locals o q frames k stack
     value_depth g locals o p frames (Needs (Operate u) ∷ k) (to_slot (d, at, lands)) =
         by_lands lands (λ stack. value_depth g locals (operands.Slot d) (p + 1) frames k stack) (λ stack. ahead_depth g locals d (p + 1) frames k stack)
     value_depth g locals o p frames (Needs (Operate u) ∷ k) (to_jump (is, stack)) = condition_depth g comparisons.NotEqual o (operands.Word 0) p frames k stack
@@ -101,7 +101,7 @@ module _ (source : Program) where
     dropped_depth g p frames k stack = absurd stack
 
     pub ahead_depth : (g : ℕ) (locals : ℕ → Option ℕ) (n p : ℕ) (frames : List Frame) (k : List Entry) → AheadStack source g locals n p frames k → HasDepth frames k
-    ahead_depth g locals n p frames (Needs (ConvertTo from to) ∷ k) (quiet, stack) = ahead_depth g locals n p frames k stack
+    ahead_depth g locals n p frames (Needs (ConvertTo from to target) ∷ k) (quiet, stack) = ahead_depth g locals n p frames k stack
     ahead_depth g locals n p frames (Needs (Chain NoOperations) ∷ k) stack = ahead_depth g locals n p frames k stack
     ahead_depth g locals n p frames (Needs (Store place) ∷ k) (number, object, is, found, same, hands) =
         by_hands hands (λ stack. dropped_depth g p frames k stack) (λ stack. value_depth g locals (operands.Slot n) p frames k stack)
@@ -126,7 +126,7 @@ module _ (source : Program) where
   mutual
     pub value_plain : (g : ℕ) (locals : ℕ → Option ℕ) (o : Operand) (p : ℕ) (frames : List Frame) (k : List Entry) → ValueStack source g locals o p frames k → IsPlainStack k
     value_plain g locals o p frames [] stack = absurd stack
-    value_plain g locals o p frames (Needs (ConvertTo from to) ∷ k) (q, at, stack) = value_plain g locals o q frames k stack
+    value_plain g locals o p frames (Needs (ConvertTo from to target) ∷ k) (q, at, stack) = value_plain g locals o q frames k stack
     value_plain g locals o p frames (Needs (Operate u) ∷ k) (to_slot (d, at, lands)) =
         by_lands lands (λ stack. value_plain g locals (operands.Slot d) (p + 1) frames k stack) (λ stack. ahead_plain g locals d (p + 1) frames k stack)
     value_plain g locals o p frames (Needs (Operate u) ∷ k) (to_jump (is, stack)) = condition_plain g comparisons.NotEqual o (operands.Word 0) p frames k stack
@@ -167,7 +167,7 @@ module _ (source : Program) where
     dropped_plain g p frames k stack = absurd stack
 
     pub ahead_plain : (g : ℕ) (locals : ℕ → Option ℕ) (n p : ℕ) (frames : List Frame) (k : List Entry) → AheadStack source g locals n p frames k → IsPlainStack k
-    ahead_plain g locals n p frames (Needs (ConvertTo from to) ∷ k) (quiet, stack) = ahead_plain g locals n p frames k stack
+    ahead_plain g locals n p frames (Needs (ConvertTo from to target) ∷ k) (quiet, stack) = ahead_plain g locals n p frames k stack
     ahead_plain g locals n p frames (Needs (Chain NoOperations) ∷ k) stack = ahead_plain g locals n p frames k stack
     ahead_plain g locals n p frames (Needs (Store place) ∷ k) (number, object, is, found, same, hands) =
         by_hands hands (λ stack. dropped_plain g p frames k stack) (λ stack. value_plain g locals (operands.Slot n) p frames k stack)

@@ -59,7 +59,7 @@ HoldsFrom slots first (v ∷ vs) = Is v.value (slots first) × HoldsFrom slots (
 -- the values of the running call that are inside the entries of a stack
 abbrev pub held : List Entry → List Kinded
 held [] = []
-held (Needs (ConvertTo from to) ∷ k) = held k
+held (Needs (ConvertTo from to target) ∷ k) = held k
 held (Needs (Operate operator) ∷ k) = held k
 held (Needs (Chain rest) ∷ k) = held k
 held (Needs (Apply operator left) ∷ k) = left ∷ held k
@@ -274,7 +274,7 @@ module _ (source : Program) where
   abbrev mutual
     pub ValueStack : (g : ℕ) → (ℕ → Option ℕ) → Operand → (p : ℕ) → List Frame → List Entry → Type 0
     ValueStack g locals o p frames [] = ⊥
-    ValueStack g locals o p frames (Needs (ConvertTo from to) ∷ k) =
+    ValueStack g locals o p frames (Needs (ConvertTo from to target) ∷ k) =
         (q : ℕ) × ConversionAt (code_of g) (bounds_at g) (starts_at g) to o p q × ValueStack g locals o q frames k
     ValueStack g locals o p frames (Needs (Operate operator) ∷ k) =
         Yields ((d : ℕ) × At (code_of g) p (instructions.Unary (unary_operator operator) d o)
@@ -332,7 +332,7 @@ module _ (source : Program) where
 
     -- the same for a value that stands already in the slot n of a local, which is about to get it
     pub AheadStack : (g : ℕ) → (ℕ → Option ℕ) → (n p : ℕ) → List Frame → List Entry → Type 0
-    AheadStack g locals n p frames (Needs (ConvertTo from to) ∷ k) = IsQuiet to × AheadStack g locals n p frames k
+    AheadStack g locals n p frames (Needs (ConvertTo from to target) ∷ k) = IsQuiet to × AheadStack g locals n p frames k
     AheadStack g locals n p frames (Needs (Chain NoOperations) ∷ k) = AheadStack g locals n p frames k
     AheadStack g locals n p frames (Needs (Store place) ∷ k) =
         (number : ℕ) × (object : ℕ) × (place ≡ Thin object 0) × (locals number ≡ Some object) × (slot_of (starts_at g) number ≡ n)

@@ -22,7 +22,7 @@ use Rattle.cyc_plain.proofs.SlotLaws.{put-same, put-other, copied-inside, copied
 use Rattle.cyc_plain.specs.Straight.{At}
 use Rattle.cyc_meaning.specs.Values.{Value, Int, kind_of, Operand as Kinded}
 use Rattle.cyc_meaning.specs.State.{Region, World, Environment, variable, made, opened, closed, with_local, region_at, ConvertTo, Initialise, Choose, Return, Entry, Needs, NeedsPlace, Discard, Rest, Join, Loop, CloseRegion, CloseLexical, EndLoan, Handler, Caller, Main, Focus, Evaluating, Executing, Proceeding, Breaking, Continuing, Returning, Throwing, Running}
-use Rattle.cyc_meaning.specs.Step.{inside, region_end, step}
+use Rattle.cyc_meaning.specs.Step.{target_by, inside, region_end, step}
 use Rattle.cyc_lower.specs.Slots.{slot_of}
 use Rattle.cyc_lower.proofs.Slots.{slot-inside, slot_types-many}
 use Rattle.cyc_lower.specs.Lowering.{operand_of, break_target, results_of, lower_function, lower_program}
@@ -105,8 +105,8 @@ module _ (source : Program) (pages calls : ℕ) where
       (shared, facts, (loop, q, s, here, stack))
       (omega arith)
   executing (typed.Return (Some (Convert from to a))) k e w c well (shared, facts, (loop, q, (s, m, r, at_a, at_to, here, single), stack)) =
-      silently source pages calls (Running (Executing (typed.Return (Some (Convert from to a)))) k e w) (Running (Evaluating a) (Needs (ConvertTo from to) ∷ Needs Return ∷ k) e w) (plain.Running c) refl
-      (shared, facts, returned a e.locals c.active.function c.active.next c.active.slots c.frames (Needs (ConvertTo from to) ∷ Needs Return ∷ k) s m at_a tt (r, at_to, (loop, q, s, refl, here, single, stack)))
+      silently source pages calls (Running (Executing (typed.Return (Some (Convert from to a)))) k e w) (Running (Evaluating a) (Needs (ConvertTo from to (target_by a)) ∷ Needs Return ∷ k) e w) (plain.Running c) refl
+      (shared, facts, returned a e.locals c.active.function c.active.next c.active.slots c.frames (Needs (ConvertTo from to (target_by a)) ∷ Needs Return ∷ k) s m at_a tt (r, at_to, (loop, q, s, refl, here, single, stack)))
       (omega arith)
   executing Break k e w c well (shared, facts, (loop, q, here, stack)) =
       silently source pages calls (Running (Executing Break) k e w) (Running Breaking k e w) (plain.Running c) refl
@@ -273,13 +273,13 @@ module _ (source : Program) (pages calls : ℕ) where
   initial n ty from kinds.NonNull a js k e w c loop m q shared facts few (o, s, r, at_a, check, move, end) items stack =
       let g = c.active.function in
       silently source pages calls (Running Proceeding (Rest (MoreItems (Declare n ty (Some (Convert from kinds.NonNull a))) js) ∷ k) e w)
-      (Running (Evaluating a) (Needs (ConvertTo from kinds.NonNull) ∷ Needs (Initialise n (kind_of ty) js) ∷ k) e w) (plain.Running c) refl
+      (Running (Evaluating a) (Needs (ConvertTo from kinds.NonNull (target_by a)) ∷ Needs (Initialise n (kind_of ty) js) ∷ k) e w) (plain.Running c) refl
       (shared, facts, as_operand o s at_a tt (r, check, (loop, q, move, few, subst (λ p. ItemsAt (code_of source g) (bounds_at source g) (starts_at source g) js loop (base_of source g) p q) (sym end) items, stack)))
       (omega arith)
   initial n ty from to a js k e w c loop m q shared facts few at_a items stack =
       let g = c.active.function in
       silently source pages calls (Running Proceeding (Rest (MoreItems (Declare n ty (Some (Convert from to a))) js) ∷ k) e w)
-      (Running (Evaluating a) (Needs (ConvertTo from to) ∷ Needs (Initialise n (kind_of ty) js) ∷ k) e w) (plain.Running c) refl
+      (Running (Evaluating a) (Needs (ConvertTo from to (target_by a)) ∷ Needs (Initialise n (kind_of ty) js) ∷ k) e w) (plain.Running c) refl
       (shared, facts, into_slot (slot_of (starts_at source g) n) m at_a tt (in_local (slot-inside (types_at source g) n few) (tt, (loop, q, refl, few, items, stack))))
       (omega arith)
 

@@ -1,6 +1,6 @@
 -- The steps that hand a value on.
 use Rattle.std.proofs.Common.{◌≡◌, ◌≢◌, ℕ, zero, suc, ◌+◌, ◌<◌, Bool, true, false, not, List, [], ◌∷◌, Option, None, Some, slice_get, refl, sym, ap, subst, ◌∙◌, arith, inl, inr, length}
-use Rattle.std.specs.Prelude.{ℤ, ◌==◌, ◌<ℤ◌, ◌≤ℤ◌, int_le, int_lt, if◌then◌else◌}
+use Rattle.std.specs.Prelude.{◌&&◌, ℤ, ◌==◌, ◌<ℤ◌, ◌≤ℤ◌, int_le, int_lt, if◌then◌else◌}
 use Rattle.std.proofs.lemmas.Int.{ints}
 use Rattle.std.proofs.lemmas.Bool.{cases_eq, eqb-true, false_from_ne_true}
 use Rattle.std.proofs.lemmas.Option.{same_Some, none-some}
@@ -35,8 +35,9 @@ use Rattle.cyc_plain.specs.Straight.{At}
 use Rattle.cyc_meaning.specs.Values.{Value, Int, Null, Thin, Fat, Handle, Key, Operand as Kinded, is_kind}
 use Rattle.cyc_meaning.specs.Operators.{Gives, Raises, has_no_result, binary_word, is_zero, unary_result, truth_result, truth_of, division_by_zero}
 use Rattle.cyc_meaning.specs.Conversion.{conversion}
+use Rattle.cyc_meaning.specs.Pointers.{followed}
 use Rattle.cyc_meaning.specs.State.{World, Environment, with_local, made, variable, written, region_at, Awaiting, ConvertTo, Operate, Chain, Apply, Decide, Store, Pass, Initialise, Choose, Test, Return, Entry, Needs, Discard, Rest, Join, Loop, Focus, Evaluating, Given, Executing, Proceeding, Calling, Returning, Throwing, State, Running}
-use Rattle.cyc_meaning.specs.Step.{wrong, object_of, computed, stored_at, declared, passes, tested, awaits_right, chosen, looped, step}
+use Rattle.cyc_meaning.specs.Step.{wrong, leads_to, object_of, computed, stored_at, declared, passes, tested, awaits_right, chosen, looped, step}
 use Rattle.cyc_lower.specs.Slots.{slot_of}
 use Rattle.cyc_lower.proofs.Slots.{slot-inside}
 use Rattle.cyc_lower.specs.Lowering.{unary_operator, binary_operator, failing_comparison, operand_of, value_slot, next_slot, is_in, jump_if_zero, jump_if_nonzero, break_target, lower_program}
@@ -125,31 +126,31 @@ module _ (source : Program) (pages calls : ℕ) where
   -- ---- conversions
 
   -- the same value goes on, and nothing is executed
-  kept_value : (from to i : Kind) (v : Value) (o : Operand) (k : List Entry) (e : Environment) (w : World) (c : Configuration) (q : ℕ)
-      → step source (Running (Given (of_kind i v)) (Needs (ConvertTo from to) ∷ k) e w) ≡ Running (Given (of_kind to v)) k e w → Stands (of_kind i v) o k e w c
-      → c.active.next ≡ q → ValueStack source c.active.function e.locals o q c.frames k → GoesBehind (of_kind i v) (Needs (ConvertTo from to) ∷ k) e w c
-  kept_value from to i v o k e w c q does (shared, facts, is, holds) end stack =
-      silently source pages calls (Running (Given (of_kind i v)) (Needs (ConvertTo from to) ∷ k) e w) (Running (Given (of_kind to v)) k e w) (plain.Running c) does
+  kept_value : (from to : Kind) (target : Option Kind) (i : Kind) (v : Value) (o : Operand) (k : List Entry) (e : Environment) (w : World) (c : Configuration) (q : ℕ)
+      → step source (Running (Given (of_kind i v)) (Needs (ConvertTo from to target) ∷ k) e w) ≡ Running (Given (of_kind to v)) k e w → Stands (of_kind i v) o k e w c
+      → c.active.next ≡ q → ValueStack source c.active.function e.locals o q c.frames k → GoesBehind (of_kind i v) (Needs (ConvertTo from to target) ∷ k) e w c
+  kept_value from to target i v o k e w c q does (shared, facts, is, holds) end stack =
+      silently source pages calls (Running (Given (of_kind i v)) (Needs (ConvertTo from to target) ∷ k) e w) (Running (Given (of_kind to v)) k e w) (plain.Running c) does
       (shared, in_operand o facts is holds (subst (λ r. ValueStack source c.active.function e.locals o r c.frames k) (sym end) stack))
       (omega arith)
 
   -- a value is converted from its own kind
-  converts_kind : (from to : Kind) (v : Kinded) (k : List Entry) (e : Environment) (w : World) → IsWell (step source (Running (Given v) (Needs (ConvertTo from to) ∷ k) e w))
-      → step source (Running (Given v) (Needs (ConvertTo from to) ∷ k) e w) ≡ computed to (conversion to v.value) k e w
-  converts_kind from to v k e w well =
-      ap (λ (b : Bool). if b then computed to (conversion to v.value) k e w else wrong w) (is_fitting (is_kind v.kind from) (computed to (conversion to v.value) k e w) w well)
+  converts_kind : (from to : Kind) (target : Option Kind) (v : Kinded) (k : List Entry) (e : Environment) (w : World) → IsWell (step source (Running (Given v) (Needs (ConvertTo from to target) ∷ k) e w))
+      → step source (Running (Given v) (Needs (ConvertTo from to target) ∷ k) e w) ≡ computed to (conversion to v.value) k e w
+  converts_kind from to target v k e w well =
+      ap (λ (b : Bool). if b then computed to (conversion to v.value) k e w else wrong w) (is_fitting (is_kind v.kind from && leads_to w target (followed v.value)) (computed to (conversion to v.value) k e w) w well)
 
-  converted : (from to i : Kind) (v : Value) (o : Operand) (k : List Entry) (e : Environment) (w : World) (c : Configuration) → IsWell (computed to (conversion to v) k e w)
-      → step source (Running (Given (of_kind i v)) (Needs (ConvertTo from to) ∷ k) e w) ≡ computed to (conversion to v) k e w → Stands (of_kind i v) o k e w c
-      → ValueStack source c.active.function e.locals o c.active.next c.frames (Needs (ConvertTo from to) ∷ k) → GoesBehind (of_kind i v) (Needs (ConvertTo from to) ∷ k) e w c
-  converted from to i (Thin object offset) o k e w c well does (shared, facts, is, holds) stack = absurd is
-  converted from to i (Fat object start many index) o k e w c well does (shared, facts, is, holds) stack = absurd is
-  converted from to i (Handle region) o k e w c well does (shared, facts, is, holds) stack = absurd is
-  converted from to i (Key region) o k e w c well does (shared, facts, is, holds) stack = absurd is
-  converted from kinds.Int i (Int a) o k e w c well does stands (q, end, stack) = kept_value from kinds.Int i (Int a) o k e w c q does stands end stack
-  converted from kinds.Nullable i Null o k e w c well does stands (q, end, stack) = kept_value from kinds.Nullable i Null o k e w c q does stands end stack
-  converted from kinds.Fat i Null o k e w c well does stands (q, end, stack) = kept_value from kinds.Fat i Null o k e w c q does stands end stack
-  converted from kinds.NonNull i Null o k e w c well does (shared, facts, is, holds) (q, (jump, uncaught, end), stack) =
+  converted : (from to : Kind) (target : Option Kind) (i : Kind) (v : Value) (o : Operand) (k : List Entry) (e : Environment) (w : World) (c : Configuration) → IsWell (computed to (conversion to v) k e w)
+      → step source (Running (Given (of_kind i v)) (Needs (ConvertTo from to target) ∷ k) e w) ≡ computed to (conversion to v) k e w → Stands (of_kind i v) o k e w c
+      → ValueStack source c.active.function e.locals o c.active.next c.frames (Needs (ConvertTo from to target) ∷ k) → GoesBehind (of_kind i v) (Needs (ConvertTo from to target) ∷ k) e w c
+  converted from to target i (Thin object offset) o k e w c well does (shared, facts, is, holds) stack = absurd is
+  converted from to target i (Fat object start many index) o k e w c well does (shared, facts, is, holds) stack = absurd is
+  converted from to target i (Handle region) o k e w c well does (shared, facts, is, holds) stack = absurd is
+  converted from to target i (Key region) o k e w c well does (shared, facts, is, holds) stack = absurd is
+  converted from kinds.Int target i (Int a) o k e w c well does stands (q, end, stack) = kept_value from kinds.Int target i (Int a) o k e w c q does stands end stack
+  converted from kinds.Nullable target i Null o k e w c well does stands (q, end, stack) = kept_value from kinds.Nullable target i Null o k e w c q does stands end stack
+  converted from kinds.Fat target i Null o k e w c well does stands (q, end, stack) = kept_value from kinds.Fat target i Null o k e w c q does stands end stack
+  converted from kinds.NonNull target i Null o k e w c well does (shared, facts, is, holds) (q, (jump, uncaught, end), stack) =
       by_one source pages calls does shared jump
       (λ choice. not_taken (Running (Throwing 1 0) k e w) c (not (operand_word c.active.slots o == 0)) q (ap (λ x. not (x == 0)) is) (
         shared,
@@ -159,37 +160,37 @@ module _ (source : Program) (pages calls : ℕ) where
         uncaught,
         is,
       ))
-  converted from to i v o k e w c well does stands stack = absurd (well refl)
+  converted from to target i v o k e w c well does stands stack = absurd (well refl)
 
-  converts : (from to : Kind) (v : Kinded) (o : Operand) (k : List Entry) (e : Environment) (w : World) (c : Configuration)
-      → IsWell (step source (Running (Given v) (Needs (ConvertTo from to) ∷ k) e w)) → Stands v o k e w c
-      → ValueStack source c.active.function e.locals o c.active.next c.frames (Needs (ConvertTo from to) ∷ k) → GoesBehind v (Needs (ConvertTo from to) ∷ k) e w c
-  converts from to v o k e w c well stands stack =
-      let does = converts_kind from to v k e w well in
-      converted from to v.kind v.value o k e w c (subst IsWell does well) does stands stack
+  converts : (from to : Kind) (target : Option Kind) (v : Kinded) (o : Operand) (k : List Entry) (e : Environment) (w : World) (c : Configuration)
+      → IsWell (step source (Running (Given v) (Needs (ConvertTo from to target) ∷ k) e w)) → Stands v o k e w c
+      → ValueStack source c.active.function e.locals o c.active.next c.frames (Needs (ConvertTo from to target) ∷ k) → GoesBehind v (Needs (ConvertTo from to target) ∷ k) e w c
+  converts from to target v o k e w c well stands stack =
+      let does = converts_kind from to target v k e w well in
+      converted from to target v.kind v.value o k e w c (subst IsWell does well) does stands stack
 
   -- a conversion that raises nothing, of a value in the slot of a local that is about to get it
-  converted_ahead : (from to i : Kind) (v : Value) (n : ℕ) (k : List Entry) (e : Environment) (w : World) (c : Configuration)
+  converted_ahead : (from to : Kind) (target : Option Kind) (i : Kind) (v : Value) (n : ℕ) (k : List Entry) (e : Environment) (w : World) (c : Configuration)
       → IsWell (computed to (conversion to v) k e w) → IsQuiet source to → Is v (c.active.slots n)
-      → (computed to (conversion to v) k e w ≡ Running (Given (of_kind to v)) k e w → GoesBehind (of_kind i v) (Needs (ConvertTo from to) ∷ k) e w c)
-      → GoesBehind (of_kind i v) (Needs (ConvertTo from to) ∷ k) e w c
-  converted_ahead from to i (Thin object offset) n k e w c well quiet is goes = absurd is
-  converted_ahead from to i (Fat object start many index) n k e w c well quiet is goes = absurd is
-  converted_ahead from to i (Handle region) n k e w c well quiet is goes = absurd is
-  converted_ahead from to i (Key region) n k e w c well quiet is goes = absurd is
-  converted_ahead from kinds.Int i (Int a) n k e w c well quiet is goes = goes refl
-  converted_ahead from kinds.Nullable i Null n k e w c well quiet is goes = goes refl
-  converted_ahead from kinds.Fat i Null n k e w c well quiet is goes = goes refl
-  converted_ahead from kinds.NonNull i Null n k e w c well quiet is goes = absurd quiet
-  converted_ahead from to i v n k e w c well quiet is goes = absurd (well refl)
+      → (computed to (conversion to v) k e w ≡ Running (Given (of_kind to v)) k e w → GoesBehind (of_kind i v) (Needs (ConvertTo from to target) ∷ k) e w c)
+      → GoesBehind (of_kind i v) (Needs (ConvertTo from to target) ∷ k) e w c
+  converted_ahead from to target i (Thin object offset) n k e w c well quiet is goes = absurd is
+  converted_ahead from to target i (Fat object start many index) n k e w c well quiet is goes = absurd is
+  converted_ahead from to target i (Handle region) n k e w c well quiet is goes = absurd is
+  converted_ahead from to target i (Key region) n k e w c well quiet is goes = absurd is
+  converted_ahead from kinds.Int target i (Int a) n k e w c well quiet is goes = goes refl
+  converted_ahead from kinds.Nullable target i Null n k e w c well quiet is goes = goes refl
+  converted_ahead from kinds.Fat target i Null n k e w c well quiet is goes = goes refl
+  converted_ahead from kinds.NonNull target i Null n k e w c well quiet is goes = absurd quiet
+  converted_ahead from to target i v n k e w c well quiet is goes = absurd (well refl)
 
-  converts_ahead : (from to : Kind) (v : Kinded) (n : ℕ) (k : List Entry) (e : Environment) (w : World) (c : Configuration)
-      → IsWell (step source (Running (Given v) (Needs (ConvertTo from to) ∷ k) e w)) → IsQuiet source to → Is v.value (c.active.slots n)
-      → (step source (Running (Given v) (Needs (ConvertTo from to) ∷ k) e w) ≡ Running (Given (of_kind to v.value)) k e w → GoesBehind v (Needs (ConvertTo from to) ∷ k) e w c)
-      → GoesBehind v (Needs (ConvertTo from to) ∷ k) e w c
-  converts_ahead from to v n k e w c well quiet is goes =
-      let does = converts_kind from to v k e w well in
-      converted_ahead from to v.kind v.value n k e w c (subst IsWell does well) quiet is (λ same. goes (does ∙ same))
+  converts_ahead : (from to : Kind) (target : Option Kind) (v : Kinded) (n : ℕ) (k : List Entry) (e : Environment) (w : World) (c : Configuration)
+      → IsWell (step source (Running (Given v) (Needs (ConvertTo from to target) ∷ k) e w)) → IsQuiet source to → Is v.value (c.active.slots n)
+      → (step source (Running (Given v) (Needs (ConvertTo from to target) ∷ k) e w) ≡ Running (Given (of_kind to v.value)) k e w → GoesBehind v (Needs (ConvertTo from to target) ∷ k) e w c)
+      → GoesBehind v (Needs (ConvertTo from to target) ∷ k) e w c
+  converts_ahead from to target v n k e w c well quiet is goes =
+      let does = converts_kind from to target v k e w well in
+      converted_ahead from to target v.kind v.value n k e w c (subst IsWell does well) quiet is (λ same. goes (does ∙ same))
 
   -- ---- operators
 
@@ -725,7 +726,7 @@ module _ (source : Program) (pages calls : ℕ) where
   stands_given : (v : Kinded) (o : Operand) (k : List Entry) (e : Environment) (w : World) (c : Configuration) → IsWell (step source (Running (Given v) k e w)) → Stands v o k e w c
       → ValueStack source c.active.function e.locals o c.active.next c.frames k → GoesBehind v k e w c
   stands_given v o [] e w c well stands stack = absurd stack
-  stands_given v o (Needs (ConvertTo from to) ∷ k) e w c well stands stack = converts from to v o k e w c well stands stack
+  stands_given v o (Needs (ConvertTo from to target) ∷ k) e w c well stands stack = converts from to target v o k e w c well stands stack
   stands_given v o (Needs (Operate u) ∷ k) e w c well stands stack = operates u v o k e w c well stands stack
   stands_given v o (Needs (Chain os) ∷ k) e w c well stands stack = chains os v o k e w c well stands stack
   stands_given v o (Needs (Apply u left) ∷ k) e w c well (shared, facts, is, (is_left, holds)) applied =
@@ -760,10 +761,10 @@ module _ (source : Program) (pages calls : ℕ) where
   ahead_given : (v : Kinded) (n old : ℕ) (k : List Entry) (e : Environment) (w : World) (c : Configuration) → IsWell (step source (Running (Given v) k e w)) → SharedAt source pages calls w c
       → DataIn source (put c.active.slots n old) k e w c → n < base_of source c.active.function → Is v.value (c.active.slots n) → Holds c.active.slots (base_of source c.active.function) (held k)
       → AheadStack source c.active.function e.locals n c.active.next c.frames k → GoesBehind v k e w c
-  ahead_given v n old (Needs (ConvertTo from to) ∷ k) e w c well shared facts below is holds (quiet, stack) =
-      converts_ahead from to v n k e w c well quiet is
+  ahead_given v n old (Needs (ConvertTo from to target) ∷ k) e w c well shared facts below is holds (quiet, stack) =
+      converts_ahead from to target v n k e w c well quiet is
       (λ does.
-      silently source pages calls (Running (Given v) (Needs (ConvertTo from to) ∷ k) e w) (Running (Given (of_kind to v.value)) k e w) (plain.Running c) does
+      silently source pages calls (Running (Given v) (Needs (ConvertTo from to target) ∷ k) e w) (Running (Given (of_kind to v.value)) k e w) (plain.Running c) does
       (shared, ahead n (old, facts) below is holds stack)
       (omega arith))
   ahead_given v n old (Needs (Chain NoOperations) ∷ k) e w c well shared facts below is holds stack =
