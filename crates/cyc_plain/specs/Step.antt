@@ -97,11 +97,15 @@ told (services.OpenedLexical handle mark) destination slots = put (put slots des
 told (services.Allocated address) destination slots = put slots destination address
 told other destination slots = slots
 
+-- the store has served a call
+abbrev pub served_to : services.Choice → Configuration → (destination : ℕ) → Call → Configuration
+served_to serving c destination call =
+    advanced (with_slots (record c { store = served c.store call serving }) (told (answer c.store call serving) destination c.active.slots))
+
 -- The store is called, which refuses or does not. Where there is no room for what it would come to the run ends, whatever
 -- would be chosen: demand goes by sizes alone. What is refused for another reason leaves a run that cannot go on.
 abbrev pub asks : services.Choice → Configuration → (destination : ℕ) → Call → Option Refusal → State
-asks serving c destination call None =
-    Running (advanced (with_slots (record c { store = served c.store call serving }) (told (answer c.store call serving) destination c.active.slots)))
+asks serving c destination call None = Running (served_to serving c destination call)
 asks serving c destination call (Some services.Full) = Ended Full c.output c.input
 asks serving c destination call (Some why) = Stuck c.output c.input
 

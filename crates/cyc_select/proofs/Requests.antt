@@ -1,7 +1,7 @@
 -- The instruction that calls the store.
 use Rattle.std.proofs.Common.{◌≡◌, ◌≢◌, ℕ, suc, ◌+◌, ◌*◌, ◌%◌, ◌<◌, ◌≤◌, List, [], ◌∷◌, ◌++◌, length, Option, None, Some, refl, sym, ap, subst, ◌∙◌, arith, inl}
 use Rattle.cyc_words.specs.Ending.{Full}
-use Rattle.cyc_words.specs.Word.{IsWord, add_of, sign_extended}
+use Rattle.cyc_words.specs.Word.{add_of, sign_extended}
 use Rattle.cyc_isa.specs.Effect.{memory_address}
 use Rattle.cyc_isa.specs.declared.instr.Instr.{Instr}
 use Rattle.cyc_machine.specs.State.{globals_length, words_per_call}
@@ -31,7 +31,6 @@ use Rattle.cyc_select.specs.Labelled.{Labelled, IsFormed}
 use Rattle.cyc_select.specs.Machine as labelled
 use Rattle.cyc_select.specs.Machine.{State, Running, Ended}
 use Rattle.cyc_select.specs.Selection.{ordinary, small, syscall, slot_offset, store_all, result_registers, argument_code, argument_count, service_number, answer_code, ask_count, body, instruction_line}
-use Rattle.cyc_select.proofs.Cells.{IsCell}
 use Rattle.cyc_select.proofs.Computing.{IsHeld, load_puts}
 use Rattle.cyc_select.proofs.Counts.{service_small, length_argument, length_answer, length_registers, answer_few}
 use Rattle.cyc_select.proofs.Effects.{call_by}
