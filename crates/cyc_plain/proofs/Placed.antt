@@ -291,7 +291,7 @@ fails program choice c (instructions.Store address offset source) at range faile
     saves_stop program c address offset source (memory_at c (add_of (operand_word c.active.slots address) offset)) refl at failed
 
 fails_placed : (program : Program) (choice : Choice) (s : State) → IsWellFormed program → IsPlaced program s → status_of s ≡ simulation.Running → status_of (step program choice s) ≡ simulation.Failed → Stops program s
-fails_placed program choice (Running c) well ((inside, next), waiting) running failed =
+fails_placed program choice (Running c) well ((inside, next), handling, waiting) running failed =
     let (i, at) = get_below (routine_at program c.active.function).code c.active.next next in
     let range = holds_at (IsInRange program (routine_at program c.active.function)) (routine_at program c.active.function).code c.active.next i (routine_in program c.active.function well inside).instructions at in
     fails program choice c i at range (subst (λ (o : Option Instruction). status_of (executed program choice c o) ≡ simulation.Failed) at failed)
