@@ -2,7 +2,7 @@
 use Rattle.std.proofs.Common.{◌≡◌, ◌≢◌, ℕ, zero, suc, ◌+◌, ◌-◌, ◌*◌, ◌%◌, ◌<◌, ◌≤◌, Bool, false, not, List, [], ◌∷◌, ◌++◌, length, Some, slice_get, refl, sym, ap, subst, ◌∙◌, arith, inl, inr}
 use Rattle.std.specs.Prelude.{◌==◌, if◌then◌else◌, nat_le}
 use Rattle.std.proofs.lemmas.Bool.{cases_eq, cases_lt, eq-eqb, ne_eqb, and_right, lt-leb}
-use Rattle.cyc_select.specs.declared.constants.TheConstants.{CALLS, FRAME}
+use Rattle.cyc_select.specs.declared.constants.TheConstants.{CALLS, FRAME, HANDLERS}
 use Rattle.cyc_machine.specs.declared.constants.TheConstants.{RETURN_ADDRESS}
 use Rattle.cyc_words.specs.Ending.{Full}
 use Rattle.cyc_words.specs.Word.{add_of, sign_extended}
@@ -34,7 +34,7 @@ use Rattle.cyc_select.proofs.Operations.{add_small, take_small}
 use Rattle.cyc_select.proofs.Views.{Contents, written}
 use Rattle.cyc_select.proofs.Walks.{Stands, stands_front, stands_back, after_r, after_w, Walk, now_at, walk_end, walk_few, walk_block, walk_branch, walk_call, walk_full}
 use Rattle.cyc_select.proofs.Copies.{Copied, copied_all}
-use Rattle.cyc_select.proofs.Standing.{Holds, Chain, Standing, behind_line, lies, chain_kept, word_cell, return_cell, return_address, standing_return}
+use Rattle.cyc_select.proofs.Standing.{Holds, Chain, IsNewest, Standing, behind_line, lies, chain_kept, word_cell, return_cell, return_address, standing_return}
 use Rattle.cyc_select.proofs.Matches.{At, Reached, reached, within}
 
 pub length_ordinary : (is : List Instr) → length (ordinary is) ≡ length is

@@ -2,7 +2,7 @@
 use Rattle.std.proofs.Common.{◌≡◌, ◌≢◌, ℕ, zero, suc, ◌+◌, ◌-◌, ◌*◌, ◌%◌, ◌<◌, ◌≤◌, Bool, true, false, not, List, [], ◌∷◌, ◌++◌, length, Some, slice_get, refl, sym, ap, subst, ◌∙◌, arith, inl, inr}
 use Rattle.std.specs.Prelude.{◌==◌, if◌then◌else◌}
 use Rattle.std.proofs.lemmas.Bool.{cases_eq, cases_lt, cases_Bool, eq-eqb, ne_eqb}
-use Rattle.cyc_select.specs.declared.constants.TheConstants.{CALLS, FRAME}
+use Rattle.cyc_select.specs.declared.constants.TheConstants.{CALLS, FRAME, HANDLERS}
 use Rattle.cyc_machine.specs.declared.constants.TheConstants.{RETURN_ADDRESS}
 use Rattle.cyc_words.specs.Ending.{Returned}
 use Rattle.cyc_words.specs.Word.{signed, add_of, sign_extended}
@@ -11,11 +11,12 @@ use Rattle.cyc_isa.specs.declared.instr.Instr.{Instr}
 use Rattle.cyc_isa.specs.declared.instr.BranchOp.TheVariants as branch
 use Rattle.cyc_isa.specs.Decoding.{register_of}
 use Rattle.cyc_machine.specs.State.{globals_length, words_per_call}
+use Rattle.cyc_plain.specs.declared.instruction.Instruction.{Instruction}
 use Rattle.cyc_plain.specs.declared.instruction.Instruction.TheVariants as plain
 use Rattle.cyc_plain.specs.Program.{Program, no_routine, routine_at}
 use Rattle.cyc_plain.specs.State as states
 use Rattle.cyc_plain.specs.State.{Words, AreWords, put, copied, Configuration}
-use Rattle.cyc_plain.specs.Step.{instruction_at, performed, returns}
+use Rattle.cyc_plain.specs.Step.{call_of, instruction_at, performed, returns}
 use Rattle.cyc_plain.specs.WellFormed.{IsWellFormed, HasSlots}
 use Rattle.cyc_plain.proofs.RunLaws.{zeros, zeros_at, over_within}
 use Rattle.cyc_plain.proofs.SlotLaws.{put-same, put-other, copied-inside, copied-above, copied-below}
@@ -35,7 +36,7 @@ use Rattle.cyc_select.proofs.Operations.{add_small}
 use Rattle.cyc_select.proofs.Views.{Contents, written}
 use Rattle.cyc_select.proofs.Walks.{Stands, stands_front, stands_back, after_r, after_w, AreSafe, Walk, now_at, now_is, walk_end, walk_few, walk_from, walk_block, walk_branch, walk_return, walk_returned}
 use Rattle.cyc_select.proofs.Counts.{length_stores, length_registers}
-use Rattle.cyc_select.proofs.Standing.{Chain, Standing, behind_line, lies, slot_address, slot_cell, slot_word_is, return_cell, return_address, standing_slot}
+use Rattle.cyc_select.proofs.Standing.{Chain, IsNewest, kept_here, Standing, behind_line, lies, slot_address, slot_cell, slot_word_is, return_cell, return_address, standing_slot}
 use Rattle.cyc_select.proofs.Matches.{At, Ready, Back, Reached, reached, within, result_register}
 
 -- ---- what a function returns, from slots into registers

@@ -105,13 +105,16 @@ AreRecords program frames addresses calls base function depth rest newest (state
     IsRecord program frames addresses calls newest base function depth index first contents
     × AreRecords program frames addresses calls base function depth rest (contents 0) handlers
 
+abbrev pub IsBeyond : Program → List Frame → (addresses : ℕ → ℕ) → (calls base function : ℕ) → List states.Frame → (newest : ℕ) → Type 0
+IsBeyond program frames addresses calls base function [] newest = newest ≡ 0
+IsBeyond program frames addresses calls base function (f ∷ waiting) newest =
+    AreRecords program frames addresses calls (base + 4 * (frame_at frames function).words) f.caller.function (suc (length waiting))
+    (IsBeyond program frames addresses calls (base + 4 * (frame_at frames function).words) f.caller.function waiting) newest f.caller.handlers
+
 abbrev pub IsNewest : Program → List Frame → (addresses : ℕ → ℕ) → (calls newest base function : ℕ) → List states.Handler → List states.Frame → Type 0
-IsNewest program frames addresses calls newest base function handlers [] =
-    AreRecords program frames addresses calls base function 1 (λ (n : ℕ). n ≡ 0) newest handlers
-IsNewest program frames addresses calls newest base function handlers (f ∷ waiting) =
-    AreRecords program frames addresses calls base function (suc (suc (length waiting)))
-    (λ (n : ℕ). IsNewest program frames addresses calls n (base + 4 * (frame_at frames function).words) f.caller.function f.caller.handlers waiting)
-    newest handlers
+IsNewest program frames addresses calls newest base function handlers waiting =
+    AreRecords program frames addresses calls base function (suc (length waiting))
+    (IsBeyond program frames addresses calls base function waiting) newest handlers
 
 -- while a handler is open in a call its return address is in its frame
 abbrev pub IsKept : (frame : Frame) → (w : Contents) → (base back : ℕ) → List states.Handler → Type 0
@@ -229,6 +232,26 @@ module _ (program : Program) (well : IsWellFormed program) (frames : List Frame)
           (subst (λ (hs : List states.Handler). IsKept (frame_at frames c.active.function) w base back hs) (sym handlers_same) s.kept);
       store = s.store ∙ sym store_same;
       laid = subst (IsLaid pages) (sym store_same) s.laid;
+    }
+
+    -- other handlers, and other registers
+    pub standing_handlers : (handlers : List states.Handler) (r' : Words) → r' 0 ≡ r 0 → r' FRAME ≡ r FRAME → r' CALLS ≡ r CALLS
+        → IsNewest program frames addresses calls (r' HANDLERS) base c.active.function handlers c.frames → IsKept (frame_at frames c.active.function) w base back handlers
+        → Standing program frames addresses pages calls (record c { active = record c.active { handlers = handlers } }) r' w base back depth slots
+    standing_handlers handlers r' zero_same base_same left_same newest kept = record {
+      known = s.known;
+      base_is = base_same ∙ s.base_is;
+      zero_is = zero_same ∙ s.zero_is;
+      left = ap (λ (n : ℕ). n + depth) left_same ∙ s.left;
+      deep = s.deep;
+      holds = s.holds;
+      chain = s.chain;
+      globals = s.globals;
+      input = s.input;
+      newest = newest;
+      kept = kept;
+      store = s.store;
+      laid = s.laid;
     }
 
     -- a word of the frame and the data are apart
