@@ -421,12 +421,12 @@ module _ (program : Program) (well : IsWellFormed program) (words : HasWords pro
         (formed_append js last (argument_formed SECOND_ARGUMENT (second_operand request) in_range.second_in_range also)
         ((refl, omega (arith, service_small request)), ((refl, tt), stores_formed (destination_of request) (result_registers (answer_count request)) (omega (arith, registers, in_range.answer_in_range)))))
     body_formed (plain.Try first handler) n in_range fits long =
-        let record : first + 4 ≤ slots = in_range.record_in_range in (
-          (refl, slot_fits first (omega (arith, record))),
+        let inside : first + 4 ≤ slots = in_range.record_in_range in (
+          (refl, slot_fits first (omega (arith, inside))),
           (
-            (refl, slot_fits (first + 1) (omega (arith, record))),
+            (refl, slot_fits (first + 1) (omega (arith, inside))),
             (
-              (refl, slot_fits (first + 3) (omega (arith, record))),
+              (refl, slot_fits (first + 3) (omega (arith, inside))),
               (
                 (refl, return_fits),
                 (
@@ -434,12 +434,12 @@ module _ (program : Program) (well : IsWellFormed program) (words : HasWords pro
                   (
                     (refl, return_fits),
                     (
-                      (refl, slot_fits first (omega (arith, record))),
+                      (refl, slot_fits first (omega (arith, inside))),
                       (
-                        (refl, slot_fits (suc first) (omega (arith, record))),
+                        (refl, slot_fits (suc first) (omega (arith, inside))),
                         (
                           target_known function handler in_range.handler_in_range,
-                          ((refl, slot_fits (first + 2) (omega (arith, record))), ((refl, return_fits), ((refl, slot_fits first (omega (arith, record))), tt))),
+                          ((refl, slot_fits (first + 2) (omega (arith, inside))), ((refl, return_fits), ((refl, slot_fits first (omega (arith, inside))), tt))),
                         ),
                       ),
                     ),
@@ -449,7 +449,7 @@ module _ (program : Program) (well : IsWellFormed program) (words : HasWords pro
             ),
           ),
         )
-    body_formed (plain.Leave first) n in_range fits long = ((refl, slot_fits first (let record : first + 4 ≤ slots = in_range in omega (arith, record))), tt)
+    body_formed (plain.Leave first) n in_range fits long = ((refl, slot_fits first (let inside : first + 4 ≤ slots = in_range in omega (arith, inside))), tt)
     body_formed (plain.Throw tag value) n (a, b) (fits, also) long =
         all_front (IsFormedLine (length (select_of program frames).lines)) (ordinary (load_code frame ARGUMENT tag ++ load_code frame SECOND_ARGUMENT value))
         (lines.Branch (conditions.Registers branch.NotEqual (register_of HANDLERS) (register_of ZERO)) (n + (load_count tag + load_count value) + 3) ∷ ordinary (small SERVICE END_UNCAUGHT ∷ syscall ∷ []) ++ (ordinary unwound_code ++ lines.Return ∷ []))

@@ -56,7 +56,7 @@ is_call (requests.Allocate destination handle words) slots q first second =
 is_call (requests.Free address) slots q first second = ap services.Free (first address refl)
 
 -- registers come to slots, one behind the other
-abbrev put_all : (slot : ℕ) → List ℕ → (q slots : Words) → Words
+abbrev pub put_all : (slot : ℕ) → List ℕ → (q slots : Words) → Words
 put_all slot [] q slots = slots
 put_all slot (source ∷ sources) q slots = put_all (suc slot) sources q (put slots slot (q (source % 32)))
 
@@ -82,12 +82,12 @@ answered-other (services.Allocated address) q n first second = put-other q 2 n a
 module _ (program : Program) (well : IsWellFormed program) (frames : List Frame) (fit : AreFrames program frames) (addresses : ℕ → ℕ) (pages calls : ℕ) (few : calls ≤ 4096)
     (c : Configuration) (q : Words) (base back depth : ℕ) where
   -- what registers hold comes to slots
-  record AreStored (slot : ℕ) (sources : List ℕ) (m : Contents) (slots : Words) : Type 0 where
+  pub record AreStored (slot : ℕ) (sources : List ℕ) (m : Contents) (slots : Words) : Type 0 where
     pub safe : AreSafe globals_length (words_per_call * calls) (store_all (frame_at frames c.active.function) slot sources) q m
     pub same : after_r (store_all (frame_at frames c.active.function) slot sources) q m ≡ q
     pub standing : Standing program frames addresses pages calls c q (after_w (store_all (frame_at frames c.active.function) slot sources) q m) base back depth (put_all slot sources q slots)
 
-  are_stored : (slot : ℕ) (sources : List ℕ) (m : Contents) (slots : Words) → slot + length sources ≤ (routine_at program c.active.function).slots
+  pub are_stored : (slot : ℕ) (sources : List ℕ) (m : Contents) (slots : Words) → slot + length sources ≤ (routine_at program c.active.function).slots
       → Standing program frames addresses pages calls c q m base back depth slots → AreStored slot sources m slots
   are_stored slot [] m slots fits s = record { safe = tt; same = refl; standing = s }
   are_stored slot (source ∷ sources) m slots fits s =

@@ -82,10 +82,10 @@ impl Emitter {
             } => self.load_global(frame, destination, global),
             Instruction::StoreGlobal { global, source } => self.store_global(frame, global, source),
             Instruction::Ask { request } => self.ask(frame, request),
-            Instruction::Try { record, handler } => {
-                self.open_handler(frame, here, record, tables.line(handler))
+            Instruction::Try { first, handler } => {
+                self.open_handler(frame, here, first, tables.line(handler))
             }
-            Instruction::Leave { record } => self.leave(frame, record),
+            Instruction::Leave { first } => self.leave(frame, first),
             Instruction::Throw { tag, value } => self.throw(frame, here, tag, value),
             Instruction::Finish { value } => {
                 let results = tables.results(tables.function);

@@ -31,42 +31,42 @@ fn load_record(target: u8, offset: u16) -> Instr
 
 impl Emitter {
     /// What a record has, but for the line that an exception comes to.
-    fn recorded(&mut self, frame: Frame, record: usize) -> Result<(), AllocError>
+    fn recorded(&mut self, frame: Frame, first: usize) -> Result<(), AllocError>
         requires return_address { frame.return_address ≤ MOST_FRAME_WORDS }
-        requires target { AreReached frame record RECORD_WORDS }
-        ensures { AddsLines result self.old self.new (ordinary (recorded_code frame record)) }
+        requires target { AreReached frame first RECORD_WORDS }
+        ensures { AddsLines result self.old self.new (ordinary (recorded_code frame first)) }
     {
         self.ordinary(&[
-            store_slot(frame, HANDLERS, record),
-            store_slot(frame, FRAME, record + 1),
-            store_slot(frame, CALLS, record + 3),
+            store_slot(frame, HANDLERS, first),
+            store_slot(frame, FRAME, first + 1),
+            store_slot(frame, CALLS, first + 3),
             store(RETURN_ADDRESS, offset_of(frame.return_address)),
         ])
     }
 
     /// Where an exception comes to a handler.
-    fn caught(&mut self, frame: Frame, record: usize) -> Result<(), AllocError>
+    fn caught(&mut self, frame: Frame, first: usize) -> Result<(), AllocError>
         requires return_address { frame.return_address ≤ MOST_FRAME_WORDS }
-        requires target { AreReached frame record RECORD_WORDS }
-        ensures { AddsLines result self.old self.new (ordinary (caught_code frame record)) }
+        requires target { AreReached frame first RECORD_WORDS }
+        ensures { AddsLines result self.old self.new (ordinary (caught_code frame first)) }
     {
         self.ordinary(&[
             load(RETURN_ADDRESS, offset_of(frame.return_address)),
-            store_slot(frame, ARGUMENT, record),
-            store_slot(frame, SECOND_ARGUMENT, record + 1),
+            store_slot(frame, ARGUMENT, first),
+            store_slot(frame, SECOND_ARGUMENT, first + 1),
         ])
     }
 
     /// The rest of a record, which is the newest one then.
-    fn opened(&mut self, frame: Frame, record: usize) -> Result<(), AllocError>
+    fn opened(&mut self, frame: Frame, first: usize) -> Result<(), AllocError>
         requires return_address { frame.return_address ≤ MOST_FRAME_WORDS }
-        requires target { AreReached frame record RECORD_WORDS }
-        ensures { AddsLines result self.old self.new (ordinary (opened_code frame record)) }
+        requires target { AreReached frame first RECORD_WORDS }
+        ensures { AddsLines result self.old self.new (ordinary (opened_code frame first)) }
     {
         self.ordinary(&[
-            store_slot(frame, RETURN_ADDRESS, record + 2),
+            store_slot(frame, RETURN_ADDRESS, first + 2),
             load(RETURN_ADDRESS, offset_of(frame.return_address)),
-            add_immediate(HANDLERS, FRAME, offset_of(frame.first_slot + record)),
+            add_immediate(HANDLERS, FRAME, offset_of(frame.first_slot + first)),
         ])
     }
 
@@ -75,27 +75,27 @@ impl Emitter {
         &mut self,
         frame: Frame,
         here: usize,
-        record: usize,
+        first: usize,
         label: usize,
     ) -> Result<(), AllocError>
         requires fits { here ≤ most_lines }
         requires return_address { frame.return_address ≤ MOST_FRAME_WORDS }
-        requires target { AreReached frame record RECORD_WORDS }
-        ensures { AddsLines result self.old self.new (try_code frame here record label) }
+        requires target { AreReached frame first RECORD_WORDS }
+        ensures { AddsLines result self.old self.new (try_code frame here first label) }
     {
-        self.recorded(frame, record)?;
+        self.recorded(frame, first)?;
         self.line(Line::Call { label: here + 9 })?;
-        self.caught(frame, record)?;
+        self.caught(frame, first)?;
         self.line(Line::Jump { label })?;
-        self.opened(frame, record)
+        self.opened(frame, first)
     }
 
     /// The handler with this record is closed.
-    pub(crate) fn leave(&mut self, frame: Frame, record: usize) -> Result<(), AllocError>
-        requires target { AreReached frame record RECORD_WORDS }
-        ensures { AddsLines result self.old self.new (ordinary (load_slot frame HANDLERS record ∷ [])) }
+    pub(crate) fn leave(&mut self, frame: Frame, first: usize) -> Result<(), AllocError>
+        requires target { AreReached frame first RECORD_WORDS }
+        ensures { AddsLines result self.old self.new (ordinary (load_slot frame HANDLERS first ∷ [])) }
     {
-        self.ordinary(&[load_slot(frame, HANDLERS, record)])
+        self.ordinary(&[load_slot(frame, HANDLERS, first)])
     }
 
     /// The newest handler's call is the current one again.
