@@ -230,6 +230,9 @@ module _ (program : Program) (well : IsWellFormed program) (frames : List Frame)
       pub newest : IsNewest program frames addresses calls (contents 0) base c.active.function rest c.frames
       pub kept : w.words (base + 4 * frame.return_address) ≡ r RETURN_ADDRESS
 
+    abbrev gone : List Handler → states.State
+    gone handlers = states.Running (advanced (record c { active = record c.active { handlers = handlers } }))
+
     find_closed : (first newest : ℕ) (handlers : List Handler) → IsNewest program frames addresses calls newest base c.active.function handlers c.frames
         → IsKept frame w base (r RETURN_ADDRESS) handlers → (closes c first handlers ≡ states.Stuck c.output c.input → ⊥) → IsClosed first handlers
     find_closed first newest [] records kept never = absurd (never refl)
@@ -237,25 +240,22 @@ module _ (program : Program) (well : IsWellFormed program) (frames : List Frame)
     find_closed first newest (Open index other contents ∷ handlers) (one, others) kept never =
         go (other == first) (is_intact c.active.slots first contents) refl refl (λ again. find_closed first (contents 0) handlers others (kept_here frame w base (r RETURN_ADDRESS) handlers kept) again)
       where
-        abbrev gone : states.State
-        gone = states.Running (advanced (record c { active = record c.active { handlers = handlers } }))
-
         go : (is whole : Bool) → (other == first) ≡ is → is_intact c.active.slots first contents ≡ whole → ((closes c first handlers ≡ states.Stuck c.output c.input → ⊥) → IsClosed first handlers) → IsClosed first (Open index other contents ∷ handlers)
         go true true same intact later = record {
           contents = contents;
           rest = handlers;
           intact = intact;
-          does = ap (λ (b : Bool). if b then (if is_intact c.active.slots first contents then gone else states.Stuck c.output c.input) else closes c first handlers) same
-              ∙ ap (λ (b : Bool). if b then gone else states.Stuck c.output c.input) intact;
+          does = ap (λ (b : Bool). if b then (if is_intact c.active.slots first contents then gone handlers else states.Stuck c.output c.input) else closes c first handlers) same
+              ∙ ap (λ (b : Bool). if b then gone handlers else states.Stuck c.output c.input) intact;
           newest = others;
           kept = kept;
         }
         go true false same broken later =
-            absurd (never (ap (λ (b : Bool). if b then (if is_intact c.active.slots first contents then gone else states.Stuck c.output c.input) else closes c first handlers) same
-            ∙ ap (λ (b : Bool). if b then gone else states.Stuck c.output c.input) broken))
+            absurd (never (ap (λ (b : Bool). if b then (if is_intact c.active.slots first contents then gone handlers else states.Stuck c.output c.input) else closes c first handlers) same
+            ∙ ap (λ (b : Bool). if b then gone handlers else states.Stuck c.output c.input) broken))
         go false whole same intact later =
             let skips : closes c first (Open index other contents ∷ handlers) ≡ closes c first handlers =
-            ap (λ (b : Bool). if b then (if is_intact c.active.slots first contents then gone else states.Stuck c.output c.input) else closes c first handlers) same in
+            ap (λ (b : Bool). if b then (if is_intact c.active.slots first contents then gone handlers else states.Stuck c.output c.input) else closes c first handlers) same in
             let found = later (λ stuck. never (skips ∙ stuck)) in
             record { contents = found.contents; rest = found.rest; intact = found.intact; does = skips ∙ found.does; newest = found.newest; kept = found.kept }
 
@@ -319,6 +319,10 @@ module _ (program : Program) (well : IsWellFormed program) (frames : List Frame)
       found : IsFound tag value t → Search tag value t
 
     module _ (tag value : ℕ) where
+      abbrev come : Activation → List states.Frame → (index first : ℕ) → List Handler → states.State
+      come call waiting index first rest =
+          states.Running (record c { active = record call { next = index; slots = put (put call.slots first tag) (suc first) value; handlers = Caught ∷ rest }; frames = waiting })
+
       -- in one call, or beyond it
       in_call : (call : Activation) (waiting : List states.Frame) (q : Words) (low back : ℕ) (beyond : states.State)
           → Standing program frames addresses pages calls (record c { active = call; frames = waiting }) q w low back (suc (length waiting)) call.slots → q HANDLERS ≡ r HANDLERS
@@ -329,11 +333,8 @@ module _ (program : Program) (well : IsWellFormed program) (frames : List Frame)
       in_call call waiting q low back beyond stands same further (Caught ∷ rest) is records kept = absurd records
       in_call call waiting q low back beyond stands same further (Open index first contents ∷ rest) is (one, others) kept = go (is_intact call.slots first contents) refl
         where
-          abbrev landed : states.State
-          landed = states.Running (record c { active = record call { next = index; slots = put (put call.slots first tag) (suc first) value; handlers = Caught ∷ rest }; frames = waiting })
-
-          go : (whole : Bool) → is_intact call.slots first contents ≡ whole → Search tag value (if is_intact call.slots first contents then landed else states.Stuck c.output c.input)
-          go false broken = lost (ap (λ (b : Bool). if b then landed else states.Stuck c.output c.input) broken)
+          go : (whole : Bool) → is_intact call.slots first contents ≡ whole → Search tag value (if is_intact call.slots first contents then come call waiting index first rest else states.Stuck c.output c.input)
+          go false broken = lost (ap (λ (b : Bool). if b then come call waiting index first rest else states.Stuck c.output c.input) broken)
           go true intact = found (record {
             call = call;
             waiting = waiting;
@@ -350,7 +351,7 @@ module _ (program : Program) (well : IsWellFormed program) (frames : List Frame)
             kept = kept;
             same = same;
             intact = intact;
-            does = ap (λ (b : Bool). if b then landed else states.Stuck c.output c.input) intact;
+            does = ap (λ (b : Bool). if b then come call waiting index first rest else states.Stuck c.output c.input) intact;
           })
 
       -- the caller, as if the call had returned
@@ -636,7 +637,7 @@ module _ (program : Program) (well : IsWellFormed program) (frames : List Frame)
             (states.Running (record c { active = record it.call { next = it.index; slots = put (put it.call.slots it.first (word_in tag)) (suc it.first) (word_in value); handlers = Caught ∷ it.rest }; frames = it.waiting }))
             (Running g) (zeros_at program c (plain.Throw tag value) at_i refl) at_i it.does
             (within program well frames fit code formed addresses pages calls few (record c { active = record it.call { next = it.index; slots = put (put it.call.slots it.first (word_in tag)) (suc it.first) (word_in value); handlers = Caught ∷ it.rest }; frames = it.waiting }) s.laid.paged it.stands.deep)
-            (inr (inr (landed (word_in tag) (word_in value) (performed program zeros c (plain.Throw tag value)) it final p_zero previous_word base_word left_word p_tag p_value g thrown))))))))
+            (inr (inr (landed (word_in tag) (word_in value) (performed program zeros c (plain.Throw tag value)) it final p_zero previous_word base_word left_word p_tag p_value g thrown)))))))))
 
       pub throw_goes : Goes 1 here hi (Running run)
       throw_goes = by (search (word_in tag) (word_in value) c.frames c.active r base (r RETURN_ADDRESS) refl s)
@@ -838,4 +839,4 @@ module _ (program : Program) (well : IsWellFormed program) (frames : List Frame)
             now = now_at code formed addresses globals_length (words_per_call * calls) (here + 9 + 3) (instruction_line program c.active.function (c.active.next + 1)) c.output c.input r3 w5 f
                 (let e : here + 9 + 3 ≡ instruction_line program c.active.function (c.active.next + 1) = omega (arith, line_next program c.active.function c.active.next (plain.Try first handler) at_i) in e) opened_now;
             standing = ends_at;
-          })))))))
+          }))))))))
