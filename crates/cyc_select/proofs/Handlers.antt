@@ -660,8 +660,8 @@ module _ (program : Program) (well : IsWellFormed program) (frames : List Frame)
       abbrev return_at : ℕ
       return_at = 4 * frame.return_address
 
-      inside : first + 4 ≤ slots
-      inside = in_range.record_in_range
+      in_record : first + 4 ≤ slots
+      in_record = in_range.record_in_range
 
       -- a slot written by a register, and the word for the return address
       put_slot : (q : Words) (m : Contents) (there : Words) (slot word : ℕ) → slot < slots → Standing program frames addresses pages calls c q m base own_back depth there
@@ -697,9 +697,9 @@ module _ (program : Program) (well : IsWellFormed program) (frames : List Frame)
 
       s3 : Standing program frames addresses pages calls c r w3 base own_back depth slots3
       s3 =
-          put_slot r w2 (put (put c.active.slots first (r HANDLERS)) (first + 1) (r FRAME)) (first + 3) (r CALLS) (omega (arith, inside))
-          (put_slot r w1 (put c.active.slots first (r HANDLERS)) (first + 1) (r FRAME) (omega (arith, inside))
-          (put_slot r w c.active.slots first (r HANDLERS) (omega (arith, inside)) s))
+          put_slot r w2 (put (put c.active.slots first (r HANDLERS)) (first + 1) (r FRAME)) (first + 3) (r CALLS) (omega (arith, in_record))
+          (put_slot r w1 (put c.active.slots first (r HANDLERS)) (first + 1) (r FRAME) (omega (arith, in_record))
+          (put_slot r w c.active.slots first (r HANDLERS) (omega (arith, in_record)) s))
 
       return_is : memory_address (r FRAME) (4 * frame.return_address) ≡ base + 4 * frame.return_address
       return_is = return_address program well frames fit addresses pages calls few c r w base own_back depth c.active.slots s
@@ -730,21 +730,21 @@ module _ (program : Program) (well : IsWellFormed program) (frames : List Frame)
 
       s5 : Standing program frames addresses pages calls c r1 w5 base own_back depth slots4
       s5 =
-          put_slot r1 w4 slots3 (first + 2) (addresses (here + 4 + 1)) (omega (arith, inside))
+          put_slot r1 w4 slots3 (first + 2) (addresses (here + 4 + 1)) (omega (arith, in_record))
           (standing_registers program well frames fit addresses pages calls few c r w4 base own_back depth slots3 s4 r1 refl refl refl refl)
 
       -- the return address is in the frame
-      back_word : w5.words (base + 4 * frame.return_address) ≡ r RETURN_ADDRESS
-      back_word =
+      kept_word : w5.words (base + 4 * frame.return_address) ≡ r RETURN_ADDRESS
+      kept_word =
           put-other w4.words (memory_address (r FRAME) (slot_offset frame (first + 2))) (base + 4 * frame.return_address) (addresses (here + 4 + 1))
-          (λ e. (fit.each c.active.function s.known).beside (first + 2) (omega (arith, inside)) (omega (arith, e, slot_address program well frames fit addresses pages calls few c r w base own_back depth c.active.slots s (first + 2) (omega (arith, inside)))))
+          (λ e. (fit.each c.active.function s.known).beside (first + 2) (omega (arith, in_record)) (omega (arith, e, slot_address program well frames fit addresses pages calls few c r w base own_back depth c.active.slots s (first + 2) (omega (arith, in_record)))))
           ∙ (ap (λ (a : ℕ). put w3.words a (r RETURN_ADDRESS) (base + 4 * frame.return_address)) return_is ∙ put-same w3.words (base + 4 * frame.return_address) (r RETURN_ADDRESS))
 
       abbrev r3 : Words
       r3 = after_r after r1 w4
 
-      back_is : r3 RETURN_ADDRESS ≡ r RETURN_ADDRESS
-      back_is = ap w5.words return_is ∙ back_word
+      kept_is : r3 RETURN_ADDRESS ≡ r RETURN_ADDRESS
+      kept_is = ap w5.words return_is ∙ kept_word
 
       own_lies : Lies program frames fit addresses base c.active.function depth
       own_lies = lies program well frames fit addresses pages calls few c r w base own_back depth c.active.slots s
@@ -752,7 +752,7 @@ module _ (program : Program) (well : IsWellFormed program) (frames : List Frame)
       newest_is : r3 HANDLERS ≡ base + slot_offset frame first
       newest_is =
           let own = fit.each c.active.function s.known in
-          let word : slot_word frame first < frame.words = own.inside first (omega (arith, inside)) in
+          let word : slot_word frame first < frame.words = own.inside first (omega (arith, in_record)) in
           ap (λ (x : ℕ). add_of x (sign_extended (slot_offset frame first))) s.base_is
           ∙ add_small base (slot_offset frame first) (omega (arith, word, own.within, own.small)) (omega (arith, word, own_lies.below_end))
 
@@ -768,8 +768,8 @@ module _ (program : Program) (well : IsWellFormed program) (frames : List Frame)
           (either_word (j == 1) (r FRAME) (if j == 2 then addresses (here + 4 + 1) else r CALLS) (now.r_words FRAME)
           (either_word (j == 2) (addresses (here + 4 + 1)) (r CALLS) landing_word (now.r_words CALLS)))
 
-      abbrev next : Configuration
-      next = record c {
+      abbrev opened_at : Configuration
+      opened_at = record c {
         active = record c.active {
           next = c.active.next + 1;
           slots = copied contents 0 4 c.active.slots first;
@@ -777,7 +777,7 @@ module _ (program : Program) (well : IsWellFormed program) (frames : List Frame)
         };
       }
 
-      does : performed program choice c (plain.Try first handler) ≡ states.Running next
+      does : performed program choice c (plain.Try first handler) ≡ states.Running opened_at
       does = go c.active.handlers s.newest
         where
           go : (handlers : List Handler) → IsNewest program frames addresses calls (r HANDLERS) base c.active.function handlers c.frames → tries choice c first handler handlers ≡ opens choice c first
@@ -785,7 +785,7 @@ module _ (program : Program) (well : IsWellFormed program) (frames : List Frame)
           go (Open index other held_words ∷ handlers) records = refl
           go (Caught ∷ handlers) records = absurd records
 
-      ends_at : Standing program frames addresses pages calls next r3 w5 base (r3 RETURN_ADDRESS) depth (copied contents 0 4 c.active.slots first)
+      ends_at : Standing program frames addresses pages calls opened_at r3 w5 base (r3 RETURN_ADDRESS) depth (copied contents 0 4 c.active.slots first)
       ends_at = record {
         known = s.known;
         base_is = s.base_is;
@@ -793,11 +793,11 @@ module _ (program : Program) (well : IsWellFormed program) (frames : List Frame)
         left = s.left;
         deep = s.deep;
         holds = λ slot below. s5.holds slot below ∙ recorded_is c.active.slots first (r HANDLERS) (r FRAME) (addresses (here + 4 + 1)) (r CALLS) slot;
-        chain = subst (λ (b : ℕ). Chain program frames addresses w5 base b c.active.function c.frames) (sym back_is) s5.chain;
+        chain = subst (λ (b : ℕ). Chain program frames addresses w5 base b c.active.function c.frames) (sym kept_is) s5.chain;
         globals = s5.globals;
         input = s.input;
         newest = (record { at = newest_is; handler = handler; opened = at_i; frame = s.base_is; line = landing_is; left = s.left }, s.newest);
-        kept = back_word ∙ sym back_is;
+        kept = kept_word ∙ sym kept_is;
         store = s5.store;
         laid = s.laid;
       }
@@ -818,18 +818,18 @@ module _ (program : Program) (well : IsWellFormed program) (frames : List Frame)
           walk_few code formed addresses globals_length (words_per_call * calls) 1 (4 + 1) here (here + 12) c.output _ (Running run) (omega arith)
           (walk_block code formed addresses globals_length (words_per_call * calls) before 1 here here (here + 12) c.output c.input _ r w run now
           (stands_front code here (ordinary before) (lines.Call (here + 9) ∷ between ++ ordinary after) stands)
-          (frame_cell first (omega (arith, inside)), (frame_cell (first + 1) (omega (arith, inside)), (frame_cell (first + 3) (omega (arith, inside)), (back_cell, tt)))) (omega arith)
+          (frame_cell first (omega (arith, in_record)), (frame_cell (first + 1) (omega (arith, in_record)), (frame_cell (first + 3) (omega (arith, in_record)), (back_cell, tt)))) (omega arith)
           (λ d recorded_now.
           walk_call code formed addresses globals_length (words_per_call * calls) 0 (here + 4) (here + 4) (here + 12) c.output c.input _ r w4 d (here + 9) recorded_now call_stands.0 (omega arith) landing_word
           (λ e called.
           walk_few code formed addresses globals_length (words_per_call * calls) 0 (3 + 0) (suc (here + 4)) (here + 12) c.output _ (Running e) (omega arith)
           (walk_block code formed addresses globals_length (words_per_call * calls) after 0 (here + 9) (suc (here + 4)) (here + 12) c.output c.input _ r1 w4 e called after_stands
-          (frame_cell (first + 2) (omega (arith, inside)), ((refl, back_cell), (refl, tt))) (omega arith)
+          (frame_cell (first + 2) (omega (arith, in_record)), ((refl, back_cell), (refl, tt))) (omega arith)
           (λ f opened_now.
           walk_end code formed addresses globals_length (words_per_call * calls) (here + 9 + 3) (here + 12) c.output _ (Running f) (omega arith)
-          (reached program well frames fit code formed addresses pages calls few c choice (plain.Try first handler) (states.Running next) (Running f)
+          (reached program well frames fit code formed addresses pages calls few c choice (plain.Try first handler) (states.Running opened_at) (Running f)
           (record { contents = contents_words; serves = (zeros_at program c (plain.Try first handler) at_i refl).serves }) at_i does
-          (within program well frames fit code formed addresses pages calls few next s.laid.paged s.deep)
+          (within program well frames fit code formed addresses pages calls few opened_at s.laid.paged s.deep)
           (inl (record {
             run = f;
             r = r3;
