@@ -21,7 +21,7 @@ ghost use Rattle.cyc_plain.specs.State.{Words, Configuration, State, HoldsWords,
 ghost use Rattle.cyc_plain.specs.State as state;
 ghost use Rattle.cyc_plain.specs.Step.{Choice, IsServed, Step, asked, call_in, instruction_at, is_within, limited_step, machine, served_to, start, step};
 ghost use Rattle.cyc_plain.specs.Straight.{HasAt, AreStraight, executed_in, places_behind};
-ghost use Rattle.cyc_plain.specs.WellFormed.{IsWellFormed, HasWords, DividesByZero, AsksForNoWord, AsksInVain};
+ghost use Rattle.cyc_plain.specs.WellFormed.{IsWellFormed, HasWords, DividesByZero, AsksForNoWord, AsksInVain, HasNoHandler};
 
 /// A run that is over stays as it is.
 pub fn ended_stays()
@@ -77,12 +77,12 @@ pub fn calls_are_served()
 {}
 
 /// A run of a well-formed program is never stuck but at a division by 0, where it asks for a word that memory does not have, and
-/// where the store refuses what it is called for, not for want of room.
+/// where the store refuses what it is called for, not for want of room, and where a handler is asked for, or a return without one.
 pub fn few_get_stuck()
     ensures { (program : Program) (pages calls count : ℕ) (store : StoreState) (input : List ℕ) (old new : State) → IsWellFormed program
         → Run (machine program pages calls) count (start program store input) old → status_of old ≡ simulation.Running
         → Step program pages calls old new → status_of new ≡ simulation.Failed
-        → DividesByZero program old ⊎ (AsksForNoWord program old ⊎ AsksInVain program old) }
+        → DividesByZero program old ⊎ (AsksForNoWord program old ⊎ (AsksInVain program old ⊎ HasNoHandler program old)) }
 {}
 
 /// In a run of a program whose numbers are words, from a store of words and on an input of bytes, every value is a word.
