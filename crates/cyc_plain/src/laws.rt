@@ -37,8 +37,8 @@ pub fn output_grows()
         → (read : List ℕ) × (input_of old ≡ read ++ input_of new) }
 {}
 
-/// From every state there is a step where the store is not called, and where it refuses what it is called for. (Of a call that
-/// it does not refuse the relation says what may be chosen, and the store that is called that something is.)
+/// From every state there is a step where the store is not called, and where it refuses what it is called for. (Of a
+/// call that it does not refuse the relation says what may be chosen, and the store that is called that something is.)
 pub fn steps_go_on()
     ensures free { (program : Program) (pages calls : ℕ) (old : State) → asked program old ≡ None → (new : State) × Step program pages calls old new }
     ensures refused { (program : Program) (pages calls : ℕ) (c : Configuration) (call : Call) (why : Refusal)
@@ -59,8 +59,8 @@ pub fn limits_are_kept()
         → limited_step program pages calls choice old ≡ state.Ended Full (output_of old) (input_of old) }
 {}
 
-/// Where the store is called and does not refuse, it serves the call by a choice that it allows, and the run goes on with what it
-/// answers. Where there is no room, the run ends.
+/// Where the store is called and does not refuse, it serves the call by a choice that it allows, and the run goes on
+/// with what it answers. Where there is no room, the run ends.
 pub fn calls_are_served()
     ensures served { (program : Program) (pages calls : ℕ) (c : Configuration) (request : Request) (new : State)
         → instruction_at program (place_of (state.Running c)) ≡ Some (instructions.Ask request)
@@ -76,8 +76,9 @@ pub fn calls_are_served()
         → new ≡ state.Ended Full c.output c.input }
 {}
 
-/// A run of a well-formed program is never stuck but at a division by 0, where it asks for a word that memory does not have, and
-/// where the store refuses what it is called for, not for want of room, and where a handler is asked for, or a return without one.
+/// A run of a well-formed program is never stuck but at a division by 0, where it asks for a word that memory does not
+/// have, where the store refuses what it is called for, not for want of room, and at an instruction that closes a
+/// handler, throws, or returns from a function that opens some.
 pub fn few_get_stuck()
     ensures { (program : Program) (pages calls count : ℕ) (store : StoreState) (input : List ℕ) (old new : State) → IsWellFormed program
         → Run (machine program pages calls) count (start program store input) old → status_of old ≡ simulation.Running
