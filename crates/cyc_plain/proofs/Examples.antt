@@ -340,3 +340,29 @@ close_to_leaves_dynamic_regions = refl
 
 block_is_freed_once : after_calls 3 (allocate (Word 2) (Word 3) ∷ free (Slot 2) ∷ free (Slot 2) ∷ Return 0 ∷ []) ≡ Failed
 block_is_freed_once = refl
+
+-- ---- handlers
+
+-- with two calls under way at most
+abbrev after_throws : (steps : ℕ) → List Instruction → List Instruction → Status
+after_throws steps code callee =
+    status_of (run (record { functions = function 0 code ∷ function 0 callee ∷ []; globals = []; main = 0 }) 3 2 zeros steps
+    (start (record { functions = function 0 code ∷ function 0 callee ∷ []; globals = []; main = 0 }) empty_store []))
+
+exception_is_caught : after_throws 4 (instructions.Try 0 3 ∷ instructions.Throw (Word 5) (Word 9) ∷ Return 0 ∷ instructions.Finish 1 ∷ []) [] ≡ Ended (Returned (pos 9))
+exception_is_caught = refl
+
+caller_catches : after_throws 5 (instructions.Try 0 2 ∷ Call 1 0 0 0 ∷ instructions.Finish 0 ∷ []) (instructions.Throw (Word 5) (Word 9) ∷ []) ≡ Ended (Returned (pos 5))
+caller_catches = refl
+
+nobody_catches : after_throws 3 (instructions.Try 0 3 ∷ instructions.Leave 0 ∷ instructions.Throw (Word 5) (Word 9) ∷ instructions.Finish 1 ∷ []) [] ≡ Ended (Uncaught 5 (pos 9))
+nobody_catches = refl
+
+handler_is_closed_when_it_catches : after_throws 4 (instructions.Try 0 2 ∷ instructions.Throw (Word 5) (Word 9) ∷ instructions.Throw (Word 6) (Slot 1) ∷ []) [] ≡ Ended (Uncaught 6 (pos 9))
+handler_is_closed_when_it_catches = refl
+
+record_that_was_written_over_is_lost : after_throws 3 (instructions.Try 0 3 ∷ Move 2 (Word 1) ∷ instructions.Throw (Word 5) (Word 9) ∷ instructions.Finish 1 ∷ []) [] ≡ Failed
+record_that_was_written_over_is_lost = refl
+
+no_return_from_an_open_handler : after_throws 2 (instructions.Try 0 1 ∷ instructions.Finish 1 ∷ []) [] ≡ Failed
+no_return_from_an_open_handler = refl

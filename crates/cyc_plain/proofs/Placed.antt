@@ -2,26 +2,25 @@
 use Rattle.std.proofs.Common.{◌≡◌, ℕ, zero, suc, ◌+◌, ◌-◌, ◌<◌, Bool, true, false, List, [], ◌∷◌, length, Option, None, Some, slice_get, refl, sym, ap, subst, ◌∙◌, arith, inl, inr}
 use Rattle.std.proofs.lemmas.Bool.{cases_lt}
 use Rattle.std.proofs.lemmas.Option.{get_or_from_slice_get}
-use Rattle.std.specs.Prelude.{All, IsSomeAnd, if◌then◌else◌, ◌⊎◌}
+use Rattle.std.specs.Prelude.{All, IsSomeAnd, ◌==◌, if◌then◌else◌, ◌⊎◌}
 use Rattle.std.specs.List.{AllByRecursion}
-use Rattle.cyc_words.specs.Ending.{Full}
-use Rattle.cyc_words.specs.Word.{add_of}
+use Rattle.cyc_words.specs.Ending.{Uncaught, Full}
+use Rattle.cyc_words.specs.Word.{signed, add_of}
 use Rattle.cyc_store.specs.State.{StoreState}
 use Rattle.cyc_store.specs.Services as services
 use Rattle.cyc_store.specs.Services.{Call, Refusal, refusal}
 use Rattle.cyc_plain.specs.declared.instruction.Instruction.{Instruction}
 use Rattle.cyc_plain.specs.declared.instruction.Instruction.TheVariants as instructions
 use Rattle.cyc_plain.specs.declared.instruction.BinaryOperator.{BinaryOperator}
-use Rattle.cyc_plain.specs.declared.instruction.Request.{Request}
 use Rattle.cyc_plain.specs.declared.instruction.Operand.{Operand}
 use Rattle.cyc_plain.specs.Operators.{has_no_result, binary_result, compares}
 use Rattle.cyc_plain.specs.Requests.{destination_of}
 use Rattle.cyc_words.specs.Simulation as simulation
 use Rattle.cyc_words.specs.Simulation.{Run}
 use Rattle.cyc_plain.specs.Program.{Routine, Program, no_routine, routine_at}
-use Rattle.cyc_plain.specs.State.{Frame, Configuration, State, Running, Ended, Stuck, status_of, place_of, memory_at}
-use Rattle.cyc_plain.specs.Step.{Choice, gives, operand_word, returns, loads, saves, asks, call_in, call_of, asked, performed, executed, instruction_at, step, Step, start, machine}
-use Rattle.cyc_plain.specs.WellFormed.{IsInRange, IsRoutine, IsWellFormed, leaves, DividesByZero, AsksForNoWord, AsksInVain}
+use Rattle.cyc_plain.specs.State.{put, Handler, Open, Caught, Activation, Frame, Configuration, State, Running, Ended, Stuck, status_of, place_of, memory_at}
+use Rattle.cyc_plain.specs.Step.{Choice, gives, operand_word, returns, loads, saves, advanced, asks, is_intact, tries, closes, lands, throws, finishes, call_in, call_of, asked, performed, executed, instruction_at, step, Step, start, machine}
+use Rattle.cyc_plain.specs.WellFormed.{IsInRange, IsRoutine, IsWellFormed, leaves, DividesByZero, AsksForNoWord, AsksInVain, HasNoHandler}
 use Rattle.cyc_plain.proofs.RunLaws.{limited_either, if_either}
 
 -- ---- lists
@@ -74,20 +73,28 @@ goes_behind program r place i routine at stays =
 abbrev pub IsPlacedAt : Program → (function next : ℕ) → Type 0
 IsPlacedAt program function next = (function < length program.functions) × (next < length (routine_at program function).code)
 
+-- handlers of a function stand in its code
+abbrev pub ArePlaced : Program → (function : ℕ) → List Handler → Type 0
+ArePlaced program function [] = Unit {0}
+ArePlaced program function (Open index first contents ∷ handlers) =
+    (index < length (routine_at program function).code) × ArePlaced program function handlers
+ArePlaced program function (Caught ∷ handlers) = ArePlaced program function handlers
+
 abbrev pub IsWaiting : Program → Frame → Type 0
-IsWaiting program f = IsPlacedAt program f.caller.function f.caller.next
+IsWaiting program f = IsPlacedAt program f.caller.function f.caller.next × ArePlaced program f.caller.function f.caller.handlers
 
 -- the place of a run that goes on, and those of the calls that wait
 abbrev pub IsPlaced : Program → State → Type 0
-IsPlaced program (Running c) = IsPlacedAt program c.active.function c.active.next × AllByRecursion (IsWaiting program) c.frames
+IsPlaced program (Running c) =
+    IsPlacedAt program c.active.function c.active.next × ArePlaced program c.active.function c.active.handlers × AllByRecursion (IsWaiting program) c.frames
 IsPlaced program (Ended ending output input) = Unit {0}
 IsPlaced program (Stuck output input) = Unit {0}
 
 returned : (program : Program) (c : Configuration) (value results : ℕ) (frames : List Frame) → AllByRecursion (IsWaiting program) frames → IsPlaced program (returns c value results frames)
 returned program c value results [] waiting = tt
-returned program c value results (f ∷ frames) (first, rest) = (first, rest)
+returned program c value results (f ∷ frames) (first, rest) = (first.0, first.1, rest)
 
-module _ (program : Program) (well : IsWellFormed program) (choice : Choice) (c : Configuration) (inside : c.active.function < length program.functions) (waiting : AllByRecursion (IsWaiting program) c.frames) where
+module _ (program : Program) (well : IsWellFormed program) (choice : Choice) (c : Configuration) (inside : c.active.function < length program.functions) (next_inside : c.active.next < length (routine_at program c.active.function).code) (handling : ArePlaced program c.active.function c.active.handlers) (waiting : AllByRecursion (IsWaiting program) c.frames) where
   abbrev here : Routine
   here = routine_at program c.active.function
 
@@ -104,42 +111,82 @@ module _ (program : Program) (well : IsWellFormed program) (choice : Choice) (c 
 
   loaded : (destination : ℕ) (found : Option ℕ) → IsPlacedAt program c.active.function (c.active.next + 1) → IsPlaced program (loads c destination found)
   loaded destination None next = tt
-  loaded destination (Some word) next = (next, waiting)
+  loaded destination (Some word) next = (next, handling, waiting)
 
   saved : (address word : ℕ) (found : Option ℕ) → IsPlacedAt program c.active.function (c.active.next + 1) → IsPlaced program (saves c address word found)
   saved address word None next = tt
-  saved address word (Some old) next = (next, waiting)
+  saved address word (Some old) next = (next, handling, waiting)
 
   served : (destination : ℕ) (call : Call) (o : Option Refusal) → IsPlacedAt program c.active.function (c.active.next + 1) → IsPlaced program (asks choice.serving c destination call o)
-  served destination call None next = (next, waiting)
+  served destination call None next = (next, handling, waiting)
   served destination call (Some services.BadMark) next = tt
   served destination call (Some services.BadHandle) next = tt
   served destination call (Some services.BadSize) next = tt
   served destination call (Some services.NotABlock) next = tt
   served destination call (Some services.Full) next = tt
 
+  tried : (first handler : ℕ) (handlers : List Handler) → ArePlaced program c.active.function handlers → handler < length here.code → IsPlacedAt program c.active.function (c.active.next + 1)
+      → IsPlaced program (tries choice c first handler handlers)
+  tried first handler [] all there next = (next, (next_inside, handling), waiting)
+  tried first handler (Open index other contents ∷ handlers) all there next = (next, (next_inside, handling), waiting)
+  tried first handler (Caught ∷ handlers) all there next = ((inside, there), all, waiting)
+
+  closed : (first : ℕ) (handlers : List Handler) → ArePlaced program c.active.function handlers → IsPlacedAt program c.active.function (c.active.next + 1) → IsPlaced program (closes c first handlers)
+  closed first [] all next = tt
+  closed first (Caught ∷ handlers) all next = tt
+  closed first (Open index other contents ∷ handlers) all next =
+      if_either (IsPlaced program) (other == first)
+      (if is_intact c.active.slots first contents then Running (advanced (record c { active = record c.active { handlers = handlers } })) else Stuck c.output c.input) (closes c first handlers)
+      (if_either (IsPlaced program) (is_intact c.active.slots first contents) (Running (advanced (record c { active = record c.active { handlers = handlers } }))) (Stuck c.output c.input) (next, all.1, waiting) tt)
+      (closed first handlers all.1 next)
+
+  landed : (tag value : ℕ) (a : Activation) (frames : List Frame) (beyond : State) (handlers : List Handler) → a.function < length program.functions → ArePlaced program a.function handlers
+      → AllByRecursion (IsWaiting program) frames → IsPlaced program beyond → IsPlaced program (lands c tag value a frames beyond handlers)
+  landed tag value a frames beyond [] known all rest goes = goes
+  landed tag value a frames beyond (Caught ∷ handlers) known all rest goes = tt
+  landed tag value a frames beyond (Open index first contents ∷ handlers) known all rest goes =
+      if_either (IsPlaced program) (is_intact a.slots first contents)
+      (Running (record c { active = record a { next = index; slots = put (put a.slots first tag) (suc first) value; handlers = Caught ∷ handlers }; frames = frames }))
+      (Stuck c.output c.input) ((known, all.0), all.1, rest) tt
+
+  thrown : (tag value : ℕ) (a : Activation) (frames : List Frame) → a.function < length program.functions → ArePlaced program a.function a.handlers → AllByRecursion (IsWaiting program) frames
+      → IsPlaced program (throws c tag value a frames)
+  thrown tag value a [] known all rest = landed tag value a [] (Ended (Uncaught tag (signed value)) c.output c.input) a.handlers known all rest tt
+  thrown tag value a (f ∷ frames) known all rest =
+      landed tag value a (f ∷ frames) (throws c tag value f.caller frames) a.handlers known all rest (thrown tag value f.caller frames rest.0.0.0 rest.0.1 rest.1)
+
+  finished : (value results : ℕ) (handlers : List Handler) → IsPlaced program (finishes c value results handlers)
+  finished value results [] = returned program c value results c.frames waiting
+  finished value results (h ∷ handlers) = tt
+
   performs : (i : Instruction) → slice_get here.code c.active.next ≡ Some i → IsInRange program here i → IsPlaced program (performed program choice c i)
-  performs (instructions.Move destination source) at range = (behind _ at refl, waiting)
-  performs (instructions.MoveWords destination source count) at range = (behind _ at refl, waiting)
+  performs (instructions.Move destination source) at range = (behind _ at refl, handling, waiting)
+  performs (instructions.MoveWords destination source count) at range = (behind _ at refl, handling, waiting)
   performs (instructions.Load destination address offset) at range =
       loaded destination (memory_at c (add_of (operand_word c.active.slots address) offset)) (behind (instructions.Load destination address offset) at refl)
   performs (instructions.Store address offset source) at range =
       saved (add_of (operand_word c.active.slots address) offset) (operand_word c.active.slots source) (memory_at c (add_of (operand_word c.active.slots address) offset)) (behind (instructions.Store address offset source) at refl)
-  performs (instructions.Unary operator destination operand) at range = (behind _ at refl, waiting)
+  performs (instructions.Unary operator destination operand) at range = (behind _ at refl, handling, waiting)
   performs (instructions.Binary operator destination left right) at range =
-      if_either (IsPlaced program) (has_no_result operator (operand_word c.active.slots right)) (Stuck c.output c.input) (gives c destination (binary_result operator (operand_word c.active.slots left) (operand_word c.active.slots right))) tt (behind (instructions.Binary operator destination left right) at refl, waiting)
-  performs (instructions.Jump target) at range = ((inside, range), waiting)
+      if_either (IsPlaced program) (has_no_result operator (operand_word c.active.slots right)) (Stuck c.output c.input) (gives c destination (binary_result operator (operand_word c.active.slots left) (operand_word c.active.slots right))) tt (behind (instructions.Binary operator destination left right) at refl, handling, waiting)
+  performs (instructions.Jump target) at range = ((inside, range), handling, waiting)
   performs (instructions.Branch comparison left right target) at (first, second, reached) =
-      (chosen (compares comparison (operand_word c.active.slots left) (operand_word c.active.slots right)) target (inside, reached) (behind (instructions.Branch comparison left right target) at refl), waiting)
+      (chosen (compares comparison (operand_word c.active.slots left) (operand_word c.active.slots right)) target (inside, reached) (behind (instructions.Branch comparison left right target) at refl), handling, waiting)
   performs (instructions.Call function arguments count result) at range =
-      ((range.function_in_range, has_code program (routine_at program function) (routine_in program function well range.function_in_range)), (behind _ at refl, waiting))
+      ((range.function_in_range, has_code program (routine_at program function) (routine_in program function well range.function_in_range)), tt, ((behind _ at refl, handling), waiting))
   performs (instructions.Return value) at range = returned program c value here.results c.frames waiting
-  performs (instructions.ReadByte destination) at range = (behind _ at refl, waiting)
-  performs (instructions.WriteByte source) at range = (behind _ at refl, waiting)
-  performs (instructions.LoadGlobal destination global) at range = (behind _ at refl, waiting)
-  performs (instructions.StoreGlobal global source) at range = (behind _ at refl, waiting)
+  performs (instructions.ReadByte destination) at range = (behind _ at refl, handling, waiting)
+  performs (instructions.WriteByte source) at range = (behind _ at refl, handling, waiting)
+  performs (instructions.LoadGlobal destination global) at range = (behind _ at refl, handling, waiting)
+  performs (instructions.StoreGlobal global source) at range = (behind _ at refl, handling, waiting)
   performs (instructions.Ask request) at range =
       served (destination_of request) (call_in c.active.slots request) (refusal c.store (call_in c.active.slots request)) (behind (instructions.Ask request) at refl)
+  performs (instructions.Try first handler) at range =
+      tried first handler c.active.handlers handling range.handler_in_range (behind (instructions.Try first handler) at refl)
+  performs (instructions.Leave first) at range = closed first c.active.handlers handling (behind (instructions.Leave first) at refl)
+  performs (instructions.Throw tag value) at range =
+      thrown (operand_word c.active.slots tag) (operand_word c.active.slots value) c.active c.frames inside handling waiting
+  performs (instructions.Finish value) at range = finished value here.results c.active.handlers
   performs (instructions.Uncaught tag value) at range = tt
 
   executes : (o : Option Instruction) → slice_get here.code c.active.next ≡ o → IsPlaced program (executed program choice c o)
@@ -148,7 +195,7 @@ module _ (program : Program) (well : IsWellFormed program) (choice : Choice) (c 
 
 -- each step goes to a place in the code
 pub placed_step : (program : Program) (choice : Choice) (s : State) → IsWellFormed program → IsPlaced program s → IsPlaced program (step program choice s)
-placed_step program choice (Running c) well ((inside, next), waiting) = executes program well choice c inside waiting (instruction_at program (place_of (Running c))) refl
+placed_step program choice (Running c) well ((inside, next), handling, waiting) = executes program well choice c inside next handling waiting (instruction_at program (place_of (Running c))) refl
 placed_step program choice (Ended ending output input) well placed = tt
 placed_step program choice (Stuck output input) well placed = tt
 
@@ -161,7 +208,7 @@ placed_run program pages calls (suc n) old new well placed (mid, (choice, allowe
     placed_run program pages calls n mid new well next rest
 
 pub placed_start : (program : Program) (store : StoreState) (input : List ℕ) → IsWellFormed program → IsPlaced program (start program store input)
-placed_start program store input well = ((well.main, has_code program (routine_at program program.main) (routine_in program program.main well well.main)), tt)
+placed_start program store input well = ((well.main, has_code program (routine_at program program.main) (routine_in program program.main well well.main)), tt, tt)
 
 -- ---- getting stuck
 
@@ -170,7 +217,7 @@ not_failed c e = cc
 
 -- why a run cannot go on
 abbrev Stops : Program → State → Type 0
-Stops program s = DividesByZero program s ⊎ (AsksForNoWord program s ⊎ AsksInVain program s)
+Stops program s = DividesByZero program s ⊎ (AsksForNoWord program s ⊎ (AsksInVain program s ⊎ HasNoHandler program s))
 
 divides : (program : Program) (c : Configuration) (operator : BinaryOperator) (destination : ℕ) (left right : Operand) (b : Bool) → has_no_result operator (operand_word c.active.slots right) ≡ b
     → instruction_at program (place_of (Running c)) ≡ Some (instructions.Binary operator destination left right)
@@ -197,19 +244,24 @@ asks_stop : (program : Program) (choice : Choice) (c : Configuration) (destinati
     → status_of (asks choice.serving c destination call o) ≡ simulation.Failed → Stops program (Running c)
 asks_stop program choice c destination call None is called failed = absurd (not_failed c failed)
 asks_stop program choice c destination call (Some services.BadMark) is called failed =
-    inr (inr (call, services.BadMark, called, is, λ e. let other : services.BadMark ≡ services.Full = e in cc))
+    inr (inr (inl (call, services.BadMark, called, is, λ e. let other : services.BadMark ≡ services.Full = e in cc)))
 asks_stop program choice c destination call (Some services.BadHandle) is called failed =
-    inr (inr (call, services.BadHandle, called, is, λ e. let other : services.BadHandle ≡ services.Full = e in cc))
+    inr (inr (inl (call, services.BadHandle, called, is, λ e. let other : services.BadHandle ≡ services.Full = e in cc)))
 asks_stop program choice c destination call (Some services.BadSize) is called failed =
-    inr (inr (call, services.BadSize, called, is, λ e. let other : services.BadSize ≡ services.Full = e in cc))
+    inr (inr (inl (call, services.BadSize, called, is, λ e. let other : services.BadSize ≡ services.Full = e in cc)))
 asks_stop program choice c destination call (Some services.NotABlock) is called failed =
-    inr (inr (call, services.NotABlock, called, is, λ e. let other : services.NotABlock ≡ services.Full = e in cc))
+    inr (inr (inl (call, services.NotABlock, called, is, λ e. let other : services.NotABlock ≡ services.Full = e in cc)))
 asks_stop program choice c destination call (Some services.Full) is called failed =
     absurd (let e : simulation.Ended Full ≡ simulation.Failed = failed in cc)
 
 returns_not : (c : Configuration) (value results : ℕ) (frames : List Frame) → status_of (returns c value results frames) ≡ simulation.Failed → ⊥
 returns_not c value results [] failed = let e : status_of (returns c value results []) ≡ simulation.Failed = failed in cc
 returns_not c value results (f ∷ frames) failed = not_failed c failed
+
+tries_not : (choice : Choice) (c : Configuration) (first handler : ℕ) (handlers : List Handler) → status_of (tries choice c first handler handlers) ≡ simulation.Failed → ⊥
+tries_not choice c first handler [] failed = not_failed c failed
+tries_not choice c first handler (Open index other contents ∷ handlers) failed = not_failed c failed
+tries_not choice c first handler (Caught ∷ handlers) failed = not_failed c failed
 
 fails : (program : Program) (choice : Choice) (c : Configuration) (i : Instruction) → instruction_at program (place_of (Running c)) ≡ Some i → IsInRange program (routine_at program c.active.function) i → status_of (performed program choice c i) ≡ simulation.Failed → Stops program (Running c)
 fails program choice c (instructions.Binary operator destination left right) at range failed = divides program c operator destination left right (has_no_result operator (operand_word c.active.slots right)) refl at failed
@@ -218,6 +270,10 @@ fails program choice c (instructions.Ask request) at range failed =
     asks_stop program choice c (destination_of request) call (refusal c.store call) refl (ap (call_of c.active.slots) at) failed
 fails program choice c (instructions.Return value) at range failed = absurd (returns_not c value (routine_at program c.active.function).results c.frames failed)
 fails program choice c (instructions.Uncaught tag value) at range failed = absurd (let e : status_of (performed program choice c (instructions.Uncaught tag value)) ≡ simulation.Failed = failed in cc)
+fails program choice c (instructions.Try first handler) at range failed = absurd (tries_not choice c first handler c.active.handlers failed)
+fails program choice c (instructions.Leave first) at range failed = inr (inr (inr (instructions.Leave first, at, refl)))
+fails program choice c (instructions.Throw tag value) at range failed = inr (inr (inr (instructions.Throw tag value, at, refl)))
+fails program choice c (instructions.Finish value) at range failed = inr (inr (inr (instructions.Finish value, at, refl)))
 fails program choice c (instructions.Move destination source) at range failed = absurd (not_failed c failed)
 fails program choice c (instructions.Unary operator destination operand) at range failed = absurd (not_failed c failed)
 fails program choice c (instructions.Jump target) at range failed = absurd (not_failed c failed)
@@ -234,7 +290,7 @@ fails program choice c (instructions.Store address offset source) at range faile
     saves_stop program c address offset source (memory_at c (add_of (operand_word c.active.slots address) offset)) refl at failed
 
 fails_placed : (program : Program) (choice : Choice) (s : State) → IsWellFormed program → IsPlaced program s → status_of s ≡ simulation.Running → status_of (step program choice s) ≡ simulation.Failed → Stops program s
-fails_placed program choice (Running c) well ((inside, next), waiting) running failed =
+fails_placed program choice (Running c) well ((inside, next), handling, waiting) running failed =
     let (i, at) = get_below (routine_at program c.active.function).code c.active.next next in
     let range = holds_at (IsInRange program (routine_at program c.active.function)) (routine_at program c.active.function).code c.active.next i (routine_in program c.active.function well inside).instructions at in
     fails program choice c i at range (subst (λ (o : Option Instruction). status_of (executed program choice c o) ≡ simulation.Failed) at failed)

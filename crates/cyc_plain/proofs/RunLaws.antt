@@ -1,8 +1,9 @@
 -- Laws of the plain machine.
-use Rattle.std.proofs.Common.{◌≡◌, ℕ, zero, suc, ◌≤◌, Bool, true, false, List, [], ◌∷◌, ◌++◌, drop, Option, Some, None, refl, sym, ap, subst, ◌∙◌, arith, append_assoc}
-use Rattle.std.specs.Prelude.{if◌then◌else◌}
+use Rattle.std.proofs.Common.{◌≡◌, ℕ, zero, suc, ◌+◌, ◌≤◌, Bool, true, false, List, [], ◌∷◌, ◌++◌, drop, Option, Some, None, refl, sym, ap, subst, ◌∙◌, arith, append_assoc}
+use Rattle.std.specs.Prelude.{◌==◌, if◌then◌else◌}
 use Rattle.std.proofs.lemmas.Bool.{le-leb, and_from}
-use Rattle.cyc_words.specs.Ending.{Ending, Full}
+use Rattle.cyc_words.specs.Ending.{Ending, Uncaught, Full}
+use Rattle.cyc_words.specs.Word.{signed}
 use Rattle.cyc_words.specs.Prefix.{IsPrefix}
 use Rattle.cyc_words.proofs.PrefixLemmas.{IsPrefix-refl, IsPrefix-append}
 use Rattle.cyc_store.specs.State.{StoreState}
@@ -17,8 +18,8 @@ use Rattle.cyc_plain.specs.Requests.{destination_of}
 use Rattle.cyc_words.specs.Simulation as simulation
 use Rattle.cyc_words.specs.Simulation.{Status, IsLawful, Run}
 use Rattle.cyc_plain.specs.Program.{Program, routine_at}
-use Rattle.cyc_plain.specs.State.{Frame, Configuration, State, Running, Ended, Stuck, output_of, input_of, status_of, place_of}
-use Rattle.cyc_plain.specs.Step.{Choice, IsAllowed, MayServe, gives, operand_word, returns, loads, saves, asks, call_in, call_of, asked, performed, executed, instruction_at, step, is_within, limited, limited_step, Step, start, machine}
+use Rattle.cyc_plain.specs.State.{put, Handler, Open, Caught, Activation, Frame, Configuration, State, Running, Ended, Stuck, output_of, input_of, status_of, place_of}
+use Rattle.cyc_plain.specs.Step.{Choice, IsAllowed, MayServe, gives, operand_word, returns, loads, saves, advanced, asks, is_intact, tries, closes, lands, throws, finishes, call_in, call_of, asked, performed, executed, instruction_at, step, is_within, limited, limited_step, Step, start, machine}
 use Rattle.cyc_words.proofs.Simulation.{Run-grows, Run-stays}
 
 -- ---- limits
@@ -85,6 +86,36 @@ served serving c destination call (Some services.BadSize) = same c
 served serving c destination call (Some services.NotABlock) = same c
 served serving c destination call (Some services.Full) = same c
 
+tried : (choice : Choice) (c : Configuration) (first handler : ℕ) (handlers : List Handler) → GoesOn c (tries choice c first handler handlers)
+tried choice c first handler [] = same c
+tried choice c first handler (Open index other contents ∷ handlers) = same c
+tried choice c first handler (Caught ∷ handlers) = same c
+
+closed : (c : Configuration) (first : ℕ) (handlers : List Handler) → GoesOn c (closes c first handlers)
+closed c first [] = same c
+closed c first (Caught ∷ handlers) = same c
+closed c first (Open index other contents ∷ handlers) =
+    if_either (GoesOn c) (other == first)
+    (if is_intact c.active.slots first contents then Running (advanced (record c { active = record c.active { handlers = handlers } })) else Stuck c.output c.input) (closes c first handlers)
+    (if_either (GoesOn c) (is_intact c.active.slots first contents) (Running (advanced (record c { active = record c.active { handlers = handlers } }))) (Stuck c.output c.input) (same c) (same c))
+    (closed c first handlers)
+
+landed : (c : Configuration) (tag value : ℕ) (a : Activation) (frames : List Frame) (beyond : State) (handlers : List Handler) → GoesOn c beyond → GoesOn c (lands c tag value a frames beyond handlers)
+landed c tag value a frames beyond [] goes = goes
+landed c tag value a frames beyond (Caught ∷ handlers) goes = same c
+landed c tag value a frames beyond (Open index first contents ∷ handlers) goes =
+    if_either (GoesOn c) (is_intact a.slots first contents)
+    (Running (record c { active = record a { next = index; slots = put (put a.slots first tag) (suc first) value; handlers = Caught ∷ handlers }; frames = frames }))
+    (Stuck c.output c.input) (same c) (same c)
+
+thrown : (c : Configuration) (tag value : ℕ) (a : Activation) (frames : List Frame) → GoesOn c (throws c tag value a frames)
+thrown c tag value a [] = landed c tag value a [] (Ended (Uncaught tag (signed value)) c.output c.input) a.handlers (same c)
+thrown c tag value a (f ∷ frames) = landed c tag value a (f ∷ frames) (throws c tag value f.caller frames) a.handlers (thrown c tag value f.caller frames)
+
+finished : (c : Configuration) (value results : ℕ) (handlers : List Handler) → GoesOn c (finishes c value results handlers)
+finished c value results [] = returned c value results c.frames
+finished c value results (h ∷ handlers) = same c
+
 performs : (program : Program) (choice : Choice) (c : Configuration) (i : Instruction) → GoesOn c (performed program choice c i)
 performs program choice c (instructions.Move destination source) = same c
 performs program choice c (instructions.MoveWords destination source count) = same c
@@ -102,6 +133,10 @@ performs program choice c (instructions.Load destination address offset) = loade
 performs program choice c (instructions.Store address offset source) = saved c _ _ _
 performs program choice c (instructions.Ask request) =
     served choice.serving c (destination_of request) (call_in c.active.slots request) (refusal c.store (call_in c.active.slots request))
+performs program choice c (instructions.Try first handler) = tried choice c first handler c.active.handlers
+performs program choice c (instructions.Leave first) = closed c first c.active.handlers
+performs program choice c (instructions.Throw tag value) = thrown c (operand_word c.active.slots tag) (operand_word c.active.slots value) c.active c.frames
+performs program choice c (instructions.Finish value) = finished c value (routine_at program c.active.function).results c.active.handlers
 performs program choice c (instructions.Uncaught tag value) = same c
 
 executes : (program : Program) (choice : Choice) (c : Configuration) (o : Option Instruction) → GoesOn c (executed program choice c o)

@@ -1,5 +1,5 @@
 -- Steps of the plain machine, where the instruction is known.
-use Rattle.std.proofs.Common.{◌≡◌, ℕ, zero, suc, ◌+◌, ◌<◌, true, List, [], ◌∷◌, length, map, Some, None, slice_get, sym, ap, subst, ◌∙◌, arith, inl, inr}
+use Rattle.std.proofs.Common.{◌≡◌, ℕ, zero, suc, ◌+◌, ◌<◌, true, List, [], ◌∷◌, length, map, Option, Some, None, slice_get, sym, ap, subst, ◌∙◌, arith, inl, inr}
 use Rattle.std.specs.Prelude.{Contains}
 use Rattle.std.proofs.lemmas.Bool.{cases_lt}
 use Rattle.std.proofs.lemmas.List.{get_or_past}
@@ -7,11 +7,17 @@ use Rattle.std.proofs.lemmas.Option.{slice_get-get_or}
 use Rattle.std.proofs.lemmas.List.Elements.{Contains-append_left, Contains-append_right}
 use Rattle.std.proofs.lemmas.List.FromFn.{get_or-map-range_with_len, length-map-range_with_len}
 use Rattle.std.specs.List.{range_with_len}
+use Rattle.cyc_words.specs.Ending.{Full}
+use Rattle.cyc_store.specs.Services as services
+use Rattle.cyc_store.specs.Services.{Call, refusal}
 use Rattle.cyc_plain.specs.declared.instruction.Instruction.{Instruction}
+use Rattle.cyc_plain.specs.declared.instruction.Instruction.TheVariants as instructions
+use Rattle.cyc_plain.specs.declared.instruction.Request.{Request}
+use Rattle.cyc_plain.specs.Requests.{destination_of}
 use Rattle.cyc_plain.specs.Program.{Routine, Program, CodePlace, no_routine, routine_at, places_from, places_of}
-use Rattle.cyc_plain.specs.State.{Configuration, State, Running, place_of}
-use Rattle.cyc_plain.specs.Step.{Choice, IsAllowed, performed, executed, instruction_at, step, is_within, Step}
-use Rattle.cyc_plain.proofs.RunLaws.{limited-within}
+use Rattle.cyc_plain.specs.State.{Configuration, State, Running, Ended, place_of}
+use Rattle.cyc_plain.specs.Step.{Choice, IsAllowed, IsServed, MayServe, call_in, call_of, served_to, asks, performed, executed, instruction_at, step, is_within, Step}
+use Rattle.cyc_plain.proofs.RunLaws.{limited-within, over_within}
 use Rattle.cyc_plain.proofs.Placed.{below_of_get}
 
 -- Where the instruction is known, and what it does is within the limits, a step does that.
@@ -24,6 +30,32 @@ step_performs program pages calls c i new at within (choice, allowed, is) =
     let does : step program choice (Running c) ≡ performed program choice c i = ap (executed program choice c) at in
     let keeps : is_within pages calls (step program choice (Running c)) ≡ true = ap (is_within pages calls) does ∙ within choice in
     (choice, allowed, is ∙ limited-within pages calls (Running c) (step program choice (Running c)) keeps ∙ does)
+
+-- The same where the store is called: it serves the call by a choice that it allows, or there is no room.
+module _ (program : Program) (pages calls : ℕ) (c : Configuration) (request : Request) (new : State)
+    (at : instruction_at program (place_of (Running c)) ≡ Some (instructions.Ask request)) (stepped : Step program pages calls (Running c) new) where
+  abbrev call : Call
+  call = call_in c.active.slots request
+
+  pub step_serves : refusal c.store (call_in c.active.slots request) ≡ None
+      → ((choice : services.Choice) → IsServed c.store (call_in c.active.slots request) choice → is_within pages calls (Running (served_to choice c (destination_of request) (call_in c.active.slots request))) ≡ true)
+      → (choice : services.Choice) × IsServed c.store (call_in c.active.slots request) choice × (new ≡ Running (served_to choice c (destination_of request) (call_in c.active.slots request)))
+  step_serves free within =
+      let choice : Choice = stepped.0 in
+      let serves : IsServed c.store call choice.serving =
+      subst (λ (o : Option Call). MayServe choice.serving o (Running c)) (ap (call_of c.active.slots) at) stepped.1.serves free in
+      let does : step program choice (Running c) ≡ Running (served_to choice.serving c (destination_of request) call) =
+      ap (executed program choice c) at ∙ ap (asks choice.serving c (destination_of request) call) free in
+      let keeps : is_within pages calls (step program choice (Running c)) ≡ true = ap (is_within pages calls) does ∙ within choice.serving serves in
+      (choice.serving, serves, stepped.2 ∙ limited-within pages calls (Running c) (step program choice (Running c)) keeps ∙ does)
+
+  pub step_full : refusal c.store (call_in c.active.slots request) ≡ Some services.Full → new ≡ Ended Full c.output c.input
+  step_full full =
+      let choice : Choice = stepped.0 in
+      let does : step program choice (Running c) ≡ Ended Full c.output c.input =
+      ap (executed program choice c) at ∙ ap (asks choice.serving c (destination_of request) call) full in
+      let keeps : is_within pages calls (step program choice (Running c)) ≡ true = ap (is_within pages calls) does ∙ over_within pages calls Full c.output c.input in
+      stepped.2 ∙ limited-within pages calls (Running c) (step program choice (Running c)) keeps ∙ does
 
 -- an instruction stands in a function that there is
 pub function_known : (program : Program) (place : CodePlace) (i : Instruction) → instruction_at program place ≡ Some i → place.function < length program.functions

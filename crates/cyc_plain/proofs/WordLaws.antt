@@ -4,6 +4,7 @@ use Rattle.std.specs.Prelude.{◌==◌, if◌then◌else◌, nat_le, nat_lt, int
 use Rattle.std.specs.List.{AllByRecursion}
 use Rattle.std.proofs.lemmas.Bool.{cases_lt}
 use Rattle.std.proofs.lemmas.List.{get_or_past}
+use Rattle.cyc_words.specs.Ending.{Uncaught}
 use Rattle.cyc_words.specs.Word.{IsWord, signed, add_of}
 use Rattle.cyc_words.proofs.WordLemmas.{IsWord-add_of, IsWord-sub_of, IsWord-shl_of, IsWord-sar_of, IsWord-div_of, IsWord-rem_of, IsWord-slt_of, IsWord-bit_and, IsWord-bit_or, IsWord-bit_xor}
 use Rattle.cyc_store.specs.Services as services
@@ -22,8 +23,9 @@ use Rattle.cyc_plain.specs.Operators.{truth, unary_result, binary_result, has_no
 use Rattle.cyc_plain.specs.Requests.{destination_of}
 use Rattle.cyc_words.specs.Simulation.{Run}
 use Rattle.cyc_plain.specs.Program.{Program, CodePlace, no_routine, routine_at}
-use Rattle.cyc_plain.specs.State.{Words, AreWords, put, copied, Frame, Configuration, State, Running, Ended, Stuck, place_of, HoldsWords}
-use Rattle.cyc_plain.specs.Step.{Choice, IsAllowed, IsServed, MayServe, HasAnswerWords, gives, operand_word, returns, loads, saves, told, asks, call_in, call_of, performed, executed, instruction_at, step, start, machine}
+use Rattle.cyc_plain.specs.declared.limits.TheConstants.{RECORD_WORDS}
+use Rattle.cyc_plain.specs.State.{Words, AreWords, put, copied, Handler, Open, Caught, Activation, Frame, Configuration, State, Running, Ended, Stuck, place_of, HoldsWords}
+use Rattle.cyc_plain.specs.Step.{Choice, IsAllowed, IsServed, MayServe, HasAnswerWords, gives, operand_word, returns, loads, saves, advanced, told, asks, is_intact, tries, closes, lands, throws, finishes, call_in, call_of, performed, executed, instruction_at, step, start, machine}
 use Rattle.cyc_plain.specs.WellFormed.{IsOfWord, HasWord, HasWords}
 use Rattle.cyc_plain.proofs.RunLaws.{limited_either, if_either}
 use Rattle.cyc_plain.proofs.Placed.{holds_at}
@@ -131,6 +133,39 @@ module _ (program : Program) (choice : Choice) (allowed : AreWords choice.conten
   served destination call (Some services.NotABlock) serves = tt
   served destination call (Some services.Full) serves = tt
 
+  tried : (first handler : ℕ) (handlers : List Handler) → HoldsWords (tries choice c first handler handlers)
+  tried first handler [] = (copied_words choice.contents c.active.slots 0 RECORD_WORDS first allowed slots, frames, globals, store, input)
+  tried first handler (Open index other contents ∷ handlers) = (copied_words choice.contents c.active.slots 0 RECORD_WORDS first allowed slots, frames, globals, store, input)
+  tried first handler (Caught ∷ handlers) = (slots, frames, globals, store, input)
+
+  closed : (first : ℕ) (handlers : List Handler) → HoldsWords (closes c first handlers)
+  closed first [] = tt
+  closed first (Caught ∷ handlers) = tt
+  closed first (Open index other contents ∷ handlers) =
+      if_either HoldsWords (other == first)
+      (if is_intact c.active.slots first contents then Running (advanced (record c { active = record c.active { handlers = handlers } })) else Stuck c.output c.input) (closes c first handlers)
+      (if_either HoldsWords (is_intact c.active.slots first contents) (Running (advanced (record c { active = record c.active { handlers = handlers } }))) (Stuck c.output c.input) (slots, frames, globals, store, input) tt)
+      (closed first handlers)
+
+  landed : (tag value : ℕ) (a : Activation) (waiting : List Frame) (beyond : State) (handlers : List Handler) → IsWord tag → IsWord value → AreWords a.slots → AreFrames waiting → HoldsWords beyond
+      → HoldsWords (lands c tag value a waiting beyond handlers)
+  landed tag value a waiting beyond [] first second all rest goes = goes
+  landed tag value a waiting beyond (Caught ∷ handlers) first second all rest goes = tt
+  landed tag value a waiting beyond (Open index at contents ∷ handlers) first second all rest goes =
+      if_either HoldsWords (is_intact a.slots at contents)
+      (Running (record c { active = record a { next = index; slots = put (put a.slots at tag) (suc at) value; handlers = Caught ∷ handlers }; frames = waiting }))
+      (Stuck c.output c.input)
+      (put_words (put a.slots at tag) (suc at) value (put_words a.slots at tag all first) second, rest, globals, store, input) tt
+
+  thrown : (tag value : ℕ) (a : Activation) (waiting : List Frame) → IsWord tag → IsWord value → AreWords a.slots → AreFrames waiting → HoldsWords (throws c tag value a waiting)
+  thrown tag value a [] first second all rest = landed tag value a [] (Ended (Uncaught tag (signed value)) c.output c.input) a.handlers first second all rest tt
+  thrown tag value a (f ∷ waiting) first second all rest =
+      landed tag value a (f ∷ waiting) (throws c tag value f.caller waiting) a.handlers first second all rest (thrown tag value f.caller waiting first second rest.0 rest.1)
+
+  finished : (value results : ℕ) (handlers : List Handler) → HoldsWords (finishes c value results handlers)
+  finished value results [] = returned value results c.frames frames
+  finished value results (h ∷ handlers) = tt
+
   performs : (i : Instruction) → HasWord i → MayServe choice.serving (call_of c.active.slots (Some i)) (Running c) → HoldsWords (performed program choice c i)
   performs (instructions.Move destination source) w serves = given destination (operand_word c.active.slots source) (known source w)
   performs (instructions.MoveWords destination source count) w serves =
@@ -159,6 +194,11 @@ module _ (program : Program) (choice : Choice) (allowed : AreWords choice.conten
       saved at (operand_word c.active.slots source) (word_at c.store at) (known source third)
   performs (instructions.Ask request) w serves =
       served (destination_of request) (call_in c.active.slots request) (refusal c.store (call_in c.active.slots request)) serves
+  performs (instructions.Try first handler) w serves = tried first handler c.active.handlers
+  performs (instructions.Leave first) w serves = closed first c.active.handlers
+  performs (instructions.Throw tag value) (first, second) serves =
+      thrown (operand_word c.active.slots tag) (operand_word c.active.slots value) c.active c.frames (known tag first) (known value second) slots frames
+  performs (instructions.Finish value) w serves = finished value (routine_at program c.active.function).results c.active.handlers
   performs (instructions.Uncaught tag value) w serves = tt
 
   executes : (o : Option Instruction) → ((i : Instruction) → o ≡ Some i → HasWord i) → MayServe choice.serving (call_of c.active.slots o) (Running c) → HoldsWords (executed program choice c o)

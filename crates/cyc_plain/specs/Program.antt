@@ -76,6 +76,10 @@ instruction_size (instructions.StoreGlobal global source) = 5
 instruction_size (instructions.Load destination address offset) = 10
 instruction_size (instructions.Store address offset source) = 10
 instruction_size (instructions.Ask request) = request_size request
+instruction_size (instructions.Try first handler) = 20
+instruction_size (instructions.Leave first) = 5
+instruction_size (instructions.Throw tag value) = 24
+instruction_size (instructions.Finish value) = 15
 instruction_size (instructions.Uncaught tag value) = 7
 
 abbrev pub size : Routine → ℕ

@@ -24,13 +24,19 @@ copied from source count to destination = λ (number : ℕ).
 abbrev pub AreWords : Words → Type 0
 AreWords words = (number : ℕ) → IsWord (words number)
 
--- A call under way: its function, the index of the instruction to be executed next, its slots, and the places of the
--- handlers that it has open, newest first.
+-- A handler that a call has open: the index of the instruction that opened it, the first slot of its record, and what its
+-- record holds. Or one that an exception has come to.
+pub data Handler : Type 0 where
+  Open : (index first : ℕ) → (contents : Words) → Handler
+  Caught : Handler
+
+-- A call under way: its function, the index of the instruction to be executed next, its slots, and the handlers that it
+-- has open, newest first.
 pub record Activation : Type 0 where
   pub function : ℕ
   pub next : ℕ
   pub slots : Words
-  pub handlers : List ℕ
+  pub handlers : List Handler
 
 -- a call that waits for another, and the first of the slots that get what this returns
 pub record Frame : Type 0 where

@@ -1,6 +1,6 @@
 -- What a plain program does: a step is a function of the state and of what is chosen. So the steps of a program are a
 -- relation, since nothing is said of the choice but that it is allowed.
-use Rattle.std.specs.Prelude.{◌≡◌, ℕ, zero, suc, ◌+◌, ◌-◌, ◌%◌, ◌^◌, Bool, ◌&&◌, nat_le, List, [], ◌∷◌, ◌++◌, drop, Option, Some, None, unwrap_or, slice_get, slice_index, if◌then◌else◌}
+use Rattle.std.specs.Prelude.{◌≡◌, ℕ, zero, suc, ◌+◌, ◌-◌, ◌%◌, ◌^◌, Bool, ◌==◌, ◌&&◌, nat_le, List, [], ◌∷◌, ◌++◌, drop, Option, Some, None, unwrap_or, slice_get, slice_index, if◌then◌else◌}
 use Rattle.cyc_words.specs.Word.{IsWord, signed, add_of}
 use Rattle.cyc_words.specs.Ending.{Returned, Uncaught, Full}
 use Rattle.cyc_store.specs.State.{StoreState}
@@ -15,8 +15,9 @@ use Rattle.cyc_plain.specs.declared.instruction.Request.TheVariants as requests
 use Rattle.cyc_plain.specs.Requests.{destination_of}
 use Rattle.cyc_plain.specs.Operators.{unary_result, binary_result, has_no_result, compares}
 use Rattle.cyc_plain.specs.Program.{Program, CodePlace, routine_at}
+use Rattle.cyc_plain.specs.declared.limits.TheConstants.{RECORD_WORDS}
 use Rattle.cyc_words.specs.Simulation.{Machine}
-use Rattle.cyc_plain.specs.State.{Words, AreWords, put, copied, Frame, Configuration, memory_at, with_memory, State, Running, Ended, Stuck, output_of, input_of, status_of, place_of, demand, depth}
+use Rattle.cyc_plain.specs.State.{Words, AreWords, put, copied, Handler, Open, Caught, Activation, Frame, Configuration, memory_at, with_memory, State, Running, Ended, Stuck, output_of, input_of, status_of, place_of, demand, depth}
 
 -- What a step may choose freely: the words that are in the slots of a new call before they are written, and what the
 -- store chooses where it is called.
@@ -97,13 +98,81 @@ told (services.OpenedLexical handle mark) destination slots = put (put slots des
 told (services.Allocated address) destination slots = put slots destination address
 told other destination slots = slots
 
+-- the store has served a call
+abbrev pub served_to : services.Choice → Configuration → (destination : ℕ) → Call → Configuration
+served_to serving c destination call =
+    advanced (with_slots (record c { store = served c.store call serving }) (told (answer c.store call serving) destination c.active.slots))
+
 -- The store is called, which refuses or does not. Where there is no room for what it would come to the run ends, whatever
 -- would be chosen: demand goes by sizes alone. What is refused for another reason leaves a run that cannot go on.
 abbrev pub asks : services.Choice → Configuration → (destination : ℕ) → Call → Option Refusal → State
-asks serving c destination call None =
-    Running (advanced (with_slots (record c { store = served c.store call serving }) (told (answer c.store call serving) destination c.active.slots)))
+asks serving c destination call None = Running (served_to serving c destination call)
 asks serving c destination call (Some services.Full) = Ended Full c.output c.input
 asks serving c destination call (Some why) = Stuck c.output c.input
+
+-- Handlers. The record of one is words of slots, which only the code below this one reads; where they were written over, the
+-- run cannot go on.
+
+-- the record holds what it held when the handler was opened
+abbrev pub is_intact : Words → (first : ℕ) → (contents : Words) → Bool
+is_intact slots first contents =
+    slots first == contents 0
+    && (slots (first + 1) == contents 1 && (slots (first + 2) == contents 2 && slots (first + 3) == contents 3))
+
+-- a handler more is open
+abbrev pub opens : Choice → Configuration → (first : ℕ) → State
+opens choice c first =
+    Running (record c {
+      active = record c.active {
+        next = c.active.next + 1;
+        slots = copied choice.contents 0 RECORD_WORDS c.active.slots first;
+        handlers = Open c.active.next first choice.contents ∷ c.active.handlers;
+      };
+    })
+
+-- one is opened, or it catches the exception that has come to it
+abbrev pub tries : Choice → Configuration → (first handler : ℕ) → List Handler → State
+tries choice c first handler [] = opens choice c first
+tries choice c first handler (Open index other contents ∷ handlers) = opens choice c first
+tries choice c first handler (Caught ∷ handlers) =
+    Running (record c { active = record c.active { next = handler; handlers = handlers } })
+
+-- the handler with this record is closed, and those before it are
+abbrev pub closes : Configuration → (first : ℕ) → List Handler → State
+closes c first [] = Stuck c.output c.input
+closes c first (Caught ∷ handlers) = Stuck c.output c.input
+closes c first (Open index other contents ∷ handlers) =
+    if other == first
+    then if is_intact c.active.slots first contents
+    then Running (advanced (record c { active = record c.active { handlers = handlers } }))
+    else Stuck c.output c.input
+    else closes c first handlers
+
+-- An exception comes to the newest handler of a call, or goes on from it. Its tag and its word come into the record.
+abbrev pub lands : Configuration → (tag value : ℕ) → Activation → List Frame → (beyond : State) → List Handler → State
+lands c tag value a frames beyond [] = beyond
+lands c tag value a frames beyond (Caught ∷ handlers) = Stuck c.output c.input
+lands c tag value a frames beyond (Open index first contents ∷ handlers) =
+    if is_intact a.slots first contents
+    then Running (record c {
+      active = record a {
+        next = index;
+        slots = put (put a.slots first tag) (suc first) value;
+        handlers = Caught ∷ handlers;
+      };
+      frames = frames;
+    })
+    else Stuck c.output c.input
+
+abbrev pub throws : Configuration → (tag value : ℕ) → Activation → List Frame → State
+throws c tag value a [] = lands c tag value a [] (Ended (Uncaught tag (signed value)) c.output c.input) a.handlers
+throws c tag value a (f ∷ frames) =
+    lands c tag value a (f ∷ frames) (throws c tag value f.caller frames) a.handlers
+
+-- a return with no handler open
+abbrev pub finishes : Configuration → (value results : ℕ) → List Handler → State
+finishes c value results [] = returns c value results c.frames
+finishes c value results (h ∷ handlers) = Stuck c.output c.input
 
 -- what an instruction does
 abbrev pub performed : Program → Choice → Configuration → Instruction → State
@@ -139,6 +208,12 @@ performed program choice c (instructions.Store address offset source) =
 performed program choice c (instructions.Ask request) =
     asks choice.serving c (destination_of request) (call_in c.active.slots request)
     (refusal c.store (call_in c.active.slots request))
+performed program choice c (instructions.Try first handler) = tries choice c first handler c.active.handlers
+performed program choice c (instructions.Leave first) = closes c first c.active.handlers
+performed program choice c (instructions.Throw tag value) =
+    throws c (operand_word c.active.slots tag) (operand_word c.active.slots value) c.active c.frames
+performed program choice c (instructions.Finish value) =
+    finishes c value (routine_at program c.active.function).results c.active.handlers
 performed program choice c (instructions.Uncaught tag value) =
     Ended (Uncaught tag (signed (operand_word c.active.slots value))) c.output c.input
 

@@ -13,7 +13,7 @@ use Rattle.cyc_plain.specs.Requests.{first_operand, second_operand, answer_count
 use Rattle.cyc_plain.specs.State.{Configuration, State, Running, Ended, Stuck, place_of, memory_at}
 use Rattle.cyc_plain.specs.Step.{operand_word, instruction_at, asked}
 use Rattle.cyc_plain.specs.Program.{Routine, Program, routine_at, size}
-use Rattle.cyc_plain.specs.declared.limits.TheConstants.{LAYOUT_WORDS, GREATEST_VALUE, MOST_GLOBALS, MOST_SIZE}
+use Rattle.cyc_plain.specs.declared.limits.TheConstants.{LAYOUT_WORDS, GREATEST_VALUE, MOST_GLOBALS, MOST_SIZE, RECORD_WORDS}
 
 -- the words from a slot on are slots of the function
 abbrev pub HasSlots : Routine → (first count : ℕ) → Type 0
@@ -38,6 +38,16 @@ pub record IsMoveInRange (r : Routine) (destination source count : ℕ) : Type 0
   pub few : count ≤ GREATEST_VALUE
   pub destination_in_range : HasSlots r destination count
   pub source_in_range : HasSlots r source count
+
+-- A handler's record is slots, and it stands in the code. The function returns by `Finish` alone.
+abbrev pub is_return : Instruction → Bool
+is_return (instructions.Return value) = true
+is_return instruction = false
+
+pub record IsTryInRange (r : Routine) (first handler : ℕ) : Type 0 where
+  pub record_in_range : HasSlots r first RECORD_WORDS
+  pub handler_in_range : handler < length r.code
+  pub no_return : All (λ i. is_return i ≡ false) r.code
 
 -- an operand, where there is one
 abbrev pub IsArgument : Routine → Option Operand → Type 0
@@ -73,12 +83,18 @@ IsInRange program r (instructions.StoreGlobal global source) =
 IsInRange program r (instructions.Load destination address offset) = (destination < r.slots) × IsOperand r address
 IsInRange program r (instructions.Store address offset source) = IsOperand r address × IsOperand r source
 IsInRange program r (instructions.Ask request) = IsRequestInRange r request
+IsInRange program r (instructions.Try first handler) = IsTryInRange r first handler
+IsInRange program r (instructions.Leave first) = HasSlots r first RECORD_WORDS
+IsInRange program r (instructions.Throw tag value) = IsOperand r tag × IsOperand r value
+IsInRange program r (instructions.Finish value) = HasSlots r value r.results
 IsInRange program r (instructions.Uncaught tag value) = IsOperand r value
 
 -- after these the instruction behind them is never executed next
 abbrev pub leaves : Instruction → Bool
 leaves (instructions.Jump target) = true
 leaves (instructions.Return value) = true
+leaves (instructions.Throw tag value) = true
+leaves (instructions.Finish value) = true
 leaves (instructions.Uncaught tag value) = true
 leaves instruction = false
 
@@ -119,6 +135,7 @@ HasWord (instructions.StoreGlobal global source) = IsOfWord source
 HasWord (instructions.Load destination address offset) = IsOfWord address × IsWord offset
 HasWord (instructions.Store address offset source) = IsOfWord address × IsWord offset × IsOfWord source
 HasWord (instructions.Ask request) = IsArgumentOfWord (first_operand request) × IsArgumentOfWord (second_operand request)
+HasWord (instructions.Throw tag value) = IsOfWord tag × IsOfWord value
 HasWord (instructions.Uncaught tag value) = IsWord tag × IsOfWord value
 HasWord instruction = Unit {0}
 
@@ -163,3 +180,16 @@ AsksInVain program (Running c) =
     × (why ≢ Full)
 AsksInVain program (Ended ending output input) = ⊥
 AsksInVain program (Stuck output input) = ⊥
+
+-- the instruction to be executed next asks for a handler that is not there, or is there and should not be
+abbrev pub is_of_handlers : Instruction → Bool
+is_of_handlers (instructions.Leave first) = true
+is_of_handlers (instructions.Throw tag value) = true
+is_of_handlers (instructions.Finish value) = true
+is_of_handlers instruction = false
+
+abbrev pub HasNoHandler : Program → State → Type 0
+HasNoHandler program (Running c) =
+    (i : Instruction) × (instruction_at program (place_of (Running c)) ≡ Some i) × (is_of_handlers i ≡ true)
+HasNoHandler program (Ended ending output input) = ⊥
+HasNoHandler program (Stuck output input) = ⊥

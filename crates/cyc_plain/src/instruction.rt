@@ -168,6 +168,27 @@ pub enum Instruction {
     Ask {
         request: Request,
     },
+    /// A handler is opened, whose record takes the four slots from `first` on. Where an exception comes to it, its tag
+    /// and its word are in the first two of them, the handler is closed, and the run goes on at `handler`.
+    Try {
+        first: usize,
+        handler: usize,
+    },
+    /// The handler whose record begins with this slot is closed, and with it every one of this call that was opened
+    /// later.
+    Leave {
+        first: usize,
+    },
+    /// An exception of this tag and this word comes to the newest handler that is open, in this call or in one that
+    /// waits. Where none is open the run ends.
+    Throw {
+        tag: Operand,
+        value: Operand,
+    },
+    /// A return from a function that opens handlers, of which none is open.
+    Finish {
+        value: usize,
+    },
     /// The run ends, with an exception of this tag and this word that nothing caught.
     Uncaught {
         tag: u32,

@@ -8,16 +8,20 @@ ghost use Rattle.cyc_words.specs.Prefix.{IsPrefix};
 ghost use Rattle.cyc_store.specs.State.{StoreState};
 ghost use Rattle.cyc_store.specs.State as stores;
 ghost use Rattle.cyc_store.specs.New.{IsNew};
+ghost use Rattle.cyc_store.specs.Services as services;
 ghost use Rattle.cyc_store.specs.Services.{Call, Refusal, refusal};
+ghost use Rattle.cyc_plain.specs.Requests.{destination_of};
+ghost use Rattle.cyc_plain.specs.declared.instruction.Request.{Request};
 ghost use Rattle.cyc_plain.specs.Program.{Program, CodePlace, routine_at, places_of};
 ghost use Rattle.cyc_plain.specs.declared.instruction.Instruction.{Instruction};
+ghost use Rattle.cyc_plain.specs.declared.instruction.Instruction.TheVariants as instructions;
 ghost use Rattle.cyc_words.specs.Simulation.{Run, Path, IsDistinct};
 ghost use Rattle.cyc_words.specs.Simulation as simulation;
-ghost use Rattle.cyc_plain.specs.State.{Words, Configuration, State, HoldsWords, put, copied, output_of, input_of, status_of};
+ghost use Rattle.cyc_plain.specs.State.{Words, Configuration, State, HoldsWords, put, copied, output_of, input_of, place_of, status_of};
 ghost use Rattle.cyc_plain.specs.State as state;
-ghost use Rattle.cyc_plain.specs.Step.{Choice, Step, asked, instruction_at, is_within, limited_step, machine, start, step};
+ghost use Rattle.cyc_plain.specs.Step.{Choice, IsServed, Step, asked, call_in, instruction_at, is_within, limited_step, machine, served_to, start, step};
 ghost use Rattle.cyc_plain.specs.Straight.{HasAt, AreStraight, executed_in, places_behind};
-ghost use Rattle.cyc_plain.specs.WellFormed.{IsWellFormed, HasWords, DividesByZero, AsksForNoWord, AsksInVain};
+ghost use Rattle.cyc_plain.specs.WellFormed.{IsWellFormed, HasWords, DividesByZero, AsksForNoWord, AsksInVain, HasNoHandler};
 
 /// A run that is over stays as it is.
 pub fn ended_stays()
@@ -33,8 +37,8 @@ pub fn output_grows()
         → (read : List ℕ) × (input_of old ≡ read ++ input_of new) }
 {}
 
-/// From every state there is a step where the store is not called, and where it refuses what it is called for. (Of a call that
-/// it does not refuse the relation says what may be chosen, and the store that is called that something is.)
+/// From every state there is a step where the store is not called, and where it refuses what it is called for. (Of a
+/// call that it does not refuse the relation says what may be chosen, and the store that is called that something is.)
 pub fn steps_go_on()
     ensures free { (program : Program) (pages calls : ℕ) (old : State) → asked program old ≡ None → (new : State) × Step program pages calls old new }
     ensures refused { (program : Program) (pages calls : ℕ) (c : Configuration) (call : Call) (why : Refusal)
@@ -55,13 +59,31 @@ pub fn limits_are_kept()
         → limited_step program pages calls choice old ≡ state.Ended Full (output_of old) (input_of old) }
 {}
 
-/// A run of a well-formed program is never stuck but at a division by 0, where it asks for a word that memory does not have, and
-/// where the store refuses what it is called for, not for want of room.
+/// Where the store is called and does not refuse, it serves the call by a choice that it allows, and the run goes on
+/// with what it answers. Where there is no room, the run ends.
+pub fn calls_are_served()
+    ensures served { (program : Program) (pages calls : ℕ) (c : Configuration) (request : Request) (new : State)
+        → instruction_at program (place_of (state.Running c)) ≡ Some (instructions.Ask request)
+        → refusal c.store (call_in c.active.slots request) ≡ None
+        → ((choice : services.Choice) → IsServed c.store (call_in c.active.slots request) choice
+        → is_within pages calls (state.Running (served_to choice c (destination_of request) (call_in c.active.slots request))) ≡ true)
+        → Step program pages calls (state.Running c) new
+        → (choice : services.Choice) × IsServed c.store (call_in c.active.slots request) choice
+        × (new ≡ state.Running (served_to choice c (destination_of request) (call_in c.active.slots request))) }
+    ensures full { (program : Program) (pages calls : ℕ) (c : Configuration) (request : Request) (new : State)
+        → instruction_at program (place_of (state.Running c)) ≡ Some (instructions.Ask request)
+        → refusal c.store (call_in c.active.slots request) ≡ Some services.Full → Step program pages calls (state.Running c) new
+        → new ≡ state.Ended Full c.output c.input }
+{}
+
+/// A run of a well-formed program is never stuck but at a division by 0, where it asks for a word that memory does not
+/// have, where the store refuses what it is called for, not for want of room, and at an instruction that closes a
+/// handler, throws, or returns from a function that opens some.
 pub fn few_get_stuck()
     ensures { (program : Program) (pages calls count : ℕ) (store : StoreState) (input : List ℕ) (old new : State) → IsWellFormed program
         → Run (machine program pages calls) count (start program store input) old → status_of old ≡ simulation.Running
         → Step program pages calls old new → status_of new ≡ simulation.Failed
-        → DividesByZero program old ⊎ (AsksForNoWord program old ⊎ AsksInVain program old) }
+        → DividesByZero program old ⊎ (AsksForNoWord program old ⊎ (AsksInVain program old ⊎ HasNoHandler program old)) }
 {}
 
 /// In a run of a program whose numbers are words, from a store of words and on an input of bytes, every value is a word.

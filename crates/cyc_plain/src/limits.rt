@@ -6,6 +6,9 @@ pub const LAYOUT_WORDS: usize = 8;
 /// A value has at most so many words: a fat pointer has three.
 pub const GREATEST_VALUE: usize = 3;
 
+/// The record of a handler has so many words.
+pub const RECORD_WORDS: usize = 4;
+
 /// So many words of globals can be addressed: 4 megabytes.
 pub const MOST_GLOBALS: usize = 1_048_576;
 

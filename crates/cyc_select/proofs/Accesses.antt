@@ -71,11 +71,11 @@ module _ (globals stack : ℕ) (frame : Frame) (r : Words) (w : Contents) (slots
 
   are_taken : (count : ℕ) → count ≤ 3 → source + count ≤ number → AreTaken count
   are_taken zero few fits = record {
-    keeps = record { safe = tt; memory = refl; zero = refl; base = refl; left = refl; back = refl };
+    keeps = record { safe = tt; memory = refl; zero = refl; base = refl; left = refl; back = refl; newest = refl };
     taken = λ k below. absurd (omega (arith, below));
   }
   are_taken (suc zero) few fits = record {
-    keeps = record { safe = ((refl, cell source (omega (arith, fits))), tt); memory = refl; zero = refl; base = refl; left = refl; back = refl };
+    keeps = record { safe = ((refl, cell source (omega (arith, fits))), tt); memory = refl; zero = refl; base = refl; left = refl; back = refl; newest = refl };
     taken = λ k below. one_taken k (after_r (load_all frame source (result_registers 1)) r w) below (word_of source 0 (omega arith) (omega (arith, fits)));
   }
   are_taken (suc (suc zero)) few fits = record {
@@ -86,6 +86,7 @@ module _ (globals stack : ℕ) (frame : Frame) (r : Words) (w : Contents) (slots
       base = refl;
       left = refl;
       back = refl;
+      newest = refl;
     };
     taken = λ k below.
         two_taken k (after_r (load_all frame source (result_registers 2)) r w) below (word_of source 0 (omega arith) (omega (arith, fits)))
@@ -99,6 +100,7 @@ module _ (globals stack : ℕ) (frame : Frame) (r : Words) (w : Contents) (slots
       base = refl;
       left = refl;
       back = refl;
+      newest = refl;
     };
     taken = λ k below.
         three_taken k (after_r (load_all frame source (result_registers 3)) r w) below (word_of source 0 (omega arith) (omega (arith, fits)))
@@ -202,13 +204,13 @@ module _ (program : Program) (well : IsWellFormed program) (frames : List Frame)
       let some = length_registers count in_range.few in
       let hi : ℕ = here + 2 * length registers in
       let take = are_taken globals_length (words_per_call * calls) frame r w c.active.slots source slots cell_at slot_is count in_range.few in_range.source_in_range in
-      let in_q = standing_registers program well frames fit addresses pages calls few c r w base (r RETURN_ADDRESS) (suc (length c.frames)) c.active.slots s q take.keeps.zero take.keeps.base take.keeps.left in
+      let in_q = standing_registers program well frames fit addresses pages calls few c r w base (r RETURN_ADDRESS) (suc (length c.frames)) c.active.slots s q take.keeps.zero take.keeps.base take.keeps.left take.keeps.newest in
       let in_v = subst (λ (x : Contents). Standing program frames addresses pages calls c q x base (r RETURN_ADDRESS) (suc (length c.frames)) c.active.slots) (sym take.keeps.memory) in_q in
       let puts = stored program well frames fit addresses pages calls few c q base (r RETURN_ADDRESS) (suc (length c.frames)) destination source c.active.slots c.active.slots count v in_range.few in_range.destination_in_range take.taken in_v in
       let m : Contents = after_w js q v in
       let there : Words = copied c.active.slots source count c.active.slots destination in
       let d : Configuration = record c { active = record c.active { next = c.active.next + 1; slots = copied c.active.slots source count c.active.slots destination } } in
-      let at_d = standing_at program well frames fit addresses pages calls few c q m base (r RETURN_ADDRESS) (suc (length c.frames)) there puts.2 d refl refl refl refl s.input in
+      let at_d = standing_at program well frames fit addresses pages calls few c q m base (r RETURN_ADDRESS) (suc (length c.frames)) there puts.2 d refl refl refl refl refl s.input in
       let with_back = subst (λ (b : ℕ). Standing program frames addresses pages calls d q m base b (suc (length c.frames)) there) (sym take.keeps.back) at_d in
       let line : here + length is + length js ≡ instruction_line program c.active.function (c.active.next + 1) = omega (arith, line_next program c.active.function c.active.next (plain.MoveWords destination source count) at_i, long, also) in
       walk_few code formed addresses globals_length (words_per_call * calls) 1 (length is + (length js + 0)) here hi c.output _ (Running run) (omega (arith, long, also, some, in_range.some))
@@ -266,7 +268,7 @@ module _ (program : Program) (well : IsWellFormed program) (frames : List Frame)
       (λ f after.
       walk_end code formed addresses globals_length (words_per_call * calls) (here + length is + 1 + 1) hi c.output _ (Running f) (omega (arith, long))
       (reached_gives program well frames fit code formed addresses pages calls few c (plain.Load destination address offset) at_i refl r w base s destination word c.input (here + length is + 1 + 1) f p (after_w put_one p v)
-      below (ap (loads c destination) found) s.input (omega (arith, long)) reaches.keeps.zero reaches.keeps.base reaches.keeps.left reaches.keeps.back puts after)))))
+      below (ap (loads c destination) found) s.input (omega (arith, long)) reaches.keeps.zero reaches.keeps.base reaches.keeps.left reaches.keeps.back reaches.keeps.newest puts after)))))
 
   pub load_goes : (destination : ℕ) (address : Operand) (offset : ℕ) → IsAt (plain.Load destination address offset) → destination < slots → IsThere address → IsWord offset
       → (performed program zeros c (plain.Load destination address offset) ≡ states.Stuck c.output c.input → ⊥)
@@ -314,8 +316,8 @@ module _ (program : Program) (well : IsWellFormed program) (frames : List Frame)
       let d : Configuration = record c { active = record c.active { next = c.active.next + 1 }; store = saved c.store a word } in
       let c' : Configuration = record c { store = saved c.store a word } in
       let one = standing_saved program well frames fit addresses pages calls few c r w base (r RETURN_ADDRESS) (suc (length c.frames)) c.active.slots s a word (is_word source from_there) in
-      let two = standing_registers program well frames fit addresses pages calls few c' r (saved_in w a word) base (r RETURN_ADDRESS) (suc (length c.frames)) c.active.slots one p (keeps.zero ∙ reaches.keeps.zero) (keeps.base ∙ reaches.keeps.base) (keeps.left ∙ reaches.keeps.left) in
-      let three = standing_at program well frames fit addresses pages calls few c' p (saved_in w a word) base (r RETURN_ADDRESS) (suc (length c.frames)) c.active.slots two d refl refl refl refl s.input in
+      let two = standing_registers program well frames fit addresses pages calls few c' r (saved_in w a word) base (r RETURN_ADDRESS) (suc (length c.frames)) c.active.slots one p (keeps.zero ∙ reaches.keeps.zero) (keeps.base ∙ reaches.keeps.base) (keeps.left ∙ reaches.keeps.left) (keeps.newest ∙ reaches.keeps.newest) in
+      let three = standing_at program well frames fit addresses pages calls few c' p (saved_in w a word) base (r RETURN_ADDRESS) (suc (length c.frames)) c.active.slots two d refl refl refl refl refl s.input in
       let with_back = subst (λ (b : ℕ). Standing program frames addresses pages calls d p (saved_in w a word) base b (suc (length c.frames)) c.active.slots) (sym (keeps.back ∙ reaches.keeps.back)) three in
       let four = subst (λ (y : Contents). Standing program frames addresses pages calls d p y base (p RETURN_ADDRESS) (suc (length c.frames)) c.active.slots) (sym puts) with_back in
       let line : here + length is + length js + 1 ≡ instruction_line program c.active.function (c.active.next + 1) = omega (arith, line_next program c.active.function c.active.next (plain.Store address offset source) at_i, long, more) in

@@ -3,7 +3,7 @@ use Rattle.std.proofs.Common.{◌≡◌, ◌≢◌, ℕ, ◌<◌, List, [], ◌�
 use Rattle.cyc_isa.specs.declared.instr.Instr.{Instr}
 use Rattle.cyc_machine.specs.declared.constants.TheConstants.{RETURN_ADDRESS}
 use Rattle.cyc_plain.specs.State.{Words}
-use Rattle.cyc_select.specs.declared.constants.TheConstants.{ZERO, FRAME, CALLS}
+use Rattle.cyc_select.specs.declared.constants.TheConstants.{ZERO, FRAME, CALLS, HANDLERS}
 use Rattle.cyc_select.proofs.Views.{Contents, does_r, does_w}
 use Rattle.cyc_select.proofs.Walks.{after_r, after_w, AreSafe, after_r-append, after_w-append}
 
@@ -23,6 +23,7 @@ module _ (globals stack : ℕ) where
     pub base : after_r is r w FRAME ≡ r FRAME
     pub left : after_r is r w CALLS ≡ r CALLS
     pub back : after_r is r w RETURN_ADDRESS ≡ r RETURN_ADDRESS
+    pub newest : after_r is r w HANDLERS ≡ r HANDLERS
 
   -- a register that no call keeps
   pub record IsScratch (n : ℕ) : Type 0 where
@@ -30,6 +31,7 @@ module _ (globals stack : ℕ) where
     pub not_base : FRAME ≢ n
     pub not_left : CALLS ≢ n
     pub not_back : RETURN_ADDRESS ≢ n
+    pub not_newest : HANDLERS ≢ n
 
   pub puts_keeps : (is : List Instr) (r : Words) (w : Contents) (target at word : ℕ) → IsScratch target → Puts is r w target at word → Keeps is r w
   puts_keeps is r w target at word scratch puts = record {
@@ -39,6 +41,7 @@ module _ (globals stack : ℕ) where
     base = puts.others FRAME (omega arith) scratch.not_base;
     left = puts.others CALLS (omega arith) scratch.not_left;
     back = puts.others RETURN_ADDRESS (omega arith) scratch.not_back;
+    newest = puts.others HANDLERS (omega arith) scratch.not_newest;
   }
 
   -- ---- one block behind another
@@ -58,4 +61,5 @@ module _ (globals stack : ℕ) where
     base = after_both is js r w FRAME ∙ (second.base ∙ first.base);
     left = after_both is js r w CALLS ∙ (second.left ∙ first.left);
     back = after_both is js r w RETURN_ADDRESS ∙ (second.back ∙ first.back);
+    newest = after_both is js r w HANDLERS ∙ (second.newest ∙ first.newest);
   }

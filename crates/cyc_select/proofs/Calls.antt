@@ -2,7 +2,7 @@
 use Rattle.std.proofs.Common.{◌≡◌, ◌≢◌, ℕ, zero, suc, ◌+◌, ◌-◌, ◌*◌, ◌%◌, ◌<◌, ◌≤◌, Bool, false, not, List, [], ◌∷◌, ◌++◌, length, Some, slice_get, refl, sym, ap, subst, ◌∙◌, arith, inl, inr}
 use Rattle.std.specs.Prelude.{◌==◌, if◌then◌else◌, nat_le}
 use Rattle.std.proofs.lemmas.Bool.{cases_eq, cases_lt, eq-eqb, ne_eqb, and_right, lt-leb}
-use Rattle.cyc_select.specs.declared.constants.TheConstants.{CALLS, FRAME}
+use Rattle.cyc_select.specs.declared.constants.TheConstants.{CALLS, FRAME, HANDLERS}
 use Rattle.cyc_machine.specs.declared.constants.TheConstants.{RETURN_ADDRESS}
 use Rattle.cyc_words.specs.Ending.{Full}
 use Rattle.cyc_words.specs.Word.{add_of, sign_extended}
@@ -34,7 +34,7 @@ use Rattle.cyc_select.proofs.Operations.{add_small, take_small}
 use Rattle.cyc_select.proofs.Views.{Contents, written}
 use Rattle.cyc_select.proofs.Walks.{Stands, stands_front, stands_back, after_r, after_w, Walk, now_at, walk_end, walk_few, walk_block, walk_branch, walk_call, walk_full}
 use Rattle.cyc_select.proofs.Copies.{Copied, copied_all}
-use Rattle.cyc_select.proofs.Standing.{Holds, Chain, Standing, behind_line, lies, chain_kept, word_cell, return_cell, return_address, standing_return}
+use Rattle.cyc_select.proofs.Standing.{Holds, Chain, IsNewest, Standing, behind_line, lies, chain_kept, word_cell, return_cell, return_address, standing_return}
 use Rattle.cyc_select.proofs.Matches.{At, Reached, reached, within}
 
 pub length_ordinary : (is : List Instr) → length (ordinary is) ≡ length is
@@ -162,7 +162,7 @@ module _ (program : Program) (well : IsWellFormed program) (frames : List Frame)
     -- the caller stands as before, with its return address in its frame
     s1 : Standing program frames addresses pages calls c r w1 base (r RETURN_ADDRESS) (suc (length c.frames)) c.active.slots
     s1 = subst (λ (x : Contents). Standing program frames addresses pages calls c r x base (r RETURN_ADDRESS) (suc (length c.frames)) c.active.slots) (sym saved)
-        (standing_return program well frames fit addresses pages calls few c r w base (r RETURN_ADDRESS) (suc (length c.frames)) c.active.slots s (r RETURN_ADDRESS))
+        (standing_return program well frames fit addresses pages calls few c r w base (r RETURN_ADDRESS) (suc (length c.frames)) c.active.slots s (r RETURN_ADDRESS) refl)
 
     callee_cell : (word : ℕ) → word < its.words → IsCell globals_length (words_per_call * calls) (low + 4 * word)
     callee_cell word below = inr ((omega (arith, low_is, here_lies.2)), (omega (arith, low_is, here_lies.1, deeper, room)), (omega (arith, low_is, here_lies.0, below)))
@@ -237,6 +237,14 @@ module _ (program : Program) (well : IsWellFormed program) (frames : List Frame)
           (subst (λ (x : ℕ). Chain program frames addresses w2 base x c.active.function c.frames) (sym saved_is) own_chain),
     )
 
+    newest_same : r3 HANDLERS ≡ r HANDLERS
+    newest_same = copied_now.kept HANDLERS (λ e. absurd (omega (arith, e)))
+
+    entered_newest : IsNewest program frames addresses calls (r3 HANDLERS) low callee [] (record { caller = (advanced c).active; result = result } ∷ c.frames)
+    entered_newest =
+        subst (λ (b : ℕ). IsNewest program frames addresses calls (r3 HANDLERS) b c.active.function c.active.handlers c.frames) (sym low_is)
+        (subst (λ (n : ℕ). IsNewest program frames addresses calls n base c.active.function c.active.handlers c.frames) (sym newest_same) s.newest)
+
     entered_stands : Standing program frames addresses pages calls entered r3 w2 low (r3 RETURN_ADDRESS) (suc (suc (length c.frames))) (copied c.active.slots arguments count choice.contents 0)
     entered_stands = record {
       known = in_range.function_in_range;
@@ -246,6 +254,8 @@ module _ (program : Program) (well : IsWellFormed program) (frames : List Frame)
       deep = deeper;
       holds = new_holds;
       chain = new_chain;
+      newest = entered_newest;
+      kept = tt;
       globals = λ global below. copied_now.outside (data_base + 4 * global) (inl (omega (arith, below, well.globals, low_is, room, here_lies.1, deeper))) ∙ s1.globals global below;
       input = s.input;
       store = copied_now.store ∙ s1.store;

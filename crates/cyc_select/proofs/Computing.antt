@@ -124,6 +124,7 @@ module _ (globals stack : ℕ) where
     not_base = λ e. absurd (omega (arith, e));
     not_left = λ e. absurd (omega (arith, e));
     not_back = λ e. absurd (omega (arith, e));
+    not_newest = λ e. absurd (omega (arith, e));
   }
 
   pub argument_scratch : IsScratch globals stack ARGUMENT
@@ -132,6 +133,7 @@ module _ (globals stack : ℕ) where
     not_base = λ e. absurd (omega (arith, e));
     not_left = λ e. absurd (omega (arith, e));
     not_back = λ e. absurd (omega (arith, e));
+    not_newest = λ e. absurd (omega (arith, e));
   }
 
   pub second_scratch : IsScratch globals stack SECOND
@@ -140,6 +142,7 @@ module _ (globals stack : ℕ) where
     not_base = λ e. absurd (omega (arith, e));
     not_left = λ e. absurd (omega (arith, e));
     not_back = λ e. absurd (omega (arith, e));
+    not_newest = λ e. absurd (omega (arith, e));
   }
 
   below_32 : (n : ℕ) → n % 32 < 32
@@ -283,7 +286,7 @@ module _ (globals stack : ℕ) where
         let kept = puts_keeps globals stack c q m FIRST _ _ first_scratch first in
         let second = load_puts frame base w slots (after_r c q m) (after_w c q m) (kept.zero ∙ zero) (kept.base ∙ same) (kept.memory ∙ memory) SECOND refl right right_held in
         let both = keeps_append globals stack c d q m kept (puts_keeps globals stack d (after_r c q m) (after_w c q m) SECOND _ _ second_scratch second) in
-        let third : Keeps globals stack e (after_r (c ++ d) q m) (after_w (c ++ d) q m) = record { safe = (refl, tt); memory = refl; zero = refl; base = refl; left = refl; back = refl } in
+        let third : Keeps globals stack e (after_r (c ++ d) q m) (after_w (c ++ d) q m) = record { safe = (refl, tt); memory = refl; zero = refl; base = refl; left = refl; back = refl; newest = refl } in
         record {
           keeps = keeps_append globals stack (c ++ d) e q m both third;
           dividend =

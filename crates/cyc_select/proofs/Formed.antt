@@ -27,7 +27,7 @@ use Rattle.cyc_plain.proofs.Placed.{holds_at, routine_in, below_of_get, has_code
 use Rattle.cyc_plain.proofs.Steps.{function_known}
 use Rattle.cyc_frame.specs.Layout.{AreFrames, frame_at, slot_word}
 use Rattle.cyc_frame.specs.declared.frame.Frame.{Frame}
-use Rattle.cyc_select.specs.declared.constants.TheConstants.{FIRST, SECOND, THIRD, ZERO, START_LINES}
+use Rattle.cyc_select.specs.declared.constants.TheConstants.{FIRST, SECOND, THIRD, ZERO, START_LINES, HANDLERS}
 use Rattle.cyc_select.specs.declared.code.Line.{Line}
 use Rattle.cyc_select.specs.declared.code.Condition.TheVariants as conditions
 use Rattle.cyc_select.specs.declared.code.Line.TheVariants as lines
@@ -41,7 +41,7 @@ use Rattle.cyc_select.specs.declared.plan.Test.TheVariants as tests
 use Rattle.cyc_select.specs.Plans.{unary_plan, binary_plan, test_of}
 use Rattle.cyc_select.specs.Labelled.{Labelled, IsFormed, IsFormedLine}
 use Rattle.cyc_select.specs.Numbers.{fits_signed, is_zero_word}
-use Rattle.cyc_select.specs.Selection.{slot_offset, ordinary, result_registers, argument_code, service_number, answer_code, far_plan, address_code, near_half, at_address, copies, load_all, store_all, store_slot, pop_frame, load_upper, constant, or_immediate, is_tested, part_of, plan_count, small, syscall, add_immediate, minus, upper_of_global, at_global, word_code, load_code, load_count, operand_code, operand_register, operands_code, operation_code, outcome_code, operation_of, computed_code, plan_code, test_code, branch_line, quotient_code, loads_code, divided_code, divide_code, ending_code, ending_count, operator_code, operator_count, body, behind, body_count, count_of, function_count, functions_count, function_line, instruction_line, code_lines, function_lines, start_lines, select_of}
+use Rattle.cyc_select.specs.Selection.{slot_offset, ordinary, result_registers, argument_code, service_number, answer_code, unwound_code, far_plan, address_code, near_half, at_address, copies, load_all, store_all, store_slot, pop_frame, load_upper, constant, or_immediate, is_tested, part_of, plan_count, small, syscall, add_immediate, minus, upper_of_global, at_global, word_code, load_code, load_count, operand_code, operand_register, operands_code, operation_code, outcome_code, operation_of, computed_code, plan_code, test_code, branch_line, quotient_code, loads_code, divided_code, divide_code, ending_code, ending_count, operator_code, operator_count, body, behind, body_count, count_of, function_count, functions_count, function_line, instruction_line, code_lines, function_lines, start_lines, select_of}
 use Rattle.cyc_select.proofs.Lines.{line_first}
 use Rattle.cyc_select.proofs.Plans.{AllOfTest, all_unary, all_binary, all_test}
 use Rattle.cyc_select.proofs.Counts.{length_registers, answer_few, service_small}
@@ -129,6 +129,10 @@ count_some program function (plain.MoveWords destination source count) in_range 
 count_some program function (plain.Load destination address offset) in_range = omega arith
 count_some program function (plain.Store address offset source) in_range = omega arith
 count_some program function (plain.Ask request) in_range = omega arith
+count_some program function (plain.Try first handler) in_range = omega arith
+count_some program function (plain.Leave first) in_range = omega arith
+count_some program function (plain.Throw tag value) in_range = omega arith
+count_some program function (plain.Finish value) in_range = omega arith
 count_some program function (plain.Uncaught tag value) in_range = omega arith
 
 module _ (program : Program) (well : IsWellFormed program) (words : HasWords program) (frames : List Frame) (fit : AreFrames program frames) where
@@ -380,6 +384,14 @@ module _ (program : Program) (well : IsWellFormed program) (words : HasWords pro
         (ending_formed (function == program.main) n value refl in_range long)
         (formed_append (load_all frame value (result_registers (routine_at program function).results)) (pop_frame frame ∷ []) (loads_formed value (result_registers (routine_at program function).results) (omega (arith, registers, in_range))) ((refl, frame_fits), tt)))
         (tt, tt)
+    body_formed (plain.Finish value) n in_range fits long =
+        let few = few_results program well function in
+        let registers = length_registers (routine_at program function).results few in
+        all_front (IsFormedLine (length (select_of program frames).lines)) (ending_code (function == program.main) frame n value ++ ordinary (loaded frame value (routine_at program function).results)) (lines.Return ∷ [])
+        (all_front (IsFormedLine (length (select_of program frames).lines)) (ending_code (function == program.main) frame n value) (ordinary (loaded frame value (routine_at program function).results))
+        (ending_formed (function == program.main) n value refl in_range long)
+        (formed_append (load_all frame value (result_registers (routine_at program function).results)) (pop_frame frame ∷ []) (loads_formed value (result_registers (routine_at program function).results) (omega (arith, registers, in_range))) ((refl, frame_fits), tt)))
+        (tt, tt)
     body_formed (plain.ReadByte destination) n below fits long = ((refl, (omega arith)), ((refl, tt), ((refl, slot_fits destination below), tt)))
     body_formed (plain.WriteByte source) n below fits long =
         formed_append (load_code frame ARGUMENT source) (small SERVICE PUT_BYTE ∷ syscall ∷ []) (load_formed ARGUMENT source (below, fits)) ((refl, (omega arith)), ((refl, tt), tt))
@@ -408,6 +420,41 @@ module _ (program : Program) (well : IsWellFormed program) (words : HasWords pro
         formed_append (argument_code frame ARGUMENT (first_operand request)) (js ++ last) (argument_formed ARGUMENT (first_operand request) in_range.first_in_range fits)
         (formed_append js last (argument_formed SECOND_ARGUMENT (second_operand request) in_range.second_in_range also)
         ((refl, omega (arith, service_small request)), ((refl, tt), stores_formed (destination_of request) (result_registers (answer_count request)) (omega (arith, registers, in_range.answer_in_range)))))
+    body_formed (plain.Try first handler) n in_range fits long =
+        let inside : first + 4 ≤ slots = in_range.record_in_range in (
+          (refl, slot_fits first (omega (arith, inside))),
+          (
+            (refl, slot_fits (first + 1) (omega (arith, inside))),
+            (
+              (refl, slot_fits (first + 3) (omega (arith, inside))),
+              (
+                (refl, return_fits),
+                (
+                  (omega (arith, long)),
+                  (
+                    (refl, return_fits),
+                    (
+                      (refl, slot_fits first (omega (arith, inside))),
+                      (
+                        (refl, slot_fits (suc first) (omega (arith, inside))),
+                        (
+                          target_known function handler in_range.handler_in_range,
+                          ((refl, slot_fits (first + 2) (omega (arith, inside))), ((refl, return_fits), ((refl, slot_fits first (omega (arith, inside))), tt))),
+                        ),
+                      ),
+                    ),
+                  ),
+                ),
+              ),
+            ),
+          ),
+        )
+    body_formed (plain.Leave first) n in_range fits long = ((refl, slot_fits first (let inside : first + 4 ≤ slots = in_range in omega (arith, inside))), tt)
+    body_formed (plain.Throw tag value) n (a, b) (fits, also) long =
+        all_front (IsFormedLine (length (select_of program frames).lines)) (ordinary (load_code frame ARGUMENT tag ++ load_code frame SECOND_ARGUMENT value))
+        (lines.Branch (conditions.Registers branch.NotEqual (register_of HANDLERS) (register_of ZERO)) (n + (load_count tag + load_count value) + 3) ∷ ordinary (small SERVICE END_UNCAUGHT ∷ syscall ∷ []) ++ (ordinary unwound_code ++ lines.Return ∷ []))
+        (formed_append (load_code frame ARGUMENT tag) (load_code frame SECOND_ARGUMENT value) (load_formed ARGUMENT tag (a, fits)) (load_formed SECOND_ARGUMENT value (b, also)))
+        ((omega (arith, long)), ((refl, (omega arith)), ((refl, tt), ((refl, (omega arith)), ((refl, (omega arith)), ((refl, (omega arith)), ((refl, (omega arith)), (tt, tt))))))))
     body_formed (plain.Uncaught tag value) n below (tag_fits, value_fits) long =
         formed_append (word_code ARGUMENT tag) (load_code frame SECOND_ARGUMENT value ++ small SERVICE END_UNCAUGHT ∷ syscall ∷ []) (word_formed ARGUMENT tag tag_fits)
         (formed_append (load_code frame SECOND_ARGUMENT value) (small SERVICE END_UNCAUGHT ∷ syscall ∷ []) (load_formed SECOND_ARGUMENT value (below, value_fits)) ((refl, (omega arith)), ((refl, tt), tt)))
@@ -430,6 +477,10 @@ module _ (program : Program) (well : IsWellFormed program) (words : HasWords pro
     behind_formed (plain.Load destination address offset) in_range = tt
     behind_formed (plain.Store address offset source) in_range = tt
     behind_formed (plain.Ask request) in_range = tt
+    behind_formed (plain.Try first handler) in_range = tt
+    behind_formed (plain.Leave first) in_range = tt
+    behind_formed (plain.Throw tag value) in_range = tt
+    behind_formed (plain.Finish value) in_range = tt
     behind_formed (plain.Uncaught tag value) in_range = tt
 
   function_formed : (function n : ℕ) → function < length program.functions → n ≡ function_line program function → Formed (code_lines program frames function n (routine_at program function).code)

@@ -12,6 +12,7 @@ pub mod Runs
 pub mod Simple
 pub mod Accesses
 pub mod Requests
+pub mod Handlers
 pub mod Calls
 pub mod Returns
 pub mod Matches

@@ -3,7 +3,7 @@ use Rattle.std.proofs.Common.{◌≡◌, ℕ, suc, ◌+◌, ◌*◌, ◌<◌, �
 use Rattle.std.specs.Prelude.{◌⊎◌, slice_index}
 use Rattle.std.specs.List.{AllByRecursion}
 use Rattle.std.proofs.lemmas.Bool.{and_from, le-leb}
-use Rattle.cyc_select.specs.declared.constants.TheConstants.{CALLS, FRAME}
+use Rattle.cyc_select.specs.declared.constants.TheConstants.{CALLS, FRAME, HANDLERS}
 use Rattle.cyc_machine.specs.declared.constants.TheConstants.{RETURN_ADDRESS}
 use Rattle.cyc_words.specs.Word.{IsWord}
 use Rattle.cyc_isa.specs.Effect.{memory_address}
@@ -68,8 +68,26 @@ module _ (program : Program) (well : IsWellFormed program) (frames : List Frame)
     pub returned : (k : ℕ) → k < (routine_at program callee).results → r (result_register k) ≡ values (first + k)
     pub slots : c.active.slots ≡ copied values first (routine_at program callee).results waiting result
 
+  -- An exception has come to a handler of this call: it is on the lines that the handler's instruction has for it, and its
+  -- tag and its word are in registers.
+  pub record Landed (c : Configuration) (t : State) : Type 0 where
+    pub run : labelled.Configuration
+    pub r : Words
+    pub w : Contents
+    pub base : ℕ
+    pub first : ℕ
+    pub handler : ℕ
+    pub handlers : List states.Handler
+    pub waiting : Words
+    pub is : t ≡ Running run
+    pub opened : instruction_at program (states.place_of (states.Running c)) ≡ Some (plain.Try first handler)
+    pub caught : c.active.handlers ≡ states.Caught ∷ handlers
+    pub now : At (instruction_line program c.active.function c.active.next + 5) c.output c.input r w run
+    pub standing : Standing program frames addresses pages calls (record c { active = record c.active { handlers = handlers } }) r w base (w.words (base + 4 * (frame_at frames c.active.function).return_address)) (suc (length c.frames)) waiting
+    pub slots : c.active.slots ≡ put (put waiting first (r 4)) (suc first) (r 5)
+
   abbrev pub Matches : states.State → State → Type 0
-  Matches (states.Running c) t = Ready c t ⊎ Back c t
+  Matches (states.Running c) t = Ready c t ⊎ (Back c t ⊎ Landed c t)
   Matches (states.Ended ending out input) t = t ≡ Ended ending out input
   Matches (states.Stuck out input) t = ⊥
 
@@ -96,18 +114,18 @@ module _ (program : Program) (well : IsWellFormed program) (frames : List Frame)
         → performed program zeros c i ≡ gives (record c { input = input }) destination word
         → AllByRecursion IsWord input
         → line ≡ instruction_line program c.active.function c.active.next + count_of program c.active.function i
-        → r' 0 ≡ r 0 → r' FRAME ≡ r FRAME → r' CALLS ≡ r CALLS → r' RETURN_ADDRESS ≡ r RETURN_ADDRESS
+        → r' 0 ≡ r 0 → r' FRAME ≡ r FRAME → r' CALLS ≡ r CALLS → r' RETURN_ADDRESS ≡ r RETURN_ADDRESS → r' HANDLERS ≡ r HANDLERS
         → w' ≡ written w (memory_address (r FRAME) (slot_offset (frame_at frames c.active.function) destination)) word
         → At line c.output input r' w' run → Reached c (Running run)
-    reached_gives destination word input line run r' w' below does fine line_is zero_same base_same left_same back_same puts now =
+    reached_gives destination word input line run r' w' below does fine line_is zero_same base_same left_same back_same newest_same puts now =
         let d : Configuration = record c { active = record c.active { next = c.active.next + 1; slots = put c.active.slots destination word }; input = input } in
         let address = slot_address program well frames fit addresses pages calls few c r w base (r RETURN_ADDRESS) (suc (length c.frames)) c.active.slots s destination below in
         let put_slot = standing_slot program well frames fit addresses pages calls few c r w base (r RETURN_ADDRESS) (suc (length c.frames)) c.active.slots s destination word below in
         let in_w' : Standing program frames addresses pages calls c r w' base (r RETURN_ADDRESS) (suc (length c.frames)) (put c.active.slots destination word) =
         subst (λ (x : Contents). Standing program frames addresses pages calls c r x base (r RETURN_ADDRESS) (suc (length c.frames)) (put c.active.slots destination word))
         (sym (puts ∙ ap (λ (a : ℕ). written w a word) address)) put_slot in
-        let in_r' = standing_registers program well frames fit addresses pages calls few c r w' base (r RETURN_ADDRESS) (suc (length c.frames)) (put c.active.slots destination word) in_w' r' zero_same base_same left_same in
-        let there = standing_at program well frames fit addresses pages calls few c r' w' base (r RETURN_ADDRESS) (suc (length c.frames)) (put c.active.slots destination word) in_r' d refl refl refl refl fine in
+        let in_r' = standing_registers program well frames fit addresses pages calls few c r w' base (r RETURN_ADDRESS) (suc (length c.frames)) (put c.active.slots destination word) in_w' r' zero_same base_same left_same newest_same in
+        let there = standing_at program well frames fit addresses pages calls few c r' w' base (r RETURN_ADDRESS) (suc (length c.frames)) (put c.active.slots destination word) in_r' d refl refl refl refl refl fine in
         let with_back = subst (λ (b : ℕ). Standing program frames addresses pages calls d r' w' base b (suc (length c.frames)) (put c.active.slots destination word)) (sym back_same) there in
         let line_same : line ≡ instruction_line program c.active.function (c.active.next + 1) = line_is ∙ sym (line_next program c.active.function c.active.next i at) in
         reached c zeros i (states.Running d) (Running run) (zeros_at program c i at free) at does (within d s.laid.paged s.deep)
@@ -123,15 +141,15 @@ module _ (program : Program) (well : IsWellFormed program) (frames : List Frame)
 
     -- an instruction that goes to a place of the same code, and may print
     pub reached_at : (d : Configuration) (line : ℕ) (run : labelled.Configuration) (r' : Words) (w' : Contents)
-        → d.active.function ≡ c.active.function → d.active.slots ≡ c.active.slots → d.frames ≡ c.frames → d.globals ≡ c.globals → d.store ≡ c.store → d.input ≡ c.input
+        → d.active.function ≡ c.active.function → d.active.handlers ≡ c.active.handlers → d.active.slots ≡ c.active.slots → d.frames ≡ c.frames → d.globals ≡ c.globals → d.store ≡ c.store → d.input ≡ c.input
         → performed program zeros c i ≡ states.Running d
         → line ≡ instruction_line program d.active.function d.active.next
-        → r' 0 ≡ r 0 → r' FRAME ≡ r FRAME → r' CALLS ≡ r CALLS → r' RETURN_ADDRESS ≡ r RETURN_ADDRESS → w' ≡ w
+        → r' 0 ≡ r 0 → r' FRAME ≡ r FRAME → r' CALLS ≡ r CALLS → r' RETURN_ADDRESS ≡ r RETURN_ADDRESS → r' HANDLERS ≡ r HANDLERS → w' ≡ w
         → At line d.output d.input r' w' run → Reached c (Running run)
-    reached_at d line run r' w' function_same slots_same frames_same globals_same store_same input_same does line_is zero_same base_same left_same back_same unchanged now =
-        let in_r' = standing_registers program well frames fit addresses pages calls few c r w base (r RETURN_ADDRESS) (suc (length c.frames)) c.active.slots s r' zero_same base_same left_same in
+    reached_at d line run r' w' function_same handlers_same slots_same frames_same globals_same store_same input_same does line_is zero_same base_same left_same back_same newest_same unchanged now =
+        let in_r' = standing_registers program well frames fit addresses pages calls few c r w base (r RETURN_ADDRESS) (suc (length c.frames)) c.active.slots s r' zero_same base_same left_same newest_same in
         let fine : AllByRecursion IsWord d.input = subst (λ (l : List ℕ). AllByRecursion IsWord l) (sym input_same) s.input in
-        let there = standing_at program well frames fit addresses pages calls few c r' w base (r RETURN_ADDRESS) (suc (length c.frames)) c.active.slots in_r' d function_same frames_same globals_same store_same fine in
+        let there = standing_at program well frames fit addresses pages calls few c r' w base (r RETURN_ADDRESS) (suc (length c.frames)) c.active.slots in_r' d function_same handlers_same frames_same globals_same store_same fine in
         let with_slots = subst (λ (x : Words). Standing program frames addresses pages calls d r' w base (r RETURN_ADDRESS) (suc (length c.frames)) x) (sym slots_same) there in
         let with_back = subst (λ (b : ℕ). Standing program frames addresses pages calls d r' w base b (suc (length c.frames)) d.active.slots) (sym back_same) with_slots in
         let with_depth = subst (λ (fs : List states.Frame). Standing program frames addresses pages calls d r' w base (r' RETURN_ADDRESS) (suc (length fs)) d.active.slots) (sym frames_same) with_back in

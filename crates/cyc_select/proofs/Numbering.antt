@@ -51,6 +51,10 @@ count_small program function few (plain.MoveWords destination source count) = om
 count_small program function few (plain.Load destination address offset) = omega (arith, address_small address offset)
 count_small program function few (plain.Store address offset source) = omega (arith, address_small address offset, operand_small source)
 count_small program function few (plain.Ask request) = omega (arith, argument_small (first_operand request), argument_small (second_operand request))
+count_small program function few (plain.Try first handler) = omega arith
+count_small program function few (plain.Leave first) = omega arith
+count_small program function few (plain.Throw tag value) = omega (arith, load_small tag, load_small value)
+count_small program function few (plain.Finish v) = omega (arith, few function, ending_small program function)
 count_small program function few (plain.Uncaught tag value) = omega (arith, word_small tag, load_small value)
 
 -- the lines of a move of several words

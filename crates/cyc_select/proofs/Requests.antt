@@ -1,7 +1,7 @@
 -- The instruction that calls the store.
 use Rattle.std.proofs.Common.{◌≡◌, ◌≢◌, ℕ, suc, ◌+◌, ◌*◌, ◌%◌, ◌<◌, ◌≤◌, List, [], ◌∷◌, ◌++◌, length, Option, None, Some, refl, sym, ap, subst, ◌∙◌, arith, inl}
 use Rattle.cyc_words.specs.Ending.{Full}
-use Rattle.cyc_words.specs.Word.{IsWord, add_of, sign_extended}
+use Rattle.cyc_words.specs.Word.{add_of, sign_extended}
 use Rattle.cyc_isa.specs.Effect.{memory_address}
 use Rattle.cyc_isa.specs.declared.instr.Instr.{Instr}
 use Rattle.cyc_machine.specs.State.{globals_length, words_per_call}
@@ -26,12 +26,11 @@ use Rattle.cyc_plain.proofs.SlotLaws.{put-other}
 use Rattle.cyc_plain.proofs.RunLaws.{zeros, zeros_refused, over_within}
 use Rattle.cyc_frame.specs.Layout.{AreFrames, frame_at}
 use Rattle.cyc_frame.specs.declared.frame.Frame.{Frame}
-use Rattle.cyc_select.specs.declared.constants.TheConstants.{CALLS, FRAME}
+use Rattle.cyc_select.specs.declared.constants.TheConstants.{CALLS, FRAME, HANDLERS}
 use Rattle.cyc_select.specs.Labelled.{Labelled, IsFormed}
 use Rattle.cyc_select.specs.Machine as labelled
 use Rattle.cyc_select.specs.Machine.{State, Running, Ended}
 use Rattle.cyc_select.specs.Selection.{ordinary, small, syscall, slot_offset, store_all, result_registers, argument_code, argument_count, service_number, answer_code, ask_count, body, instruction_line}
-use Rattle.cyc_select.proofs.Cells.{IsCell}
 use Rattle.cyc_select.proofs.Computing.{IsHeld, load_puts}
 use Rattle.cyc_select.proofs.Counts.{service_small, length_argument, length_answer, length_registers, answer_few}
 use Rattle.cyc_select.proofs.Effects.{call_by}
@@ -57,7 +56,7 @@ is_call (requests.Allocate destination handle words) slots q first second =
 is_call (requests.Free address) slots q first second = ap services.Free (first address refl)
 
 -- registers come to slots, one behind the other
-abbrev put_all : (slot : ℕ) → List ℕ → (q slots : Words) → Words
+abbrev pub put_all : (slot : ℕ) → List ℕ → (q slots : Words) → Words
 put_all slot [] q slots = slots
 put_all slot (source ∷ sources) q slots = put_all (suc slot) sources q (put slots slot (q (source % 32)))
 
@@ -83,12 +82,12 @@ answered-other (services.Allocated address) q n first second = put-other q 2 n a
 module _ (program : Program) (well : IsWellFormed program) (frames : List Frame) (fit : AreFrames program frames) (addresses : ℕ → ℕ) (pages calls : ℕ) (few : calls ≤ 4096)
     (c : Configuration) (q : Words) (base back depth : ℕ) where
   -- what registers hold comes to slots
-  record AreStored (slot : ℕ) (sources : List ℕ) (m : Contents) (slots : Words) : Type 0 where
+  pub record AreStored (slot : ℕ) (sources : List ℕ) (m : Contents) (slots : Words) : Type 0 where
     pub safe : AreSafe globals_length (words_per_call * calls) (store_all (frame_at frames c.active.function) slot sources) q m
     pub same : after_r (store_all (frame_at frames c.active.function) slot sources) q m ≡ q
     pub standing : Standing program frames addresses pages calls c q (after_w (store_all (frame_at frames c.active.function) slot sources) q m) base back depth (put_all slot sources q slots)
 
-  are_stored : (slot : ℕ) (sources : List ℕ) (m : Contents) (slots : Words) → slot + length sources ≤ (routine_at program c.active.function).slots
+  pub are_stored : (slot : ℕ) (sources : List ℕ) (m : Contents) (slots : Words) → slot + length sources ≤ (routine_at program c.active.function).slots
       → Standing program frames addresses pages calls c q m base back depth slots → AreStored slot sources m slots
   are_stored slot [] m slots fits s = record { safe = tt; same = refl; standing = s }
   are_stored slot (source ∷ sources) m slots fits s =
@@ -313,6 +312,9 @@ module _ (program : Program) (well : IsWellFormed program) (frames : List Frame)
       left_kept : final CALLS ≡ r CALLS
       left_kept = final_keeps CALLS (omega arith) (λ e. absurd (omega (arith, e))) (λ e. absurd (omega (arith, e))) (λ e. absurd (omega (arith, e))) (λ e. absurd (omega (arith, e)))
 
+      newest_kept : final HANDLERS ≡ r HANDLERS
+      newest_kept = final_keeps HANDLERS (omega arith) (λ e. absurd (omega (arith, e))) (λ e. absurd (omega (arith, e))) (λ e. absurd (omega (arith, e))) (λ e. absurd (omega (arith, e)))
+
       back_kept : final RETURN_ADDRESS ≡ r RETURN_ADDRESS
       back_kept = final_keeps RETURN_ADDRESS (omega arith) (λ e. absurd (omega (arith, e))) (λ e. absurd (omega (arith, e))) (λ e. absurd (omega (arith, e))) (λ e. absurd (omega (arith, e)))
 
@@ -323,7 +325,7 @@ module _ (program : Program) (well : IsWellFormed program) (frames : List Frame)
       in_final =
           standing_registers program well frames fit addresses pages calls few c1 r w1 base (r RETURN_ADDRESS) (suc (length c.frames)) c.active.slots
           (standing_store program well frames fit addresses pages calls few c r w base (r RETURN_ADDRESS) (suc (length c.frames)) c.active.slots s (served c.store call chosen) laid)
-          final zero_kept base_kept left_kept
+          final zero_kept base_kept left_kept newest_kept
 
       stored : AreStored program well frames fit addresses pages calls few c1 final base (r RETURN_ADDRESS) (suc (length c.frames)) (destination_of request) (result_registers (answer_count request)) w1 c.active.slots
       stored =
@@ -340,7 +342,7 @@ module _ (program : Program) (well : IsWellFormed program) (frames : List Frame)
       ends_at =
           let in_slots : Standing program frames addresses pages calls c1 final m base (r RETURN_ADDRESS) (suc (length c.frames)) there =
           subst (λ (x : Words). Standing program frames addresses pages calls c1 final m base (r RETURN_ADDRESS) (suc (length c.frames)) x) (told_is request c.store c.active.slots ready chosen) stored.standing in
-          let at_next = standing_at program well frames fit addresses pages calls few c1 final m base (r RETURN_ADDRESS) (suc (length c.frames)) there in_slots next refl refl refl refl s.input in
+          let at_next = standing_at program well frames fit addresses pages calls few c1 final m base (r RETURN_ADDRESS) (suc (length c.frames)) there in_slots next refl refl refl refl refl s.input in
           subst (λ (b : ℕ). Standing program frames addresses pages calls next final m base b (suc (length c.frames)) there) (sym back_kept) at_next
 
       line_is : called + 1 + length answers ≡ instruction_line program c.active.function (c.active.next + 1)

@@ -1,8 +1,8 @@
 -- Returns, and what stands behind a call.
-use Rattle.std.proofs.Common.{◌≡◌, ◌≢◌, ℕ, zero, suc, ◌+◌, ◌-◌, ◌*◌, ◌%◌, ◌<◌, ◌≤◌, Bool, true, false, not, List, [], ◌∷◌, ◌++◌, length, Some, slice_get, refl, sym, ap, subst, ◌∙◌, arith, inl, inr}
+use Rattle.std.proofs.Common.{◌≡◌, ◌≢◌, ℕ, zero, suc, ◌+◌, ◌-◌, ◌*◌, ◌%◌, ◌<◌, ◌≤◌, Bool, true, false, not, List, [], ◌∷◌, ◌++◌, length, None, Some, slice_get, refl, sym, ap, subst, ◌∙◌, arith, inl, inr}
 use Rattle.std.specs.Prelude.{◌==◌, if◌then◌else◌}
 use Rattle.std.proofs.lemmas.Bool.{cases_eq, cases_lt, cases_Bool, eq-eqb, ne_eqb}
-use Rattle.cyc_select.specs.declared.constants.TheConstants.{CALLS, FRAME}
+use Rattle.cyc_select.specs.declared.constants.TheConstants.{CALLS, FRAME, HANDLERS}
 use Rattle.cyc_machine.specs.declared.constants.TheConstants.{RETURN_ADDRESS}
 use Rattle.cyc_words.specs.Ending.{Returned}
 use Rattle.cyc_words.specs.Word.{signed, add_of, sign_extended}
@@ -11,11 +11,12 @@ use Rattle.cyc_isa.specs.declared.instr.Instr.{Instr}
 use Rattle.cyc_isa.specs.declared.instr.BranchOp.TheVariants as branch
 use Rattle.cyc_isa.specs.Decoding.{register_of}
 use Rattle.cyc_machine.specs.State.{globals_length, words_per_call}
+use Rattle.cyc_plain.specs.declared.instruction.Instruction.{Instruction}
 use Rattle.cyc_plain.specs.declared.instruction.Instruction.TheVariants as plain
 use Rattle.cyc_plain.specs.Program.{Program, no_routine, routine_at}
 use Rattle.cyc_plain.specs.State as states
 use Rattle.cyc_plain.specs.State.{Words, AreWords, put, copied, Configuration}
-use Rattle.cyc_plain.specs.Step.{instruction_at, performed, returns}
+use Rattle.cyc_plain.specs.Step.{call_of, instruction_at, performed, returns}
 use Rattle.cyc_plain.specs.WellFormed.{IsWellFormed, HasSlots}
 use Rattle.cyc_plain.proofs.RunLaws.{zeros, zeros_at, over_within}
 use Rattle.cyc_plain.proofs.SlotLaws.{put-same, put-other, copied-inside, copied-above, copied-below}
@@ -35,7 +36,7 @@ use Rattle.cyc_select.proofs.Operations.{add_small}
 use Rattle.cyc_select.proofs.Views.{Contents, written}
 use Rattle.cyc_select.proofs.Walks.{Stands, stands_front, stands_back, after_r, after_w, AreSafe, Walk, now_at, now_is, walk_end, walk_few, walk_from, walk_block, walk_branch, walk_return, walk_returned}
 use Rattle.cyc_select.proofs.Counts.{length_stores, length_registers}
-use Rattle.cyc_select.proofs.Standing.{Chain, Standing, behind_line, lies, slot_address, slot_cell, slot_word_is, return_cell, return_address, standing_slot}
+use Rattle.cyc_select.proofs.Standing.{Chain, IsNewest, kept_here, Standing, behind_line, lies, slot_address, slot_cell, slot_word_is, return_cell, return_address, standing_slot}
 use Rattle.cyc_select.proofs.Matches.{At, Ready, Back, Reached, reached, within, result_register}
 
 -- ---- what a function returns, from slots into registers
@@ -57,6 +58,7 @@ record AreLoaded (globals stack : ℕ) (frame : Frame) (value count : ℕ) (r : 
   pub base_moved : after_r (loaded frame value count) r w FRAME ≡ add_of (r FRAME) (sign_extended (4 * frame.words))
   pub left_same : after_r (loaded frame value count) r w CALLS ≡ r CALLS
   pub back_same : after_r (loaded frame value count) r w RETURN_ADDRESS ≡ r RETURN_ADDRESS
+  pub newest_same : after_r (loaded frame value count) r w HANDLERS ≡ r HANDLERS
   pub unchanged : after_w (loaded frame value count) r w ≡ w
   pub returned : (k : ℕ) → k < count → after_r (loaded frame value count) r w (result_register k) ≡ slots (value + k)
 
@@ -97,6 +99,7 @@ module _ (globals stack : ℕ) (frame : Frame) (r : Words) (w : Contents) (slots
     base_moved = refl;
     left_same = refl;
     back_same = refl;
+    newest_same = refl;
     unchanged = refl;
     returned = λ k below. absurd (omega (arith, below));
   }
@@ -106,6 +109,7 @@ module _ (globals stack : ℕ) (frame : Frame) (r : Words) (w : Contents) (slots
     base_moved = refl;
     left_same = refl;
     back_same = refl;
+    newest_same = refl;
     unchanged = refl;
     returned = λ k below. one_is k (after_r (loaded frame value 1) r w) below (first_is (omega (arith, fits)));
   }
@@ -115,6 +119,7 @@ module _ (globals stack : ℕ) (frame : Frame) (r : Words) (w : Contents) (slots
     base_moved = refl;
     left_same = refl;
     back_same = refl;
+    newest_same = refl;
     unchanged = refl;
     returned = λ k below. two_are k (after_r (loaded frame value 2) r w) below (first_is (omega (arith, fits))) (second_is (omega (arith, fits)));
   }
@@ -124,6 +129,7 @@ module _ (globals stack : ℕ) (frame : Frame) (r : Words) (w : Contents) (slots
     base_moved = refl;
     left_same = refl;
     back_same = refl;
+    newest_same = refl;
     unchanged = refl;
     returned = λ k below. three_are k (after_r (loaded frame value 3) r w) below (first_is (omega (arith, fits))) (second_is (omega (arith, fits))) (third_is (omega (arith, fits)));
   }
@@ -133,7 +139,8 @@ module _ (program : Program) (well : IsWellFormed program) (frames : List Frame)
     (lie : AreAddresses code addresses) (c : Configuration) (run : labelled.Configuration) (r : Words) (w : Contents) (base : ℕ)
     (now : At program well frames fit code formed addresses pages calls few (instruction_line program c.active.function c.active.next) c.output c.input r w run)
     (s : Standing program frames addresses pages calls c r w base (r RETURN_ADDRESS) (suc (length c.frames)) c.active.slots)
-    (value : ℕ) (at_i : instruction_at program (states.place_of (states.Running c)) ≡ Some (plain.Return value))
+    (i : Instruction) (value : ℕ) (at_i : instruction_at program (states.place_of (states.Running c)) ≡ Some i) (free : call_of c.active.slots (Some i) ≡ None)
+    (does : performed program zeros c i ≡ returns c value (routine_at program c.active.function).results c.frames) (none_open : c.active.handlers ≡ [])
     (in_range : HasSlots (routine_at program c.active.function) value (routine_at program c.active.function).results)
     (inside : (function index callee arguments count result : ℕ) → instruction_at program (record { function = function; index = index }) ≡ Some (plain.Call callee arguments count result)
     → behind_line program function index callee arguments count result < length code.lines)
@@ -170,7 +177,7 @@ module _ (program : Program) (well : IsWellFormed program) (frames : List Frame)
   ends_goes : (hi : ℕ) (d : labelled.Configuration) → here + 4 ≤ hi → c.frames ≡ [] → value < (routine_at program c.active.function).slots
       → Stands code (here + 1) (ordinary (load_slot frame 4 value ∷ small 2 3 ∷ syscall ∷ [])) → AtLine (here + 1) r w d → Goes 0 (suc here) hi (Running d)
   ends_goes hi d far alone below stands_here later =
-      let is_returned : performed program zeros c (plain.Return value) ≡ states.Ended (Returned (signed (c.active.slots value))) c.output c.input = ap (returns c value results) alone in
+      let is_returned : performed program zeros c i ≡ states.Ended (Returned (signed (c.active.slots value))) c.output c.input = does ∙ ap (returns c value results) alone in
       walk_few code formed addresses globals_length (words_per_call * calls) 0 (2 + 1) (suc here) hi c.output _ (Running d) (omega arith)
       (walk_block code formed addresses globals_length (words_per_call * calls) ends 1 (here + 1) (suc here) hi c.output c.input _ r w d later
       (stands_front code (here + 1) (ordinary ends) (ordinary (syscall ∷ [])) stands_here) ((refl, cell value below), (refl, tt)) (omega arith)
@@ -178,7 +185,7 @@ module _ (program : Program) (well : IsWellFormed program) (frames : List Frame)
       walk_returned code formed addresses globals_length (words_per_call * calls) (here + 1 + 2) (here + 1 + 2) hi c.output c.input _ (after_r ends r w) w e after
       (stands_back code (here + 1) (ordinary ends) (ordinary (syscall ∷ [])) stands_here).0 (omega arith) (omega (arith, far))
       (ap (λ (x : ℕ). add_of x (sign_extended 3)) s.zero_is ∙ add_small 0 3 (omega arith) (omega arith))
-      (reached program well frames fit code formed addresses pages calls few c zeros (plain.Return value) (states.Ended (Returned (signed (c.active.slots value))) c.output c.input) _ (zeros_at program c (plain.Return value) at_i refl) at_i is_returned
+      (reached program well frames fit code formed addresses pages calls few c zeros i (states.Ended (Returned (signed (c.active.slots value))) c.output c.input) _ (zeros_at program c i at_i free) at_i is_returned
       (over_within pages calls (Returned (signed (c.active.slots value))) c.output c.input)
       (ap (λ (x : ℕ). Ended (Returned (signed x)) c.output c.input) (word_is value below)))))
 
@@ -200,12 +207,17 @@ module _ (program : Program) (well : IsWellFormed program) (frames : List Frame)
         active = record f.caller { slots = copied c.active.slots value results f.caller.slots f.result };
         frames = waiting;
       } in
-      let is_returned : performed program zeros c (plain.Return value) ≡ states.Running next_state = ap (returns c value results) under in
+      let is_returned : performed program zeros c i ≡ states.Running next_state = does ∙ ap (returns c value results) under in
       let base_is : after_r (loaded frame value results) r w FRAME ≡ above =
       load.base_moved ∙ (ap (λ (x : ℕ). add_of x (sign_extended (4 * frame.words))) s.base_is
       ∙ add_small base (4 * frame.words) (omega (arith, own.within, own.small)) (omega (arith, l.below_end))) in
       let deep : suc (suc (length waiting)) ≤ calls = subst (λ (fs : List states.Frame). suc (length fs) ≤ calls) under s.deep in
       let left : r CALLS + suc (suc (length waiting)) ≡ calls = subst (λ (fs : List states.Frame). r CALLS + suc (length fs) ≡ calls) under s.left in
+      let own_newest : IsNewest program frames addresses calls (r HANDLERS) base c.active.function [] (f ∷ waiting) =
+      subst (λ (hs : List states.Handler). IsNewest program frames addresses calls (r HANDLERS) base c.active.function hs (f ∷ waiting)) none_open
+      (subst (λ (fs : List states.Frame). IsNewest program frames addresses calls (r HANDLERS) base c.active.function c.active.handlers fs) under s.newest) in
+      let back_newest : IsNewest program frames addresses calls (after_r (loaded frame value results) r w HANDLERS) above f.caller.function f.caller.handlers waiting =
+      subst (λ (n : ℕ). IsNewest program frames addresses calls n above f.caller.function f.caller.handlers waiting) (sym load.newest_same) own_newest in
       let there : Standing program frames addresses pages calls next_state (after_r (loaded frame value results) r w) w above (w.words (above + 4 * (frame_at frames f.caller.function).return_address)) (suc (suc (length waiting))) f.caller.slots = record {
         known = known;
         base_is = base_is;
@@ -214,6 +226,8 @@ module _ (program : Program) (well : IsWellFormed program) (frames : List Frame)
         deep = omega (arith, deep);
         holds = holds;
         chain = chain;
+        newest = back_newest;
+        kept = kept_here (frame_at frames f.caller.function) w above (w.words (above + 4 * (frame_at frames f.caller.function).return_address)) f.caller.handlers refl;
         globals = s.globals;
         input = s.input;
         store = s.store;
@@ -229,9 +243,9 @@ module _ (program : Program) (well : IsWellFormed program) (frames : List Frame)
       (omega arith) (inside f.caller.function index c.active.function arguments count f.result at) (load.back_same ∙ is_back)
       (λ g returned.
       walk_end code formed addresses globals_length (words_per_call * calls) (suc (line + size)) hi c.output _ (Running g) (omega (arith, far, same_size))
-      (reached program well frames fit code formed addresses pages calls few c zeros (plain.Return value) (states.Running next_state) (Running g) (zeros_at program c (plain.Return value) at_i refl) at_i is_returned
+      (reached program well frames fit code formed addresses pages calls few c zeros i (states.Running next_state) (Running g) (zeros_at program c i at_i free) at_i is_returned
       (within program well frames fit code formed addresses pages calls few next_state s.laid.paged (omega (arith, deep)))
-      (inr (record {
+      (inr (inl (record {
         run = g;
         r = after_r (loaded frame value results) r w;
         w = w;
@@ -251,7 +265,7 @@ module _ (program : Program) (well : IsWellFormed program) (frames : List Frame)
         standing = there;
         returned = load.returned;
         slots = refl;
-      }))))))
+      })))))))
 
   few_results : results ≤ 3
   few_results = (well.functions c.active.function no_routine s.known).results
@@ -342,7 +356,7 @@ module _ (program : Program) (well : IsWellFormed program) (frames : List Frame)
   abbrev StandsWith : (m : Contents) (slots : Words) → Type 0
   StandsWith m slots = Standing program frames addresses pages calls c q m base back depth slots
 
-  same_slots : (m : Contents) (slots slots' : Words) → ((slot : ℕ) → slots slot ≡ slots' slot) → StandsWith m slots → StandsWith m slots'
+  pub same_slots : (m : Contents) (slots slots' : Words) → ((slot : ℕ) → slots slot ≡ slots' slot) → StandsWith m slots → StandsWith m slots'
   same_slots m slots slots' same s = record {
     known = s.known;
     base_is = s.base_is;
@@ -352,6 +366,8 @@ module _ (program : Program) (well : IsWellFormed program) (frames : List Frame)
     holds = λ slot below. s.holds slot below ∙ same slot;
     chain = s.chain;
     globals = s.globals;
+    newest = s.newest;
+    kept = s.kept;
     input = s.input;
     store = s.store;
     laid = s.laid;
@@ -454,6 +470,8 @@ module _ (program : Program) (well : IsWellFormed program) (frames : List Frame)
     holds = b.standing.holds;
     chain = b.standing.chain;
     globals = b.standing.globals;
+    newest = b.standing.newest;
+    kept = b.standing.kept;
     input = b.standing.input;
     store = b.standing.store;
     laid = b.standing.laid;

@@ -1,5 +1,5 @@
 -- Each step of the plain machine is matched by steps of the labelled machine through the place's own lines.
-use Rattle.std.proofs.Common.{◌≡◌, ◌≢◌, ℕ, zero, suc, ◌+◌, ◌-◌, ◌*◌, ◌^◌, ◌<◌, ◌≤◌, Bool, true, false, not, List, ◌++◌, length, Option, Some, None, slice_get, refl, sym, ap, subst, ◌∙◌, arith, inl, inr}
+use Rattle.std.proofs.Common.{◌≡◌, ◌≢◌, ℕ, zero, suc, ◌+◌, ◌-◌, ◌*◌, ◌^◌, ◌<◌, ◌≤◌, Bool, true, false, not, List, [], ◌∷◌, ◌++◌, length, Option, Some, None, slice_get, refl, sym, ap, subst, ◌∙◌, arith, inl, inr}
 use Rattle.std.specs.Prelude.{if◌then◌else◌}
 use Rattle.std.specs.List.{range_with_len}
 use Rattle.std.proofs.lemmas.Bool.{cases_lt, eq-eqb, ne_eqb}
@@ -23,8 +23,8 @@ use Rattle.cyc_words.specs.Simulation.{IsOnTheWay, Matching, IsMatchedStep, IsSt
 use Rattle.cyc_plain.specs.State as states
 use Rattle.cyc_plain.specs.State.{Words, Configuration}
 use Rattle.cyc_plain.specs.Step as steps
-use Rattle.cyc_plain.specs.Step.{IsAllowed, call_of, instruction_at, operand_word, performed, executed, gives, step, is_within, Step}
-use Rattle.cyc_plain.specs.WellFormed.{IsOperand, IsWellFormed, IsInRange, HasWords, IsOfWord, HasWord}
+use Rattle.cyc_plain.specs.Step.{IsAllowed, call_of, instruction_at, operand_word, performed, executed, gives, finishes, step, is_within, Step}
+use Rattle.cyc_plain.specs.WellFormed.{IsOperand, IsWellFormed, IsInRange, IsTryInRange, is_return, HasWords, IsOfWord, HasWord}
 use Rattle.cyc_words.proofs.Matching.{way_before}
 use Rattle.cyc_plain.proofs.Placed.{holds_at, routine_in, below_of_get}
 use Rattle.cyc_plain.proofs.RunLaws.{limited-within, zeros, zeros_allowed, zeros_at, stuck_within}
@@ -34,7 +34,10 @@ use Rattle.cyc_frame.specs.declared.frame.Frame.{Frame}
 use Rattle.cyc_select.specs.Labelled.{Labelled, IsFormed, AreAddresses}
 use Rattle.cyc_select.specs.Machine as labelled
 use Rattle.cyc_select.specs.Machine.{State, Running, Ended, machine}
-use Rattle.cyc_select.specs.Selection.{body, behind, body_count, behind_count, load_count, ordinary, divide_code, plan_code, plan_count, is_tested, part_of, count_of, operator_count, instruction_line}
+use Rattle.cyc_select.specs.declared.constants.TheConstants.{HANDLERS}
+use Rattle.cyc_select.specs.declared.code.Line.{Line}
+use Rattle.cyc_select.specs.declared.code.Line.TheVariants as lines
+use Rattle.cyc_select.specs.Selection.{recorded_code, caught_code, opened_code, body, behind, body_count, behind_count, load_count, ordinary, divide_code, plan_code, plan_count, is_tested, part_of, count_of, operator_count, instruction_line}
 use Rattle.cyc_select.proofs.Lines.{line_next}
 use Rattle.cyc_select.specs.Numbers.{is_plain_divisor}
 use Rattle.cyc_select.specs.Plans.{binary_plan}
@@ -43,11 +46,12 @@ use Rattle.cyc_select.proofs.Operations.{negated_quotient, negated_remainder}
 use Rattle.cyc_select.proofs.Plans.{multiply_divide_result}
 use Rattle.cyc_select.proofs.Views.{Contents}
 use Rattle.cyc_select.proofs.Walks.{Stands, stands_front, stands_back, Rises, rising_distinct, rising_inside, comes_map, Quiet, Walk}
-use Rattle.cyc_select.proofs.Standing.{Standing, behind_line}
+use Rattle.cyc_select.proofs.Standing.{IsNewest, Standing, behind_line}
 use Rattle.cyc_select.proofs.Matches.{At, Ready, Matches, Reached}
 use Rattle.cyc_select.proofs.Simple.{move_goes, unary_goes, binary_goes, divide_goes, jump_goes, branch_goes, read_goes, write_goes, load_global_goes, store_global_goes, uncaught_goes}
 use Rattle.cyc_select.proofs.Accesses.{move_words_goes, load_goes, store_goes}
 use Rattle.cyc_select.proofs.Requests.{ask_goes}
+use Rattle.cyc_select.proofs.Handlers.{catch_goes, leave_goes, throw_goes, try_goes}
 use Rattle.cyc_select.proofs.Calls.{call_goes}
 use Rattle.cyc_select.proofs.Returns.{return_goes, behind_goes}
 
@@ -112,6 +116,25 @@ module _ (program : Program) (well : IsWellFormed program) (words : HasWords pro
   word_of_it function index i at =
       holds_at HasWord (routine_at program function).code index i
       (words.functions function no_routine (function_known program (record { function = function; index = index }) i at)) at
+
+  range_of : (function index first handler : ℕ) → instruction_at program (record { function = function; index = index }) ≡ Some (plain.Try first handler) → IsTryInRange (routine_at program function) first handler
+  range_of function index first handler at = in_range_of function index (plain.Try first handler) at
+
+  -- where an exception comes to a handler
+  caught_stands : (function index first handler : ℕ) → instruction_at program (record { function = function; index = index }) ≡ Some (plain.Try first handler)
+      → Stands code (instruction_line program function index + 5) (ordinary (caught_code (frame_at frames function) first) ++ lines.Jump (instruction_line program function handler) ∷ [])
+  caught_stands function index first handler at =
+      let line : ℕ = instruction_line program function index in
+      let between : List Line = ordinary (caught_code (frame_at frames function) first) ++ lines.Jump (instruction_line program function handler) ∷ [] in
+      let rest : List Line = lines.Call (line + 9) ∷ between ++ ordinary (opened_code (frame_at frames function) first) in
+      let whole = stands_front code line (body program frames function line (plain.Try first handler)) [] (stand function index (plain.Try first handler) at) in
+      subst (λ (n : ℕ). Stands code n (ordinary (caught_code (frame_at frames function) first) ++ lines.Jump (instruction_line program function handler) ∷ []))
+      (let e : line + 4 + 1 ≡ line + 5 = omega arith in e)
+      (stands_front code (line + 4 + 1) between (ordinary (opened_code (frame_at frames function) first)) (stands_back code line (ordinary (recorded_code (frame_at frames function) first)) rest whole).1)
+
+  lands_inside : (function index first handler : ℕ) → instruction_at program (record { function = function; index = index }) ≡ Some (plain.Try first handler)
+      → instruction_line program function index + 5 < length code.lines
+  lands_inside function index first handler at = below_of_get code.lines _ _ (caught_stands function index first handler at).0
 
   few_results : (function : ℕ) → (routine_at program function).results ≤ 3
   few_results function = elim (cases_lt function (length program.functions)) [
@@ -208,6 +231,25 @@ module _ (program : Program) (well : IsWellFormed program) (words : HasWords pro
     stops_not : (i : Instruction) → IsAt i → IsAllowed program (states.Running c) zeros → performed program zeros c i ≡ states.Stuck c.output c.input → ⊥
     stops_not i at allowed stops = stuck_not c never allowed (ap (executed program zeros c) at ∙ stops)
 
+    -- a function that opens handlers does not return so
+    none_open : {value : ℕ} → IsAt (plain.Return value) → c.active.handlers ≡ []
+    none_open {value} at = go c.active.handlers refl s.newest
+      where
+        go : (handlers : List states.Handler) → c.active.handlers ≡ handlers → IsNewest program frames addresses calls (r HANDLERS) base c.active.function handlers c.frames → c.active.handlers ≡ []
+        go [] is records = is
+        go (states.Caught ∷ handlers) is records = absurd records
+        go (states.Open index first contents ∷ handlers) is (one, others) =
+            let none = (range_of c.active.function index first one.handler one.opened).no_return in
+            absurd (let e : true ≡ false = holds_at (λ (i : Instruction). is_return i ≡ false) (routine_at program c.active.function).code c.active.next (plain.Return value) none at in cc)
+
+    finish_goes : (value : ℕ) → IsAt (plain.Finish value) → IsInRange program (routine_at program c.active.function) (plain.Finish value) → StandsHere (plain.Finish value) → (handlers : List states.Handler) → c.active.handlers ≡ handlers
+        → Goes (body_count program c.active.function (plain.Finish value))
+    finish_goes value at in_range stands [] none =
+        return_goes program well frames fit code formed addresses pages calls few lie c run r w base now s (plain.Finish value) value at refl
+        (ap (finishes c value (routine_at program c.active.function).results) none) none in_range behind_inside stands
+    finish_goes value at in_range stands (h ∷ handlers) some =
+        absurd (stops_not (plain.Finish value) at (zeros_at program c (plain.Finish value) at refl) (ap (finishes c value (routine_at program c.active.function).results) some))
+
     instruction_goes : (i : Instruction) → IsAt i → IsInRange program (routine_at program c.active.function) i → HasWord i → StandsHere i → Goes (body_count program c.active.function i)
     instruction_goes (plain.Move destination source) at (a, b) fits stands = move_goes program well frames fit code formed addresses pages calls few c run r w base now s destination source at a (b, fits) stands
     instruction_goes (plain.Unary operator destination operand) at (a, b) fits stands = unary_goes program well frames fit code formed addresses pages calls few c run r w base now s operator destination operand at a (b, fits) stands
@@ -217,7 +259,7 @@ module _ (program : Program) (well : IsWellFormed program) (words : HasWords pro
     instruction_goes (plain.Call callee arguments count result) at in_range fits stands =
         call_goes program well frames fit code formed addresses pages calls few lie c run r w base now s callee arguments count result at in_range (behind_inside c.active.function c.active.next callee arguments count result at) stands
     instruction_goes (plain.Return value) at in_range fits stands =
-        return_goes program well frames fit code formed addresses pages calls few lie c run r w base now s value at in_range behind_inside stands
+        return_goes program well frames fit code formed addresses pages calls few lie c run r w base now s (plain.Return value) value at refl refl (none_open at) in_range behind_inside stands
     instruction_goes (plain.ReadByte destination) at below fits stands = read_goes program well frames fit code formed addresses pages calls few c run r w base now s destination at below stands
     instruction_goes (plain.WriteByte source) at below fits stands = write_goes program well frames fit code formed addresses pages calls few c run r w base now s source at (below, fits) stands
     instruction_goes (plain.LoadGlobal destination global) at (a, b) fits stands = load_global_goes program well frames fit code formed addresses pages calls few c run r w base now s destination global at a b stands
@@ -230,6 +272,12 @@ module _ (program : Program) (well : IsWellFormed program) (words : HasWords pro
     instruction_goes (plain.Ask request) at in_range fits stands =
         ask_goes program well frames fit code formed addresses pages calls few c run r w base now s request at in_range fits stands
         (λ stops allowed. stops_not (plain.Ask request) at allowed stops)
+    instruction_goes (plain.Try first handler) at in_range fits stands = try_goes program well frames fit code formed addresses pages calls few lie c range_of lands_inside run r w base now s first handler at in_range stands
+    instruction_goes (plain.Leave first) at in_range fits stands =
+        leave_goes program well frames fit code formed addresses pages calls few lie c range_of lands_inside run r w base now s first at in_range (stops_not (plain.Leave first) at (zeros_at program c (plain.Leave first) at refl)) stands
+    instruction_goes (plain.Throw tag value) at (a, b) (fits, also) stands =
+        throw_goes program well frames fit code formed addresses pages calls few lie c range_of lands_inside run r w base now s tag value at (a, fits) (b, also) (stops_not (plain.Throw tag value) at (zeros_at program c (plain.Throw tag value) at refl)) stands
+    instruction_goes (plain.Finish value) at in_range fits stands = finish_goes value at in_range stands c.active.handlers refl
     instruction_goes (plain.Uncaught tag value) at below (tag_fits, value_fits) stands = uncaught_goes program well frames fit code formed addresses pages calls few c run r w base now s tag value at (below, value_fits) tag_fits stands
 
   -- ---- a step from a state that matches
@@ -242,7 +290,8 @@ module _ (program : Program) (well : IsWellFormed program) (words : HasWords pro
 
   pub outputs_same : (s : states.State) (t : State) → Matches program well frames fit code formed addresses pages calls few s t → labelled.output_of t ≡ states.output_of s
   outputs_same (states.Running c) t (inl ready) = ap labelled.output_of ready.is ∙ ready.now.output
-  outputs_same (states.Running c) t (inr back) = ap labelled.output_of back.is ∙ back.now.output
+  outputs_same (states.Running c) t (inr (inl back)) = ap labelled.output_of back.is ∙ back.now.output
+  outputs_same (states.Running c) t (inr (inr landed)) = ap labelled.output_of landed.is ∙ landed.now.output
   outputs_same (states.Ended ending out input) t is = ap labelled.output_of is
   outputs_same (states.Stuck out input) t is = absurd is
 
@@ -306,7 +355,11 @@ module _ (program : Program) (well : IsWellFormed program) (words : HasWords pro
       → IsStepped above below_machine matching (states.Running c) t
   known_goes c t (inl ready) never i at =
       stepped c t ready.run (instruction_line program c.active.function c.active.next) (body_count program c.active.function i) i at refl (omega arith) ready.is (ready_goes c t never ready i at)
-  known_goes c t (inr back) never i at =
+  known_goes c t (inr (inr landed)) never i at =
+      let place : instruction_at program (states.place_of (states.Running c)) ≡ Some (plain.Try landed.first landed.handler) = landed.opened in
+      stepped c t landed.run (instruction_line program c.active.function c.active.next + 5) 12 (plain.Try landed.first landed.handler) place refl (omega arith) landed.is
+      (catch_goes program well frames fit code formed addresses pages calls few lie c range_of lands_inside t landed (caught_stands c.active.function c.active.next landed.first landed.handler landed.opened))
+  known_goes c t (inr (inl back)) never i at =
       let in_range = in_range_of c.active.function back.index (plain.Call back.callee back.arguments back.count back.result) back.call in
       stepped c t back.run (behind_line program c.active.function back.index back.callee back.arguments back.count back.result) (body_count program c.active.function i) i at refl
       (before_it c.active.function back.index back.callee back.arguments back.count back.result c.active.next back.next back.call) back.is

@@ -20,14 +20,14 @@ use Rattle.cyc_frame.specs.declared.frame.Frame.{Frame}
 use Rattle.cyc_select.specs.declared.code.Line.{Line}
 use Rattle.cyc_select.specs.declared.code.Condition.TheVariants as conditions
 use Rattle.cyc_select.specs.declared.code.Line.TheVariants as lines
-use Rattle.cyc_select.specs.declared.constants.TheConstants.{FIRST, SECOND, THIRD, CALLS}
+use Rattle.cyc_select.specs.declared.constants.TheConstants.{FIRST, SECOND, THIRD, CALLS, HANDLERS, ZERO}
 use Rattle.cyc_select.specs.declared.plan.Plan.{Plan}
 use Rattle.cyc_select.specs.declared.plan.Test.{Test}
 use Rattle.cyc_select.specs.declared.plan.Test.TheVariants as tests
 use Rattle.cyc_select.specs.Plans.{unary_plan, binary_plan, test_of}
 use Rattle.cyc_select.specs.Labelled.{Labelled, words_of, all_words}
 use Rattle.cyc_select.specs.Selected.{words_at}
-use Rattle.cyc_select.specs.Selection.{ordinary, argument_code, service_number, answer_code, address_code, at_address, copies, load_all, store_all, store_slot, upper_of_global, at_global, word_code, load_code, load_count, operand_code, operand_register, plan_code, test_code, branch_line, branch_code, quotient_code, divided_code, divide_code, is_tested, part_of, result_registers, ending_code, operator_code, body, behind, count_of, function_count, function_line, instruction_line, code_lines, function_lines, small, syscall, store, add_immediate, minus, push_frame, load}
+use Rattle.cyc_select.specs.Selection.{ordinary, argument_code, service_number, answer_code, unwound_code, address_code, at_address, copies, load_all, store_all, store_slot, upper_of_global, at_global, word_code, load_code, load_count, operand_code, operand_register, plan_code, test_code, branch_line, branch_code, quotient_code, divided_code, divide_code, is_tested, part_of, result_registers, ending_code, operator_code, body, behind, count_of, function_count, function_line, instruction_line, code_lines, function_lines, small, syscall, store, add_immediate, minus, push_frame, load}
 use Rattle.cyc_isa.specs.Decoding.{register_of}
 use Rattle.cyc_isa.specs.declared.instr.BranchOp.TheVariants as branch
 use Rattle.cyc_select.proofs.Calls.{length-copies}
@@ -108,6 +108,13 @@ module _ (program : Program) (frames : List Frame) (few_results : (function : �
       let c = words_ordinary (loaded (frame_at frames function) value (routine_at program function).results) in
       let d = length_loaded (frame_at frames function) value (routine_at program function).results (few_results function) in
       omega (arith, a, b, c, d, ending_words (function == program.main) (frame_at frames function) here value, few_results function)
+  body_words function here (plain.Finish value) =
+      let e = ending_code (function == program.main) (frame_at frames function) here value in
+      let a = sum_by-append words_of (ending_code (function == program.main) (frame_at frames function) here value ++ ordinary (loaded (frame_at frames function) value (routine_at program function).results)) (lines.Return ∷ []) in
+      let b = sum_by-append words_of (ending_code (function == program.main) (frame_at frames function) here value) (ordinary (loaded (frame_at frames function) value (routine_at program function).results)) in
+      let c = words_ordinary (loaded (frame_at frames function) value (routine_at program function).results) in
+      let d = length_loaded (frame_at frames function) value (routine_at program function).results (few_results function) in
+      omega (arith, a, b, c, d, ending_words (function == program.main) (frame_at frames function) here value, few_results function)
   body_words function here (plain.ReadByte destination) = omega arith
   body_words function here (plain.WriteByte source) =
       omega (arith, words_ordinary (load_code (frame_at frames function) ARGUMENT source ++ small SERVICE PUT_BYTE ∷ syscall ∷ []), length-append (load_code (frame_at frames function) ARGUMENT source) (small SERVICE PUT_BYTE ∷ syscall ∷ []), length_load (frame_at frames function) ARGUMENT source, load_small source)
@@ -132,6 +139,12 @@ module _ (program : Program) (frames : List Frame) (few_results : (function : �
       let js : List Instr = argument_code (frame_at frames function) SECOND_ARGUMENT (second_operand request) in
       let last : List Instr = small SERVICE (service_number request) ∷ syscall ∷ answer_code (frame_at frames function) request in
       omega (arith, words_ordinary (is ++ (js ++ last)), length-append is (js ++ last), length-append js last, length_argument (frame_at frames function) ARGUMENT (first_operand request), length_argument (frame_at frames function) SECOND_ARGUMENT (second_operand request), length_answer (frame_at frames function) request, argument_small (first_operand request), argument_small (second_operand request))
+  body_words function here (plain.Try first handler) = omega arith
+  body_words function here (plain.Leave first) = omega arith
+  body_words function here (plain.Throw tag value) =
+      let is : List Instr = load_code (frame_at frames function) ARGUMENT tag ++ load_code (frame_at frames function) SECOND_ARGUMENT value in
+      let last : List Line = lines.Branch (conditions.Registers branch.NotEqual (register_of HANDLERS) (register_of ZERO)) (here + (load_count tag + load_count value) + 3) ∷ ordinary (small SERVICE END_UNCAUGHT ∷ syscall ∷ []) ++ (ordinary unwound_code ++ lines.Return ∷ []) in
+      omega (arith, sum_by-append words_of (ordinary is) last, words_ordinary is, length-append (load_code (frame_at frames function) ARGUMENT tag) (load_code (frame_at frames function) SECOND_ARGUMENT value), length_load (frame_at frames function) ARGUMENT tag, length_load (frame_at frames function) SECOND_ARGUMENT value, load_small tag, load_small value)
   body_words function here (plain.Uncaught tag value) =
       let last : List Instr = small SERVICE END_UNCAUGHT ∷ syscall ∷ [] in
       let loads : List Instr = load_code (frame_at frames function) SECOND_ARGUMENT value ++ last in

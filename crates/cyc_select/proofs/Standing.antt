@@ -2,7 +2,7 @@
 -- end of the stack on, each with its slots and, where it waits, its return address.
 use Rattle.std.proofs.Common.{◌≡◌, ◌≢◌, ℕ, suc, ◌+◌, ◌*◌, ◌%◌, ◌<◌, ◌≤◌, List, [], ◌∷◌, length, Some, refl, sym, ap, subst, ◌∙◌, arith, inl, inr}
 use Rattle.std.specs.List.{AllByRecursion}
-use Rattle.cyc_select.specs.declared.constants.TheConstants.{CALLS, FRAME}
+use Rattle.cyc_select.specs.declared.constants.TheConstants.{CALLS, FRAME, HANDLERS}
 use Rattle.cyc_words.specs.Word.{IsWord}
 use Rattle.cyc_isa.specs.Effect.{memory_address}
 use Rattle.cyc_machine.specs.State.{data_base, stack_end, globals_length, words_per_call}
@@ -85,6 +85,52 @@ module _ (program : Program) (frames : List Frame) (fit : AreFrames program fram
       let lies = chain_lies w above (w.words (above + 4 * (frame_at frames f.caller.function).return_address)) f.caller.function waiting caller_known chain in
       record { below_end = omega (arith, lies.below_end); above_low = omega (arith, lies.above_low, frame.within, frame.small); aligned = omega (arith, lies.aligned) }
 
+-- ---- handlers
+
+-- The record of a handler, by its words: the handler before it, its frame, the line that an exception comes to, and how many
+-- more calls may be under way there.
+pub record IsRecord (program : Program) (frames : List Frame) (addresses : ℕ → ℕ) (calls newest base function depth index first : ℕ) (contents : Words) : Type 0 where
+  pub at : newest ≡ base + slot_offset (frame_at frames function) first
+  pub handler : ℕ
+  pub opened : instruction_at program (record { function = function; index = index }) ≡ Some (plain.Try first handler)
+  pub frame : contents 1 ≡ base
+  pub line : contents 2 ≡ addresses (instruction_line program function index + 5)
+  pub left : contents 3 + depth ≡ calls
+
+-- The newest handler of a call has this address, and each leads to the one before it, the last one to that of the caller.
+abbrev pub AreRecords : Program → List Frame → (addresses : ℕ → ℕ) → (calls base function depth : ℕ) → (rest : ℕ → Type 0) → (newest : ℕ) → List states.Handler → Type 0
+AreRecords program frames addresses calls base function depth rest newest [] = rest newest
+AreRecords program frames addresses calls base function depth rest newest (states.Caught ∷ handlers) = ⊥
+AreRecords program frames addresses calls base function depth rest newest (states.Open index first contents ∷ handlers) =
+    IsRecord program frames addresses calls newest base function depth index first contents
+    × AreRecords program frames addresses calls base function depth rest (contents 0) handlers
+
+abbrev pub IsBeyond : Program → List Frame → (addresses : ℕ → ℕ) → (calls base function : ℕ) → List states.Frame → (newest : ℕ) → Type 0
+IsBeyond program frames addresses calls base function [] newest = newest ≡ 0
+IsBeyond program frames addresses calls base function (f ∷ waiting) newest =
+    AreRecords program frames addresses calls (base + 4 * (frame_at frames function).words) f.caller.function (suc (length waiting))
+    (IsBeyond program frames addresses calls (base + 4 * (frame_at frames function).words) f.caller.function waiting) newest f.caller.handlers
+
+abbrev pub IsNewest : Program → List Frame → (addresses : ℕ → ℕ) → (calls newest base function : ℕ) → List states.Handler → List states.Frame → Type 0
+IsNewest program frames addresses calls newest base function handlers waiting =
+    AreRecords program frames addresses calls base function (suc (length waiting))
+    (IsBeyond program frames addresses calls base function waiting) newest handlers
+
+-- while a handler is open in a call its return address is in its frame
+abbrev pub IsKept : (frame : Frame) → (w : Contents) → (base back : ℕ) → List states.Handler → Type 0
+IsKept frame w base back [] = Unit {0}
+IsKept frame w base back (h ∷ handlers) = w.words (base + 4 * frame.return_address) ≡ back
+
+-- the same in other memory
+pub kept_in : (frame : Frame) (w w' : Contents) (base back : ℕ) (handlers : List states.Handler) → w'.words (base + 4 * frame.return_address) ≡ w.words (base + 4 * frame.return_address)
+    → IsKept frame w base back handlers → IsKept frame w' base back handlers
+kept_in frame w w' base back [] same kept = tt
+kept_in frame w w' base back (h ∷ handlers) same kept = same ∙ kept
+
+pub kept_here : (frame : Frame) (w : Contents) (base back : ℕ) (handlers : List states.Handler) → w.words (base + 4 * frame.return_address) ≡ back → IsKept frame w base back handlers
+kept_here frame w base back [] same = tt
+kept_here frame w base back (h ∷ handlers) same = same
+
 -- a call under way, with these slots
 pub record Standing (program : Program) (frames : List Frame) (addresses : ℕ → ℕ) (pages calls : ℕ) (c : Configuration) (r : Words) (w : Contents) (base back depth : ℕ) (slots : Words) : Type 0 where
   pub known : c.active.function < length program.functions
@@ -96,6 +142,8 @@ pub record Standing (program : Program) (frames : List Frame) (addresses : ℕ �
   pub chain : Chain program frames addresses w base back c.active.function c.frames
   pub globals : (global : ℕ) → global < length program.globals → w.words (data_base + 4 * global) ≡ c.globals global
   pub input : AllByRecursion IsWord c.input
+  pub newest : IsNewest program frames addresses calls (r HANDLERS) base c.active.function c.active.handlers c.frames
+  pub kept : IsKept (frame_at frames c.active.function) w base back c.active.handlers
   pub store : w.store ≡ c.store
   pub laid : IsLaid pages c.store
 
@@ -144,8 +192,8 @@ module _ (program : Program) (well : IsWellFormed program) (frames : List Frame)
     -- ---- changes
 
     -- other registers
-    pub standing_registers : (r' : Words) → r' 0 ≡ r 0 → r' FRAME ≡ r FRAME → r' CALLS ≡ r CALLS → Standing program frames addresses pages calls c r' w base back depth slots
-    standing_registers r' zero_same base_same left_same = record {
+    pub standing_registers : (r' : Words) → r' 0 ≡ r 0 → r' FRAME ≡ r FRAME → r' CALLS ≡ r CALLS → r' HANDLERS ≡ r HANDLERS → Standing program frames addresses pages calls c r' w base back depth slots
+    standing_registers r' zero_same base_same left_same newest_same = record {
       known = s.known;
       base_is = base_same ∙ s.base_is;
       zero_is = zero_same ∙ s.zero_is;
@@ -155,14 +203,16 @@ module _ (program : Program) (well : IsWellFormed program) (frames : List Frame)
       chain = s.chain;
       globals = s.globals;
       input = s.input;
+      newest = subst (λ (n : ℕ). IsNewest program frames addresses calls n base c.active.function c.active.handlers c.frames) (sym newest_same) s.newest;
+      kept = s.kept;
       store = s.store;
       laid = s.laid;
     }
 
     -- the same call, at another place
-    pub standing_at : (d : Configuration) → d.active.function ≡ c.active.function → d.frames ≡ c.frames → d.globals ≡ c.globals → d.store ≡ c.store → AllByRecursion IsWord d.input
+    pub standing_at : (d : Configuration) → d.active.function ≡ c.active.function → d.active.handlers ≡ c.active.handlers → d.frames ≡ c.frames → d.globals ≡ c.globals → d.store ≡ c.store → AllByRecursion IsWord d.input
         → Standing program frames addresses pages calls d r w base back depth slots
-    standing_at d function_same frames_same globals_same store_same input = record {
+    standing_at d function_same handlers_same frames_same globals_same store_same input = record {
       known = subst (λ (f : ℕ). f < length program.functions) (sym function_same) s.known;
       base_is = s.base_is;
       zero_is = s.zero_is;
@@ -173,8 +223,35 @@ module _ (program : Program) (well : IsWellFormed program) (frames : List Frame)
           (subst (λ (fs : List states.Frame). Chain program frames addresses w base back c.active.function fs) (sym frames_same) s.chain);
       globals = λ global below. s.globals global below ∙ ap (λ (g : Words). g global) (sym globals_same);
       input = input;
+      newest =
+          subst (λ (f : ℕ). IsNewest program frames addresses calls (r HANDLERS) base f d.active.handlers d.frames) (sym function_same)
+          (subst (λ (hs : List states.Handler). IsNewest program frames addresses calls (r HANDLERS) base c.active.function hs d.frames) (sym handlers_same)
+          (subst (λ (fs : List states.Frame). IsNewest program frames addresses calls (r HANDLERS) base c.active.function c.active.handlers fs) (sym frames_same) s.newest));
+      kept =
+          subst (λ (f : ℕ). IsKept (frame_at frames f) w base back d.active.handlers) (sym function_same)
+          (subst (λ (hs : List states.Handler). IsKept (frame_at frames c.active.function) w base back hs) (sym handlers_same) s.kept);
       store = s.store ∙ sym store_same;
       laid = subst (IsLaid pages) (sym store_same) s.laid;
+    }
+
+    -- other handlers, and other registers
+    pub standing_handlers : (handlers : List states.Handler) (r' : Words) → r' 0 ≡ r 0 → r' FRAME ≡ r FRAME → r' CALLS ≡ r CALLS
+        → IsNewest program frames addresses calls (r' HANDLERS) base c.active.function handlers c.frames → IsKept (frame_at frames c.active.function) w base back handlers
+        → Standing program frames addresses pages calls (record c { active = record c.active { handlers = handlers } }) r' w base back depth slots
+    standing_handlers handlers r' zero_same base_same left_same newest kept = record {
+      known = s.known;
+      base_is = base_same ∙ s.base_is;
+      zero_is = zero_same ∙ s.zero_is;
+      left = ap (λ (n : ℕ). n + depth) left_same ∙ s.left;
+      deep = s.deep;
+      holds = s.holds;
+      chain = s.chain;
+      globals = s.globals;
+      input = s.input;
+      newest = newest;
+      kept = kept;
+      store = s.store;
+      laid = s.laid;
     }
 
     -- a word of the frame and the data are apart
@@ -219,13 +296,16 @@ module _ (program : Program) (well : IsWellFormed program) (frames : List Frame)
           put-other w.words (slot_at slot) (data_base + 4 * global) word (above_data (slot_word (frame_at frames c.active.function) slot) global ((fit.each c.active.function s.known).inside slot below) global_below)
           ∙ s.globals global global_below;
       input = s.input;
+      newest = s.newest;
+      kept = kept_in (frame_at frames c.active.function) w (written w (slot_at slot) word) base back c.active.handlers
+          (put-other w.words (slot_at slot) return_at word (λ e. (fit.each c.active.function s.known).beside slot below (omega (arith, e)))) s.kept;
       store = s.store;
       laid = s.laid;
     }
 
     -- the word for the return address written
-    pub standing_return : (word : ℕ) → Standing program frames addresses pages calls c r (written w (base + 4 * (frame_at frames c.active.function).return_address) word) base back depth slots
-    standing_return word = record {
+    pub standing_return : (word : ℕ) → word ≡ back → Standing program frames addresses pages calls c r (written w (base + 4 * (frame_at frames c.active.function).return_address) word) base back depth slots
+    standing_return word same = record {
       known = s.known;
       base_is = s.base_is;
       zero_is = s.zero_is;
@@ -241,6 +321,8 @@ module _ (program : Program) (well : IsWellFormed program) (frames : List Frame)
           put-other w.words return_at (data_base + 4 * global) word (above_data (frame_at frames c.active.function).return_address global (fit.each c.active.function s.known).return_inside below)
           ∙ s.globals global below;
       input = s.input;
+      newest = s.newest;
+      kept = kept_here (frame_at frames c.active.function) (written w return_at word) base back c.active.handlers (put-same w.words return_at word ∙ same);
       store = s.store;
       laid = s.laid;
     }
@@ -258,6 +340,8 @@ module _ (program : Program) (well : IsWellFormed program) (frames : List Frame)
       chain = chain_kept program frames fit addresses w (record w { store = store }) base back c.active.function c.frames (λ a from. refl) s.chain;
       globals = s.globals;
       input = s.input;
+      newest = s.newest;
+      kept = kept_in (frame_at frames c.active.function) w (record w { store = store }) base back c.active.handlers refl s.kept;
       store = refl;
       laid = laid;
     }
@@ -275,6 +359,8 @@ module _ (program : Program) (well : IsWellFormed program) (frames : List Frame)
       chain = chain_kept program frames fit addresses w (saved_in w address word) base back c.active.function c.frames (λ a from. refl) s.chain;
       globals = s.globals;
       input = s.input;
+      newest = s.newest;
+      kept = kept_in (frame_at frames c.active.function) w (saved_in w address word) base back c.active.handlers refl s.kept;
       store = ap (λ (x : StoreState). saved x address word) s.store;
       laid = saved_laid pages c.store address word is_word s.laid;
     }
@@ -303,6 +389,9 @@ module _ (program : Program) (well : IsWellFormed program) (frames : List Frame)
             ∙ (s.globals other other_below ∙ sym (put-other c.globals global other word apart))
       ];
       input = s.input;
+      newest = s.newest;
+      kept = kept_in (frame_at frames c.active.function) w (written w (global_at global) word) base back c.active.handlers
+          (put-other w.words (global_at global) return_at word (λ e. above_data (frame_at frames c.active.function).return_address global (fit.each c.active.function s.known).return_inside below (sym e))) s.kept;
       store = s.store;
       laid = s.laid;
     }

@@ -254,6 +254,8 @@ module _ (program : Program) (well : IsWellFormed program) (words : HasWords pro
         let own = fit.each program.main well.main in
         stack_zero (base + slot_offset frame slot) (omega (arith, own.within, own.small)) (omega (arith, own.within, own.small, allowed.enough_calls)) (omega (arith, own.inside slot below, own.within, own.small));
     chain = ((let own = fit.each program.main well.main in omega (arith, own.within, own.small)), refl, refl);
+    newest = refl;
+    kept = tt;
     globals = global_word;
     input = bytes_words input bytes;
     store = refl;

@@ -18,14 +18,14 @@ use Rattle.cyc_plain.specs.Step.{instruction_at}
 use Rattle.cyc_plain.proofs.Steps.{function_known}
 use Rattle.cyc_frame.specs.Layout.{frame_at}
 use Rattle.cyc_frame.specs.declared.frame.Frame.{Frame}
-use Rattle.cyc_select.specs.declared.constants.TheConstants.{FIRST, SECOND, THIRD, START_LINES}
+use Rattle.cyc_select.specs.declared.constants.TheConstants.{FIRST, SECOND, THIRD, START_LINES, HANDLERS, ZERO}
 use Rattle.cyc_select.specs.declared.code.Line.{Line}
 use Rattle.cyc_select.specs.declared.code.Condition.TheVariants as conditions
 use Rattle.cyc_select.specs.declared.code.Line.TheVariants as lines
 use Rattle.cyc_select.specs.declared.plan.Plan.{Plan}
 use Rattle.cyc_select.specs.Labelled.{Labelled}
 use Rattle.cyc_select.specs.Plans.{unary_plan, binary_plan, test_of}
-use Rattle.cyc_select.specs.Selection.{ordinary, argument_code, service_number, answer_code, address_code, at_address, copies, load_all, store_all, store_slot, small, syscall, upper_of_global, at_global, word_code, load_code, load_count, operand_code, operand_register, plan_code, plan_count, test_code, branch_line, quotient_code, divided_code, divide_code, is_tested, part_of, result_registers, ending_code, ending_count, operator_code, operator_count, body, behind, body_count, behind_count, count_of, function_count, functions_count, function_line, instruction_line, code_lines, function_lines, start_lines, select_of}
+use Rattle.cyc_select.specs.Selection.{ordinary, argument_code, service_number, answer_code, unwound_code, address_code, at_address, copies, load_all, store_all, store_slot, small, syscall, upper_of_global, at_global, word_code, load_code, load_count, operand_code, operand_register, plan_code, plan_count, test_code, branch_line, quotient_code, divided_code, divide_code, is_tested, part_of, result_registers, ending_code, ending_count, operator_code, operator_count, body, behind, body_count, behind_count, count_of, function_count, functions_count, function_line, instruction_line, code_lines, function_lines, start_lines, select_of}
 use Rattle.cyc_select.proofs.Calls.{length_ordinary, length-copies}
 use Rattle.cyc_select.proofs.Counts.{length_argument, length_answer, length_loads, length_stores, length_registers, length_word, length_load, length_operand, length_address, length_plan, length_test, length_divided}
 use Rattle.cyc_select.proofs.Returns.{loaded, length_loaded}
@@ -81,6 +81,14 @@ module _ (program : Program) (frames : List Frame) (few_results : (function : �
       let loads = length_loaded (frame_at frames function) value (routine_at program function).results (few_results function) in
       let e : length (ending_code (function == program.main) (frame_at frames function) here value ++ ordinary (loaded (frame_at frames function) value (routine_at program function).results) ++ lines.Return ∷ []) ≡ ending_count program function + (routine_at program function).results + 2 = omega (arith, front, all, ended, ordered, loads) in
       e
+  length_body function here (plain.Finish value) =
+      let front = length-append (ending_code (function == program.main) (frame_at frames function) here value) (ordinary (loaded (frame_at frames function) value (routine_at program function).results)) in
+      let all = length-append (ending_code (function == program.main) (frame_at frames function) here value ++ ordinary (loaded (frame_at frames function) value (routine_at program function).results)) (lines.Return ∷ []) in
+      let ended = length_ending (function == program.main) (frame_at frames function) here value in
+      let ordered = length_ordinary (loaded (frame_at frames function) value (routine_at program function).results) in
+      let loads = length_loaded (frame_at frames function) value (routine_at program function).results (few_results function) in
+      let e : length (ending_code (function == program.main) (frame_at frames function) here value ++ ordinary (loaded (frame_at frames function) value (routine_at program function).results) ++ lines.Return ∷ []) ≡ ending_count program function + (routine_at program function).results + 2 = omega (arith, front, all, ended, ordered, loads) in
+      e
   length_body function here (plain.ReadByte destination) = refl
   length_body function here (plain.WriteByte source) =
       let last : List Instr = small SERVICE PUT_BYTE ∷ syscall ∷ [] in
@@ -107,6 +115,12 @@ module _ (program : Program) (frames : List Frame) (few_results : (function : �
       let js : List Instr = argument_code (frame_at frames function) SECOND_ARGUMENT (second_operand request) in
       let last : List Instr = small SERVICE (service_number request) ∷ syscall ∷ answer_code (frame_at frames function) request in
       omega (arith, length_ordinary (is ++ (js ++ last)), length-append is (js ++ last), length-append js last, length_argument (frame_at frames function) ARGUMENT (first_operand request), length_argument (frame_at frames function) SECOND_ARGUMENT (second_operand request), length_answer (frame_at frames function) request)
+  length_body function here (plain.Try first handler) = refl
+  length_body function here (plain.Leave first) = refl
+  length_body function here (plain.Throw tag value) =
+      let is : List Instr = load_code (frame_at frames function) ARGUMENT tag ++ load_code (frame_at frames function) SECOND_ARGUMENT value in
+      let last : List Line = lines.Branch (conditions.Registers branch.NotEqual (register_of HANDLERS) (register_of ZERO)) (here + (load_count tag + load_count value) + 3) ∷ ordinary (small SERVICE END_UNCAUGHT ∷ syscall ∷ []) ++ (ordinary unwound_code ++ lines.Return ∷ []) in
+      omega (arith, length-append (ordinary is) last, length_ordinary is, length-append (load_code (frame_at frames function) ARGUMENT tag) (load_code (frame_at frames function) SECOND_ARGUMENT value), length_load (frame_at frames function) ARGUMENT tag, length_load (frame_at frames function) SECOND_ARGUMENT value)
   length_body function here (plain.Uncaught tag value) =
       let last : List Instr = small SERVICE END_UNCAUGHT ∷ syscall ∷ [] in
       let loads : List Instr = load_code (frame_at frames function) SECOND_ARGUMENT value ++ last in
@@ -133,6 +147,10 @@ module _ (program : Program) (frames : List Frame) (few_results : (function : �
   length_behind function (plain.Load destination address offset) = refl
   length_behind function (plain.Store address offset source) = refl
   length_behind function (plain.Ask request) = refl
+  length_behind function (plain.Try first handler) = refl
+  length_behind function (plain.Leave first) = refl
+  length_behind function (plain.Throw tag value) = refl
+  length_behind function (plain.Finish value) = refl
   length_behind function (plain.Uncaught tag value) = refl
 
   length_both : (function here : ℕ) (i : Instruction) → length (body program frames function here i ++ behind program frames function i) ≡ count_of program function i

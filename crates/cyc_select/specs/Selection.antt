@@ -35,7 +35,7 @@ use Rattle.cyc_plain.specs.Requests.{first_operand, second_operand, answer_count
 use Rattle.cyc_plain.specs.Program.{Routine, Program, routine_at}
 use Rattle.cyc_frame.specs.Layout.{slot_word, frame_at}
 use Rattle.cyc_frame.specs.declared.frame.Frame.{Frame}
-use Rattle.cyc_select.specs.declared.constants.TheConstants.{ZERO, FIRST_RESULT, SECOND_RESULT, THIRD_RESULT, FIRST, SECOND, THIRD, FRAME, CALLS, START_LINES}
+use Rattle.cyc_select.specs.declared.constants.TheConstants.{ZERO, FIRST_RESULT, SECOND_RESULT, THIRD_RESULT, FIRST, SECOND, THIRD, FRAME, CALLS, HANDLERS, START_LINES}
 use Rattle.cyc_select.specs.declared.code.Line.{Line}
 use Rattle.cyc_select.specs.declared.code.Condition.TheVariants as conditions
 use Rattle.cyc_select.specs.declared.code.Line.TheVariants as lines
@@ -385,6 +385,11 @@ body_count program function (plain.Load destination address offset) = address_co
 body_count program function (plain.Store address offset source) =
     address_count address offset + operand_count source + 1
 body_count program function (plain.Ask request) = ask_count request
+body_count program function (plain.Try first handler) = 12
+body_count program function (plain.Leave first) = 1
+body_count program function (plain.Throw tag value) = load_count tag + load_count value + 8
+body_count program function (plain.Finish value) =
+    ending_count program function + (routine_at program function).results + 2
 body_count program function (plain.Uncaught tag value) = word_count tag + load_count value + 2
 
 -- behind a call, the lines that are executed after it returned
@@ -527,6 +532,54 @@ returning_code is_main frame here value results =
     ++ ordinary (load_all frame value (result_registers results) ++ pop_frame frame ∷ [])
     ++ lines.Return ∷ []
 
+-- A handler is opened. Its record has the handler before it, its frame, the line behind the call here, and how many more calls
+-- may be under way.
+abbrev pub recorded_code : Frame → (first : ℕ) → List Instr
+recorded_code frame first =
+    store_slot frame HANDLERS first
+    ∷ store_slot frame FRAME (first + 1)
+    ∷ store_slot frame CALLS (first + 3)
+    ∷ store RETURN_ADDRESS (4 * frame.return_address)
+    ∷ []
+
+-- where an exception comes to it
+abbrev pub caught_code : Frame → (first : ℕ) → List Instr
+caught_code frame first =
+    load RETURN_ADDRESS (4 * frame.return_address)
+    ∷ store_slot frame ARGUMENT first
+    ∷ store_slot frame SECOND_ARGUMENT (suc first)
+    ∷ []
+
+abbrev pub opened_code : Frame → (first : ℕ) → List Instr
+opened_code frame first =
+    store_slot frame RETURN_ADDRESS (first + 2)
+    ∷ load RETURN_ADDRESS (4 * frame.return_address)
+    ∷ add_immediate HANDLERS FRAME (slot_offset frame first)
+    ∷ []
+
+abbrev pub try_code : Frame → (here first label : ℕ) → List Line
+try_code frame here first label =
+    ordinary (recorded_code frame first)
+    ++ (lines.Call (here + 9)
+    ∷ ordinary (caught_code frame first)
+    ++ (lines.Jump label ∷ ordinary (opened_code frame first)))
+
+-- a word of the newest handler's record
+abbrev pub load_record : (target offset : ℕ) → Instr
+load_record target offset = machine.Memory LoadWord (register_of target) (register_of HANDLERS) offset
+
+-- An exception goes to the newest handler, or ends the run.
+abbrev pub unwound_code : List Instr
+unwound_code =
+    load_record RETURN_ADDRESS 8 ∷ load_record CALLS 12 ∷ load_record FRAME 4 ∷ load_record HANDLERS 0 ∷ []
+
+abbrev pub throw_code : Frame → (here : ℕ) → (tag value : Operand) → List Line
+throw_code frame here tag value =
+    ordinary (load_code frame ARGUMENT tag ++ load_code frame SECOND_ARGUMENT value)
+    ++ (lines.Branch (conditions.Registers branch.NotEqual (register_of HANDLERS) (register_of ZERO)) (here + (load_count tag + load_count value) + 3)
+    ∷ ordinary (small SERVICE END_UNCAUGHT ∷ syscall ∷ [])
+    ++ (ordinary unwound_code ++ lines.Return ∷ []))
+
 -- what an instruction does, from this line on
 abbrev pub body : Program → List Frame → (function here : ℕ) → Instruction → List Line
 body program frames function here (plain.Move destination source) =
@@ -557,6 +610,13 @@ body program frames function here (plain.Load destination address offset) =
 body program frames function here (plain.Store address offset source) =
     store_word (frame_at frames function) address offset source
 body program frames function here (plain.Ask request) = ask_code (frame_at frames function) request
+body program frames function here (plain.Try first handler) =
+    try_code (frame_at frames function) here first (instruction_line program function handler)
+body program frames function here (plain.Leave first) =
+    ordinary (load_slot (frame_at frames function) HANDLERS first ∷ [])
+body program frames function here (plain.Throw tag value) = throw_code (frame_at frames function) here tag value
+body program frames function here (plain.Finish value) =
+    returning_code (function == program.main) (frame_at frames function) here value (routine_at program function).results
 body program frames function here (plain.Uncaught tag value) = uncaught_code (frame_at frames function) tag value
 
 -- behind a call, the lines that are executed after it returned

@@ -82,6 +82,15 @@ impl Emitter {
             } => self.load_global(frame, destination, global),
             Instruction::StoreGlobal { global, source } => self.store_global(frame, global, source),
             Instruction::Ask { request } => self.ask(frame, request),
+            Instruction::Try { first, handler } => {
+                self.open_handler(frame, here, first, tables.line(handler))
+            }
+            Instruction::Leave { first } => self.leave(frame, first),
+            Instruction::Throw { tag, value } => self.throw(frame, here, tag, value),
+            Instruction::Finish { value } => {
+                let results = tables.results(tables.function);
+                self.returning(tables.is_main(), frame, here, value, results)
+            }
             Instruction::Uncaught { tag, value } => self.uncaught(frame, tag, value),
             Instruction::MoveWords {
                 destination,

@@ -30,6 +30,9 @@ pub const FRAME: u8 = STACK_POINTER;
 /// The register with how many more calls may be under way.
 pub const CALLS: u8 = 30;
 
+/// The register with the address of the newest handler's record, or 0 where no handler is open.
+pub const HANDLERS: u8 = 28;
+
 /// How many lines the start has.
 pub const START_LINES: usize = 3;
 

@@ -1,0 +1,134 @@
+//! The lines of handlers and of exceptions that are thrown.
+ghost use Rattle.std.specs.Prelude.{◌≡◌, ◌+◌, ◌*◌, ◌<◌, ◌≤◌, [], ◌∷◌, OnOk};
+ghost use Rattle.cyc_plain.specs.declared.limits.TheConstants.{RECORD_WORDS};
+ghost use Rattle.cyc_select.specs.Selection.{ordinary, load_slot, load_record, recorded_code, caught_code, opened_code, try_code, unwound_code, throw_code};
+ghost use Rattle.cyc_select.specs.Emission.{AddsLines, IsReached, IsFound, AreReached, most_lines};
+
+use crate::code::Line;
+use crate::constants::{CALLS, FRAME, HANDLERS, ZERO};
+use crate::emitter::Emitter;
+use crate::instructions::{
+    add_immediate, load, load_slot, offset_of, register, small, store, store_slot, syscall,
+};
+use crate::operands::load_count;
+use cyc_frame::{Frame, MOST_FRAME_WORDS};
+use cyc_isa::{BranchOp, Instr, MemoryOp};
+use cyc_machine::constants::{ARGUMENT, END_UNCAUGHT, RETURN_ADDRESS, SECOND_ARGUMENT, SERVICE};
+use cyc_plain::{Operand, RECORD_WORDS};
+use std::alloc::AllocError;
+
+/// A word of the newest handler's record into a register.
+fn load_record(target: u8, offset: u16) -> Instr
+    ensures { result ≡ load_record target offset }
+{
+    Instr::Memory {
+        op: MemoryOp::LoadWord,
+        target: register(target),
+        base: register(HANDLERS),
+        offset,
+    }
+}
+
+impl Emitter {
+    /// What a record has, but for the line that an exception comes to.
+    fn recorded(&mut self, frame: Frame, first: usize) -> Result<(), AllocError>
+        requires return_address { frame.return_address ≤ MOST_FRAME_WORDS }
+        requires target { AreReached frame first RECORD_WORDS }
+        ensures { AddsLines result self.old self.new (ordinary (recorded_code frame first)) }
+    {
+        self.ordinary(&[
+            store_slot(frame, HANDLERS, first),
+            store_slot(frame, FRAME, first + 1),
+            store_slot(frame, CALLS, first + 3),
+            store(RETURN_ADDRESS, offset_of(frame.return_address)),
+        ])
+    }
+
+    /// Where an exception comes to a handler.
+    fn caught(&mut self, frame: Frame, first: usize) -> Result<(), AllocError>
+        requires return_address { frame.return_address ≤ MOST_FRAME_WORDS }
+        requires target { AreReached frame first RECORD_WORDS }
+        ensures { AddsLines result self.old self.new (ordinary (caught_code frame first)) }
+    {
+        self.ordinary(&[
+            load(RETURN_ADDRESS, offset_of(frame.return_address)),
+            store_slot(frame, ARGUMENT, first),
+            store_slot(frame, SECOND_ARGUMENT, first + 1),
+        ])
+    }
+
+    /// The rest of a record, which is the newest one then.
+    fn opened(&mut self, frame: Frame, first: usize) -> Result<(), AllocError>
+        requires return_address { frame.return_address ≤ MOST_FRAME_WORDS }
+        requires target { AreReached frame first RECORD_WORDS }
+        ensures { AddsLines result self.old self.new (ordinary (opened_code frame first)) }
+    {
+        self.ordinary(&[
+            store_slot(frame, RETURN_ADDRESS, first + 2),
+            load(RETURN_ADDRESS, offset_of(frame.return_address)),
+            add_immediate(HANDLERS, FRAME, offset_of(frame.first_slot + first)),
+        ])
+    }
+
+    /// A handler is opened, whose first line has this label.
+    pub(crate) fn open_handler(
+        &mut self,
+        frame: Frame,
+        here: usize,
+        first: usize,
+        label: usize,
+    ) -> Result<(), AllocError>
+        requires fits { here ≤ most_lines }
+        requires return_address { frame.return_address ≤ MOST_FRAME_WORDS }
+        requires target { AreReached frame first RECORD_WORDS }
+        ensures { AddsLines result self.old self.new (try_code frame here first label) }
+    {
+        self.recorded(frame, first)?;
+        self.line(Line::Call { label: here + 9 })?;
+        self.caught(frame, first)?;
+        self.line(Line::Jump { label })?;
+        self.opened(frame, first)
+    }
+
+    /// The handler with this record is closed.
+    pub(crate) fn leave(&mut self, frame: Frame, first: usize) -> Result<(), AllocError>
+        requires target { AreReached frame first RECORD_WORDS }
+        ensures { AddsLines result self.old self.new (ordinary (load_slot frame HANDLERS first ∷ [])) }
+    {
+        self.ordinary(&[load_slot(frame, HANDLERS, first)])
+    }
+
+    /// The newest handler's call is the current one again.
+    fn unwound(&mut self) -> Result<(), AllocError>
+        ensures { AddsLines result self.old self.new (ordinary unwound_code) }
+    {
+        self.ordinary(&[
+            load_record(RETURN_ADDRESS, 8),
+            load_record(CALLS, 12),
+            load_record(FRAME, 4),
+            load_record(HANDLERS, 0),
+        ])
+    }
+
+    /// An exception is thrown.
+    pub(crate) fn throw(
+        &mut self,
+        frame: Frame,
+        here: usize,
+        tag: Operand,
+        value: Operand,
+    ) -> Result<(), AllocError>
+        requires fits { here ≤ most_lines }
+        requires tag { IsFound frame tag }
+        requires value { IsFound frame value }
+        ensures { AddsLines result self.old self.new (throw_code frame here tag value) }
+    {
+        self.load(frame, ARGUMENT, tag)?;
+        self.load(frame, SECOND_ARGUMENT, value)?;
+        let label = here + (load_count(tag) + load_count(value)) + 3;
+        self.branch(BranchOp::NotEqual, HANDLERS, ZERO, label)?;
+        self.ordinary(&[small(SERVICE, END_UNCAUGHT as u16), syscall()])?;
+        self.unwound()?;
+        self.line(Line::Return)
+    }
+}
