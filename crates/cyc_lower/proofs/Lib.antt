@@ -31,5 +31,6 @@ pub mod NeedsFound
 -- the slots of locals
 pub mod Slots
 pub mod LocalSlots
+pub mod Widths
 -- worked examples
 pub mod Examples

@@ -11,7 +11,7 @@ ghost use Rattle.cyc_lower.specs.Emission.{most_frame_count, HaveFewWords};
 ghost use Rattle.cyc_lower.specs.Lowered.{CanBeLowered};
 
 use crate::emitter::Emitter;
-use crate::frame_count::{frame_count, items_need};
+use crate::frame_count::{frame_count, items_need, words_of, words_of_all};
 use crate::locals::slots_of_locals;
 use cyc_plain::{Function, Instruction, Plain};
 use cyc_types::typed::{self, Constant};
@@ -21,9 +21,10 @@ use std::alloc::{AllocError, Global};
 /// The words that a function returns.
 fn results_of(of_type: &Option<Ty>) -> usize
     ensures { result ≡ results_of (option_map view_ty of_type.now) }
+    ensures few { result ≤ 3 }
 {
     match of_type {
-        Some(_) => 1,
+        Some(of_type) => words_of(of_type),
         None => 0,
     }
 }
@@ -44,14 +45,15 @@ fn lower_function(alloc: Global, function: &typed::Function) -> Result<Function,
     ensures { IfOk result (λ f. routine_of f ≡ lower_function (view_function function.now)) }
 {
     let (starts, free) = slots_of_locals(alloc, function)?;
+    let results = results_of(&function.result);
     let mut emitter = Emitter::new(alloc);
     emitter.lower_items(&starts, &function.body, 0, free)?;
     emitter.emit(Instruction::Return { value: free })?;
     Ok(Function {
         name: function.span,
-        parameters: function.parameters.len(),
-        results: results_of(&function.result),
-        slots: free + items_need(&function.body) + 1,
+        parameters: words_of_all(&function.parameters),
+        results,
+        slots: free + items_need(&function.body) + results.max(1),
         frame_count: frame_count(function),
         code: emitter.code,
     })
