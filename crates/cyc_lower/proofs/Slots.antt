@@ -99,7 +99,7 @@ slot-other ts n m inside there other same = elim (cases_lt n m) [
 ]
 
 -- the words of a local end before those of the next begin, and all do before the first temporary
-words-there : (ts : List Ty) (n : ℕ) (t : Ty) → slice_get ts n ≡ Some t → words_in ts n ≡ words_of t
+pub words-there : (ts : List Ty) (n : ℕ) (t : Ty) → slice_get ts n ≡ Some t → words_in ts n ≡ words_of t
 words-there [] n t at = absurd (none-some t at)
 words-there (u ∷ ts) zero t at = ap words_of (same_Some u t at)
 words-there (u ∷ ts) (suc n) t at = words-there ts n t at

@@ -111,6 +111,15 @@ kept_in : (from to : Kind) (v : Value) (slots : Words) (o : Operand) → convers
 kept_in from to v slots (operands.Slot n) gives is = kept_at from to v slots n gives is
 kept_in from to v slots (operands.Word w) gives is = kept_at from to v (λ (i : ℕ). w) 0 gives is
 
+-- a value that is converted where it is to be has as many words before
+pub as_wide : (from to : Kind) → converts_there from to ≡ true → words_of_kind from ≡ words_of_kind to
+as_wide from kinds.NonNull quiet = absurd (let f : false ≡ true = quiet in cc)
+as_wide from kinds.Int quiet = eqb-true _ _ quiet
+as_wide from kinds.Nullable quiet = eqb-true _ _ quiet
+as_wide from kinds.Fat quiet = eqb-true _ _ quiet
+as_wide from kinds.Handle quiet = eqb-true _ _ quiet
+as_wide from kinds.Key quiet = eqb-true _ _ quiet
+
 no_pointer_at : (kind : Kind) (object offset : ℕ) (words : Words) (p : ℕ) → Is kind (Thin object offset) words p → ⊥
 no_pointer_at kinds.Int object offset words p is = is
 no_pointer_at kinds.Nullable object offset words p is = is
@@ -278,14 +287,6 @@ module _ (source : Program) (pages calls : ℕ) where
   converted_ahead from to i (Handle region) words n k e w well quiet is = absurd (no_handle i region words (operands.Slot n) is)
   converted_ahead from to i (Key region) words n k e w well quiet is = absurd (no_key i region words (operands.Slot n) is)
   converted_ahead from to i v words n k e w well quiet is = absurd (well refl)
-
-  as_wide : (from to : Kind) → converts_there from to ≡ true → words_of_kind from ≡ words_of_kind to
-  as_wide from kinds.NonNull quiet = absurd (let f : false ≡ true = quiet in cc)
-  as_wide from kinds.Int quiet = eqb-true _ _ quiet
-  as_wide from kinds.Nullable quiet = eqb-true _ _ quiet
-  as_wide from kinds.Fat quiet = eqb-true _ _ quiet
-  as_wide from kinds.Handle quiet = eqb-true _ _ quiet
-  as_wide from kinds.Key quiet = eqb-true _ _ quiet
 
   -- its kind is the one that it is converted from, and it has as many words behind
   converts_ahead : (from to : Kind) (v : Kinded) (n : ℕ) (k : List Entry) (e : Environment) (w : World) (c : Configuration)
