@@ -4,7 +4,7 @@
 --
 -- A value has as many slots as its kind has words, one behind the other. A global has one word yet, the first of its value. There is
 -- code for the int language; a form that is not built has a constant in its place, which nothing runs.
-use Rattle.std.specs.Prelude.{ℕ, suc, ◌+◌, ◌==◌, max, Bool, false, if◌then◌else◌, List, [], ◌∷◌, ◌++◌, length, map, Option, None, Some}
+use Rattle.std.specs.Prelude.{ℕ, suc, ◌+◌, ◌==◌, Bool, false, if◌then◌else◌, List, [], ◌∷◌, ◌++◌, length, map, Option, None, Some}
 use Rattle.cyc_words.specs.declared.span.Span.{Span}
 use Rattle.cyc_syntax.specs.Symbols.{Place}
 use Rattle.cyc_types.specs.declared.typed.Kind.{Kind}
@@ -482,13 +482,17 @@ results_of (Some t) = words_of t
 abbrev pub span_of_place : Place → Span
 span_of_place p = record { line = p.line; column = p.column }
 
--- its slots are the locals and as many temporaries as its expressions need, and some for what it returns
+-- the words of the largest value
+abbrev pub spare_slots : ℕ
+spare_slots = 3
+
+-- its slots are the locals and as many temporaries as its expressions need, and those of one value more, such as what it returns
 abbrev pub lower_function : Function → Routine
 lower_function h = record {
   name = span_of_place h.place;
   parameters = words_of_all h.parameters;
   results = results_of h.result;
-  slots = first_temporary h + items_need h.body + max 1 (results_of h.result);
+  slots = first_temporary h + items_need h.body + spare_slots;
   frame_count = frame_count h;
   code = function_code h;
 }

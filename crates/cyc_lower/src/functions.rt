@@ -18,10 +18,12 @@ use cyc_types::typed::{self, Constant};
 use cyc_types::{Ty, TypedTree};
 use std::alloc::{AllocError, Global};
 
+/// The words of the largest value.
+const SPARE_SLOTS: usize = 3;
+
 /// The words that a function returns.
 fn results_of(of_type: &Option<Ty>) -> usize
     ensures { result ≡ results_of (option_map view_ty of_type.now) }
-    ensures few { result ≤ 3 }
 {
     match of_type {
         Some(of_type) => words_of(of_type),
@@ -39,21 +41,20 @@ fn initial_word(value: Constant) -> u32
     }
 }
 
-/// A function. Its slots are its locals, and behind them the temporaries.
+/// A function. Its slots are its locals, and behind them the temporaries and one value more.
 fn lower_function(alloc: Global, function: &typed::Function) -> Result<Function, AllocError>
     requires { frame_count (view_function function.now) ≤ most_frame_count }
     ensures { IfOk result (λ f. routine_of f ≡ lower_function (view_function function.now)) }
 {
     let (starts, free) = slots_of_locals(alloc, function)?;
-    let results = results_of(&function.result);
     let mut emitter = Emitter::new(alloc);
     emitter.lower_items(&starts, &function.body, 0, free)?;
     emitter.emit(Instruction::Return { value: free })?;
     Ok(Function {
         name: function.span,
         parameters: words_of_all(&function.parameters),
-        results,
-        slots: free + items_need(&function.body) + results.max(1),
+        results: results_of(&function.result),
+        slots: free + items_need(&function.body) + SPARE_SLOTS,
         frame_count: frame_count(function),
         code: emitter.code,
     })
