@@ -28,7 +28,7 @@ const HANDLER_WORDS: usize = 6;
 
 /// The words of a value of a kind.
 pub(crate) fn words_of_kind(kind: Kind) -> usize
-    ensures { result ≡ words_of_kind kind }
+    ensures words { result ≡ words_of_kind kind }
     ensures few { result ≤ 3 }
 {
     match kind {

@@ -3,6 +3,7 @@ ghost use Rattle.std.specs.Prelude.{◌≡◌, ◌≤◌, map, option_map, IfOk}
 ghost use Rattle.cyc_syntax.specs.TokenRule.{max_tokens};
 ghost use Rattle.cyc_types.specs.TypeView.{view_ty};
 ghost use Rattle.cyc_types.specs.TypedTreeView.{view_constant, view_global, view_function, view_program};
+ghost use Rattle.cyc_types.specs.typing.WellTyped.{IsWellTypedProgram};
 ghost use Rattle.cyc_types.specs.Weight.{program_weight};
 ghost use Rattle.cyc_plain.specs.Program.{routine_of};
 ghost use Rattle.cyc_meaning.specs.FrameCount.{frame_count};
@@ -87,6 +88,7 @@ fn lower_globals(alloc: Global, globals: &[typed::Global]) -> Result<Vec<u32>, A
 /// The program, in which each function and each global keeps its number.
 pub(crate) fn lower_tree(alloc: Global, tree: &TypedTree) -> Result<Plain, AllocError>
     requires few { HaveFewWords (map view_function tree.now.functions.items) }
+    requires well_typed { IsWellTypedProgram (view_program tree.now) }
     requires small { program_weight (view_program tree.now) ≤ max_tokens }
     requires can_be { CanBeLowered (view_program tree.now) }
     ensures { IfOk result (λ plain. plain ≡ lower_program (view_program tree.now)) }
