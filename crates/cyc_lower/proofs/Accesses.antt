@@ -8,7 +8,8 @@ use Rattle.cyc_meaning.specs.Values.{Value, Operand, Cell, is_kind}
 use Rattle.cyc_meaning.specs.State.{Sort, Heap, Globals, Stack, Lexical, Dynamic, Region, Object, World, Access, Found, Closed, Missing, found_region, region_at, is_live, Located, located, cell_in, cell_at, stack_region, closed, written, has_pages, counted, Environment, with_local, made, variable, Entry, Focus, Given, State, Running, status_of}
 use Rattle.cyc_meaning.specs.Step.{wrong, read, loaded, loaded_from, stored, declared, closing}
 use Rattle.cyc_meaning.specs.SourceMachine.{status_in}
-use Rattle.cyc_lower.proofs.Relation.{content_of_cell, content_of, contents, IsQuietSort, AreQuiet}
+use Rattle.cyc_lower.proofs.Widths.{same_kind}
+use Rattle.cyc_lower.proofs.Relation.{with_kind, content_of_cell, content_of, contents, IsQuietSort, AreQuiet}
 use Rattle.cyc_lower.proofs.Data.{get_set_same, get_set_other}
 
 abbrev pub IsWell : State → Type 0
@@ -25,25 +26,26 @@ pub record IsLoaded (kind : Kind) (object : Option ℕ) (stack : List Entry) (e 
   pub number : ℕ
   pub value : Value
   pub there : object ≡ Some number
-  pub has : contents w.objects number ≡ Some value
+  pub has : contents w.objects number ≡ Some (record { kind = kind; value = value })
   pub gives : loaded_from kind object stack e w ≡ Running (Given (record { kind = kind; value = value })) stack e w
 
 -- of the value that a cell holds
-abbrev Reads : Kind → Option Value → State → List Entry → Environment → World → Type 0
-Reads kind content s stack e w = (v : Value) × (content ≡ Some v) × (s ≡ Running (Given (record { kind = kind; value = v })) stack e w)
+abbrev Reads : Kind → Option Operand → State → List Entry → Environment → World → Type 0
+Reads kind content s stack e w =
+    (v : Value) × (content ≡ Some (record { kind = kind; value = v })) × (s ≡ Running (Given (record { kind = kind; value = v })) stack e w)
 
-read_cell : (kind : Kind) (content : Option Value) (fits : Bool) (stack : List Entry) (e : Environment) (w : World)
-    → IsWell (if fits then read kind content stack e w else wrong w) → Reads kind content (if fits then read kind content stack e w else wrong w) stack e w
-read_cell kind content false stack e w well = absurd (well refl)
-read_cell kind None true stack e w well = absurd (well refl)
-read_cell kind (Some v) true stack e w well = (v, refl, refl)
+read_cell : (kind : Kind) (c : Cell) (content : Option Value) (fits : Bool) (stack : List Entry) (e : Environment) (w : World) → is_kind c.kind kind ≡ fits
+    → IsWell (if fits then read kind content stack e w else wrong w) → Reads kind (with_kind c.kind content) (if fits then read kind content stack e w else wrong w) stack e w
+read_cell kind c content false stack e w is well = absurd (well refl)
+read_cell kind c None true stack e w is well = absurd (well refl)
+read_cell kind c (Some v) true stack e w is well = (v, ap (λ (i : Kind). with_kind i (Some v)) (same_kind c.kind kind is), refl)
 
 read_object : (kind : Kind) (x : Object) (cell : Option Cell) (live : Bool) (stack : List Entry) (e : Environment) (w : World)
     → IsWell (loaded kind (if live then located x cell else Closed) stack e w)
     → Reads kind (content_of_cell cell) (loaded kind (if live then located x cell else Closed) stack e w) stack e w
 read_object kind x cell false stack e w well = absurd (well refl)
 read_object kind x None true stack e w well = absurd (well refl)
-read_object kind x (Some c) true stack e w well = read_cell kind c.content (is_kind c.kind kind) stack e w well
+read_object kind x (Some c) true stack e w well = read_cell kind c c.content (is_kind c.kind kind) stack e w refl well
 
 read_from : (kind : Kind) (x : Option Object) (stack : List Entry) (e : Environment) (w : World)
     → IsWell (loaded kind (cell_in w x 0) stack e w)
@@ -63,40 +65,45 @@ pub record IsStored (number : ℕ) (v : Operand) (focus : Focus) (stack : List E
   pub at : Located
   pub object_there : slice_get w.objects number ≡ Some at.object
   pub cell_there : slice_get at.object.cells 0 ≡ Some at.cell
+  pub same : at.cell.kind ≡ v.kind
   pub gives : stored (cell_at w number 0) number 0 v focus stack e w ≡ Running focus stack e (written w number 0 at v.value)
 
 store_cell : (at : Located) (fits : Bool) (number : ℕ) (v : Operand) (focus : Focus) (stack : List Entry) (e : Environment) (w : World)
     → IsWell (if fits then Running focus stack e (written w number 0 at v.value) else wrong w)
-    → (if fits then Running focus stack e (written w number 0 at v.value) else wrong w) ≡ Running focus stack e (written w number 0 at v.value)
-store_cell at true number v focus stack e w well = refl
+    → (fits ≡ true) × ((if fits then Running focus stack e (written w number 0 at v.value) else wrong w) ≡ Running focus stack e (written w number 0 at v.value))
+store_cell at true number v focus stack e w well = (refl, refl)
 store_cell at false number v focus stack e w well = absurd (well refl)
 
 store_object : (x : Object) (cell : Option Cell) (live : Bool) (number : ℕ) (v : Operand) (focus : Focus) (stack : List Entry) (e : Environment) (w : World)
     → IsWell (stored (if live then located x cell else Closed) number 0 v focus stack e w)
-    → (c : Cell) × (cell ≡ Some c) × (stored (if live then located x cell else Closed) number 0 v focus stack e w ≡ Running focus stack e (written w number 0 (record { object = x; cell = c }) v.value))
+    → (c : Cell) × (cell ≡ Some c) × (c.kind ≡ v.kind) × (stored (if live then located x cell else Closed) number 0 v focus stack e w ≡ Running focus stack e (written w number 0 (record { object = x; cell = c }) v.value))
 store_object x cell false number v focus stack e w well = absurd (well refl)
 store_object x None true number v focus stack e w well = absurd (well refl)
-store_object x (Some c) true number v focus stack e w well = (c, refl, store_cell (record { object = x; cell = c }) (is_kind c.kind v.kind) number v focus stack e w well)
+store_object x (Some c) true number v focus stack e w well =
+    let (fits, gives) = store_cell (record { object = x; cell = c }) (is_kind c.kind v.kind) number v focus stack e w well in
+    (c, refl, same_kind c.kind v.kind fits, gives)
 
 store_into : (x : Option Object) (number : ℕ) (v : Operand) (focus : Focus) (stack : List Entry) (e : Environment) (w : World)
     → IsWell (stored (cell_in w x 0) number 0 v focus stack e w)
-    → (at : Located) × (x ≡ Some at.object) × (slice_get at.object.cells 0 ≡ Some at.cell) × (stored (cell_in w x 0) number 0 v focus stack e w ≡ Running focus stack e (written w number 0 at v.value))
+    → (at : Located) × (x ≡ Some at.object) × (slice_get at.object.cells 0 ≡ Some at.cell) × (at.cell.kind ≡ v.kind)
+    × (stored (cell_in w x 0) number 0 v focus stack e w ≡ Running focus stack e (written w number 0 at v.value))
 store_into None number v focus stack e w well = absurd (well refl)
 store_into (Some x) number v focus stack e w well =
-    let (c, there, gives) = store_object x (slice_get x.cells 0) (is_live w x.owner) number v focus stack e w well in
-    (record { object = x; cell = c }, refl, there, gives)
+    let (c, there, same, gives) = store_object x (slice_get x.cells 0) (is_live w x.owner) number v focus stack e w well in
+    (record { object = x; cell = c }, refl, there, same, gives)
 
 pub is_stored : (number : ℕ) (v : Operand) (focus : Focus) (stack : List Entry) (e : Environment) (w : World) → IsWell (stored (cell_at w number 0) number 0 v focus stack e w) → IsStored number v focus stack e w
 is_stored number v focus stack e w well =
-    let (at, object_there, cell_there, gives) = store_into (slice_get w.objects number) number v focus stack e w well in
-    record { at = at; object_there = object_there; cell_there = cell_there; gives = gives }
+    let (at, object_there, cell_there, same, gives) = store_into (slice_get w.objects number) number v focus stack e w well in
+    record { at = at; object_there = object_there; cell_there = cell_there; same = same; gives = gives }
 
 -- what the objects then hold
 module _ (w : World) (number : ℕ) (at : Located) (v : Value) (object_there : slice_get w.objects number ≡ Some at.object) (cell_there : slice_get at.object.cells 0 ≡ Some at.cell) where
-  pub written_here : contents (written w number 0 at v).objects number ≡ Some v
-  written_here =
+  pub written_here : (kind : Kind) → at.cell.kind ≡ kind → contents (written w number 0 at v).objects number ≡ Some (record { kind = kind; value = v })
+  written_here kind same =
       ap content_of (get_set_same w.objects number at.object (record at.object { cells = set at.object.cells 0 (record at.cell { content = Some v }) }) object_there)
       ∙ ap content_of_cell (get_set_same at.object.cells 0 at.cell (record at.cell { content = Some v }) cell_there)
+      ∙ ap (λ (i : Kind). with_kind i (Some v)) same
 
   pub written_elsewhere : (o : ℕ) → o ≢ number → contents (written w number 0 at v).objects o ≡ contents w.objects o
   written_elsewhere o other = ap content_of (get_set_other w.objects number o (record at.object { cells = set at.object.cells 0 (record at.cell { content = Some v }) }) other)

@@ -9,9 +9,9 @@ use Rattle.cyc_types.specs.declared.typed.Callee.TheVariants as callees
 use Rattle.cyc_types.specs.declared.typed.UnaryOperator.TheVariants as unary
 use Rattle.cyc_types.specs.declared.typed.Operator.{Operator}
 use Rattle.cyc_types.specs.declared.typed.Operator.TheVariants as operators
-use Rattle.cyc_types.specs.Types.{Ty}
+use Rattle.cyc_types.specs.Types.{Ty, words_of}
 use Rattle.cyc_types.specs.TypedTrees.{Lvalue, Local, Global, Expression, Number, Copy, Call, Unary, Binary, Assign, Converted, Convert, Arguments, NoArguments, MoreArguments, Operations, NoOperations, ThenCompute, ThenTest, Statement, Block, Empty, Evaluate, If, While, Return, Break, Continue, Items, NoItems, MoreItems, Execute, Declare, Signature, Function, Program}
-use Rattle.cyc_types.specs.Numbered.{Numbering, argument_count, IsWithin, IsNumbered, IsNumberedConverted, AreNumberedArguments, AreNumberedOperations, IsNumberedReturn, IsNumberedInitial, IsNumberedStatement, AreNumberedItems, numbering_of, signatures_of, AreNumberedFunctions, IsNumberedProgram}
+use Rattle.cyc_types.specs.Numbered.{Numbering, argument_count, numbering_of, signatures_of}
 use Rattle.cyc_plain.specs.declared.instruction.Comparison.{Comparison}
 use Rattle.cyc_plain.specs.declared.instruction.Operand.{Operand}
 use Rattle.cyc_plain.specs.declared.instruction.Operand.TheVariants as operands
@@ -20,10 +20,14 @@ use Rattle.cyc_plain.specs.declared.instruction.Instruction.TheVariants as instr
 use Rattle.cyc_plain.specs.Program.{Routine, no_routine, routine_at}
 use Rattle.cyc_plain.specs.Straight.{At, HasAt}
 use Rattle.cyc_plain.proofs.Straight.{has_front, has_back, has_whole}
+use Rattle.cyc_meaning.specs.Values.{kind_of, words_of_kind}
 use Rattle.cyc_meaning.specs.FrameCount.{words_of_all}
 use Rattle.cyc_lower.specs.Slots.{starts_of, slot_of}
-use Rattle.cyc_lower.specs.Lowering.{slot_types, operand_of, operand_or, code_unless, slot_or, code_unless_slot, left_with, left_of, value_slot, next_slot, slot_with, left_slot, value_operand, converted_operand, printed_operand, jump_if_nonzero, check_code, conversion_code, divisor_code, checked_code, operator_code, truth_code, load_code, low_byte, test_code, is_in, copy_code, expression_code, arguments_code, converted_code, converted_operand_code, printed_code, initial_code, assignment_code, assigned_operand, operations_code, discarded_code, failing_comparison, compared_or, compared_of, first_operand, first_code, second_code, pair_code, condition_code, condition_of, failing_jump, break_target, continue_target, return_code, declaration_code, statement_code, items_code, function_code, first_temporary, results_of, lower_function, lower_program}
-use Rattle.cyc_lower.proofs.Stands.{OperandBy, CheckAt, ConversionAt, DivisorAt, CheckedAt, OperatorAt, LoadAt, CopyBy, ExpressionAt, InitialAt, ConvertedAt, ConvertedOperandAt, PrintedAt, ArgumentsAt, OperationsAt, PairAt, ConditionAt, AssignmentAt, DiscardedAt, ReturnedAt, ReturnAt, DeclarationAt, StatementAt, ItemsAt}
+use Rattle.cyc_lower.specs.Lowering.{slot_types, converts_there, passed_words, source_of, source_slot, moved_by, move_of, operand_of, operand_or, code_unless, slot_or, code_unless_slot, left_with, left_of, value_slot, next_slot, slot_with, left_slot, value_operand, converted_operand, printed_operand, jump_if_nonzero, check_code, conversion_code, divisor_code, checked_code, operator_code, truth_code, load_code, low_byte, test_code, is_in, copy_code, expression_code, arguments_code, converted_code, converted_operand_code, printed_code, initial_code, assignment_code, assigned_operand, operations_code, discarded_code, failing_comparison, compared_or, compared_of, first_operand, first_code, second_code, pair_code, condition_code, condition_of, failing_jump, break_target, continue_target, return_code, declaration_code, statement_code, items_code, function_code, first_temporary, results_of, lower_function, lower_program}
+use Rattle.cyc_lower.proofs.Stands.{OperandBy, CheckAt, ConversionAt, DivisorAt, CheckedAt, OperatorAt, LoadAt, CopyBy, ExpressionAt, InitialAt, InitialBy, ConvertedAt, ConvertedOperandAt, PrintedAt, ArgumentsAt, OperationsAt, PairAt, ConditionAt, AssignmentAt, DiscardedAt, ReturnedAt, ReturnAt, DeclarationAt, StatementAt, ItemsAt}
+use Rattle.cyc_lower.proofs.Widths.{kind_of_result, given, passed_kind, type_words}
+use Rattle.cyc_lower.proofs.Fitting.{FitsPlace, Fits, FitsConverted, FitArguments, FitOperations, FitsReturn, FitsInitial, FitsStatement, FitItems, AreFitting, IsFitting}
+use Rattle.cyc_lower.proofs.Values.{as_wide}
 use Rattle.cyc_lower.proofs.Relation.{bounds_in, types_in}
 use Rattle.cyc_lower.proofs.Calls.{FunctionsStand}
 
@@ -31,17 +35,17 @@ use Rattle.cyc_lower.proofs.Calls.{FunctionsStand}
 cut : (p q : ℕ) (a b : List Instruction) → p + length (a ++ b) ≡ q → p + length a + length b ≡ q
 cut p q a b end = omega (arith, end, length-append a b)
 
-module _ (code : List Instruction) (b : Numbering) (starts : List ℕ) where
+module _ (code : List Instruction) (b : Numbering) (types : List Ty) where
   -- ---- operands
 
   -- an operand without code, or code that stands here
   operand_by : (known : Option Operand) (computed : Type 0) (x : List Instruction) (slot p q : ℕ) → p + length (code_unless known x) ≡ q → HasAt code p (code_unless known x)
-      → (p + length x ≡ q → HasAt code p x → computed) → OperandBy code b starts known computed slot (operand_or known slot) p q
+      → (p + length x ≡ q → HasAt code p x → computed) → OperandBy code b types known computed slot (operand_or known slot) p q
   operand_by (Some o) computed x slot p q end has stands = (refl, omega (arith, end))
   operand_by None computed x slot p q end has stands = (refl, stands end has)
 
   returned_by : (known : Option Operand) (computed : Type 0) (x : List Instruction) (slot p q : ℕ) → p + length (code_unless_slot known x) ≡ q → HasAt code p (code_unless_slot known x)
-      → (p + length x ≡ q → HasAt code p x → computed) → ReturnedAt code b starts known computed slot (slot_or known slot) p q
+      → (p + length x ≡ q → HasAt code p x → computed) → ReturnedAt code b types known computed slot (slot_or known slot) p q
   returned_by (Some (operands.Slot n)) computed x slot p q end has stands = (refl, omega (arith, end))
   returned_by (Some (operands.Word n)) computed x slot p q end has stands = (refl, stands end has)
   returned_by None computed x slot p q end has stands = (refl, stands end has)
@@ -52,180 +56,196 @@ module _ (code : List Instruction) (b : Numbering) (starts : List ℕ) where
   LeftBy None in_slot = in_slot
 
   right_by : (known : Option Operand) (in_slot computed : Type 0) (x : List Instruction) (slot p q : ℕ) → LeftBy known in_slot → p + length (code_unless known x) ≡ q → HasAt code p (code_unless known x)
-      → (p + length x ≡ q → HasAt code p x → computed) → OperandBy code b starts known (in_slot × computed) slot (operand_or known slot) p q
+      → (p + length x ≡ q → HasAt code p x → computed) → OperandBy code b types known (in_slot × computed) slot (operand_or known slot) p q
   right_by (Some o) in_slot computed x slot p q left end has stands = (refl, omega (arith, end))
   right_by None in_slot computed x slot p q left end has stands = (refl, (left, stands end has))
 
   abbrev IsLeft : Operations → Operand → (d t : ℕ) → Type 0
   IsLeft NoOperations l d t = l ≡ operands.Slot d
-  IsLeft (ThenCompute o a os) l d t = LeftBy (operand_of starts a) (l ≡ operands.Slot t)
+  IsLeft (ThenCompute o a os) l d t = LeftBy (operand_of (starts_of types) a) (l ≡ operands.Slot t)
   IsLeft os l d t = l ≡ operands.Slot t
 
   left_here : (known : Option Operand) (l : Operand) (t : ℕ) → l ≡ operands.Slot t → LeftBy known (l ≡ operands.Slot t)
   left_here (Some o) l t is = tt
   left_here None l t is = is
 
-  left_first : (known : Option Operand) (a : Expression) (t : ℕ) → LeftBy known (operand_or (left_with known (operand_of starts a)) (slot_with starts known a t) ≡ operands.Slot t)
+  left_first : (known : Option Operand) (a : Expression) (t : ℕ) → LeftBy known (operand_or (left_with known (operand_of (starts_of types) a)) (slot_with (starts_of types) known a t) ≡ operands.Slot t)
   left_first (Some o) a t = tt
   left_first None a t = refl
 
   next_left : (os : Operations) (d t : ℕ) → IsLeft os (operands.Slot (next_slot os d t)) d t
   next_left NoOperations d t = refl
-  next_left (ThenCompute o a os) d t = left_here (operand_of starts a) (operands.Slot t) t refl
+  next_left (ThenCompute o a os) d t = left_here (operand_of (starts_of types) a) (operands.Slot t) t refl
   next_left os d t = refl
 
-  first_left : (a : Expression) (os : Operations) (d t : ℕ) → IsLeft os (operand_or (left_of starts a os) (left_slot starts a os d t)) d t
+  first_left : (a : Expression) (os : Operations) (d t : ℕ) → IsLeft os (operand_or (left_of (starts_of types) a os) (left_slot (starts_of types) a os d t)) d t
   first_left a NoOperations d t = refl
-  first_left a (ThenCompute o c os) d t = left_first (operand_of starts c) a t
+  first_left a (ThenCompute o c os) d t = left_first (operand_of (starts_of types) c) a t
   first_left a os d t = refl
 
   -- ---- expressions
 
-  check_stands : (tag : ℕ) (o : Operand) (p q : ℕ) → p + 2 ≡ q → HasAt code p (check_code tag o p) → CheckAt code b starts tag o p q
+  check_stands : (tag : ℕ) (o : Operand) (p q : ℕ) → p + 2 ≡ q → HasAt code p (check_code tag o p) → CheckAt code b types tag o p q
   check_stands tag o p q end (jump, (uncaught, none)) = (subst (λ t. At code p (jump_if_nonzero o t)) end jump, uncaught, end)
 
-  conversion_stands : (to : Kind) (o : Operand) (p q : ℕ) → p + length (conversion_code to o p) ≡ q → HasAt code p (conversion_code to o p) → ConversionAt code b starts to o p q
+  conversion_stands : (to : Kind) (o : Operand) (p q : ℕ) → p + length (conversion_code to o p) ≡ q → HasAt code p (conversion_code to o p) → ConversionAt code b types to o p q
   conversion_stands kinds.NonNull o p q end has = check_stands null_exception o p q end has
   conversion_stands to o p q end has = omega (arith, end)
 
-  divisor_stands : (o : Operand) (p q : ℕ) → p + length (divisor_code o p) ≡ q → HasAt code p (divisor_code o p) → DivisorAt code b starts o p q
+  divisor_stands : (o : Operand) (p q : ℕ) → p + length (divisor_code o p) ≡ q → HasAt code p (divisor_code o p) → DivisorAt code b types o p q
   divisor_stands (operands.Word (suc n)) p q end has = omega (arith, end)
   divisor_stands (operands.Word zero) p q end has = check_stands division_by_zero (operands.Word zero) p q end has
   divisor_stands (operands.Slot n) p q end has = check_stands division_by_zero (operands.Slot n) p q end has
 
-  checked_stands : (o : Operator) (l r : Operand) (d p q : ℕ) → p + length (checked_code o l r p d) ≡ q → HasAt code p (checked_code o l r p d) → CheckedAt code b starts o d l r p q
+  checked_stands : (o : Operator) (l r : Operand) (d p q : ℕ) → p + length (checked_code o l r p d) ≡ q → HasAt code p (checked_code o l r p d) → CheckedAt code b types o d l r p q
   checked_stands o l r d p q end has =
       let front = divisor_code r p in
       let (here, none) = has_back code p front _ has in
       (p + length front, divisor_stands r p (p + length front) refl (has_front code p front _ has), here, cut p q front _ end)
 
-  operator_stands : (o : Operator) (l r : Operand) (d p q : ℕ) → p + length (operator_code o l r p d) ≡ q → HasAt code p (operator_code o l r p d) → OperatorAt code b starts o d l r p q
+  operator_stands : (o : Operator) (l r : Operand) (d p q : ℕ) → p + length (operator_code o l r p d) ≡ q → HasAt code p (operator_code o l r p d) → OperatorAt code b types o d l r p q
   operator_stands operators.Divide l r d p q end has = checked_stands operators.Divide l r d p q end has
   operator_stands operators.Remainder l r d p q end has = checked_stands operators.Remainder l r d p q end has
   operator_stands o l r d p q end (here, none) = (here, end)
 
-  load_stands : (l : Lvalue) (d p q : ℕ) → IsWithin b l → p + length (load_code starts l d) ≡ q → HasAt code p (load_code starts l d) → LoadAt code b starts l d p q
-  load_stands (Local w n) d p q few end (here, none) = (here, end)
-  load_stands (Global n) d p q few end (here, none) = (few, here, end)
+  load_stands : (l : Lvalue) (kind : Kind) (words d p q : ℕ) → FitsPlace b types l kind → p + length (load_code (starts_of types) words l d) ≡ q → HasAt code p (load_code (starts_of types) words l d)
+      → LoadAt code b types words l d p q
+  load_stands (Local w n) kind words d p q few end (here, none) = (here, end)
+  load_stands (Global n) kind words d p q few end (here, none) = (few, here, end)
 
-  copy_by : (is : Bool) (o : Operand) (d p q : ℕ) → p + length (if is then [] else instructions.Move d o ∷ []) ≡ q → HasAt code p (if is then [] else instructions.Move d o ∷ []) → CopyBy code is o d p q
-  copy_by true o d p q end has = omega (arith, end)
-  copy_by false o d p q end (here, none) = (here, end)
+  copy_by : (is : Bool) (words : ℕ) (o : Operand) (d p q : ℕ) → p + length (if is then [] else move_of words d o ∷ []) ≡ q → HasAt code p (if is then [] else move_of words d o ∷ []) → CopyBy code is words o d p q
+  copy_by true words o d p q end has = omega (arith, end)
+  copy_by false words o d p q end (here, none) = (here, end)
+
+  words_kept : (from to : Kind) (a : Expression) → from ≡ given b.functions a → converts_there from to ≡ true → words_of_kind (given b.functions a) ≡ words_of_kind to
+  words_kept from to a kind lands = ap words_of_kind (sym kind) ∙ as_wide from to lands
+
+  initial_by : (there : Bool) (from to : Kind) (a : Expression) (d t p q : ℕ) → from ≡ given b.functions a → converts_there from to ≡ there
+      → ((slot r : ℕ) → p + length (expression_code (starts_of types) a p slot t) ≡ r → HasAt code p (expression_code (starts_of types) a p slot t) → ExpressionAt code b types a slot t p r)
+      → p + length (if there then expression_code (starts_of types) a p d t else moved_by (source_of (starts_of types) (Convert from to a)) (expression_code (starts_of types) a p (source_slot (starts_of types) (Convert from to a) t) t) to (converted_operand (starts_of types) (Convert from to a) t) p d) ≡ q
+      → HasAt code p (if there then expression_code (starts_of types) a p d t else moved_by (source_of (starts_of types) (Convert from to a)) (expression_code (starts_of types) a p (source_slot (starts_of types) (Convert from to a) t) t) to (converted_operand (starts_of types) (Convert from to a) t) p d)
+      → InitialBy code b types there from to a d t p q
+  initial_by true from to a d t p q kind lands stands end has = (words_kept from to a kind lands, stands d q end has)
+  initial_by false from to a d t p q kind lands stands end has =
+      let known = source_of (starts_of types) (Convert from to a) in
+      let slot = source_slot (starts_of types) (Convert from to a) t in
+      let o = converted_operand (starts_of types) (Convert from to a) t in
+      let inner = expression_code (starts_of types) a p slot t in
+      let front = code_unless known inner in
+      let m = p + length front in
+      let conversion = conversion_code to o m in
+      let both = front ++ conversion in
+      let r = p + length both in
+      let has_both = has_front code p both _ has in
+      let (here, none) = has_back code p both _ has in
+      (o, m, r, operand_by known _ inner slot p m refl (has_front code p front conversion has_both) (λ e h. stands slot m e h), conversion_stands to o m r (cut p r front conversion refl) (has_back code p front conversion has_both), here, cut p q both _ end)
 
   mutual
-    expression_stands : (a : Expression) (d t p q : ℕ) → IsNumbered b a → p + length (expression_code starts a p d t) ≡ q → HasAt code p (expression_code starts a p d t) → ExpressionAt code b starts a d t p q
+    expression_stands : (a : Expression) (d t p q : ℕ) → Fits b types a → p + length (expression_code (starts_of types) a p d t) ≡ q → HasAt code p (expression_code (starts_of types) a p d t) → ExpressionAt code b types a d t p q
     expression_stands (Number n) d t p q numbered end (here, none) = (here, end)
-    expression_stands (Copy l ty) d t p q numbered end has = load_stands l d p q numbered end has
-    expression_stands (Call callees.Putchar cs ty) d t p q (s, signature, many, same, numbered) end has =
-        let front = printed_code starts cs p t in
+    expression_stands (Copy l ty) d t p q numbered end has = load_stands l (kind_of ty) (words_of ty) d p q numbered end has
+    expression_stands (Call callees.Putchar cs ty) d t p q (s, signature, many, passed, result, numbered) end has =
+        let front = printed_code (starts_of types) cs p t in
         let (write, (low, none)) = has_back code p front _ has in
         let single : argument_count cs ≡ 1 = many ∙ ap (λ (x : Signature). length x.parameters) signature in
-        let long = cut p q front (instructions.WriteByte (printed_operand starts cs (operands.Slot t) t) ∷ low_byte (printed_operand starts cs (operands.Slot t) t) d ∷ []) end in
-        (printed_operand starts cs (operands.Slot t) t, p + length front, printed_stands cs (operands.Slot t) t p (p + length front) single numbered refl (has_front code p front _ has), write, low, omega (arith, long))
-    expression_stands (Call callees.Getchar cs ty) d t p q (s, signature, many, same, numbered) end has =
-        let front = arguments_code starts cs p t in
+        let long = cut p q front (instructions.WriteByte (printed_operand (starts_of types) cs (operands.Slot t) t) ∷ low_byte (printed_operand (starts_of types) cs (operands.Slot t) t) d ∷ []) end in
+        (printed_operand (starts_of types) cs (operands.Slot t) t, p + length front, printed_stands cs (operands.Slot t) t p (p + length front) single numbered refl (has_front code p front _ has), write, low, omega (arith, long))
+    expression_stands (Call callees.Getchar cs ty) d t p q (s, signature, many, passed, result, numbered) end has =
+        let front = arguments_code (starts_of types) cs p t in
         let (here, none) = has_back code p front _ has in
         (p + length front, arguments_stand cs t p (p + length front) numbered refl (has_front code p front _ has), here, cut p q front _ end)
-    expression_stands (Call (callees.Function n) cs ty) d t p q (s, signature, many, same, numbered) end has =
-        let front = arguments_code starts cs p t in
+    expression_stands (Call (callees.Function n) cs ty) d t p q (s, signature, many, passed, result, numbered) end has =
+        let front = arguments_code (starts_of types) cs p t in
         let (here, none) = has_back code p front _ has in
         (p + length front, arguments_stand cs t p (p + length front) numbered refl (has_front code p front _ has), here, cut p q front _ end)
     expression_stands (Unary o a) d t p q numbered end has =
-        let inner = expression_code starts a p (value_slot starts a t) t in
-        let front = code_unless (operand_of starts a) inner in
+        let inner = expression_code (starts_of types) a p (value_slot (starts_of types) a t) t in
+        let front = code_unless (operand_of (starts_of types) a) inner in
         let m = p + length front in
         let (here, none) = has_back code p front _ has in
-        (value_operand starts a t, m, operand_by (operand_of starts a) _ inner (value_slot starts a t) p m refl (has_front code p front _ has) (λ e h. expression_stands a (value_slot starts a t) t p m numbered e h), here, cut p q front _ end)
+        (value_operand (starts_of types) a t, m, operand_by (operand_of (starts_of types) a) _ inner (value_slot (starts_of types) a t) p m refl (has_front code p front _ has) (λ e h. expression_stands a (value_slot (starts_of types) a t) t p m numbered e h), here, cut p q front _ end)
     expression_stands (Binary a os ty) d t p q (numbered, rest) end has =
-        let inner = expression_code starts a p (left_slot starts a os d t) t in
-        let front = code_unless (left_of starts a os) inner in
+        let inner = expression_code (starts_of types) a p (left_slot (starts_of types) a os d t) t in
+        let front = code_unless (left_of (starts_of types) a os) inner in
         let m = p + length front in
-        let l = operand_or (left_of starts a os) (left_slot starts a os d t) in
-        let back = operations_code starts os m l d t in
-        (l, m, operand_by (left_of starts a os) _ inner (left_slot starts a os d t) p m refl (has_front code p front back has) (λ e h. expression_stands a (left_slot starts a os d t) t p m numbered e h), operations_stand os l d t m q rest (first_left a os d t) (cut p q front back end) (has_back code p front back has))
-    expression_stands (Assign (Local w n) c ty) d t p q (few, numbered) end has =
-        let o = operands.Slot (slot_of starts n) in
-        let front = initial_code starts c p (slot_of starts n) t in
-        let back = copy_code o d in
+        let l = operand_or (left_of (starts_of types) a os) (left_slot (starts_of types) a os d t) in
+        let back = operations_code (starts_of types) os m l d t in
+        (l, m, operand_by (left_of (starts_of types) a os) _ inner (left_slot (starts_of types) a os d t) p m refl (has_front code p front back has) (λ e h. expression_stands a (left_slot (starts_of types) a os d t) t p m numbered e h), operations_stand os l d t m q rest (first_left a os d t) (cut p q front back end) (has_back code p front back has))
+    expression_stands (Assign (Local w n) c ty) d t p q ((few, room), numbered) end has =
+        let o = operands.Slot (slot_of (starts_of types) n) in
+        let front = initial_code (starts_of types) c p (slot_of (starts_of types) n) t in
+        let back = copy_code (passed_words c) o d in
         let m = p + length front in
-        (o, m, (refl, initial_stands c (slot_of starts n) t p m numbered refl (has_front code p front back has)), copy_by (is_in o d) o d m q (cut p q front back end) (has_back code p front back has))
+        (o, m, (refl, room, initial_stands c (slot_of (starts_of types) n) t p m numbered refl (has_front code p front back has)), copy_by (is_in o d) (passed_words c) o d m q (cut p q front back end) (has_back code p front back has))
     expression_stands (Assign (Global n) c ty) d t p q (few, numbered) end has =
-        let o = converted_operand starts c t in
-        let front = converted_operand_code starts c p t in
+        let o = converted_operand (starts_of types) c t in
+        let front = converted_operand_code (starts_of types) c p t in
         let both = front ++ instructions.StoreGlobal n o ∷ [] in
-        let back = copy_code o d in
+        let back = copy_code (passed_words c) o d in
         let m = p + length both in
         let has_both = has_front code p both back has in
         let (here, none) = has_back code p front _ has_both in
-        (o, m, (p + length front, converted_operand_stands c t p (p + length front) numbered refl (has_front code p front _ has_both), few, here, cut p m front _ refl), copy_by (is_in o d) o d m q (cut p q both back end) (has_back code p both back has))
+        (o, m, (p + length front, converted_operand_stands c t p (p + length front) numbered refl (has_front code p front _ has_both), few, here, cut p m front _ refl), copy_by (is_in o d) (passed_words c) o d m q (cut p q both back end) (has_back code p both back has))
     expression_stands a d t p q numbered end has = absurd numbered
 
-    initial_stands : (c : Converted) (d t p q : ℕ) → IsNumberedConverted b c → p + length (initial_code starts c p d t) ≡ q → HasAt code p (initial_code starts c p d t) → InitialAt code b starts c d t p q
-    initial_stands (Convert from kinds.NonNull a) d t p q numbered end has =
-        let inner = expression_code starts a p (value_slot starts a t) t in
-        let o = value_operand starts a t in
-        let front = code_unless (operand_of starts a) inner in
-        let m = p + length front in
-        let check = check_code null_exception o m in
-        let both = front ++ check in
-        let r = p + length both in
-        let has_both = has_front code p both _ has in
-        let (here, none) = has_back code p both _ has in
-        (o, m, r, operand_by (operand_of starts a) _ inner (value_slot starts a t) p m refl (has_front code p front check has_both) (λ e h. expression_stands a (value_slot starts a t) t p m numbered e h), check_stands null_exception o m r (cut p r front check refl) (has_back code p front check has_both), here, cut p q both _ end)
-    initial_stands (Convert from to a) d t p q numbered end has = expression_stands a d t p q numbered end has
+    initial_stands : (c : Converted) (d t p q : ℕ) → FitsConverted b types c → p + length (initial_code (starts_of types) c p d t) ≡ q → HasAt code p (initial_code (starts_of types) c p d t) → InitialAt code b types c d t p q
+    initial_stands (Convert from to a) d t p q (kind, numbered) end has =
+        initial_by (converts_there from to) from to a d t p q kind refl (λ slot r e h. expression_stands a slot t p r numbered e h) end has
 
-    converted_stands : (c : Converted) (t p q : ℕ) → IsNumberedConverted b c → p + length (converted_code starts c p t) ≡ q → HasAt code p (converted_code starts c p t) → ConvertedAt code b starts c t p q
-    converted_stands (Convert from to a) t p q numbered end has =
-        let front = expression_code starts a p t t in
+    converted_stands : (c : Converted) (t p q : ℕ) → FitsConverted b types c → p + length (converted_code (starts_of types) c p t) ≡ q → HasAt code p (converted_code (starts_of types) c p t) → ConvertedAt code b types c t p q
+    converted_stands (Convert from to a) t p q (kind, numbered) end has =
+        let front = expression_code (starts_of types) a p t t in
         let back = conversion_code to (operands.Slot t) (p + length front) in
         (p + length front, expression_stands a t t p (p + length front) numbered refl (has_front code p front back has), conversion_stands to (operands.Slot t) (p + length front) q (cut p q front back end) (has_back code p front back has))
 
-    converted_operand_stands : (c : Converted) (t p q : ℕ) → IsNumberedConverted b c → p + length (converted_operand_code starts c p t) ≡ q → HasAt code p (converted_operand_code starts c p t) → ConvertedOperandAt code b starts c t (converted_operand starts c t) p q
-    converted_operand_stands (Convert from to a) t p q numbered end has =
-        let inner = expression_code starts a p (value_slot starts a t) t in
-        let front = code_unless (operand_of starts a) inner in
+    converted_operand_stands : (c : Converted) (t p q : ℕ) → FitsConverted b types c → p + length (converted_operand_code (starts_of types) c p t) ≡ q → HasAt code p (converted_operand_code (starts_of types) c p t) → ConvertedOperandAt code b types c t (converted_operand (starts_of types) c t) p q
+    converted_operand_stands (Convert from to a) t p q (kind, numbered) end has =
+        let slot = source_slot (starts_of types) (Convert from to a) t in
+        let known = source_of (starts_of types) (Convert from to a) in
+        let inner = expression_code (starts_of types) a p slot t in
+        let front = code_unless known inner in
         let m = p + length front in
-        let back = conversion_code to (value_operand starts a t) m in
-        (m, operand_by (operand_of starts a) _ inner (value_slot starts a t) p m refl (has_front code p front back has) (λ e h. expression_stands a (value_slot starts a t) t p m numbered e h), conversion_stands to (value_operand starts a t) m q (cut p q front back end) (has_back code p front back has))
+        let back = conversion_code to (converted_operand (starts_of types) (Convert from to a) t) m in
+        (m, operand_by known _ inner slot p m refl (has_front code p front back has) (λ e h. expression_stands a slot t p m numbered e h), conversion_stands to (converted_operand (starts_of types) (Convert from to a) t) m q (cut p q front back end) (has_back code p front back has))
 
-    printed_stands : (cs : Arguments) (o : Operand) (t p q : ℕ) → argument_count cs ≡ 1 → AreNumberedArguments b cs → p + length (printed_code starts cs p t) ≡ q → HasAt code p (printed_code starts cs p t) → PrintedAt code b starts cs t (printed_operand starts cs o t) p q
+    printed_stands : (cs : Arguments) (o : Operand) (t p q : ℕ) → argument_count cs ≡ 1 → FitArguments b types cs → p + length (printed_code (starts_of types) cs p t) ≡ q → HasAt code p (printed_code (starts_of types) cs p t) → PrintedAt code b types cs t (printed_operand (starts_of types) cs o t) p q
     printed_stands NoArguments o t p q single numbered end has = absurd (omega (arith, single))
     printed_stands (MoreArguments c NoArguments) o t p q single (numbered, rest) end has =
-        let front = converted_operand_code starts c p t in
+        let front = converted_operand_code (starts_of types) c p t in
         converted_operand_stands c t p q numbered (omega (arith, cut p q front [] end)) (has_front code p front [] has)
     printed_stands (MoreArguments c (MoreArguments c' cs)) o t p q single numbered end has = absurd (omega (arith, single))
 
-    arguments_stand : (cs : Arguments) (t p q : ℕ) → AreNumberedArguments b cs → p + length (arguments_code starts cs p t) ≡ q → HasAt code p (arguments_code starts cs p t) → ArgumentsAt code b starts cs t p q
+    arguments_stand : (cs : Arguments) (t p q : ℕ) → FitArguments b types cs → p + length (arguments_code (starts_of types) cs p t) ≡ q → HasAt code p (arguments_code (starts_of types) cs p t) → ArgumentsAt code b types cs t p q
     arguments_stand NoArguments t p q numbered end has = omega (arith, end)
     arguments_stand (MoreArguments c cs) t p q (numbered, rest) end has =
-        let front = converted_code starts c p t in
-        let back = arguments_code starts cs (p + length front) (suc t) in
-        (p + length front, converted_stands c t p (p + length front) numbered refl (has_front code p front back has), arguments_stand cs (suc t) (p + length front) q rest (cut p q front back end) (has_back code p front back has))
+        let front = converted_code (starts_of types) c p t in
+        let back = arguments_code (starts_of types) cs (p + length front) (t + passed_words c) in
+        (p + length front, converted_stands c t p (p + length front) numbered refl (has_front code p front back has), arguments_stand cs (t + passed_words c) (p + length front) q rest (cut p q front back end) (has_back code p front back has))
 
-    operations_stand : (os : Operations) (l : Operand) (d t p q : ℕ) → AreNumberedOperations b os → IsLeft os l d t → p + length (operations_code starts os p l d t) ≡ q → HasAt code p (operations_code starts os p l d t) → OperationsAt code b starts os l d t p q
+    operations_stand : (os : Operations) (l : Operand) (d t p q : ℕ) → FitOperations b types os → IsLeft os l d t → p + length (operations_code (starts_of types) os p l d t) ≡ q → HasAt code p (operations_code (starts_of types) os p l d t) → OperationsAt code b types os l d t p q
     operations_stand NoOperations l d t p q numbered left end has = (left, omega (arith, end))
     operations_stand (ThenCompute o a os) l d t p q (numbered, rest) left end has =
-        let inner = expression_code starts a p (value_slot starts a (suc t)) (suc t) in
-        let operand = code_unless (operand_of starts a) inner in
-        let r = value_operand starts a (suc t) in
+        let inner = expression_code (starts_of types) a p (value_slot (starts_of types) a (suc t)) (suc t) in
+        let operand = code_unless (operand_of (starts_of types) a) inner in
+        let r = value_operand (starts_of types) a (suc t) in
         let next = next_slot os d t in
         let m = p + length operand in
         let operator = operator_code o l r m next in
         let s = p + length (operand ++ operator) in
-        let back = operations_code starts os s (operands.Slot next) d t in
+        let back = operations_code (starts_of types) os s (operands.Slot next) d t in
         let front_has = has_front code p (operand ++ operator) back has in (
           r,
           m,
           s,
-          right_by (operand_of starts a) (l ≡ operands.Slot t) _ inner (value_slot starts a (suc t)) p m left refl (has_front code p operand operator front_has) (λ e h. expression_stands a (value_slot starts a (suc t)) (suc t) p m numbered e h),
+          right_by (operand_of (starts_of types) a) (l ≡ operands.Slot t) _ inner (value_slot (starts_of types) a (suc t)) p m left refl (has_front code p operand operator front_has) (λ e h. expression_stands a (value_slot (starts_of types) a (suc t)) (suc t) p m numbered e h),
           operator_stands o l r next m s (cut p s operand operator refl) (has_back code p operand operator front_has),
           operations_stand os (operands.Slot next) d t s q rest (next_left os d t) (cut p q (operand ++ operator) back end) (has_back code p (operand ++ operator) back has),
         )
     operations_stand (ThenTest o a os) l d t p q (numbered, rest) left end has =
-        let operand = expression_code starts a (p + 1) t t in
+        let operand = expression_code (starts_of types) a (p + 1) t t in
         let next = next_slot os d t in
         let front = test_code o operand p next t in
-        let back = operations_code starts os (p + length front) (operands.Slot next) d t in
+        let back = operations_code (starts_of types) os (p + length front) (operands.Slot next) d t in
         let (jump, inner) = has_front code p front back has in
         let (first, (second, none)) = has_back code (p + 1) operand (truth_code t next) inner in
         let long : length front ≡ 1 + (length operand + 2) = omega (arith, length-append operand (truth_code t next)) in (
@@ -239,107 +259,111 @@ module _ (code : List Instruction) (b : Numbering) (starts : List ℕ) where
         )
     operations_stand os l d t p q numbered is end has = absurd numbered
 
-  assignment_stands : (l : Lvalue) (c : Converted) (t p q : ℕ) → IsWithin b l → IsNumberedConverted b c → p + length (assignment_code starts l c p t) ≡ q → HasAt code p (assignment_code starts l c p t) → AssignmentAt code b starts l c (assigned_operand starts l c t) t p q
-  assignment_stands (Local w n) c t p q few numbered end has = (refl, initial_stands c (slot_of starts n) t p q numbered end has)
+  assignment_stands : (l : Lvalue) (c : Converted) (t p q : ℕ) → FitsPlace b types l (passed_kind c) → FitsConverted b types c → p + length (assignment_code (starts_of types) l c p t) ≡ q → HasAt code p (assignment_code (starts_of types) l c p t) → AssignmentAt code b types l c (assigned_operand (starts_of types) l c t) t p q
+  assignment_stands (Local w n) c t p q (few, room) numbered end has = (refl, room, initial_stands c (slot_of (starts_of types) n) t p q numbered end has)
   assignment_stands (Global n) c t p q few numbered end has =
-      let front = converted_operand_code starts c p t in
+      let front = converted_operand_code (starts_of types) c p t in
       let (here, none) = has_back code p front _ has in
       (p + length front, converted_operand_stands c t p (p + length front) numbered refl (has_front code p front _ has), few, here, cut p q front _ end)
 
-  discarded_stands : (a : Expression) (t p q : ℕ) → IsNumbered b a → p + length (discarded_code starts a p t) ≡ q → HasAt code p (discarded_code starts a p t) → DiscardedAt code b starts a t p q
-  discarded_stands (Call callees.Putchar cs ty) t p q (s, signature, many, same, numbered) end has =
-      let front = printed_code starts cs p t in
+  discarded_stands : (a : Expression) (t p q : ℕ) → Fits b types a → p + length (discarded_code (starts_of types) a p t) ≡ q → HasAt code p (discarded_code (starts_of types) a p t) → DiscardedAt code b types a t p q
+  discarded_stands (Call callees.Putchar cs ty) t p q (s, signature, many, passed, result, numbered) end has =
+      let front = printed_code (starts_of types) cs p t in
       let (write, none) = has_back code p front _ has in
       let single : argument_count cs ≡ 1 = many ∙ ap (λ (x : Signature). length x.parameters) signature in
-      (printed_operand starts cs (operands.Slot t) t, p + length front, printed_stands cs (operands.Slot t) t p (p + length front) single numbered refl (has_front code p front _ has), write, cut p q front _ end)
-  discarded_stands (Assign l c ty) t p q (few, numbered) end has = (assigned_operand starts l c t, assignment_stands l c t p q few numbered end has)
+      (printed_operand (starts_of types) cs (operands.Slot t) t, p + length front, printed_stands cs (operands.Slot t) t p (p + length front) single numbered refl (has_front code p front _ has), write, cut p q front _ end)
+  discarded_stands (Assign l c ty) t p q (few, numbered) end has = (assigned_operand (starts_of types) l c t, assignment_stands l c t p q few numbered end has)
   discarded_stands a t p q numbered end has =
-      (operand_or (operand_of starts a) t, operand_by (operand_of starts a) _ (expression_code starts a p t t) t p q end has (λ e h. expression_stands a t t p q numbered e h))
+      (operand_or (operand_of (starts_of types) a) t, operand_by (operand_of (starts_of types) a) _ (expression_code (starts_of types) a p t t) t p q end has (λ e h. expression_stands a t t p q numbered e h))
 
   -- two operands that are compared
-  pair_stands : (a c : Expression) (t p q : ℕ) → IsNumbered b a → IsNumbered b c → p + length (pair_code starts a c p t) ≡ q → HasAt code p (pair_code starts a c p t)
-      → PairAt code b starts a c (first_operand starts a c t) (value_operand starts c (suc t)) t p q
+  pair_stands : (a c : Expression) (t p q : ℕ) → Fits b types a → Fits b types c → p + length (pair_code (starts_of types) a c p t) ≡ q → HasAt code p (pair_code (starts_of types) a c p t)
+      → PairAt code b types a c (first_operand (starts_of types) a c t) (value_operand (starts_of types) c (suc t)) t p q
   pair_stands a c t p q numbered_a numbered_c end has =
-      let slot = slot_with starts (operand_of starts c) a t in
-      let front = first_code starts a c p t in
+      let slot = slot_with (starts_of types) (operand_of (starts_of types) c) a t in
+      let front = first_code (starts_of types) a c p t in
       let m = p + length front in
-      let back = second_code starts c m t in (
+      let back = second_code (starts_of types) c m t in (
         m,
-        operand_by (left_with (operand_of starts c) (operand_of starts a)) _ (expression_code starts a p slot t) slot p m refl (has_front code p front back has) (λ e h. expression_stands a slot t p m numbered_a e h),
-        right_by (operand_of starts c) (first_operand starts a c t ≡ operands.Slot t) _ (expression_code starts c m (value_slot starts c (suc t)) (suc t)) (value_slot starts c (suc t)) m q (left_first (operand_of starts c) a t)
-            (cut p q front back end) (has_back code p front back has) (λ e h. expression_stands c (value_slot starts c (suc t)) (suc t) m q numbered_c e h),
+        operand_by (left_with (operand_of (starts_of types) c) (operand_of (starts_of types) a)) _ (expression_code (starts_of types) a p slot t) slot p m refl (has_front code p front back has) (λ e h. expression_stands a slot t p m numbered_a e h),
+        right_by (operand_of (starts_of types) c) (first_operand (starts_of types) a c t ≡ operands.Slot t) _ (expression_code (starts_of types) c m (value_slot (starts_of types) c (suc t)) (suc t)) (value_slot (starts_of types) c (suc t)) m q (left_first (operand_of (starts_of types) c) a t)
+            (cut p q front back end) (has_back code p front back has) (λ e h. expression_stands c (value_slot (starts_of types) c (suc t)) (suc t) m q numbered_c e h),
       )
 
-  compared_numbered : (a : Expression) → IsNumbered b a → IsNumbered b (compared_of a).left × IsNumbered b (compared_of a).right
+  compared_numbered : (a : Expression) → Fits b types a → Fits b types (compared_of a).left × Fits b types (compared_of a).right
   compared_numbered (Unary unary.Not a) numbered = (numbered, tt)
   compared_numbered (Binary a (ThenCompute o c NoOperations) ty) (first, (second, none)) = by (failing_comparison o)
     where
-      by : (f : Option Comparison) → IsNumbered b (compared_or f a c (Binary a (ThenCompute o c NoOperations) ty)).left × IsNumbered b (compared_or f a c (Binary a (ThenCompute o c NoOperations) ty)).right
+      by : (f : Option Comparison) → Fits b types (compared_or f a c (Binary a (ThenCompute o c NoOperations) ty)).left × Fits b types (compared_or f a c (Binary a (ThenCompute o c NoOperations) ty)).right
       by (Some failing) = (first, second)
       by None = ((first, (second, none)), tt)
   compared_numbered a numbered = (numbered, tt)
 
-  condition_stands : (a : Expression) (t p q : ℕ) → IsNumbered b a → p + length (condition_code starts a p t) ≡ q → HasAt code p (condition_code starts a p t)
-      → ConditionAt code b starts a (condition_of starts a t).left (condition_of starts a t).right t p q
+  condition_stands : (a : Expression) (t p q : ℕ) → Fits b types a → p + length (condition_code (starts_of types) a p t) ≡ q → HasAt code p (condition_code (starts_of types) a p t)
+      → ConditionAt code b types a (condition_of (starts_of types) a t).left (condition_of (starts_of types) a t).right t p q
   condition_stands a t p q numbered end has =
       let (first, second) = compared_numbered a numbered in
       pair_stands (compared_of a).left (compared_of a).right t p q first second end has
 
   -- ---- statements
 
-  returns_one : (result : Option Ty) (c : Converted) → IsNumberedReturn b result (Some c) → results_of result ≡ 1
-  returns_one None c numbered = absurd numbered
-  returns_one (Some t) c numbered = refl
+  -- what is returned is what the function returns, and has its words
+  returns_kind : (result : Option Ty) (c : Converted) → FitsReturn b types result (Some c) → (results_of result ≡ words_of_kind (passed_kind c)) × (passed_kind c ≡ kind_of_result result)
+  returns_kind None c numbered = absurd numbered
+  returns_kind (Some t) c (kind, numbered) = (sym (type_words t) ∙ ap words_of_kind (sym kind), kind)
 
-  returns_numbered : (result : Option Ty) (c : Converted) → IsNumberedReturn b result (Some c) → IsNumberedConverted b c
+  returns_numbered : (result : Option Ty) (c : Converted) → FitsReturn b types result (Some c) → FitsConverted b types c
   returns_numbered None c numbered = absurd numbered
-  returns_numbered (Some t) c numbered = numbered
+  returns_numbered (Some t) c (kind, numbered) = numbered
 
-  return_stands : (v : Option Converted) (t p q : ℕ) → IsNumberedReturn b b.result v → p + length (return_code starts v p t) ≡ q → HasAt code p (return_code starts v p t) → ReturnAt code b starts v t p
+  return_stands : (v : Option Converted) (t p q : ℕ) → FitsReturn b types b.result v → p + length (return_code (starts_of types) v p t) ≡ q → HasAt code p (return_code (starts_of types) v p t) → ReturnAt code b types v t p
   return_stands None t p q numbered end (here, none) = (t, here)
   return_stands (Some (Convert from to a)) t p q numbered end has =
-      let inner = expression_code starts a p t t in
-      let front = code_unless_slot (operand_of starts a) inner in
+      let known = source_of (starts_of types) (Convert from to a) in
+      let inner = expression_code (starts_of types) a p t t in
+      let front = code_unless_slot known inner in
       let m = p + length front in
-      let s = slot_or (operand_of starts a) t in
+      let s = slot_or known t in
       let conversion = conversion_code to (operands.Slot s) m in
       let both = front ++ conversion in
       let r = p + length both in
       let has_both = has_front code p both _ has in
-      let (here, none) = has_back code p both _ has in (
+      let (here, none) = has_back code p both _ has in
+      let (words, kind) = returns_kind b.result (Convert from to a) numbered in (
         s,
         m,
         r,
-        returned_by (operand_of starts a) _ inner t p m refl (has_front code p front conversion has_both) (λ e h. expression_stands a t t p m (returns_numbered b.result (Convert from to a) numbered) e h),
+        returned_by known _ inner t p m refl (has_front code p front conversion has_both) (λ e h. expression_stands a t t p m (returns_numbered b.result (Convert from to a) numbered).1 e h),
         conversion_stands to (operands.Slot s) m r (cut p r front conversion refl) (has_back code p front conversion has_both),
         here,
-        returns_one b.result (Convert from to a) numbered,
+        words,
+        kind,
       )
 
-  declaration_stands : (n : ℕ) (v : Option Converted) (t p q : ℕ) → n < b.locals → IsNumberedInitial b v → p + length (declaration_code starts n v p t) ≡ q → HasAt code p (declaration_code starts n v p t) → DeclarationAt code b starts n v t p q
+  declaration_stands : (n : ℕ) (v : Option Converted) (t p q : ℕ) → n < b.locals → FitsInitial b types n v → p + length (declaration_code (starts_of types) n v p t) ≡ q → HasAt code p (declaration_code (starts_of types) n v p t) → DeclarationAt code b types n v t p q
   declaration_stands n None t p q few numbered end has = (few, omega (arith, end))
-  declaration_stands n (Some c) t p q few numbered end has = (few, initial_stands c (slot_of starts n) t p q numbered end has)
+  declaration_stands n (Some c) t p q few (room, numbered) end has = (few, room, initial_stands c (slot_of (starts_of types) n) t p q numbered end has)
 
   mutual
-    statement_stands : (s : Statement) (in_loop : Bool) (loop d p q : ℕ) → IsNumberedStatement b in_loop s → p + length (statement_code starts s p loop d) ≡ q → HasAt code p (statement_code starts s p loop d) → StatementAt code b starts s loop d p q
-    statement_stands (Block r js) in_loop loop d p q (few, numbered) end has = items_stand js in_loop loop d p q numbered end has
+    statement_stands : (s : Statement) (in_loop : Bool) (loop d p q : ℕ) → FitsStatement b types in_loop s → p + length (statement_code (starts_of types) s p loop d) ≡ q → HasAt code p (statement_code (starts_of types) s p loop d) → StatementAt code b types s loop d p q
+    statement_stands (Block r js) in_loop loop d p q numbered end has = items_stand js in_loop loop d p q numbered end has
     statement_stands Empty in_loop loop d p q numbered end has = omega (arith, end)
     statement_stands (Evaluate a) in_loop loop t p q numbered end has = discarded_stands a t p q numbered end has
     statement_stands (If a s u) in_loop loop t p q (numbered_a, numbered_s, numbered_u) end has =
-        let condition = condition_code starts a p t in
+        let condition = condition_code (starts_of types) a p t in
         let m = p + length condition in
-        let first = statement_code starts s (m + 1) loop t in
+        let first = statement_code (starts_of types) s (m + 1) loop t in
         let r = m + 1 + length first in
-        let second = statement_code starts u (r + 1) loop t in
-        let jump_first = failing_jump (condition_of starts a t) (r + 1) ∷ first in
+        let second = statement_code (starts_of types) u (r + 1) loop t in
+        let jump_first = failing_jump (condition_of (starts_of types) a t) (r + 1) ∷ first in
         let jump_second = instructions.Jump (r + 1 + length second) ∷ second in
         let front = condition ++ jump_first in
         let long : length front ≡ length condition + suc (length first) = length-append condition jump_first in
         let (jump, has_first) = has_back code p condition jump_first (has_front code p front jump_second has) in
         let (over, has_second) = subst (λ x. HasAt code x jump_second) (let e : p + length front ≡ r = omega (arith, long) in e) (has_back code p front jump_second has) in
         let end_is : r + 1 + length second ≡ q = omega (arith, cut p q front jump_second end, long) in (
-          (condition_of starts a t).left,
-          (condition_of starts a t).right,
+          (condition_of (starts_of types) a t).left,
+          (condition_of (starts_of types) a t).right,
           m,
           r,
           condition_stands a t p m numbered_a refl (has_front code p condition jump_first (has_front code p front jump_second has)),
@@ -349,11 +373,11 @@ module _ (code : List Instruction) (b : Numbering) (starts : List ℕ) where
           statement_stands u in_loop loop t (r + 1) q numbered_u end_is has_second,
         )
     statement_stands (While w a s) in_loop loop t p q (numbered_a, numbered_s) end has =
-        let condition = condition_code starts a (p + 2) t in
+        let condition = condition_code (starts_of types) a (p + 2) t in
         let m = p + 2 + length condition in
-        let body = statement_code starts s (m + 1) p t in
+        let body = statement_code (starts_of types) s (m + 1) p t in
         let r = m + 1 + length body in
-        let test = failing_jump (condition_of starts a t) (break_target p) ∷ body in
+        let test = failing_jump (condition_of (starts_of types) a t) (break_target p) ∷ body in
         let again = instructions.Jump (continue_target p) ∷ [] in
         let (enter, (leave, inner)) = has in
         let inner_has = subst (λ x. HasAt code x ((condition ++ test) ++ again)) (let e : p + 1 + 1 ≡ p + 2 = omega arith in e) inner in
@@ -363,8 +387,8 @@ module _ (code : List Instruction) (b : Numbering) (starts : List ℕ) where
         let (jump, has_body) = has_back code (p + 2) condition test front_has in
         let (back, none) = has_back code (p + 2) (condition ++ test) again inner_has in
         let end_is : r + 1 ≡ q = omega (arith, end, long, all) in (
-          (condition_of starts a t).left,
-          (condition_of starts a t).right,
+          (condition_of (starts_of types) a t).left,
+          (condition_of (starts_of types) a t).right,
           m,
           r,
           enter,
@@ -381,25 +405,25 @@ module _ (code : List Instruction) (b : Numbering) (starts : List ℕ) where
     statement_stands Continue in_loop loop d p q numbered end (here, none) = here
     statement_stands s in_loop loop d p q numbered end has = absurd numbered
 
-    items_stand : (js : Items) (in_loop : Bool) (loop d p q : ℕ) → AreNumberedItems b in_loop js → p + length (items_code starts js p loop d) ≡ q → HasAt code p (items_code starts js p loop d) → ItemsAt code b starts js loop d p q
+    items_stand : (js : Items) (in_loop : Bool) (loop d p q : ℕ) → FitItems b types in_loop js → p + length (items_code (starts_of types) js p loop d) ≡ q → HasAt code p (items_code (starts_of types) js p loop d) → ItemsAt code b types js loop d p q
     items_stand NoItems in_loop loop d p q numbered end has = omega (arith, end)
     items_stand (MoreItems (Execute s) js) in_loop loop d p q (numbered, rest) end has =
-        let front = statement_code starts s p loop d in
-        let back = items_code starts js (p + length front) loop d in
+        let front = statement_code (starts_of types) s p loop d in
+        let back = items_code (starts_of types) js (p + length front) loop d in
         (p + length front, statement_stands s in_loop loop d p (p + length front) numbered refl (has_front code p front back has), items_stand js in_loop loop d (p + length front) q rest (cut p q front back end) (has_back code p front back has))
     items_stand (MoreItems (Declare n t v) js) in_loop loop d p q (few, numbered, rest) end has =
-        let front = declaration_code starts n v p d in
-        let back = items_code starts js (p + length front) loop d in
+        let front = declaration_code (starts_of types) n v p d in
+        let back = items_code (starts_of types) js (p + length front) loop d in
         (p + length front, declaration_stands n v d p (p + length front) few numbered refl (has_front code p front back has), items_stand js in_loop loop d (p + length front) q rest (cut p q front back end) (has_back code p front back has))
     items_stand js in_loop loop d p q numbered end has = absurd numbered
 
 -- ---- functions
 
-numbered_function : (globals : ℕ) (signatures : List Signature) (hs : List Function) (n : ℕ) (h : Function) → AreNumberedFunctions globals signatures hs → slice_get hs n ≡ Some h → AreNumberedItems (numbering_of globals signatures h) false h.body
-numbered_function globals signatures [] n h numbered there = absurd (none-some h there)
-numbered_function globals signatures (g ∷ hs) zero h (first, rest) there =
-    subst (λ (f : Function). AreNumberedItems (numbering_of globals signatures f) false f.body) (same_Some g h there) first
-numbered_function globals signatures (g ∷ hs) (suc n) h (first, rest) there = numbered_function globals signatures hs n h rest there
+fitting_function : (globals : ℕ) (signatures : List Signature) (hs : List Function) (n : ℕ) (h : Function) → AreFitting globals signatures hs → slice_get hs n ≡ Some h → FitItems (numbering_of globals signatures h) (slot_types h) false h.body
+fitting_function globals signatures [] n h numbered there = absurd (none-some h there)
+fitting_function globals signatures (g ∷ hs) zero h (first, rest) there =
+    subst (λ (f : Function). FitItems (numbering_of globals signatures f) (slot_types f) false f.body) (same_Some g h there) first
+fitting_function globals signatures (g ∷ hs) (suc n) h (first, rest) there = fitting_function globals signatures hs n h rest there
 
 module _ (source : Program) where
   -- each function is lowered by itself
@@ -409,10 +433,10 @@ module _ (source : Program) where
   -- the code of a function, with its body at the beginning and a return behind it
   abbrev BodyStands : Function → List Instruction → Option Function → Type 0
   BodyStands h code o =
-      (m : ℕ) × ItemsAt code (bounds_in source o) (starts_of (types_in source o)) h.body 0 (words_of_all (types_in source o)) 0 m
+      (m : ℕ) × ItemsAt code (bounds_in source o) (types_in source o) h.body 0 (words_of_all (types_in source o)) 0 m
       × At code m (instructions.Return (words_of_all (types_in source o)))
 
-  body_stands : (h : Function) → AreNumberedItems (bounds_in source (Some h)) false h.body → BodyStands h (function_code h) (Some h)
+  body_stands : (h : Function) → FitItems (bounds_in source (Some h)) (slot_types h) false h.body → BodyStands h (function_code h) (Some h)
   body_stands h numbered =
       let d = first_temporary h in
       let starts = starts_of (slot_types h) in
@@ -420,10 +444,10 @@ module _ (source : Program) where
       let end = instructions.Return d ∷ [] in
       let has = has_whole (body ++ end) in
       let (here, none) = has_back (body ++ end) 0 body end has in
-      (0 + length body, items_stand (body ++ end) (bounds_in source (Some h)) starts h.body false 0 d 0 (0 + length body) numbered refl (has_front (body ++ end) 0 body end has), here)
+      (0 + length body, items_stand (body ++ end) (bounds_in source (Some h)) (slot_types h) h.body false 0 d 0 (0 + length body) numbered refl (has_front (body ++ end) 0 body end has), here)
 
-  pub functions_stand : (pages calls : ℕ) → IsNumberedProgram source → FunctionsStand source pages calls
+  pub functions_stand : (pages calls : ℕ) → IsFitting source → FunctionsStand source pages calls
   functions_stand pages calls numbered n h there =
       subst (λ (code : List Instruction). BodyStands h code (slice_get source.functions n)) (sym (ap (λ (r : Routine). r.code) (routine_there n h there)))
       (subst (λ (o : Option Function). BodyStands h (function_code h) o) (sym there)
-      (body_stands h (numbered_function (length source.globals) (signatures_of source.functions) source.functions n h numbered.functions there)))
+      (body_stands h (fitting_function (length source.globals) (signatures_of source.functions) source.functions n h numbered.functions there)))

@@ -1,8 +1,8 @@
 -- The steps of calls.
-use Rattle.std.proofs.Common.{◌≡◌, ℕ, suc, ◌+◌, ◌-◌, ◌≤◌, ◌<◌, ◌^◌, ◌%◌, Bool, true, false, List, [], ◌∷◌, ◌++◌, length, reverse, drop, Option, None, Some, slice_get, unwrap_or, bit_and, refl, sym, ap, subst, ◌∙◌, arith, inl, inr}
+use Rattle.std.proofs.Common.{◌≡◌, ℕ, zero, suc, ◌+◌, ◌-◌, ◌≤◌, ◌<◌, ◌^◌, ◌%◌, Bool, true, false, List, [], ◌∷◌, ◌++◌, length, reverse, drop, Option, None, Some, slice_get, unwrap_or, bit_and, refl, sym, ap, subst, ◌∙◌, arith, inl, inr, length-append, append_assoc}
 use Rattle.std.specs.Prelude.{◌==◌, nat_le, if◌then◌else◌}
 use Rattle.std.proofs.lemmas.Bool.{cases_lt, false_from_ne_true, leb-true, and_right}
-use Rattle.std.proofs.lemmas.List.{length-reverse}
+use Rattle.std.proofs.lemmas.Option.{same_Some, none-some}
 use Rattle.std.proofs.lemmas.Grind.{and_numeral}
 use Rattle.cyc_words.specs.Ending.{Full}
 use Rattle.cyc_words.proofs.PrefixLemmas.{IsPrefix-append}
@@ -10,8 +10,9 @@ use Rattle.cyc_types.specs.declared.typed.Kind.{Kind}
 use Rattle.cyc_types.specs.declared.typed.Kind.TheVariants as kinds
 use Rattle.cyc_types.specs.declared.typed.Callee.{Callee}
 use Rattle.cyc_types.specs.declared.typed.Callee.TheVariants as callees
-use Rattle.cyc_types.specs.Types.{Ty}
-use Rattle.cyc_types.specs.TypedTrees.{Items, Function, Program}
+use Rattle.cyc_types.specs.Types.{Ty, words_of}
+use Rattle.cyc_types.specs.TypedTrees.{Items, Signature, Function, Program}
+use Rattle.cyc_types.specs.Numbered.{signatures_of}
 use Rattle.cyc_plain.specs.declared.instruction.Operand.{Operand}
 use Rattle.cyc_plain.specs.declared.instruction.Instruction.TheVariants as instructions
 use Rattle.cyc_store.specs.State.{StoreState}
@@ -22,7 +23,8 @@ use Rattle.cyc_plain.specs.Step as plain_step
 use Rattle.cyc_plain.proofs.RunLaws.{limited-full}
 use Rattle.cyc_plain.specs.Straight.{At}
 use Rattle.cyc_words.proofs.Matching.{way_after}
-use Rattle.cyc_meaning.specs.Values.{Value, Int, Operand as Kinded, kind_of, is_kind}
+use Rattle.cyc_meaning.specs.Values.{Value, Int, Operand as Kinded, kind_of, is_kind, words_of_kind}
+use Rattle.cyc_meaning.specs.FrameCount.{words_of_all}
 use Rattle.cyc_meaning.specs.State.{World, Environment, no_locals, with_local, variable, made, opened, region_at, Entry, Rest, Caller, calls_in, demand, status_of, Focus, Given, Proceeding, Calling, Entering, Binding, State, Running, Ended}
 use Rattle.cyc_meaning.specs.Step.{wrong, declared, inside, region_end, called, step}
 use Rattle.cyc_meaning.specs.SourceMachine.{status_in}
@@ -30,12 +32,14 @@ use Rattle.cyc_meaning.specs.Run.{is_within, limited_step}
 use Rattle.cyc_lower.specs.Lowering.{lower_program}
 use Rattle.cyc_lower.proofs.Stands.{ItemsAt}
 use Rattle.cyc_lower.specs.Slots.{starts_of, slot_of}
-use Rattle.cyc_lower.proofs.Slots.{slot-parameter, slot_types-many}
-use Rattle.cyc_lower.proofs.Relation.{Is, Holds, HoldsFrom, held, callers, Shared, DataAt, DataIn, SharedAt, prints_only, gives_byte, StatementStack, PrintsStack, nowhere, behind_statement, Related, Matches, code_of, types_in, starts_at, parameters_in, parameters_at, bounds_at, base_of, top}
-use Rattle.cyc_lower.proofs.Data.{Holds-rest, in_order, arguments_copied, data_declared, data_called}
+use Rattle.cyc_lower.proofs.Slots.{slot-parameter, words-parameter, slot_types-many, words-append}
+use Rattle.cyc_lower.proofs.Widths.{kind_of_result, result_kind, same_kind, type_words, words_in, HasRoom}
+use Rattle.cyc_lower.proofs.Values.{of_kind, int_is}
+use Rattle.cyc_lower.proofs.Relation.{Is, IsIn, words_held, Holds, HoldsFrom, held, callers, Shared, DataAt, DataIn, SharedAt, prints_only, gives_byte, StatementStack, LandsStack, PrintsStack, nowhere, behind_statement, Related, Matches, code_of, types_in, types_at, starts_at, parameters_in, parameters_at, bounds_in, bounds_at, called_at, returned_at, base_of, top}
+use Rattle.cyc_lower.proofs.Data.{words-reverse, Holds-rest, in_order, arguments_copied, data_declared, data_called}
 use Rattle.cyc_lower.proofs.Accesses.{IsWell, is_fitting, is_declared}
 use Rattle.cyc_lower.proofs.Matched.{IsMatched, above, below, matching, silently, by_one, by_two_known, shared_within, shared_way, steps_to, place_in, known, lands_depth}
-use Rattle.cyc_lower.proofs.Evaluations.{IsStep, landed, lands_at}
+use Rattle.cyc_lower.proofs.Evaluations.{IsStep, landed_word, lands_at}
 use Rattle.cyc_lower.proofs.StatementSteps.{shared_opened}
 
 module _ (source : Program) (pages calls : ℕ) where
@@ -58,7 +62,7 @@ module _ (source : Program) (pages calls : ℕ) where
         fits = shared.fits;
       } in
       by_one source pages calls refl shared here
-      (λ choice. landed source pages calls (record { kind = kinds.Int; value = Int byte }) word d k e next read q (ap (λ (l : List ℕ). unwrap_or (slice_get l 0) (2 ^ 32 - 1)) shared.same_input) shared_read facts holds end lands)
+      (λ choice. landed_word source pages calls byte word d k e next read q (ap (λ (l : List ℕ). unwrap_or (slice_get l 0) (2 ^ 32 - 1)) shared.same_input) shared_read facts holds end lands)
 
   low_byte_of : (a : ℕ) → bit_and a 255 ≡ a % 256
   low_byte_of a = and_numeral a 254 refl
@@ -92,7 +96,7 @@ module _ (source : Program) (pages calls : ℕ) where
       let last : Configuration = advanced (with_slots first (put c.active.slots d (bit_and x 255))) in
       let shared_next : SharedAt source pages calls next first = shared_printed a x w c shared is in
       let done : Related source pages calls (Given (record { kind = kinds.Int; value = Int (a % 256) })) k e next last =
-      landed source pages calls (record { kind = kinds.Int; value = Int (a % 256) }) (bit_and x 255) d k e next first (c.active.next + 1 + 1) (low_byte_of x ∙ ap (λ y. y % 256) is) shared_next facts holds refl lands in
+      landed_word source pages calls (a % 256) (bit_and x 255) d k e next first (c.active.next + 1 + 1) (low_byte_of x ∙ ap (λ y. y % 256) is) shared_next facts holds refl lands in
       by_two_known source pages calls first refl shared (shared_within source pages calls next first shared_next)
       (way_after (above source pages calls) (below source pages calls) (matching source pages calls) s after (plain.Running first)
       (steps_to source pages calls s after (plain.Running last) refl done) (IsPrefix-append w.output (a % 256 ∷ [])) refl shared_next.same_output)
@@ -102,43 +106,63 @@ module _ (source : Program) (pages calls : ℕ) where
   prints_value i (Int a) k e w c well (shared, facts, (u, o, single, is, holds, stack)) =
       let v : Kinded = record { kind = i; value = Int a } in
       let same : v ≡ u = let f : v ∷ [] ≡ u ∷ [] = single in cc in
-      prints i a o k e w c shared facts (subst (λ (x : Kinded). Is x.value (operand_word c.active.slots o)) (sym same) is) holds stack
+      prints i a o k e w c shared facts (int_is i a c.active.slots o (subst (λ (x : Kinded). IsIn x c.active.slots o) (sym same) is)) holds stack
   prints_value i v k e w c well related = absurd (well refl)
 
   -- ---- the parameters of a call
 
   pub entering : (h : Function) (arguments : List Kinded) (k : List Entry) (e : Environment) (w : World) (c : Configuration) → IsStep source pages calls (Entering h arguments) k e w c
-  entering h arguments k e w c well (shared, facts, (m, items, stack, holds, few)) =
+  entering h arguments k e w c well (shared, facts, (m, items, stack, holds, own)) =
       silently source pages calls (Running (Entering h arguments) k e w) (Running (Binding 0 h.parameters arguments h.body) (region_end e w ∷ k) (inside e w) (opened w)) (plain.Running c) refl
-      (shared_opened source pages calls w c shared, facts, (m, items, stack, holds, omega (arith, few)))
+      (shared_opened source pages calls w c shared, facts, (m, [], items, stack, holds, own, refl))
       (omega arith)
 
-  -- a parameter is a local, and its slot is its number
-  parameter_in : (h : Option Function) (n : ℕ) → n < parameters_in source h → (n < length (types_in source h)) × (slot_of (starts_of (types_in source h)) n ≡ n)
-  parameter_in None n inside = absurd (omega (arith, inside))
-  parameter_in (Some h) n inside = (omega (arith, inside, slot_types-many h), slot-parameter h n inside)
+  -- a parameter is a local, whose slots are behind those of the parameters before it
+  parameter_in : (h : Option Function) (first rest : List Ty) (t : Ty) → parameters_in source h ≡ first ++ t ∷ rest
+      → (length first < length (types_in source h)) × (slot_of (starts_of (types_in source h)) (length first) ≡ words_of_all first) × (words_in (types_in source h) (length first) ≡ words_of t)
+  parameter_in None first rest t own = absurd (omega (arith, ap length own, length-append first (t ∷ rest)))
+  parameter_in (Some h) first rest t own = (
+    omega (arith, slot_types-many h, ap length own, length-append first (t ∷ rest)),
+    ap (λ (ts : List Ty). slot_of (starts_of (ts ++ h.locals)) (length first)) own ∙ slot-parameter first rest t h.locals,
+    ap (λ (ts : List Ty). words_in (ts ++ h.locals) (length first)) own ∙ words-parameter first rest t h.locals,
+  )
 
   pub binding : (n : ℕ) (types : List Ty) (arguments : List Kinded) (body : Items) (k : List Entry) (e : Environment) (w : World) (c : Configuration) → IsStep source pages calls (Binding n types arguments body) k e w c
-  binding n [] [] body k e w c well (shared, facts, (m, items, stack, holds, few)) =
+  binding n [] [] body k e w c well (shared, facts, (m, first, items, stack, holds, own, count)) =
       silently source pages calls (Running (Binding n [] [] body) k e w) (Running Proceeding (Rest body ∷ k) e w) (plain.Running c) refl
       (shared, behind_statement 0 facts (m, items, stack))
       (omega arith)
   binding n [] (v ∷ arguments) body k e w c well related = absurd (well refl)
   binding n (t ∷ types) [] body k e w c well related = absurd (well refl)
-  binding n (t ∷ types) (v ∷ arguments) body k e w c well (shared, facts, (m, items, stack, (is, holds), few)) =
+  binding n (t ∷ types) (v ∷ arguments) body k e w c well (shared, facts, (m, first, items, stack, (is, holds), own, count)) =
       let g = c.active.function in
-      let (local, slot) = parameter_in (slice_get source.functions g) n (omega (arith, few)) in
+      let (local, slot, words) = parameter_in (slice_get source.functions g) first types t own in
       let x = variable e.home (kind_of t) (Some v.value) in
       let made_it = declared (region_at w e.home) (Binding (suc n) types arguments body) n (kind_of t) (Some v.value) k e w in
-      let does : step source (Running (Binding n (t ∷ types) (v ∷ arguments) body) k e w) ≡ made_it =
-      ap (λ (b : Bool). if b then made_it else wrong w) (is_fitting (is_kind v.kind (kind_of t)) made_it w well) in
+      let fits = is_fitting (is_kind v.kind (kind_of t)) made_it w well in
+      let does : step source (Running (Binding n (t ∷ types) (v ∷ arguments) body) k e w) ≡ made_it = ap (λ (b : Bool). if b then made_it else wrong w) fits in
+      let kind_is : v.kind ≡ kind_of t = same_kind v.kind (kind_of t) fits in
+      let wide : words_of_kind v.kind ≡ words_of t = ap words_of_kind kind_is ∙ type_words t in
+      let there : slot_of (starts_at source g) n ≡ words_of_all first = ap (slot_of (starts_at source g)) (sym count) ∙ slot in
+      let room : HasRoom (types_at source g) n v.kind = omega (arith, wide, words, ap (words_in (types_at source g)) count) in
+      let next : words_of_all (first ++ t ∷ []) ≡ words_of_all first + words_of_kind v.kind = omega (arith, words-append first (t ∷ []), wide) in
       silently source pages calls (Running (Binding n (t ∷ types) (v ∷ arguments) body) k e w)
       (Running (Binding (suc n) types arguments body) k (with_local e n (length w.objects)) (made w x)) (plain.Running c)
       (does ∙ is_declared (region_at w e.home) (Binding (suc n) types arguments body) n (kind_of t) (Some v.value) k e w (subst IsWell does well)) (
         shared,
-        data_declared source g w.objects e (callers k) c.active.slots c.active.slots c.globals c.frames n x local (λ i less other. refl)
-            (λ u has. subst (λ y. Is u (c.active.slots y)) (sym slot) (subst (λ y. Is y (c.active.slots n)) (let same : v.value ≡ u = ap (λ o. unwrap_or o v.value) has in same) is)) facts,
-        (m, items, stack, holds, omega (arith, few)),
+        data_declared source g w.objects e (callers k) c.active.slots c.active.slots c.globals c.frames n 0 x (omega (arith, local, count)) (omega arith) (λ i out. refl)
+            (λ u has.
+            let u_is : v ≡ u = ap (λ i. of_kind i v.value) kind_is ∙ same_Some (of_kind (kind_of t) v.value) u has in
+            subst (λ (y : Kinded). Is y.kind y.value c.active.slots (slot_of (starts_at source g) n) × HasRoom (types_at source g) n y.kind) u_is (subst (Is v.kind v.value c.active.slots) (sym there) is, room)) facts,
+        (
+          m,
+          first ++ t ∷ [],
+          items,
+          stack,
+          subst (λ i. HoldsFrom c.active.slots i arguments) (sym next) holds,
+          own ∙ sym (append_assoc first (t ∷ []) types),
+          let long : length (first ++ t ∷ []) ≡ length first + 1 = length-append first (t ∷ []) in omega (arith, long, count),
+        ),
       )
       (omega arith)
 
@@ -147,11 +171,27 @@ module _ (source : Program) (pages calls : ℕ) where
   -- the code of each function stands where it does
   abbrev pub FunctionsStand : Type 0
   FunctionsStand = (n : ℕ) (h : Function) → slice_get source.functions n ≡ Some h
-      → (m : ℕ) × ItemsAt (code_of source n) (bounds_at source n) (starts_at source n) h.body 0 (base_of source n) 0 m
+      → (m : ℕ) × ItemsAt (code_of source n) (bounds_at source n) (types_at source n) h.body 0 (base_of source n) 0 m
       × At (code_of source n) m (instructions.Return (base_of source n))
 
-  parameters_fit : (n : ℕ) (h : Function) → slice_get source.functions n ≡ Some h → length h.parameters ≤ parameters_at source n
-  parameters_fit n h there = omega (arith, ap (parameters_in source) there)
+  parameters_fit : (n : ℕ) (h : Function) → slice_get source.functions n ≡ Some h → parameters_at source n ≡ h.parameters
+  parameters_fit n h there = ap (parameters_in source) there
+
+  -- what a caller expects of a function is what that returns
+  functions_in : (h : Option Function) → (bounds_in source h).functions ≡ signatures_of source.functions
+  functions_in None = refl
+  functions_in (Some h) = refl
+
+  signature_at : (hs : List Function) (n : ℕ) (h : Function) → slice_get hs n ≡ Some h → result_kind (slice_get (signatures_of hs) n) ≡ kind_of_result h.result
+  signature_at [] n h there = absurd (none-some h there)
+  signature_at (x ∷ hs) zero h there = ap (λ (y : Function). kind_of_result y.result) (same_Some x h there)
+  signature_at (x ∷ hs) (suc n) h there = signature_at hs n h there
+
+  kinds_agree : (g n : ℕ) (h : Function) → slice_get source.functions n ≡ Some h → called_at source g (callees.Function n) ≡ returned_at source n
+  kinds_agree g n h there =
+      ap (λ (ss : List Signature). result_kind (slice_get ss n)) (functions_in (slice_get source.functions g))
+      ∙ signature_at source.functions n h there
+      ∙ sym (ap (λ (f : Option Function). kind_of_result (bounds_in source f).result) there)
 
   -- a function has been called, with its arguments in the first slots
   pub entered : FunctionsStand → (n : ℕ) (h : Function) (arguments : List Kinded) (k : List Entry) (w : World) (slots globals : Words) (handlers : List Handler) (frames : List Frame) (store : StoreState) (output input : List ℕ)
@@ -217,17 +257,20 @@ module _ (source : Program) (pages calls : ℕ) where
           let does : step source (Running (Calling (callees.Function n) before) k e w) ≡ next =
           ap (λ (f : Option Function). called f (reverse before) (Caller e ∷ k) w) there
           ∙ ap (λ (b : Bool). if b then Running (Entering h (reverse before)) (Caller e ∷ k) no_locals w else wrong w) fits in
-          let waiting = lands_depth source g e.locals into q c.frames k lands in
+          let waiting = lands_depth source g e.locals (called_at source g (callees.Function n)) into q c.frames k lands in
           elim (cases_lt calls (suc (suc (length c.frames)))) [
             | inl past ↦
-                full k e w c (Calling (callees.Function n) before) next n d (length before) into does
+                full k e w c (Calling (callees.Function n) before) next n d (words_held before) into does
                 (and_right (nat_le (demand next) pages) _ (false_from_ne_true (nat_le (suc (calls_in k)) calls) (λ z. absurd (omega (arith, leb-true (suc (calls_in k)) calls z, past, waiting)))))
                 shared here past
             | inr fine ↦
                 let frame : Frame = record { caller = (advanced c).active; result = into } in
+                let back : LandsStack source g e.locals (returned_at source n) into (c.active.next + 1) c.frames k =
+                subst (λ i. LandsStack source g e.locals i into (c.active.next + 1) c.frames k) (kinds_agree g n h there)
+                (lands_at source pages calls g e.locals (called_at source g (callees.Function n)) into (c.active.next + 1) q c.frames k end lands) in
                 by_one source pages calls does shared here
                 (λ choice.
-                let slots = copied c.active.slots d (length before) choice.contents 0 in
+                let slots = copied c.active.slots d (words_held before) choice.contents 0 in
                 entered stand n h (reverse before) (Caller e ∷ k) w slots c.globals [] (frame ∷ c.frames) c.store c.output c.input there
                 (record {
                   same_output = shared.same_output;
@@ -239,9 +282,9 @@ module _ (source : Program) (pages calls : ℕ) where
                   fits = fine;
                 })
                 (data_called source g n w.objects e (callers k) c.active.slots slots c.globals frame c.frames refl refl facts)
-                (arguments_copied c.active.slots choice.contents d 0 (length before) (reverse before) (omega (arith, length-reverse before))
+                (arguments_copied c.active.slots choice.contents d 0 (words_held before) (reverse before) (omega (arith, words-reverse before))
                 (subst (λ (i : ℕ). HoldsFrom c.active.slots i (reverse before)) (let z : d ≡ d + 0 = omega arith in z) (in_order c.active.slots base before (held k) holds)))
-                (λ m at_end. (base_of source n, at_end, (Holds-rest c.active.slots base before (held k) holds, lands_at source pages calls g e.locals into (c.active.next + 1) q c.frames k end lands))))
+                (λ m at_end. (base_of source n, at_end, (Holds-rest c.active.slots base before (held k) holds, back))))
           ]
 
   -- one argument too many

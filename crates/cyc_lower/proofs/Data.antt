@@ -1,38 +1,63 @@
 -- What stays of the data in slots, variables and globals while a step changes some of it.
-use Rattle.std.proofs.Common.{◌≡◌, ◌≢◌, ℕ, zero, suc, ◌+◌, ◌≤◌, ◌<◌, Bool, List, [], ◌∷◌, ◌++◌, length, reverse, set, Option, None, Some, slice_get, refl, sym, ap, subst, ◌∙◌, arith, inl, inr, length-append}
+use Rattle.std.proofs.Common.{◌≡◌, ◌≢◌, ◌⊎◌, ℕ, zero, suc, ◌+◌, ◌≤◌, ◌<◌, Bool, List, [], ◌∷◌, ◌++◌, length, reverse, set, Option, None, Some, slice_get, refl, sym, ap, subst, ◌∙◌, arith, inl, inr, length-append}
 use Rattle.std.specs.Prelude.{◌==◌, if◌then◌else◌}
 use Rattle.std.proofs.lemmas.Bool.{cases_eq, eq-eqb, eqb-true, false_from_ne_true}
-use Rattle.std.proofs.lemmas.List.{reverse-append, length-reverse}
+use Rattle.std.proofs.lemmas.List.{reverse-append}
 use Rattle.std.proofs.lemmas.Option.{same_Some, none-some}
 use Rattle.cyc_types.specs.TypedTrees.{Program}
 use Rattle.cyc_plain.specs.State.{Words, put, copied, Frame}
 use Rattle.cyc_plain.proofs.SlotLaws.{put-same, put-other, copied-inside}
-use Rattle.cyc_meaning.specs.Values.{Value, Operand}
+use Rattle.cyc_types.specs.declared.typed.Kind.{Kind}
+use Rattle.cyc_types.specs.declared.typed.Kind.TheVariants as kinds
+use Rattle.cyc_meaning.specs.Values.{Value, Int, Null, Operand, words_of_kind}
 use Rattle.cyc_meaning.specs.State.{Object, Environment, with_local}
 use Rattle.cyc_types.specs.Types.{Ty}
 use Rattle.cyc_meaning.specs.FrameCount.{words_of_all}
 use Rattle.cyc_lower.specs.Slots.{starts_of, slot_of}
-use Rattle.cyc_lower.proofs.Slots.{slot-inside, slot-other}
-use Rattle.cyc_lower.proofs.Relation.{Is, height, Holds, HoldsFrom, content_of, contents, LocalsHold, GlobalsHold, FramesHold, DataAt, types_at, starts_at, base_of}
+use Rattle.cyc_lower.proofs.Widths.{kind_positive, words_in, HasRoom, Outside}
+use Rattle.cyc_lower.proofs.Slots.{slot-room, slot-apart}
+use Rattle.cyc_lower.proofs.Relation.{Is, words_held, height, Holds, HoldsFrom, content_of, contents, LocalsHold, GlobalsHold, FramesHold, DataAt, types_at, starts_at, base_of}
 
 -- ---- values in slots
 
-pub height-is : (base : ℕ) (vs : List Operand) → height base vs ≡ base + length vs
+-- the first word tells all
+pub Is-first : (kind : Kind) (v : Value) (words other : Words) (p q : ℕ) → other q ≡ words p → Is kind v words p → Is kind v other q
+Is-first kinds.Int (Int a) words other p q same is = same ∙ is
+Is-first kinds.Nullable Null words other p q same is = same ∙ is
+Is-first kinds.Fat Null words other p q same is = same ∙ is
+Is-first kind v words other p q same is = absurd is
+
+-- equal words are the same value
+pub Is-same : (kind : Kind) (v : Value) (words other : Words) (p q : ℕ) → ((i : ℕ) → i < words_of_kind kind → other (q + i) ≡ words (p + i)) → Is kind v words p → Is kind v other q
+Is-same kind v words other p q same is =
+    let at_p : p + 0 ≡ p = omega arith in
+    let at_q : q + 0 ≡ q = omega arith in
+    Is-first kind v words other p q (sym (ap other at_q) ∙ same 0 (omega (arith, kind_positive kind)) ∙ ap words at_p) is
+
+pub height-is : (base : ℕ) (vs : List Operand) → height base vs ≡ base + words_held vs
 height-is base [] = omega arith
 height-is base (v ∷ vs) = omega (arith, height-is base vs)
 
 pub height-least : (base : ℕ) (vs : List Operand) → base ≤ height base vs
 height-least base vs = omega (arith, height-is base vs)
 
-pub height-append : (base : ℕ) (vs rest : List Operand) → height base (vs ++ rest) ≡ height base rest + length vs
+pub height-append : (base : ℕ) (vs rest : List Operand) → height base (vs ++ rest) ≡ height base rest + words_held vs
 height-append base [] rest = omega arith
 height-append base (v ∷ vs) rest = omega (arith, height-append base vs rest)
+
+words-append : (vs us : List Operand) → words_held (vs ++ us) ≡ words_held vs + words_held us
+words-append [] us = omega arith
+words-append (v ∷ vs) us = omega (arith, words-append vs us)
+
+pub words-reverse : (vs : List Operand) → words_held (reverse vs) ≡ words_held vs
+words-reverse [] = refl
+words-reverse (v ∷ vs) = omega (arith, ap words_held (reverse-append (v ∷ []) vs), words-append (reverse vs) (v ∷ []), words-reverse vs)
 
 -- slots that are equal below some slot hold the same values there
 pub Holds-same : (slots other : Words) (base : ℕ) (vs : List Operand) → ((n : ℕ) → n < height base vs → other n ≡ slots n) → Holds slots base vs → Holds other base vs
 Holds-same slots other base [] same holds = tt
 Holds-same slots other base (v ∷ vs) same (is, holds) = (
-  subst (Is v.value) (sym (same (height base vs) (omega arith))) is,
+  Is-same v.kind v.value slots other (height base vs) (height base vs) (λ i below. same (height base vs + i) (omega (arith, below))) is,
   Holds-same slots other base vs (λ n below. same n (omega (arith, below))) holds,
 )
 
@@ -40,55 +65,43 @@ Holds-same slots other base (v ∷ vs) same (is, holds) = (
 pub Holds-above : (slots other : Words) (base : ℕ) (vs : List Operand) → ((n : ℕ) → base ≤ n → other n ≡ slots n) → Holds slots base vs → Holds other base vs
 Holds-above slots other base [] same holds = tt
 Holds-above slots other base (v ∷ vs) same (is, holds) = (
-  subst (Is v.value) (sym (same (height base vs) (height-least base vs))) is,
+  Is-same v.kind v.value slots other (height base vs) (height base vs) (λ i below. same (height base vs + i) (omega (arith, height-least base vs))) is,
   Holds-above slots other base vs same holds,
-)
-
-pub Holds-put : (slots : Words) (base : ℕ) (vs : List Operand) (n w : ℕ) → height base vs ≤ n → Holds slots base vs → Holds (put slots n w) base vs
-Holds-put slots base vs n w above holds =
-    Holds-same slots (put slots n w) base vs (λ m below. put-other slots n m w (λ same. absurd (omega (arith, same, below, above)))) holds
-
--- a write to a local
-pub Holds-local : (slots : Words) (base : ℕ) (vs : List Operand) (n w : ℕ) → n < base → Holds slots base vs → Holds (put slots n w) base vs
-Holds-local slots base [] n w below holds = tt
-Holds-local slots base (v ∷ vs) n w below (is, holds) = (
-  subst (Is v.value) (sym (put-other slots n (height base vs) w (λ same. absurd (omega (arith, same, below, height-least base vs))))) is,
-  Holds-local slots base vs n w below holds,
 )
 
 pub Holds-rest : (slots : Words) (base : ℕ) (vs rest : List Operand) → Holds slots base (vs ++ rest) → Holds slots base rest
 Holds-rest slots base [] rest holds = holds
 Holds-rest slots base (v ∷ vs) rest (is, holds) = Holds-rest slots base vs rest holds
 
-HoldsFrom-snoc : (slots : Words) (first : ℕ) (vs : List Operand) (v : Operand) → HoldsFrom slots first vs → Is v.value (slots (first + length vs)) → HoldsFrom slots first (vs ++ v ∷ [])
-HoldsFrom-snoc slots first [] v holds is = (subst (λ n. Is v.value (slots n)) (let e : first + 0 ≡ first = omega arith in e) is, tt)
+HoldsFrom-snoc : (slots : Words) (first : ℕ) (vs : List Operand) (v : Operand) → HoldsFrom slots first vs → Is v.kind v.value slots (first + words_held vs) → HoldsFrom slots first (vs ++ v ∷ [])
+HoldsFrom-snoc slots first [] v holds is = (subst (Is v.kind v.value slots) (let e : first + 0 ≡ first = omega arith in e) is, tt)
 HoldsFrom-snoc slots first (u ∷ vs) v (is_u, holds) is = (
   is_u,
-  HoldsFrom-snoc slots (suc first) vs v holds (subst (λ n. Is v.value (slots n)) (let e : first + suc (length vs) ≡ suc first + length vs = omega arith in e) is),
+  HoldsFrom-snoc slots (first + words_of_kind u.kind) vs v holds
+      (subst (Is v.kind v.value slots) (let e : first + (words_held vs + words_of_kind u.kind) ≡ first + words_of_kind u.kind + words_held vs = omega arith in e) is),
 )
 
 -- values that were pushed one by one stand in order
 pub in_order : (slots : Words) (base : ℕ) (vs rest : List Operand) → Holds slots base (vs ++ rest) → HoldsFrom slots (height base rest) (reverse vs)
 in_order slots base [] rest holds = tt
 in_order slots base (v ∷ vs) rest (is, holds) =
-    let place : height base (vs ++ rest) ≡ height base rest + length (reverse vs) = omega (arith, height-append base vs rest, length-reverse vs) in
+    let place : height base (vs ++ rest) ≡ height base rest + words_held (reverse vs) = omega (arith, height-append base vs rest, words-reverse vs) in
     subst (HoldsFrom slots (height base rest)) (sym (reverse-append (v ∷ []) vs))
-    (HoldsFrom-snoc slots (height base rest) (reverse vs) v (in_order slots base vs rest holds) (subst (λ n. Is v.value (slots n)) place is))
+    (HoldsFrom-snoc slots (height base rest) (reverse vs) v (in_order slots base vs rest holds) (subst (Is v.kind v.value slots) place is))
 
 -- arguments come into the first slots of a call
-pub arguments_copied : (from to : Words) (source i many : ℕ) (vs : List Operand) → i + length vs ≤ many → HoldsFrom from (source + i) vs → HoldsFrom (copied from source many to 0) i vs
+pub arguments_copied : (from to : Words) (source i many : ℕ) (vs : List Operand) → i + words_held vs ≤ many → HoldsFrom from (source + i) vs → HoldsFrom (copied from source many to 0) i vs
 arguments_copied from to source i many [] few holds = tt
 arguments_copied from to source i many (v ∷ vs) few (is, holds) = (
-  subst (Is v.value) (sym (let start : i ≡ 0 + i = omega arith in ap (copied from source many to 0) start ∙ copied-inside from to source many 0 i (omega (arith, few)))) is,
-  arguments_copied from to source (suc i) many vs (omega (arith, few)) (subst (λ n. HoldsFrom from n vs) (let e : suc (source + i) ≡ source + suc i = omega arith in e) holds),
+  Is-same v.kind v.value from (copied from source many to 0) (source + i) i
+      (λ j below.
+      let start : i + j ≡ 0 + (i + j) = omega arith in
+      let there : source + (i + j) ≡ source + i + j = omega arith in
+      ap (copied from source many to 0) start ∙ copied-inside from to source many 0 (i + j) (omega (arith, few, below)) ∙ ap from there)
+      is,
+  arguments_copied from to source (i + words_of_kind v.kind) many vs (omega (arith, few))
+      (subst (λ n. HoldsFrom from n vs) (let e : source + i + words_of_kind v.kind ≡ source + (i + words_of_kind v.kind) = omega arith in e) holds),
 )
-
--- a slot that is written twice has the last word
-pub put_over : (slots : Words) (n w word m : ℕ) → slots n ≡ word → put (put slots n w) n word m ≡ slots m
-put_over slots n w word m is = elim (cases_eq m n) [
-  | inl equal ↦ ap (put (put slots n w) n word) equal ∙ put-same (put slots n w) n word ∙ sym is ∙ sym (ap slots equal)
-  | inr apart ↦ put-other (put slots n w) n m word apart ∙ put-other slots n m w apart
-]
 
 -- ---- objects
 
@@ -135,31 +148,55 @@ locals_kept types objects others locals low high slots same hold = record {
       hold.holds number object v at (sym (same object inside.1 inside.2) ∙ has);
 }
 
+-- the words of a local's value, with other slots that are equal where the local has its own
+local_same : (types : List Ty) (slots other : Words) (number : ℕ) (v : Operand) → number < length types → HasRoom types number v.kind
+    → ((m : ℕ) → slot_of (starts_of types) number ≤ m → m < slot_of (starts_of types) number + words_in types number → other m ≡ slots m)
+    → Is v.kind v.value slots (slot_of (starts_of types) number) → Is v.kind v.value other (slot_of (starts_of types) number)
+local_same types slots other number v inside room same is =
+    let slot = slot_of (starts_of types) number in
+    Is-same v.kind v.value slots other slot slot (λ i below. same (slot + i) (omega arith) (omega (arith, below, room))) is
+
+-- what is outside of the words of one local, for another
+other_outside : (types : List Ty) (n number many m : ℕ) → n < length types → number < length types → n ≢ number → many ≤ words_in types number
+    → slot_of (starts_of types) n ≤ m → m < slot_of (starts_of types) n + words_in types n → Outside (slot_of (starts_of types) number) many m
+other_outside types n number many m inside there other few from to = elim (slot-apart types n number inside there other) [
+  | inl before ↦ inl (omega (arith, before, to))
+  | inr behind ↦ inr (omega (arith, behind, from, few))
+]
+
 pub locals_same_slots : (types : List Ty) (objects : List Object) (locals : ℕ → Option ℕ) (low high : ℕ) (slots other : Words)
     → ((n : ℕ) → n < words_of_all types → other n ≡ slots n) → LocalsHold types objects locals low high slots → LocalsHold types objects locals low high other
 locals_same_slots types objects locals low high slots other same hold = record {
   within = hold.within;
   apart = hold.apart;
-  holds = λ number object v at has. subst (Is v) (sym (same (slot_of (starts_of types) number) (slot-inside types number (hold.within number object at).0))) (hold.holds number object v at has);
+  holds = λ number object v at has.
+      let inside = (hold.within number object at).0 in
+      let (is, room) = hold.holds number object v at has in
+      (local_same types slots other number v inside room (λ m from to. same m (omega (arith, to, slot-room types number inside))) is, room);
 }
 
--- a local is assigned
-pub locals_assigned : (types : List Ty) (objects others : List Object) (locals : ℕ → Option ℕ) (low high : ℕ) (slots : Words) (number object : ℕ) (v : Value) (w : ℕ)
-    → locals number ≡ Some object → contents others object ≡ Some v → ((o : ℕ) → o ≢ object → contents others o ≡ contents objects o) → Is v w
-    → LocalsHold types objects locals low high slots → LocalsHold types others locals low high (put slots (slot_of (starts_of types) number) w)
-locals_assigned types objects others locals low high slots number object v w here now same is hold = record {
+-- a local is assigned: the words of its value differ, and no others
+pub locals_assigned : (types : List Ty) (objects others : List Object) (locals : ℕ → Option ℕ) (low high : ℕ) (slots after : Words) (number object : ℕ) (v : Operand)
+    → locals number ≡ Some object → contents others object ≡ Some v → ((o : ℕ) → o ≢ object → contents others o ≡ contents objects o)
+    → HasRoom types number v.kind → Is v.kind v.value after (slot_of (starts_of types) number)
+    → ((m : ℕ) → Outside (slot_of (starts_of types) number) (words_of_kind v.kind) m → after m ≡ slots m)
+    → LocalsHold types objects locals low high slots → LocalsHold types others locals low high after
+locals_assigned types objects others locals low high slots after number object v here now same room is elsewhere hold = record {
   within = hold.within;
   apart = hold.apart;
   holds = λ n o u at has. elim (cases_eq n number) [
     | inl equal ↦
         let o_is : o ≡ object = same_Some o object (sym at ∙ ap locals equal ∙ here) in
         let u_is : v ≡ u = same_Some v u (sym now ∙ sym (ap (contents others) o_is) ∙ has) in
-        let slot = slot_of (starts_of types) number in
-        subst (λ m. Is u (put slots slot w (slot_of (starts_of types) m))) (sym equal) (subst (Is u) (sym (put-same slots slot w)) (subst (λ x. Is x w) u_is is))
+        subst (λ m. Is u.kind u.value after (slot_of (starts_of types) m) × HasRoom types m u.kind) (sym equal)
+        (subst (λ (x : Operand). Is x.kind x.value after (slot_of (starts_of types) number) × HasRoom types number x.kind) u_is (is, room))
     | inr other ↦
-        let apart = slot-other types n number (hold.within n o at).0 (hold.within number object here).0 other in
-        subst (Is u) (sym (put-other slots (slot_of (starts_of types) number) (slot_of (starts_of types) n) w apart))
-        (hold.holds n o u at (sym (same o (λ e. other (hold.apart n number object (at ∙ ap Some e) here))) ∙ has))
+        let inside = (hold.within n o at).0 in
+        let (is_u, room_u) = hold.holds n o u at (sym (same o (λ e. other (hold.apart n number object (at ∙ ap Some e) here))) ∙ has) in (
+          local_same types slots after n u inside room_u
+              (λ m from to. elsewhere m (other_outside types n number (words_of_kind v.kind) m inside (hold.within number object here).0 other room from to)) is_u,
+          room_u,
+        )
   ];
 }
 
@@ -170,13 +207,14 @@ local_other : (locals : ℕ → Option ℕ) (number other object : ℕ) → othe
 local_other locals number other object apart =
     ap (λ (b : Bool). if b then Some object else locals other) (false_from_ne_true (other == number) (λ h. apart (eqb-true other number h)))
 
--- a local is declared, whose object is the one made last
-pub locals_declared : (types : List Ty) (objects : List Object) (e : Environment) (low : ℕ) (slots other : Words) (number : ℕ) (x : Object)
-    → number < length types → low ≤ length objects → ((n : ℕ) → n < words_of_all types → n ≢ slot_of (starts_of types) number → other n ≡ slots n)
-    → ((v : Value) → content_of (Some x) ≡ Some v → Is v (other (slot_of (starts_of types) number)))
+-- a local is declared, whose object is the one made last, and so many words of it are written
+pub locals_declared : (types : List Ty) (objects : List Object) (e : Environment) (low : ℕ) (slots other : Words) (number many : ℕ) (x : Object)
+    → number < length types → many ≤ words_in types number → low ≤ length objects
+    → ((m : ℕ) → Outside (slot_of (starts_of types) number) many m → other m ≡ slots m)
+    → ((v : Operand) → content_of (Some x) ≡ Some v → Is v.kind v.value other (slot_of (starts_of types) number) × HasRoom types number v.kind)
     → LocalsHold types objects e.locals low (length objects) slots
     → LocalsHold types (objects ++ x ∷ []) (with_local e number (length objects)).locals low (length (objects ++ x ∷ [])) other
-locals_declared types objects e low slots other number x below low_is same is hold =
+locals_declared types objects e low slots other number many x below few low_is same is hold =
     let locals = e.locals in
     let long : length (objects ++ x ∷ []) ≡ length objects + 1 = length-append objects (x ∷ []) in
     record {
@@ -207,11 +245,12 @@ locals_declared types objects e low slots other number x below low_is same is ho
       holds = λ n o v at has. elim (cases_eq n number) [
         | inl equal ↦
             let o_is : length objects ≡ o = same_Some (length objects) o (sym (local_new locals number (length objects)) ∙ ap (with_local e number (length objects)).locals (sym equal) ∙ at) in
-            subst (λ m. Is v (other (slot_of (starts_of types) m))) (sym equal) (is v (sym (contents_new objects x) ∙ ap (contents (objects ++ x ∷ [])) o_is ∙ has))
+            subst (λ m. Is v.kind v.value other (slot_of (starts_of types) m) × HasRoom types m v.kind) (sym equal) (is v (sym (contents_new objects x) ∙ ap (contents (objects ++ x ∷ [])) o_is ∙ has))
         | inr apart ↦
             let at_old = sym (local_other locals number n (length objects) apart) ∙ at in
             let old = hold.within n o at_old in
-            subst (Is v) (sym (same (slot_of (starts_of types) n) (slot-inside types n old.0) (slot-other types n number old.0 below apart))) (hold.holds n o v at_old (sym (contents_made objects x o old.2) ∙ has))
+            let (is_v, room) = hold.holds n o v at_old (sym (contents_made objects x o old.2) ∙ has) in
+            (local_same types slots other n v old.0 room (λ m from to. same m (other_outside types n number many m old.0 below apart few from to)) is_v, room)
       ];
     }
 
@@ -265,44 +304,31 @@ module _ (source : Program) where
   data_same g objects locals outer slots other globals frames same (low, below, hold, waiting, words) =
       (low, below, locals_same_slots (types_at source g) objects locals low (length objects) slots other same hold, waiting, words)
 
-  -- a temporary is written
-  pub data_put : (g : ℕ) (objects : List Object) (locals : ℕ → Option ℕ) (outer : List Environment) (slots globals : Words) (frames : List Frame) (n w : ℕ)
-      → base_of source g ≤ n → DataAt source g objects locals outer slots globals frames → DataAt source g objects locals outer (put slots n w) globals frames
-  data_put g objects locals outer slots globals frames n w above facts =
-      data_same g objects locals outer slots (put slots n w) globals frames (λ m below. put-other slots n m w (λ same. absurd (omega (arith, same, below, above)))) facts
+  -- words are written behind the locals
+  pub data_above : (g : ℕ) (objects : List Object) (locals : ℕ → Option ℕ) (outer : List Environment) (slots after globals : Words) (frames : List Frame) (n many : ℕ)
+      → base_of source g ≤ n → ((m : ℕ) → Outside n many m → after m ≡ slots m) → DataAt source g objects locals outer slots globals frames → DataAt source g objects locals outer after globals frames
+  data_above g objects locals outer slots after globals frames n many above same facts =
+      data_same g objects locals outer slots after globals frames (λ m below. same m (inl (omega (arith, below, above)))) facts
 
-  -- a local's slot gets another word, and then the word that it had
-  pub data_put_back : (g : ℕ) (objects : List Object) (locals : ℕ → Option ℕ) (outer : List Environment) (slots globals : Words) (frames : List Frame) (n w : ℕ)
-      → DataAt source g objects locals outer slots globals frames → DataAt source g objects locals outer (put (put slots n w) n (slots n)) globals frames
-  data_put_back g objects locals outer slots globals frames n w facts =
-      data_same g objects locals outer slots (put (put slots n w) n (slots n)) globals frames (λ m below. put_over slots n w (slots n) m refl) facts
-
-  pub data_assigned : (g : ℕ) (objects others : List Object) (locals : ℕ → Option ℕ) (outer : List Environment) (slots globals : Words) (frames : List Frame) (number object : ℕ) (v : Value) (w : ℕ)
-      → locals number ≡ Some object → contents others object ≡ Some v → ((o : ℕ) → o ≢ object → contents others o ≡ contents objects o) → length others ≡ length objects → Is v w
-      → DataAt source g objects locals outer slots globals frames → DataAt source g others locals outer (put slots (slot_of (starts_at source g) number) w) globals frames
-  data_assigned g objects others locals outer slots globals frames number object v w here now same long is (low, below, hold, waiting, words) =
+  pub data_assigned : (g : ℕ) (objects others : List Object) (locals : ℕ → Option ℕ) (outer : List Environment) (slots after globals : Words) (frames : List Frame) (number object : ℕ) (v : Operand)
+      → locals number ≡ Some object → contents others object ≡ Some v → ((o : ℕ) → o ≢ object → contents others o ≡ contents objects o) → length others ≡ length objects
+      → HasRoom (types_at source g) number v.kind → Is v.kind v.value after (slot_of (starts_at source g) number)
+      → ((m : ℕ) → Outside (slot_of (starts_at source g) number) (words_of_kind v.kind) m → after m ≡ slots m)
+      → DataAt source g objects locals outer slots globals frames → DataAt source g others locals outer after globals frames
+  data_assigned g objects others locals outer slots after globals frames number object v here now same long room is elsewhere (low, below, hold, waiting, words) =
       let inside = hold.within number object here in
       let above = globals_below objects low frames outer waiting in
       let not : (o : ℕ) → o < low → o ≢ object = λ o less e. absurd (omega (arith, e, less, inside.1)) in (
         low,
         omega (arith, below, long),
-        subst (λ high. LocalsHold (types_at source g) others locals low high (put slots (slot_of (starts_at source g) number) w)) (sym long)
-            (locals_assigned (types_at source g) objects others locals low (length objects) slots number object v w here now same is hold),
+        subst (λ high. LocalsHold (types_at source g) others locals low high after) (sym long)
+            (locals_assigned (types_at source g) objects others locals low (length objects) slots after number object v here now same room is elsewhere hold),
         frames_kept objects others low frames outer (λ o from to. same o (not o to)) waiting,
         globals_kept objects others globals (λ o from to. same o (not o (omega (arith, to, above)))) words,
       )
 
-  -- the same, where the slot has the word already
-  pub data_caught_up : (g : ℕ) (objects others : List Object) (locals : ℕ → Option ℕ) (outer : List Environment) (slots globals : Words) (frames : List Frame) (number object : ℕ) (v : Value) (old : ℕ)
-      → locals number ≡ Some object → contents others object ≡ Some v → ((o : ℕ) → o ≢ object → contents others o ≡ contents objects o) → length others ≡ length objects → Is v (slots (slot_of (starts_at source g) number))
-      → DataAt source g objects locals outer (put slots (slot_of (starts_at source g) number) old) globals frames → DataAt source g others locals outer slots globals frames
-  data_caught_up g objects others locals outer slots globals frames number object v old here now same long is facts =
-      let slot = slot_of (starts_at source g) number in
-      data_same g others locals outer (put (put slots slot old) slot (slots slot)) slots globals frames (λ m below. sym (put_over slots slot old (slots slot) m refl))
-      (data_assigned g objects others locals outer (put slots slot old) globals frames number object v (slots slot) here now same long is facts)
-
-  pub data_assigned_global : (g : ℕ) (objects others : List Object) (locals : ℕ → Option ℕ) (outer : List Environment) (slots globals : Words) (frames : List Frame) (number : ℕ) (v : Value) (w : ℕ)
-      → number < global_count → contents others number ≡ Some v → ((o : ℕ) → o ≢ number → contents others o ≡ contents objects o) → length others ≡ length objects → Is v w
+  pub data_assigned_global : (g : ℕ) (objects others : List Object) (locals : ℕ → Option ℕ) (outer : List Environment) (slots globals : Words) (frames : List Frame) (number : ℕ) (v : Operand) (w : ℕ)
+      → number < global_count → contents others number ≡ Some v → ((o : ℕ) → o ≢ number → contents others o ≡ contents objects o) → length others ≡ length objects → Is v.kind v.value (λ (i : ℕ). w) 0
       → DataAt source g objects locals outer slots globals frames → DataAt source g others locals outer slots (put globals number w) frames
   data_assigned_global g objects others locals outer slots globals frames number v w few now same long is (low, below, hold, waiting, words) =
       let above = globals_below objects low frames outer waiting in
@@ -315,20 +341,22 @@ module _ (source : Program) where
         λ n u less has. elim (cases_eq n number) [
           | inl equal ↦
               let u_is : v ≡ u = same_Some v u (sym now ∙ sym (ap (contents others) equal) ∙ has) in
-              subst (λ m. Is u (put globals number w m)) (sym equal) (subst (Is u) (sym (put-same globals number w)) (subst (λ x. Is x w) u_is is))
-          | inr other ↦ subst (Is u) (sym (put-other globals number n w other)) (words n u less (sym (same n other) ∙ has))
+              subst (λ (x : Operand). Is x.kind x.value (put globals number w) n) u_is
+              (Is-first v.kind v.value (λ (i : ℕ). w) (put globals number w) 0 n (ap (put globals number w) equal ∙ put-same globals number w) is)
+          | inr other ↦ Is-first u.kind u.value globals (put globals number w) n n (put-other globals number n w other) (words n u less (sym (same n other) ∙ has))
         ],
       )
 
-  pub data_declared : (g : ℕ) (objects : List Object) (e : Environment) (outer : List Environment) (slots other globals : Words) (frames : List Frame) (number : ℕ) (x : Object)
-      → number < length (types_at source g) → ((n : ℕ) → n < base_of source g → n ≢ slot_of (starts_at source g) number → other n ≡ slots n)
-      → ((v : Value) → content_of (Some x) ≡ Some v → Is v (other (slot_of (starts_at source g) number)))
+  pub data_declared : (g : ℕ) (objects : List Object) (e : Environment) (outer : List Environment) (slots other globals : Words) (frames : List Frame) (number many : ℕ) (x : Object)
+      → number < length (types_at source g) → many ≤ words_in (types_at source g) number
+      → ((m : ℕ) → Outside (slot_of (starts_at source g) number) many m → other m ≡ slots m)
+      → ((v : Operand) → content_of (Some x) ≡ Some v → Is v.kind v.value other (slot_of (starts_at source g) number) × HasRoom (types_at source g) number v.kind)
       → DataAt source g objects e.locals outer slots globals frames → DataAt source g (objects ++ x ∷ []) (with_local e number (length objects)).locals outer other globals frames
-  data_declared g objects e outer slots other globals frames number x few same is (low, below, hold, waiting, words) =
+  data_declared g objects e outer slots other globals frames number many x inside few same is (low, below, hold, waiting, words) =
       let above = globals_below objects low frames outer waiting in (
         low,
         omega (arith, below, length-append objects (x ∷ [])),
-        locals_declared (types_at source g) objects e low slots other number x few below same is hold,
+        locals_declared (types_at source g) objects e low slots other number many x inside few below same is hold,
         frames_kept objects (objects ++ x ∷ []) low frames outer (λ o from to. contents_made objects x o (omega (arith, to, below))) waiting,
         globals_kept objects (objects ++ x ∷ []) globals (λ o from to. contents_made objects x o (omega (arith, to, above, below))) words,
       )

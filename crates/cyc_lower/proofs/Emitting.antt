@@ -1,6 +1,6 @@
 -- Code that is made piece by piece: lists of nodes, nodes with lists, and jumps whose targets are written back.
-use Rattle.std.proofs.Common.{◌≡◌, ℕ, zero, suc, ◌+◌, ◌<◌, ◌≤◌, true, false, List, [], ◌∷◌, ◌++◌, length, get_or, drop, set, Option, Some, None, refl, sym, ap, ◌∙◌, arith, append_assoc, append-nil}
-use Rattle.std.specs.Prelude.{◌==◌, is_some}
+use Rattle.std.proofs.Common.{◌≡◌, ℕ, zero, suc, ◌+◌, ◌<◌, ◌≤◌, Bool, true, false, List, [], ◌∷◌, ◌++◌, length, get_or, drop, set, Option, Some, None, refl, sym, ap, ◌∙◌, arith, append_assoc, append-nil}
+use Rattle.std.specs.Prelude.{◌==◌, is_some, if◌then◌else◌}
 use Rattle.std.proofs.lemmas.Bool.{eqb-true, eq-eqb}
 use Rattle.std.proofs.lemmas.List.{drop_all, drop_more, length-append, length-drop}
 use Rattle.std.proofs.Math.Seq.{set-append_seam}
@@ -21,18 +21,19 @@ use Rattle.cyc_types.specs.declared.typed.Expr.TheVariants as expr
 use Rattle.cyc_types.specs.declared.typed.Converted.{Converted as ConvertedCode}
 use Rattle.cyc_types.specs.declared.typed.Operation.{Operation}
 use Rattle.cyc_types.specs.declared.typed.Operation.TheVariants as operation
-use Rattle.cyc_types.specs.Types.{ValueType, Void}
+use Rattle.cyc_types.specs.Types.{ValueType, Void, words_of}
 use Rattle.cyc_types.specs.TypeView.{view_ty, view_value_type}
 use Rattle.cyc_types.specs.TypedTrees.{Lvalue, Local, Global, Expression, Number, Copy, Call, Unary, Binary, Assign, Converted, Convert, Arguments, Operations, NoOperations, ThenCompute, ThenTest}
 use Rattle.cyc_types.specs.TypedTreeView.{view_lvalue, view_expression, view_converted, arguments_of, operations_of}
-use Rattle.cyc_types.specs.Numbered.{argument_count}
+use Rattle.cyc_types.specs.declared.typed.Kind.{Kind}
+use Rattle.cyc_meaning.specs.Values.{words_of_kind}
 use Rattle.cyc_types.proofs.TypedTreeViewLemmas.{view_call, view_binary}
 use Rattle.cyc_plain.specs.declared.instruction.Operand.{Operand}
 use Rattle.cyc_plain.specs.declared.instruction.Operand.TheVariants as operands
 use Rattle.cyc_plain.specs.declared.instruction.Instruction.{Instruction}
 use Rattle.cyc_plain.specs.declared.instruction.Instruction.TheVariants as instructions
 use Rattle.cyc_lower.specs.Slots.{slot_of}
-use Rattle.cyc_lower.specs.Lowering.{operand_of, operand_or, code_unless, left_with, left_of, slot_with, left_slot, low_byte, value_operand, next_slot, converted_operand, printed_operand, operator_code, load_code, compute_code, test_jump, truth_code, test_code, copy_code, expression_code, arguments_code, converted_code, converted_operand_code, printed_code, initial_code, assignment_code, assigned_operand, operations_code, discarded_code, binary_operator}
+use Rattle.cyc_lower.specs.Lowering.{passed_words, all_passed, converts_there, source_of, source_slot, converted_by, moved_by, move_of, operand_of, operand_or, code_unless, left_with, left_of, slot_with, left_slot, low_byte, value_operand, next_slot, converted_operand, printed_operand, operator_code, load_code, compute_code, test_jump, truth_code, test_code, copy_code, expression_code, arguments_code, converted_code, converted_operand_code, printed_code, initial_code, assignment_code, assigned_operand, operations_code, discarded_code, binary_operator}
 use Rattle.cyc_lower.specs.Emission.{most_locals, value_code, print_code, left_code, takes_operand, HasRoom, operation_code}
 
 behind : (xs ys : List Instruction) → 0 < length ys → 0 < length (xs ++ ys)
@@ -100,9 +101,18 @@ pub slot_at_end : (os : List Operation) (d t : ℕ) → length os ≡ 0 → next
 slot_at_end [] d t none = refl
 slot_at_end (o ∷ os) d t none = absurd (omega (arith, none))
 
-pub argument_count_of : (cs : List ConvertedCode) → argument_count (arguments_of cs) ≡ length cs
-argument_count_of [] = refl
-argument_count_of (c ∷ cs) = ap suc (argument_count_of cs)
+-- the words that are passed so far, with those that are still to come
+pub passed_on : (cs : List ConvertedCode) (i slot first : ℕ) (c : ConvertedCode) → i < length cs → c ≡ get_or cs i c → slot + all_passed (arguments_of (drop i cs)) ≡ first + all_passed (arguments_of cs)
+    → slot + words_of_kind c.to + all_passed (arguments_of (drop (i + 1) cs)) ≡ first + all_passed (arguments_of cs)
+passed_on cs i slot first c inside at left =
+    let here : drop i cs ≡ c ∷ drop (i + 1) cs = drop_more cs i c inside ∙ ap (λ (y : ConvertedCode). y ∷ drop (i + 1) cs) (sym at) in
+    let words : all_passed (arguments_of (drop i cs)) ≡ words_of_kind c.to + all_passed (arguments_of (drop (i + 1) cs)) = ap (λ (l : List ConvertedCode). all_passed (arguments_of l)) here in
+    omega (arith, left, words)
+
+pub passed_done : (cs : List ConvertedCode) (i slot first : ℕ) → length cs ≤ i → slot + all_passed (arguments_of (drop i cs)) ≡ first + all_passed (arguments_of cs) → slot ≡ first + all_passed (arguments_of cs)
+passed_done cs i slot first done left =
+    let none : all_passed (arguments_of (drop i cs)) ≡ 0 = ap (λ (l : List ConvertedCode). all_passed (arguments_of l)) (drop_all i cs done) in
+    omega (arith, left, none)
 
 pub call_viewed : (value : Expr) (f : Callee) (v : Vec ConvertedCode Heap) (t : ValueTypeCode) → value ≡ expr.Call f v t → (items : List ConvertedCode) → items ≡ v.items
     → view_expression value ≡ Call f (arguments_of items) (view_value_type t)
@@ -163,9 +173,9 @@ slot_by_count xs i (suc many) to d t counted none some = some (omega arith) ∙ 
 module _ (starts : List ℕ) where
   -- ---- no expression is without code
 
-  loads : (l : Lvalue) (d : ℕ) → 0 < length (load_code starts l d)
-  loads (Local p n) d = omega arith
-  loads (Global n) d = omega arith
+  loads : (words : ℕ) (l : Lvalue) (d : ℕ) → 0 < length (load_code starts words l d)
+  loads words (Local p n) d = omega arith
+  loads words (Global n) d = omega arith
 
   computes : (o : Operator) (b : Expression) (os : Operations) (p : ℕ) (l : Operand) (d t : ℕ) → 0 < length (operations_code starts (ThenCompute o b os) p l d t)
   computes o b os p l d t =
@@ -175,10 +185,15 @@ module _ (starts : List ℕ) where
   tests : (o : LogicalOperator) (b : Expression) (os : Operations) (p : ℕ) (l : Operand) (d t : ℕ) → 0 < length (operations_code starts (ThenTest o b os) p l d t)
   tests o b os p l d t = before (test_code o (expression_code starts b (p + 1) t t) p (next_slot os d t) t) _ (omega arith)
 
+  initial_by : (there : Bool) (known : Option Operand) (at_once inner : List Instruction) (to : Kind) (o : Operand) (p d : ℕ) → 0 < length at_once
+      → 0 < length (if there then at_once else moved_by known inner to o p d)
+  initial_by true known at_once inner to o p d some = some
+  initial_by false known at_once inner to o p d some = behind (converted_by known inner to o p) (move_of (words_of_kind to) d o ∷ []) (omega arith)
+
   mutual
     pub expression_some : (a : Expression) (p d t : ℕ) → 0 < length (expression_code starts a p d t)
     expression_some (Number n) p d t = omega arith
-    expression_some (Copy l ty) p d t = loads l d
+    expression_some (Copy l ty) p d t = loads (words_of ty) l d
     expression_some (Call callees.Putchar cs ty) p d t = behind (printed_code starts cs p t) _ (omega arith)
     expression_some (Call callees.Getchar cs ty) p d t = behind (arguments_code starts cs p t) _ (omega arith)
     expression_some (Call (callees.Function n) cs ty) p d t = behind (arguments_code starts cs p t) _ (omega arith)
@@ -193,12 +208,13 @@ module _ (starts : List ℕ) where
     expression_some (Binary a os ty) p d t = before (expression_code starts a p t t) _ (expression_some a p t t)
     expression_some (Assign (Local w n) c ty) p d t = before (initial_code starts c p (slot_of starts n) t) _ (initial_some c p (slot_of starts n) t)
     expression_some (Assign (Global n) c ty) p d t =
-        before (converted_operand_code starts c p t ++ _) (copy_code (converted_operand starts c t) d) (behind (converted_operand_code starts c p t) _ (omega arith))
+        before (converted_operand_code starts c p t ++ _) (copy_code (passed_words c) (converted_operand starts c t) d) (behind (converted_operand_code starts c p t) _ (omega arith))
     expression_some a p d t = omega arith
 
     initial_some : (c : Converted) (p d t : ℕ) → 0 < length (initial_code starts c p d t)
-    initial_some (Convert from kinds.NonNull a) p d t = behind _ (instructions.Move d (value_operand starts a t) ∷ []) (omega arith)
-    initial_some (Convert from to a) p d t = expression_some a p d t
+    initial_some (Convert from to a) p d t =
+        let slot = source_slot starts (Convert from to a) t in
+        initial_by (converts_there from to) (source_of starts (Convert from to a)) (expression_code starts a p d t) (expression_code starts a p slot t) to (converted_operand starts (Convert from to a) t) p d (expression_some a p d t)
 
   -- arguments: the state is the slot of the next
   abbrev pub all_arguments : List ConvertedCode → (p t : ℕ) → List Instruction
@@ -208,7 +224,7 @@ module _ (starts : List ℕ) where
   one_argument c cs p t = converted_code starts (view_converted c) p t
 
   abbrev pub next_argument : ConvertedCode → List ConvertedCode → ℕ → ℕ
-  next_argument c cs t = suc t
+  next_argument c cs t = t + words_of_kind c.to
 
   pub arguments_lower : Lowers all_arguments one_argument next_argument
   arguments_lower = record { none = λ p t. refl; more = λ x xs p t. refl }
@@ -270,9 +286,6 @@ module _ (starts : List ℕ) where
 
   -- ---- pieces one behind the other
 
-  pub converted_longer : (old new : List Instruction) (c : ConvertedCode) (t : ℕ) → new ≡ old ++ converted_code starts (view_converted c) (length old) t → length old < length new
-  converted_longer old new c t is = grown old (converted_code starts (view_converted c) (length old) t) new is (before (expression_code starts (view_expression c.value) (length old) t t) _ (expression_some (view_expression c.value) (length old) t t))
-
   -- ---- calls
 
   module _ (f : Callee) (items : List ConvertedCode) (old m1 m2 : List Instruction) (d t : ℕ) where
@@ -285,11 +298,11 @@ module _ (starts : List ℕ) where
         ∙ ap (λ (l : List Instruction). old ++ l) (append_assoc front (instructions.WriteByte o ∷ []) (low_byte o d ∷ []))
         ∙ ap (λ (g : Callee). old ++ expression_code starts (Call g (arguments_of items) Void) (length old) d t) (sym is)
 
-    pub made_call : (n many : ℕ) → f ≡ callees.Function n → many ≡ length items → m1 ≡ old ++ arguments_code starts (arguments_of items) (length old) t
+    pub made_call : (n many : ℕ) → f ≡ callees.Function n → many ≡ all_passed (arguments_of items) → m1 ≡ old ++ arguments_code starts (arguments_of items) (length old) t
         → m2 ≡ m1 ++ instructions.Call n t many d ∷ [] → m2 ≡ old ++ expression_code starts (Call f (arguments_of items) Void) (length old) d t
     made_call n many is counted e1 e2 =
-        let all = argument_count (arguments_of items) in
-        joined old (arguments_code starts (arguments_of items) (length old) t) (λ p. instructions.Call n t all d ∷ []) m1 m2 e1 (e2 ∙ ap (λ k. m1 ++ instructions.Call n t k d ∷ []) (counted ∙ sym (argument_count_of items)))
+        let all = all_passed (arguments_of items) in
+        joined old (arguments_code starts (arguments_of items) (length old) t) (λ p. instructions.Call n t all d ∷ []) m1 m2 e1 (e2 ∙ ap (λ k. m1 ++ instructions.Call n t k d ∷ []) counted)
         ∙ ap (λ (g : Callee). old ++ expression_code starts (Call g (arguments_of items) Void) (length old) d t) (sym is)
 
   -- a call, as the expression that it is
@@ -419,20 +432,20 @@ module _ (starts : List ℕ) where
 
   -- ---- assignments
 
-  assigned_code : (l : Lvalue) (c : Converted) (ty : ValueType) (p d t : ℕ) → assignment_code starts l c p t ++ copy_code (assigned_operand starts l c t) d ≡ expression_code starts (Assign l c ty) p d t
+  assigned_code : (l : Lvalue) (c : Converted) (ty : ValueType) (p d t : ℕ) → assignment_code starts l c p t ++ copy_code (passed_words c) (assigned_operand starts l c t) d ≡ expression_code starts (Assign l c ty) p d t
   assigned_code (Local w n) c ty p d t = refl
   assigned_code (Global n) c ty p d t = refl
 
   -- an assignment, whose value comes to a slot then
   pub made_assigned : (value : Expr) (l : LvalueCode) (b : Box ConvertedCode Heap) (ty : ValueTypeCode) → value ≡ expr.Assign l b ty → (x : ConvertedCode) → x ≡ b.value → (old m1 m2 : List Instruction) (o : Operand) (d t : ℕ)
-      → o ≡ assigned_operand starts (view_lvalue l) (view_converted x) t → m1 ≡ old ++ assignment_code starts (view_lvalue l) (view_converted x) (length old) t → m2 ≡ m1 ++ copy_code o d
+      → o ≡ assigned_operand starts (view_lvalue l) (view_converted x) t → m1 ≡ old ++ assignment_code starts (view_lvalue l) (view_converted x) (length old) t → m2 ≡ m1 ++ copy_code (words_of_kind x.to) o d
       → m2 ≡ old ++ expression_code starts (view_expression value) (length old) d t
   made_assigned value l b ty is x at old m1 m2 o d t o_is e1 e2 =
       let c = view_converted x in
       let front = assignment_code starts (view_lvalue l) c (length old) t in
       let tree : view_expression value ≡ Assign (view_lvalue l) c (view_value_type ty)
       = ap view_expression is ∙ ap (λ (z : ConvertedCode). Assign (view_lvalue l) (view_converted z) (view_value_type ty)) (sym at) in
-      joined old front (λ p. copy_code o d) m1 m2 e1 e2
-      ∙ ap (λ (q : Operand). old ++ (front ++ copy_code q d)) o_is
+      joined old front (λ p. copy_code (words_of_kind x.to) o d) m1 m2 e1 e2
+      ∙ ap (λ (q : Operand). old ++ (front ++ copy_code (words_of_kind x.to) q d)) o_is
       ∙ ap (λ (k : List Instruction). old ++ k) (assigned_code (view_lvalue l) c (view_value_type ty) (length old) d t)
       ∙ ap (λ (y : Expression). old ++ expression_code starts y (length old) d t) (sym tree)

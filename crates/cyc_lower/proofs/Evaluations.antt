@@ -1,5 +1,6 @@
 -- The steps that begin an expression.
-use Rattle.std.proofs.Common.{◌≡◌, ℕ, ◌+◌, ◌≤◌, ◌<◌, Bool, List, [], ◌∷◌, ◌++◌, length, Option, None, Some, slice_get, refl, sym, ap, subst, ◌∙◌, arith}
+use Rattle.std.proofs.Common.{◌≡◌, ℕ, ◌+◌, ◌≤◌, ◌<◌, Bool, true, false, List, [], ◌∷◌, ◌++◌, length, Option, None, Some, slice_get, refl, sym, ap, subst, ◌∙◌, arith, inl, inr}
+use Rattle.std.specs.Prelude.{if◌then◌else◌}
 use Rattle.std.proofs.lemmas.Bool.{eq-eqb}
 use Rattle.std.proofs.lemmas.Option.{same_Some, none-some}
 use Rattle.cyc_types.specs.declared.typed.Callee.{Callee}
@@ -11,27 +12,29 @@ use Rattle.cyc_types.specs.declared.typed.Operator.{Operator}
 use Rattle.cyc_types.specs.Types.{Ty, ValueType}
 use Rattle.cyc_types.specs.TypedTrees.{Lvalue, Local, Global, Expression, Number, Copy, Call, Unary, Binary, Assign, Converted, Convert, Arguments, NoArguments, MoreArguments, Operations, NoOperations, ThenCompute, ThenTest, Function, Program}
 use Rattle.cyc_types.specs.TypedTrees as typed
-use Rattle.cyc_types.specs.Numbered.{argument_count}
 use Rattle.cyc_plain.specs.declared.instruction.Comparison.{Comparison}
 use Rattle.cyc_plain.specs.declared.instruction.Comparison.TheVariants as comparisons
 use Rattle.cyc_plain.specs.declared.instruction.Operand.{Operand}
 use Rattle.cyc_plain.specs.declared.instruction.Operand.TheVariants as operands
 use Rattle.cyc_plain.specs.declared.instruction.Instruction.{Instruction}
 use Rattle.cyc_plain.specs.State as plain
-use Rattle.cyc_plain.specs.State.{put, Frame, Configuration}
-use Rattle.cyc_plain.specs.Step.{operand_word, with_slots, advanced}
+use Rattle.cyc_plain.specs.State.{Words, put, Frame, Configuration}
+use Rattle.cyc_plain.specs.Straight.{At as CodeAt}
+use Rattle.cyc_plain.specs.Step.{Choice, with_slots, advanced, performed}
 use Rattle.cyc_plain.proofs.SlotLaws.{put-same}
-use Rattle.cyc_meaning.specs.Values.{Int, Thin, Operand as Kinded, kind_of}
+use Rattle.cyc_meaning.specs.Values.{Int, Thin, Operand as Kinded, kind_of, words_of_kind}
 use Rattle.cyc_meaning.specs.SourceMachine.{status_in}
 use Rattle.cyc_meaning.specs.State.{status_of, World, Environment, ConvertTo, Operate, Chain, Apply, Store, Pass, Choose, Test, Entry, Needs, Discard, Focus, Evaluating, Given, Running}
 use Rattle.cyc_meaning.specs.Step.{target_by, object_of, assigned, passes, step}
 use Rattle.cyc_lower.specs.Slots.{slot_of}
-use Rattle.cyc_lower.proofs.Slots.{slot-inside}
-use Rattle.cyc_lower.specs.Lowering.{failing_comparison, operand_of, left_with, slot_with, compared_or, compared_of}
+use Rattle.cyc_lower.proofs.Slots.{slot-room}
+use Rattle.cyc_lower.proofs.Widths.{kind_positive, type_words, HasRoom, Outside}
+use Rattle.cyc_lower.proofs.Moves.{moved_slots, moves, put_elsewhere, moved_elsewhere, moved_is}
+use Rattle.cyc_lower.specs.Lowering.{failing_comparison, operand_of, value_slot, source_of, source_slot, are_as_wide, converts_there, all_passed, move_of, left_with, slot_with, compared_or, compared_of, lower_program}
 use Rattle.cyc_lower.proofs.Weights.{weight, stack_weight, expression_weight, arguments_weight}
-use Rattle.cyc_lower.proofs.Stands.{CopyBy, CopyAt, OperandBy, ExpressionAt, ArgumentsAt, ValueAt, PairAt, ConditionAt, AssignmentAt, PrintedAt, DiscardedAt}
-use Rattle.cyc_lower.proofs.Relation.{Is, types_at, starts_at, height, Holds, held, contents, callers, in_temporary, in_local, drops, leaves, copies, prints_only, gives_byte, DataIn, SharedAt, CallAt, to_slot, to_jump, ValueStack, ConditionStack, DroppedStack, AheadStack, LandsStack, HandsOnStack, PrintsStack, RightAt, as_operand, into_slot, for_effect, as_right, as_condition, in_operand, ahead, with_left, Related, Matches, code_of, bounds_in, bounds_at, base_of, top}
-use Rattle.cyc_lower.proofs.Data.{height-least, Holds-put, Holds-local, data_put, data_put_back}
+use Rattle.cyc_lower.proofs.Stands.{CopyBy, CopyAt, OperandBy, InitialBy, ExpressionAt, ArgumentsAt, ValueAt, PairAt, ConditionAt, AssignmentAt, PrintedAt, DiscardedAt}
+use Rattle.cyc_lower.proofs.Relation.{Is, IsIn, types_at, starts_at, given_at, called_at, words_held, height, Holds, held, contents, callers, in_temporary, in_local, drops, leaves, copies, prints_only, gives_byte, DataIn, SharedAt, CallAt, to_slot, to_jump, ValueStack, ConditionStack, DroppedStack, AheadStack, LandsStack, HandsOnStack, PrintsStack, RightAt, EvaluatingAt, as_operand, into_slot, for_effect, as_right, as_condition, in_operand, ahead, with_left, Related, Matches, code_of, bounds_in, bounds_at, base_of, top}
+use Rattle.cyc_lower.proofs.Data.{Is-first, height-least, Holds-same, Holds-above, data_above}
 use Rattle.cyc_lower.proofs.Accesses.{IsWell, is_loaded}
 use Rattle.cyc_lower.proofs.Matched.{IsMatched, silently, by_one}
 
@@ -45,37 +48,59 @@ module _ (source : Program) (pages calls : ℕ) where
   abbrev pub IsStep : Focus → List Entry → Environment → World → Configuration → Type 0
   IsStep focus k e w c = IsWell (step source (Running focus k e w)) → Related source pages calls focus k e w c → IsMatched source pages calls (Running focus k e w) (plain.Running c)
 
-  -- a value comes to a slot, and the next instruction is the one behind
-  pub landed : (v : Kinded) (word d : ℕ) (k : List Entry) (e : Environment) (w : World) (c : Configuration) (q : ℕ) → Is v.value word
+  -- a value comes to a slot and those behind it, and the next instruction is the one behind
+  pub landed : (v : Kinded) (after : Words) (d : ℕ) (k : List Entry) (e : Environment) (w : World) (c : Configuration) (q : ℕ) → Is v.kind v.value after d
+      → ((m : ℕ) → Outside d (words_of_kind v.kind) m → after m ≡ c.active.slots m)
       → SharedAt source pages calls w c → DataIn source c.active.slots k e w c → Holds c.active.slots (base_of source c.active.function) (held k)
-      → c.active.next + 1 ≡ q → LandsStack source c.active.function e.locals d q c.frames k
-      → Related source pages calls (Given v) k e w (advanced (with_slots c (put c.active.slots d word)))
-  landed v word d k e w c q is shared facts holds end (in_temporary least stack) =
+      → c.active.next + 1 ≡ q → LandsStack source c.active.function e.locals v.kind d q c.frames k
+      → Related source pages calls (Given v) k e w (advanced (with_slots c after))
+  landed v after d k e w c q is same shared facts holds end (in_temporary least stack) =
       let base = base_of source c.active.function in (
         shared,
         in_operand (operands.Slot d)
-            (data_put source c.active.function w.objects e.locals (callers k) c.active.slots c.globals c.frames d word (omega (arith, least, height-least base (held k))) facts)
-            (subst (Is v.value) (sym (put-same c.active.slots d word)) is)
-            (Holds-put c.active.slots base (held k) d word least holds)
-            (subst (λ r. ValueStack source c.active.function e.locals (operands.Slot d) r c.frames k) (sym end) stack),
+            (data_above source c.active.function w.objects e.locals (callers k) c.active.slots after c.globals c.frames d (words_of_kind v.kind) (omega (arith, least, height-least base (held k))) same facts)
+            is
+            (Holds-same c.active.slots after base (held k) (λ m below. same m (inl (omega (arith, below, least)))) holds)
+            (subst (λ r. ValueStack source c.active.function e.locals v.kind (operands.Slot d) r c.frames k) (sym end) stack),
       )
-  landed v word d k e w c q is shared facts holds end (in_local below stack) =
+  landed v after d k e w c q is same shared facts holds end (in_local below stack) =
       let base = base_of source c.active.function in (
         shared,
-        ahead d (c.active.slots d, data_put_back source c.active.function w.objects e.locals (callers k) c.active.slots c.globals c.frames d word facts) below
-            (subst (Is v.value) (sym (put-same c.active.slots d word)) is)
-            (Holds-local c.active.slots base (held k) d word below holds)
-            (subst (λ r. AheadStack source c.active.function e.locals d r c.frames k) (sym end) stack),
+        ahead d (c.active.slots, λ m out. sym (same m out), facts)
+            is
+            (Holds-above c.active.slots after base (held k) (λ m above. same m (inr (omega (arith, below, above)))) holds)
+            (subst (λ r. AheadStack source c.active.function e.locals v.kind d r c.frames k) (sym end) stack),
       )
 
+  -- the same for an int
+  pub landed_word : (a word d : ℕ) (k : List Entry) (e : Environment) (w : World) (c : Configuration) (q : ℕ) → word ≡ a
+      → SharedAt source pages calls w c → DataIn source c.active.slots k e w c → Holds c.active.slots (base_of source c.active.function) (held k)
+      → c.active.next + 1 ≡ q → LandsStack source c.active.function e.locals kinds.Int d q c.frames k
+      → Related source pages calls (Given (record { kind = kinds.Int; value = Int a })) k e w (advanced (with_slots c (put c.active.slots d word)))
+  landed_word a word d k e w c q is shared facts holds end lands =
+      landed (record { kind = kinds.Int; value = Int a }) (put c.active.slots d word) d k e w c q (put-same c.active.slots d word ∙ is)
+      (λ m out. put_elsewhere c.active.slots d word 1 m (omega arith) out) shared facts holds end lands
+
+  -- a value that is moved from an operand
+  pub landed_moved : (v : Kinded) (o : Operand) (d : ℕ) (k : List Entry) (e : Environment) (w : World) (c : Configuration) (q : ℕ) (choice : Choice) → IsIn v c.active.slots o
+      → SharedAt source pages calls w c → DataIn source c.active.slots k e w c → Holds c.active.slots (base_of source c.active.function) (held k)
+      → c.active.next + 1 ≡ q → LandsStack source c.active.function e.locals v.kind d q c.frames k
+      → Matches source pages calls (Running (Given v) k e w) (performed (lower_program source) choice c (move_of (words_of_kind v.kind) d o))
+  landed_moved v o d k e w c q choice is shared facts holds end lands =
+      let words = words_of_kind v.kind in
+      subst (Matches source pages calls (Running (Given v) k e w)) (sym (moves (lower_program source) choice c words d o))
+      (landed v (moved_slots c.active.slots words d o) d k e w c q (moved_is v c.active.slots d o is)
+      (λ m out. moved_elsewhere c.active.slots words d o m (kind_positive v.kind) out) shared facts holds end lands)
+
   -- what stands behind a slot, at an equal place
-  pub lands_at : (g : ℕ) (locals : ℕ → Option ℕ) (d p q : ℕ) (frames : List Frame) (k : List Entry) → p ≡ q → LandsStack source g locals d q frames k → LandsStack source g locals d p frames k
-  lands_at g locals d p q frames k same lands = subst (λ r. LandsStack source g locals d r frames k) (sym same) lands
+  pub lands_at : (g : ℕ) (locals : ℕ → Option ℕ) (kind : Kind) (d p q : ℕ) (frames : List Frame) (k : List Entry) → p ≡ q → LandsStack source g locals kind d q frames k
+      → LandsStack source g locals kind d p frames k
+  lands_at g locals kind d p q frames k same lands = subst (λ r. LandsStack source g locals kind d r frames k) (sym same) lands
 
   -- what a dropped value would be done with
-  pub dropped_value : (g : ℕ) (locals : ℕ → Option ℕ) (o : Operand) (p : ℕ) (frames : List Frame) (k : List Entry) → DroppedStack source g p frames k → ValueStack source g locals o p frames k
-  dropped_value g locals o p frames (Discard ∷ k) stack = stack
-  dropped_value g locals o p frames k stack = absurd stack
+  pub dropped_value : (g : ℕ) (locals : ℕ → Option ℕ) (kind : Kind) (o : Operand) (p : ℕ) (frames : List Frame) (k : List Entry) → DroppedStack source g p frames k → ValueStack source g locals kind o p frames k
+  dropped_value g locals kind o p frames (Discard ∷ k) stack = stack
+  dropped_value g locals kind o p frames k stack = absurd stack
 
   -- ---- operands without code
 
@@ -83,19 +108,28 @@ module _ (source : Program) (pages calls : ℕ) where
   pub record IsRead (a : Expression) (o : Operand) (k : List Entry) (e : Environment) (w : World) (c : Configuration) : Type 0 where
     pub value : Kinded
     pub gives : step source (Running (Evaluating a) k e w) ≡ Running (Given value) k e w
-    pub is : Is value.value (operand_word c.active.slots o)
+    pub is : IsIn value c.active.slots o
+    pub same : value.kind ≡ given_at source c.active.function a
     pub some : expression_weight a ≡ 1
 
   pub reads : (a : Expression) (o : Operand) (k : List Entry) (e : Environment) (w : World) (c : Configuration) → operand_of (starts_at source c.active.function) a ≡ Some o → IsWell (step source (Running (Evaluating a) k e w))
       → DataIn source c.active.slots k e w c → IsRead a o k e w c
   reads (Number n) o k e w c known well facts =
-      record { value = record { kind = kinds.Int; value = Int n }; gives = refl; is = ap (operand_word c.active.slots) (sym (same_Some (operands.Word n) o known)); some = refl }
+      record {
+        value = record { kind = kinds.Int; value = Int n };
+        gives = refl;
+        is = subst (IsIn (record { kind = kinds.Int; value = Int n }) c.active.slots) (same_Some (operands.Word n) o known) refl;
+        same = refl;
+        some = refl;
+      }
   reads (Copy (Local p n) t) o k e w c known well (low, below, hold, waiting, words) =
       let found = is_loaded (kind_of t) (e.locals n) k e w well in
       record {
         value = record { kind = kind_of t; value = found.value };
         gives = found.gives;
-        is = subst (λ x. Is found.value (operand_word c.active.slots x)) (same_Some (operands.Slot (slot_of (starts_at source c.active.function) n)) o known) (hold.holds n found.number found.value found.there found.has);
+        is = subst (IsIn (record { kind = kind_of t; value = found.value }) c.active.slots) (same_Some (operands.Slot (slot_of (starts_at source c.active.function) n)) o known)
+            (hold.holds n found.number (record { kind = kind_of t; value = found.value }) found.there found.has).0;
+        same = refl;
         some = refl;
       }
   reads a o k e w c known well facts = absurd (none-some o known)
@@ -105,16 +139,16 @@ module _ (source : Program) (pages calls : ℕ) where
   -- the next argument is evaluated, or the call is made
   pub passes_related : (f : Callee) (before : List Kinded) (cs : Arguments) (k : List Entry) (e : Environment) (w : World) (c : Configuration) (d m q all : ℕ)
       → SharedAt source pages calls w c → DataIn source c.active.slots k e w c
-      → ArgumentsAt (code_of source c.active.function) (bounds_at source c.active.function) (starts_at source c.active.function) cs (height (base_of source c.active.function) (before ++ held k)) c.active.next m
+      → ArgumentsAt (code_of source c.active.function) (bounds_at source c.active.function) (types_at source c.active.function) cs (height (base_of source c.active.function) (before ++ held k)) c.active.next m
       → CallAt source c.active.function f all (top source c.active.function k) d m q
-      → length before + argument_count cs ≡ all
-      → Holds c.active.slots (base_of source c.active.function) (before ++ held k) → LandsStack source c.active.function e.locals d q c.frames k
+      → words_held before + all_passed cs ≡ all
+      → Holds c.active.slots (base_of source c.active.function) (before ++ held k) → LandsStack source c.active.function e.locals (called_at source c.active.function f) d q c.frames k
       → Matches source pages calls (passes f before cs k e w) (plain.Running c)
   passes_related callees.Putchar before cs k e w c d m q all shared facts at call long holds lands = absurd call
   passes_related callees.Getchar before NoArguments k e w c d m q all shared facts at (here, end) long holds lands =
-      (shared, facts, (d, q, subst (λ p. CallAt source c.active.function callees.Getchar (length before) (top source c.active.function k) d p q) (sym at) (here, end), holds, lands))
+      (shared, facts, (d, q, subst (λ p. CallAt source c.active.function callees.Getchar (words_held before) (top source c.active.function k) d p q) (sym at) (here, end), holds, lands))
   passes_related (callees.Function n) before NoArguments k e w c d m q all shared facts at call long holds lands =
-      let many : all ≡ length before = omega (arith, long) in (
+      let many : all ≡ words_held before = omega (arith, long) in (
         shared,
         facts,
         (
@@ -156,69 +190,102 @@ module _ (source : Program) (pages calls : ℕ) where
   IsBegun a k e w c = IsMatched source pages calls (Running (Evaluating a) k e w) (plain.Running c)
 
   known_operand : (a : Expression) (o : Operand) (k : List Entry) (e : Environment) (w : World) (c : Configuration) (q : ℕ) → operand_of (starts_at source c.active.function) a ≡ Some o → c.active.next ≡ q → At_step a k e w c
-      → ValueStack source c.active.function e.locals o q c.frames k → IsBegun a k e w c
+      → ValueStack source c.active.function e.locals (given_at source c.active.function a) o q c.frames k → IsBegun a k e w c
   known_operand a o k e w c q known end (well, shared, facts, holds) stack =
       let found = reads a o k e w c known well facts in
       silently source pages calls (Running (Evaluating a) k e w) (Running (Given found.value) k e w) (plain.Running c) found.gives
-      (shared, in_operand o facts found.is holds (subst (λ r. ValueStack source c.active.function e.locals o r c.frames k) (sym end) stack))
+      (
+        shared,
+        in_operand o facts found.is holds
+            (subst (λ i. ValueStack source c.active.function e.locals i o c.active.next c.frames k) (sym found.same)
+            (subst (λ r. ValueStack source c.active.function e.locals (given_at source c.active.function a) o r c.frames k) (sym end) stack)),
+      )
       (omega (arith, found.some))
+
+  -- a value that is to be converted: in an operand, or in a temporary where its words change
+  pub sources : (from to : Kind) (a : Expression) (k : List Entry) (e : Environment) (w : World) (c : Configuration) (o : Operand) (m : ℕ)
+      → OperandBy (code_of source c.active.function) (bounds_at source c.active.function) (types_at source c.active.function) (source_of (starts_at source c.active.function) (Convert from to a))
+      (ExpressionAt (code_of source c.active.function) (bounds_at source c.active.function) (types_at source c.active.function) a (source_slot (starts_at source c.active.function) (Convert from to a) (top source c.active.function k)) (top source c.active.function k) c.active.next m)
+      (source_slot (starts_at source c.active.function) (Convert from to a) (top source c.active.function k)) o c.active.next m
+      → Holds c.active.slots (base_of source c.active.function) (held k) → ValueStack source c.active.function e.locals (given_at source c.active.function a) o m c.frames k
+      → EvaluatingAt source a e.locals c.active.function c.active.next c.active.slots c.frames k
+  sources from to a k e w c o m at holds stack = by (are_as_wide from to) at
+    where
+      by : (same : Bool)
+          → OperandBy (code_of source c.active.function) (bounds_at source c.active.function) (types_at source c.active.function) (if same then operand_of (starts_at source c.active.function) a else None)
+          (ExpressionAt (code_of source c.active.function) (bounds_at source c.active.function) (types_at source c.active.function) a (if same then value_slot (starts_at source c.active.function) a (top source c.active.function k) else top source c.active.function k) (top source c.active.function k) c.active.next m)
+          (if same then value_slot (starts_at source c.active.function) a (top source c.active.function k) else top source c.active.function k) o c.active.next m
+          → EvaluatingAt source a e.locals c.active.function c.active.next c.active.slots c.frames k
+      by true at = as_operand o m at holds stack
+      by false (is, at) = into_slot (top source c.active.function k) m at holds (in_temporary (omega arith) (subst (λ x. ValueStack source c.active.function e.locals (given_at source c.active.function a) x m c.frames k) is stack))
+
+  -- what is assigned to a local comes to its slots at once, or is moved there once it is converted
+  assigns_local : (there : Bool) (n : ℕ) (from to : Kind) (a : Expression) (k : List Entry) (e : Environment) (w : World) (c : Configuration) (object : ℕ) (o : Operand) (m : ℕ)
+      → converts_there from to ≡ there → e.locals n ≡ Some object → SharedAt source pages calls w c → DataIn source c.active.slots k e w c
+      → Holds c.active.slots (base_of source c.active.function) (held k)
+      → o ≡ operands.Slot (slot_of (starts_at source c.active.function) n) → HasRoom (types_at source c.active.function) n to
+      → InitialBy (code_of source c.active.function) (bounds_at source c.active.function) (types_at source c.active.function) there from to a (slot_of (starts_at source c.active.function) n) (top source c.active.function k) c.active.next m
+      → HandsOnStack source c.active.function e.locals to o m c.frames k
+      → Related source pages calls (Evaluating a) (Needs (ConvertTo from to (target_by a)) ∷ Needs (Store (Thin object 0)) ∷ k) e w c
+  assigns_local true n from to a k e w c object o m lands found shared facts holds there room (wide, at_a) hands =
+      let g = c.active.function in
+      let inside = slot-room (types_at source g) n (facts.2.within n object found).0 in (
+        shared,
+        facts,
+        into_slot (slot_of (starts_at source g) n) m at_a holds
+            (in_local (omega (arith, inside, room, wide)) (lands, (n, object, refl, found, refl, room, subst (λ x. HandsOnStack source g e.locals to x m c.frames k) there hands))),
+      )
+  assigns_local false n from to a k e w c object o m lands found shared facts holds there room (x, r, s, at_a, at_to, move, end) hands =
+      let place : Lvalue = Local (record { line = 0; column = 0 }) n in
+      (shared, facts, sources from to a (Needs (ConvertTo from to (target_by a)) ∷ Needs (Store (Thin object 0)) ∷ k) e w c x r at_a holds (s, at_to, (place, o, m, (move, end, there, room), (object, refl, found), hands)))
 
   -- a place is assigned, and then the value of the assignment is handed on
   assigns : (l : Lvalue) (from to : Kind) (a : Expression) (t : ValueType) (k : List Entry) (e : Environment) (w : World) (c : Configuration) (object : Option ℕ) (o : Operand) (m : ℕ)
       → object_of e l ≡ object → At_step (Assign l (Convert from to a) t) k e w c
-      → AssignmentAt (code_of source c.active.function) (bounds_at source c.active.function) (starts_at source c.active.function) l (Convert from to a) o (top source c.active.function k) c.active.next m
-      → HandsOnStack source c.active.function e.locals o m c.frames k → IsBegun (Assign l (Convert from to a) t) k e w c
+      → AssignmentAt (code_of source c.active.function) (bounds_at source c.active.function) (types_at source c.active.function) l (Convert from to a) o (top source c.active.function k) c.active.next m
+      → HandsOnStack source c.active.function e.locals to o m c.frames k → IsBegun (Assign l (Convert from to a) t) k e w c
   assigns l from to a t k e w c None o m found (well, shared, facts, holds) at hands =
       absurd (well (ap (λ x. status_in (status_of (assigned x (Convert from to a) k e w))) found))
-  assigns (Local p n) from kinds.NonNull a t k e w c (Some object) o m found (well, shared, facts, holds) (there, (r, s, u, at_a, check, move, end)) hands =
-      let g = c.active.function in
-      silently source pages calls (Running (Evaluating (Assign (Local p n) (Convert from kinds.NonNull a) t)) k e w)
-      (Running (Evaluating a) (Needs (ConvertTo from kinds.NonNull (target_by a)) ∷ Needs (Store (Thin object 0)) ∷ k) e w) (plain.Running c)
-      (ap (λ x. assigned x (Convert from kinds.NonNull a) k e w) found)
-      (shared, facts, as_operand r s at_a holds (u, check, (Local p n, o, m, (move, end, there), (object, refl, found), hands)))
-      (omega arith)
-  assigns (Local p n) from to a t k e w c (Some object) o m found (well, shared, facts, holds) (there, at_a) hands =
-      let g = c.active.function in
-      let below = slot-inside (types_at source g) n (facts.2.within n object found).0 in
+  assigns (Local p n) from to a t k e w c (Some object) o m found (well, shared, facts, holds) (there, room, at) hands =
       silently source pages calls (Running (Evaluating (Assign (Local p n) (Convert from to a) t)) k e w)
       (Running (Evaluating a) (Needs (ConvertTo from to (target_by a)) ∷ Needs (Store (Thin object 0)) ∷ k) e w) (plain.Running c)
       (ap (λ x. assigned x (Convert from to a) k e w) found)
-      (shared, facts, into_slot (slot_of (starts_at source g) n) m at_a holds (in_local below (tt, (n, object, refl, found, refl, subst (λ x. HandsOnStack source g e.locals x m c.frames k) there hands))))
+      (assigns_local (converts_there from to) n from to a k e w c object o m refl found shared facts holds there room at hands)
       (omega arith)
   assigns (Global n) from to a t k e w c (Some object) o m found (well, shared, facts, holds) (s, (r, at_a, at_to), few, store, end) hands =
       silently source pages calls (Running (Evaluating (Assign (Global n) (Convert from to a) t)) k e w)
       (Running (Evaluating a) (Needs (ConvertTo from to (target_by a)) ∷ Needs (Store (Thin object 0)) ∷ k) e w) (plain.Running c)
       (ap (λ x. assigned x (Convert from to a) k e w) found)
-      (shared, facts, as_operand o r at_a holds (s, at_to, (Global n, o, m, (store, end, refl, few), (object, refl, found), hands)))
+      (shared, facts, sources from to a (Needs (ConvertTo from to (target_by a)) ∷ Needs (Store (Thin object 0)) ∷ k) e w c o r at_a holds (s, at_to, (Global n, o, m, (store, end, refl, few), (object, refl, found), hands)))
       (omega arith)
 
   -- a byte is printed
   prints : (cs : Arguments) (t : ValueType) (k : List Entry) (e : Environment) (w : World) (c : Configuration) (o : Operand) (m : ℕ) → At_step (Call callees.Putchar cs t) k e w c
-      → PrintedAt (code_of source c.active.function) (bounds_at source c.active.function) (starts_at source c.active.function) cs (top source c.active.function k) o c.active.next m
+      → PrintedAt (code_of source c.active.function) (bounds_at source c.active.function) (types_at source c.active.function) cs (top source c.active.function k) o c.active.next m
       → PrintsStack source c.active.function e.locals o m c.frames k → IsBegun (Call callees.Putchar cs t) k e w c
   prints NoArguments t k e w c o m known at stack = absurd at
   prints (MoreArguments (Convert from to a) NoArguments) t k e w c o m (well, shared, facts, holds) (s, at_a, at_to) (write, stack) =
       silently source pages calls (Running (Evaluating (Call callees.Putchar (MoreArguments (Convert from to a) NoArguments) t)) k e w)
       (Running (Evaluating a) (Needs (ConvertTo from to (target_by a)) ∷ Needs (Pass callees.Putchar [] NoArguments) ∷ k) e w) (plain.Running c) refl
-      (shared, facts, as_operand o s at_a holds (m, at_to, (refl, refl, write, stack)))
+      (shared, facts, sources from to a (Needs (ConvertTo from to (target_by a)) ∷ Needs (Pass callees.Putchar [] NoArguments) ∷ k) e w c o s at_a holds (m, at_to, (refl, refl, write, stack)))
       (omega arith)
   prints (MoreArguments c' (MoreArguments c'' cs)) t k e w c o m known at stack = absurd at
 
   calls_out : (f : Callee) (cs : Arguments) (t : ValueType) (k : List Entry) (e : Environment) (w : World) (c : Configuration) (d m q : ℕ) → At_step (Call f cs t) k e w c
-      → ArgumentsAt (code_of source c.active.function) (bounds_at source c.active.function) (starts_at source c.active.function) cs (top source c.active.function k) c.active.next m
-      → CallAt source c.active.function f (argument_count cs) (top source c.active.function k) d m q
-      → LandsStack source c.active.function e.locals d q c.frames k → IsBegun (Call f cs t) k e w c
+      → ArgumentsAt (code_of source c.active.function) (bounds_at source c.active.function) (types_at source c.active.function) cs (top source c.active.function k) c.active.next m
+      → CallAt source c.active.function f (all_passed cs) (top source c.active.function k) d m q
+      → LandsStack source c.active.function e.locals (called_at source c.active.function f) d q c.frames k → IsBegun (Call f cs t) k e w c
   calls_out f cs t k e w c d m q (well, shared, facts, holds) at call lands =
       silently source pages calls (Running (Evaluating (Call f cs t)) k e w) (passes f [] cs k e w) (plain.Running c) refl
-      (passes_related f [] cs k e w c d m q (argument_count cs) shared facts at call (omega arith) holds lands)
+      (passes_related f [] cs k e w c d m q (all_passed cs) shared facts at call (omega arith) holds lands)
       (omega (arith, passes_weight f [] cs k e w))
 
   -- the first operand of a chain: it may be without code where the second is
   chain_begins : (right : Option Operand) (a : Expression) (os : Operations) (t : Ty) (k : List Entry) (e : Environment) (w : World) (c : Configuration) (l : Operand) (m : ℕ) → At_step (Binary a os t) k e w c
-      → OperandBy (code_of source c.active.function) (bounds_at source c.active.function) (starts_at source c.active.function) (left_with right (operand_of (starts_at source c.active.function) a))
-      (ExpressionAt (code_of source c.active.function) (bounds_at source c.active.function) (starts_at source c.active.function) a (slot_with (starts_at source c.active.function) right a (top source c.active.function k)) (top source c.active.function k) c.active.next m)
+      → OperandBy (code_of source c.active.function) (bounds_at source c.active.function) (types_at source c.active.function) (left_with right (operand_of (starts_at source c.active.function) a))
+      (ExpressionAt (code_of source c.active.function) (bounds_at source c.active.function) (types_at source c.active.function) a (slot_with (starts_at source c.active.function) right a (top source c.active.function k)) (top source c.active.function k) c.active.next m)
       (slot_with (starts_at source c.active.function) right a (top source c.active.function k)) l c.active.next m
-      → ValueStack source c.active.function e.locals l m c.frames (Needs (Chain os) ∷ k) → IsBegun (Binary a os t) k e w c
+      → ValueStack source c.active.function e.locals (given_at source c.active.function a) l m c.frames (Needs (Chain os) ∷ k) → IsBegun (Binary a os t) k e w c
   chain_begins (Some r) a os t k e w c l m (well, shared, facts, holds) at stack =
       silently source pages calls (Running (Evaluating (Binary a os t)) k e w) (Running (Evaluating a) (Needs (Chain os) ∷ k) e w) (plain.Running c) refl
       (shared, facts, as_operand l m at holds stack)
@@ -226,34 +293,41 @@ module _ (source : Program) (pages calls : ℕ) where
   chain_begins None a os t k e w c l m (well, shared, facts, holds) (is, at) stack =
       let g = c.active.function in
       silently source pages calls (Running (Evaluating (Binary a os t)) k e w) (Running (Evaluating a) (Needs (Chain os) ∷ k) e w) (plain.Running c) refl
-      (shared, facts, into_slot (top source g k) m at holds (in_temporary (omega arith) (subst (λ x. ValueStack source g e.locals x m c.frames (Needs (Chain os) ∷ k)) is stack)))
+      (shared, facts, into_slot (top source g k) m at holds (in_temporary (omega arith) (subst (λ x. ValueStack source g e.locals (given_at source g a) x m c.frames (Needs (Chain os) ∷ k)) is stack)))
       (omega arith)
 
   comes : (a : Expression) (k : List Entry) (e : Environment) (w : World) (c : Configuration) (d q : ℕ) → At_step a k e w c
-      → ExpressionAt (code_of source c.active.function) (bounds_at source c.active.function) (starts_at source c.active.function) a d (top source c.active.function k) c.active.next q
-      → LandsStack source c.active.function e.locals d q c.frames k → IsBegun a k e w c
+      → ExpressionAt (code_of source c.active.function) (bounds_at source c.active.function) (types_at source c.active.function) a d (top source c.active.function k) c.active.next q
+      → LandsStack source c.active.function e.locals (given_at source c.active.function a) d q c.frames k → IsBegun a k e w c
   comes (Number n) k e w c d q (well, shared, facts, holds) (at, end) lands =
-      by_one source pages calls refl shared at (λ choice. landed (record { kind = kinds.Int; value = Int n }) n d k e w c q refl shared facts holds end lands)
+      by_one source pages calls refl shared at (λ choice. landed_word n n d k e w c q refl shared facts holds end lands)
   comes (Copy (Local p n) t) k e w c d q (well, shared, facts, holds) (at, end) lands =
+      let g = c.active.function in
       let found = is_loaded (kind_of t) (e.locals n) k e w well in
-      by_one source pages calls found.gives shared at
-      (λ choice. landed (record { kind = kind_of t; value = found.value }) (c.active.slots (slot_of (starts_at source c.active.function) n)) d k e w c q (facts.2.holds n found.number found.value found.there found.has) shared facts holds end lands)
+      let v : Kinded = record { kind = kind_of t; value = found.value } in
+      let o = operands.Slot (slot_of (starts_at source g) n) in
+      by_one source pages calls found.gives shared (subst (λ x. CodeAt (code_of source g) c.active.next (move_of x d o)) (sym (type_words t)) at)
+      (λ choice. landed_moved v o d k e w c q choice (facts.2.holds n found.number v found.there found.has).0 shared facts holds end lands)
   comes (Copy (Global n) t) k e w c d q (well, shared, facts, holds) (few, at, end) lands =
       let found = is_loaded (kind_of t) (Some n) k e w well in
+      let v : Kinded = record { kind = kind_of t; value = found.value } in
+      let word = c.globals n in
       let same : n ≡ found.number = same_Some n found.number found.there in
+      let is = facts.4 n v (global_there c.active.function n few) (ap (contents w.objects) same ∙ found.has) in
       by_one source pages calls found.gives shared at
-      (λ choice. landed (record { kind = kind_of t; value = found.value }) (c.globals n) d k e w c q (facts.4 n found.value (global_there c.active.function n few) (ap (contents w.objects) same ∙ found.has)) shared facts holds end lands)
+      (λ choice. landed v (put c.active.slots d word) d k e w c q (Is-first v.kind v.value c.globals (put c.active.slots d word) n d (put-same c.active.slots d word) is)
+      (λ m out. put_elsewhere c.active.slots d word (words_of_kind v.kind) m (kind_positive v.kind) out) shared facts holds end lands)
   comes (Call callees.Putchar cs t) k e w c d q known (o, m, at, write, low, end) lands =
-      prints cs t k e w c o m known at (write, gives_byte d low (lands_at c.active.function e.locals d (m + 1 + 1) q c.frames k end lands))
+      prints cs t k e w c o m known at (write, gives_byte d low (lands_at c.active.function e.locals kinds.Int d (m + 1 + 1) q c.frames k end lands))
   comes (Call callees.Getchar cs t) k e w c d q known (m, at, here, end) lands = calls_out callees.Getchar cs t k e w c d m q known at (here, end) lands
   comes (Call (callees.Function n) cs t) k e w c d q known (m, at, here, end) lands = calls_out (callees.Function n) cs t k e w c d m q known at (here, end) lands
   comes (Unary o a) k e w c d q (well, shared, facts, holds) (r, m, at_a, at, end) lands =
       silently source pages calls (Running (Evaluating (Unary o a)) k e w) (Running (Evaluating a) (Needs (Operate o) ∷ k) e w) (plain.Running c) refl
-      (shared, facts, as_operand r m at_a holds (to_slot (d, at, lands_at c.active.function e.locals d (m + 1) q c.frames k end lands)))
+      (shared, facts, as_operand r m at_a holds (to_slot (d, at, lands_at c.active.function e.locals kinds.Int d (m + 1) q c.frames k end lands)))
       (omega arith)
   comes (Binary a NoOperations t) k e w c d q (well, shared, facts, holds) (l, m, (is, at_a), (is_there, end)) lands =
       silently source pages calls (Running (Evaluating (Binary a NoOperations t)) k e w) (Running (Evaluating a) (Needs (Chain NoOperations) ∷ k) e w) (plain.Running c) refl
-      (shared, facts, into_slot d m at_a holds (lands_at c.active.function e.locals d m q c.frames k end lands))
+      (shared, facts, into_slot d m at_a holds (lands_at c.active.function e.locals (given_at source c.active.function a) d m q c.frames k end lands))
       (omega arith)
   comes (Binary a (ThenCompute o b os) t) k e w c d q known (l, m, at_a, at) lands =
       chain_begins (operand_of (starts_at source c.active.function) b) a (ThenCompute o b os) t k e w c l m known at_a (to_slot (d, q, at, lands))
@@ -265,47 +339,47 @@ module _ (source : Program) (pages calls : ℕ) where
   comes a k e w c d q known at lands = absurd at
 
   -- a value that is in its slot is not copied
-  copy_none : (code : List Instruction) (n p q : ℕ) → CopyAt code (operands.Slot n) n p q → p ≡ q
-  copy_none code n p q copy = subst (λ (b : Bool). CopyBy code b (operands.Slot n) n p q) (eq-eqb n n refl) copy
+  copy_none : (code : List Instruction) (words n p q : ℕ) → CopyAt code words (operands.Slot n) n p q → p ≡ q
+  copy_none code words n p q copy = subst (λ (b : Bool). CopyBy code b words (operands.Slot n) n p q) (eq-eqb n n refl) copy
 
   in_top : (a : Expression) (k : List Entry) (e : Environment) (w : World) (c : Configuration) (o : Operand) (q : ℕ) → At_step a k e w c
       → (o ≡ operands.Slot (top source c.active.function k))
-      × ExpressionAt (code_of source c.active.function) (bounds_at source c.active.function) (starts_at source c.active.function) a (top source c.active.function k) (top source c.active.function k) c.active.next q
-      → ValueStack source c.active.function e.locals o q c.frames k → IsBegun a k e w c
+      × ExpressionAt (code_of source c.active.function) (bounds_at source c.active.function) (types_at source c.active.function) a (top source c.active.function k) (top source c.active.function k) c.active.next q
+      → ValueStack source c.active.function e.locals (given_at source c.active.function a) o q c.frames k → IsBegun a k e w c
   in_top a k e w c o q known (is, at) stack =
-      comes a k e w c (top source c.active.function k) q known at (in_temporary (omega arith) (subst (λ x. ValueStack source c.active.function e.locals x q c.frames k) is stack))
+      comes a k e w c (top source c.active.function k) q known at (in_temporary (omega arith) (subst (λ x. ValueStack source c.active.function e.locals (given_at source c.active.function a) x q c.frames k) is stack))
 
   operand : (a : Expression) (k : List Entry) (e : Environment) (w : World) (c : Configuration) (o : Operand) (q : ℕ) → At_step a k e w c
-      → ValueAt (code_of source c.active.function) (bounds_at source c.active.function) (starts_at source c.active.function) a (top source c.active.function k) o c.active.next q
-      → ValueStack source c.active.function e.locals o q c.frames k → IsBegun a k e w c
+      → ValueAt (code_of source c.active.function) (bounds_at source c.active.function) (types_at source c.active.function) a (top source c.active.function k) o c.active.next q
+      → ValueStack source c.active.function e.locals (given_at source c.active.function a) o q c.frames k → IsBegun a k e w c
   operand (Number n) k e w c o q known (is, end) stack = known_operand (Number n) o k e w c q (ap Some (sym is)) end known stack
   operand (Copy (Local p n) t) k e w c o q known (is, end) stack = known_operand (Copy (Local p n) t) o k e w c q (ap Some (sym is)) end known stack
   operand (Copy (Global n) t) k e w c o q known at stack = in_top (Copy (Global n) t) k e w c o q known at stack
   operand (Call f cs t) k e w c o q known at stack = in_top (Call f cs t) k e w c o q known at stack
   operand (Unary u a) k e w c o q known at stack = in_top (Unary u a) k e w c o q known at stack
   operand (Binary a os t) k e w c o q known at stack = in_top (Binary a os t) k e w c o q known at stack
-  operand (Assign (Local p n) (Convert from to a) t) k e w c o q known (is, (there, m, (is_there, at), copy)) stack =
+  operand (Assign (Local p n) (Convert from to a) t) k e w c o q known (is, (there, m, (is_there, room, at), copy)) stack =
       let g = c.active.function in
       let slot = slot_of (starts_at source g) n in
-      let end : m ≡ q = copy_none (code_of source g) slot m q (subst (λ x. CopyAt (code_of source g) x slot m q) is_there copy) in
-      assigns (Local p n) from to a t k e w c (object_of e (Local p n)) there m refl known (is_there, at)
-      (leaves (subst (λ x. ValueStack source g e.locals x m c.frames k) (is ∙ sym is_there) (subst (λ r. ValueStack source g e.locals o r c.frames k) (sym end) stack)))
+      let end : m ≡ q = copy_none (code_of source g) (words_of_kind to) slot m q (subst (λ x. CopyAt (code_of source g) (words_of_kind to) x slot m q) is_there copy) in
+      assigns (Local p n) from to a t k e w c (object_of e (Local p n)) there m refl known (is_there, room, at)
+      (leaves (subst (λ x. ValueStack source g e.locals to x m c.frames k) (is ∙ sym is_there) (subst (λ r. ValueStack source g e.locals to o r c.frames k) (sym end) stack)))
   operand (Assign (Global n) c' t) k e w c o q known at stack = in_top (Assign (Global n) c' t) k e w c o q known at stack
   operand a k e w c o q known (is, at) stack = absurd at
 
   for_its_effect : (a : Expression) (k : List Entry) (e : Environment) (w : World) (c : Configuration) (q : ℕ) → At_step a k e w c
-      → DiscardedAt (code_of source c.active.function) (bounds_at source c.active.function) (starts_at source c.active.function) a (top source c.active.function k) c.active.next q
+      → DiscardedAt (code_of source c.active.function) (bounds_at source c.active.function) (types_at source c.active.function) a (top source c.active.function k) c.active.next q
       → DroppedStack source c.active.function q c.frames k → IsBegun a k e w c
   for_its_effect (Call callees.Putchar cs t) k e w c q known (o, m, at, write, end) stack =
       prints cs t k e w c o m known at (write, prints_only (subst (λ r. DroppedStack source c.active.function r c.frames k) (sym end) stack))
   for_its_effect (Assign l (Convert from to a) t) k e w c q known (o, at) stack = assigns l from to a t k e w c (object_of e l) o q refl known at (drops stack)
-  for_its_effect (Number n) k e w c q known (o, at) stack = operand (Number n) k e w c o q known at (dropped_value c.active.function e.locals o q c.frames k stack)
-  for_its_effect (Copy (Local p n) t) k e w c q known (o, at) stack = operand (Copy (Local p n) t) k e w c o q known at (dropped_value c.active.function e.locals o q c.frames k stack)
-  for_its_effect (Copy (Global n) t) k e w c q known (o, at) stack = in_top (Copy (Global n) t) k e w c o q known at (dropped_value c.active.function e.locals o q c.frames k stack)
-  for_its_effect (Call callees.Getchar cs t) k e w c q known (o, at) stack = in_top (Call callees.Getchar cs t) k e w c o q known at (dropped_value c.active.function e.locals o q c.frames k stack)
-  for_its_effect (Call (callees.Function n) cs t) k e w c q known (o, at) stack = in_top (Call (callees.Function n) cs t) k e w c o q known at (dropped_value c.active.function e.locals o q c.frames k stack)
-  for_its_effect (Unary u a) k e w c q known (o, at) stack = in_top (Unary u a) k e w c o q known at (dropped_value c.active.function e.locals o q c.frames k stack)
-  for_its_effect (Binary a os t) k e w c q known (o, at) stack = in_top (Binary a os t) k e w c o q known at (dropped_value c.active.function e.locals o q c.frames k stack)
+  for_its_effect (Number n) k e w c q known (o, at) stack = operand (Number n) k e w c o q known at (dropped_value c.active.function e.locals (given_at source c.active.function (Number n)) o q c.frames k stack)
+  for_its_effect (Copy (Local p n) t) k e w c q known (o, at) stack = operand (Copy (Local p n) t) k e w c o q known at (dropped_value c.active.function e.locals (given_at source c.active.function (Copy (Local p n) t)) o q c.frames k stack)
+  for_its_effect (Copy (Global n) t) k e w c q known (o, at) stack = in_top (Copy (Global n) t) k e w c o q known at (dropped_value c.active.function e.locals (given_at source c.active.function (Copy (Global n) t)) o q c.frames k stack)
+  for_its_effect (Call callees.Getchar cs t) k e w c q known (o, at) stack = in_top (Call callees.Getchar cs t) k e w c o q known at (dropped_value c.active.function e.locals (given_at source c.active.function (Call callees.Getchar cs t)) o q c.frames k stack)
+  for_its_effect (Call (callees.Function n) cs t) k e w c q known (o, at) stack = in_top (Call (callees.Function n) cs t) k e w c o q known at (dropped_value c.active.function e.locals (given_at source c.active.function (Call (callees.Function n) cs t)) o q c.frames k stack)
+  for_its_effect (Unary u a) k e w c q known (o, at) stack = in_top (Unary u a) k e w c o q known at (dropped_value c.active.function e.locals (given_at source c.active.function (Unary u a)) o q c.frames k stack)
+  for_its_effect (Binary a os t) k e w c q known (o, at) stack = in_top (Binary a os t) k e w c o q known at (dropped_value c.active.function e.locals (given_at source c.active.function (Binary a os t)) o q c.frames k stack)
   for_its_effect typed.NullPointer k e w c q known (o, (is, at)) stack = absurd at
   for_its_effect typed.HeapRegion k e w c q known (o, (is, at)) stack = absurd at
   for_its_effect (typed.Counter level) k e w c q known (o, (is, at)) stack = absurd at
@@ -331,11 +405,11 @@ module _ (source : Program) (pages calls : ℕ) where
   beside_left a k e w c well shared facts right = absurd right
 
   -- a value that is tested
-  tested_value : (g : ℕ) (locals : ℕ → Option ℕ) (o : Operand) (p : ℕ) (frames : List Frame) (k : List Entry) → ConditionStack source g comparisons.Equal o (operands.Word 0) p frames k → ValueStack source g locals o p frames k
-  tested_value g locals o p frames (Needs (Chain NoOperations) ∷ k) stack = tested_value g locals o p frames k stack
-  tested_value g locals o p frames (Needs (Choose s t) ∷ k) stack = stack
-  tested_value g locals o p frames (Needs (Test a s) ∷ k) stack = stack
-  tested_value g locals o p frames k stack = absurd stack
+  tested_value : (g : ℕ) (locals : ℕ → Option ℕ) (kind : Kind) (o : Operand) (p : ℕ) (frames : List Frame) (k : List Entry) → ConditionStack source g comparisons.Equal o (operands.Word 0) p frames k → ValueStack source g locals kind o p frames k
+  tested_value g locals kind o p frames (Needs (Chain NoOperations) ∷ k) stack = tested_value g locals kind o p frames k stack
+  tested_value g locals kind o p frames (Needs (Choose s t) ∷ k) stack = stack
+  tested_value g locals kind o p frames (Needs (Test a s) ∷ k) stack = stack
+  tested_value g locals kind o p frames k stack = absurd stack
 
   -- what stands behind two operands, of which the second has no code
   alone : (g : ℕ) (failing : Comparison) (l r : Operand) (p q : ℕ) (frames : List Frame) (k : List Entry) → r ≡ operands.Word 0 → p ≡ q
@@ -344,14 +418,14 @@ module _ (source : Program) (pages calls : ℕ) where
       subst (λ x. ConditionStack source g failing l x p frames k) is (subst (λ x. ConditionStack source g failing l r x frames k) (sym end) stack)
 
   not_zero : (a : Expression) (k : List Entry) (e : Environment) (w : World) (c : Configuration) (l r : Operand) (q : ℕ) → At_step a k e w c
-      → PairAt (code_of source c.active.function) (bounds_at source c.active.function) (starts_at source c.active.function) a (Number 0) l r (top source c.active.function k) c.active.next q
+      → PairAt (code_of source c.active.function) (bounds_at source c.active.function) (types_at source c.active.function) a (Number 0) l r (top source c.active.function k) c.active.next q
       → ConditionStack source c.active.function comparisons.Equal l r q c.frames k → IsBegun a k e w c
   not_zero a k e w c l r q known (m, at_a, (is, end)) stack =
-      operand a k e w c l m known at_a (tested_value c.active.function e.locals l m c.frames k (alone c.active.function comparisons.Equal l r m q c.frames k is end stack))
+      operand a k e w c l m known at_a (tested_value c.active.function e.locals (given_at source c.active.function a) l m c.frames k (alone c.active.function comparisons.Equal l r m q c.frames k is end stack))
 
   compares : (f : Option Comparison) (o : Operator) (a b : Expression) (t : Ty) (k : List Entry) (e : Environment) (w : World) (c : Configuration) (l r : Operand) (q : ℕ) → failing_comparison o ≡ f
       → At_step (Binary a (ThenCompute o b NoOperations) t) k e w c
-      → PairAt (code_of source c.active.function) (bounds_at source c.active.function) (starts_at source c.active.function) (compared_or f a b (Binary a (ThenCompute o b NoOperations) t)).left
+      → PairAt (code_of source c.active.function) (bounds_at source c.active.function) (types_at source c.active.function) (compared_or f a b (Binary a (ThenCompute o b NoOperations) t)).left
       (compared_or f a b (Binary a (ThenCompute o b NoOperations) t)).right l r (top source c.active.function k) c.active.next q
       → ConditionStack source c.active.function (compared_or f a b (Binary a (ThenCompute o b NoOperations) t)).failing l r q c.frames k → IsBegun (Binary a (ThenCompute o b NoOperations) t) k e w c
   compares (Some failing) o a b t k e w c l r q is known (m, at_a, at_b) stack =
@@ -359,7 +433,7 @@ module _ (source : Program) (pages calls : ℕ) where
   compares None o a b t k e w c l r q is known at stack = not_zero (Binary a (ThenCompute o b NoOperations) t) k e w c l r q known at stack
 
   condition : (a : Expression) (k : List Entry) (e : Environment) (w : World) (c : Configuration) (l r : Operand) (q : ℕ) → At_step a k e w c
-      → ConditionAt (code_of source c.active.function) (bounds_at source c.active.function) (starts_at source c.active.function) a l r (top source c.active.function k) c.active.next q
+      → ConditionAt (code_of source c.active.function) (bounds_at source c.active.function) (types_at source c.active.function) a l r (top source c.active.function k) c.active.next q
       → ConditionStack source c.active.function (compared_of a).failing l r q c.frames k → IsBegun a k e w c
   condition (Unary unary.Not a) k e w c l r q (well, shared, facts, holds) (m, at_a, (is, end)) stack =
       silently source pages calls (Running (Evaluating (Unary unary.Not a)) k e w) (Running (Evaluating a) (Needs (Operate unary.Not) ∷ k) e w) (plain.Running c) refl

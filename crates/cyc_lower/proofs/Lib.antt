@@ -9,6 +9,7 @@ pub mod Routines
 pub mod Relation
 pub mod Matched
 pub mod Stands
+pub mod Fitting
 pub mod Bridge
 pub mod Data
 pub mod Values
@@ -31,5 +32,7 @@ pub mod NeedsFound
 -- the slots of locals
 pub mod Slots
 pub mod LocalSlots
+pub mod Widths
+pub mod Moves
 -- worked examples
 pub mod Examples

@@ -9,6 +9,7 @@ use Rattle.cyc_words.specs.Fault.{memory_fault}
 use Rattle.cyc_words.proofs.Decisions.{IsDecided, decides}
 use Rattle.cyc_syntax.specs.Weight.{sum_of}
 use Rattle.cyc_types.specs.TypedTrees.{Function, Program}
+use Rattle.cyc_types.specs.typing.WellTyped.{IsWellTypedProgram}
 use Rattle.cyc_types.specs.Weight.{function_weight, program_weight}
 use Rattle.cyc_plain.specs.Program.{Program as PlainProgram, size}
 use Rattle.cyc_plain.specs.WellFormed.{IsPlain}
@@ -17,6 +18,7 @@ use Rattle.cyc_lower.specs.Lowering.{lower_function, lower_program}
 use Rattle.cyc_lower.specs.declared.limits.TheConstants.{MOST_FUNCTIONS}
 use Rattle.cyc_lower.specs.Lowered.{AreLoweredFunctions, CanBeLowered, HasTooMany, IsAccepted, IsLowered, size_per_weight}
 use Rattle.cyc_lower.proofs.Routines.{one_too_many}
+use Rattle.cyc_lower.proofs.Fitting.{is_fitting_program}
 use Rattle.cyc_lower.proofs.Sizes.{function_size}
 use Rattle.cyc_lower.proofs.WellFormed.{globals_counted, well_formed}
 use Rattle.cyc_lower.proofs.WordLemmas.{has_words}
@@ -26,13 +28,13 @@ functions_lowered : (hs : List Function) → AreLoweredFunctions hs (map lower_f
 functions_lowered [] = tt
 functions_lowered (h ∷ hs) = (record { name = refl; frame = refl; small = function_size h }, functions_lowered hs)
 
-pub is_lowered : (source : Program) → CanBeLowered source → IsLowered source (lower_program source)
-is_lowered source fit = record {
-  well_formed = well_formed source fit.is_numbered fit.few_globals;
+pub is_lowered : (source : Program) → IsWellTypedProgram source → CanBeLowered source → IsLowered source (lower_program source)
+is_lowered source well fit = record {
+  well_formed = well_formed source (is_fitting_program source fit.is_numbered well) fit.few_globals;
   words = has_words source fit.of_words;
   functions = functions_lowered source.functions;
   globals = sym (globals_counted source.globals);
-  follows = λ pages calls store input new some_page some_call. follows source fit.is_numbered pages calls store input new some_page some_call;
+  follows = λ pages calls store input new some_page some_call. follows source (is_fitting_program source fit.is_numbered well) pages calls store input new some_page some_call;
 }
 
 functions_small : (hs : List Function) → sum_by size (map lower_function hs) ≤ size_per_weight * sum_of function_weight hs
@@ -40,9 +42,9 @@ functions_small [] = omega arith
 functions_small (h ∷ hs) = omega (arith, sum_by-cons size (lower_function h) (map lower_function hs), function_size h, functions_small hs)
 
 -- what is true of every plain program is true of this one
-pub is_plain : (source : Program) → CanBeLowered source → program_weight source ≤ max_tokens → IsPlain (lower_program source)
-is_plain source fit light = record {
-  well_formed = well_formed source fit.is_numbered fit.few_globals;
+pub is_plain : (source : Program) → IsWellTypedProgram source → CanBeLowered source → program_weight source ≤ max_tokens → IsPlain (lower_program source)
+is_plain source well fit light = record {
+  well_formed = well_formed source (is_fitting_program source fit.is_numbered well) fit.few_globals;
   words = has_words source fit.of_words;
   small = omega (arith, functions_small source.functions, light);
 }
@@ -77,9 +79,9 @@ pub refused : (source : Program) (fault : Fault) → (fault ≡ memory_fault) �
 refused source fault why =
     decides (IsAccepted source) IsLowered (HasTooMany source) (HasTooMany source) (is_decided source) (Err fault) tt why
 
-pub lowered : (source : Program) (plain : PlainProgram) → CanBeLowered source → length source.functions ≤ MOST_FUNCTIONS
+pub lowered : (source : Program) (plain : PlainProgram) → IsWellTypedProgram source → CanBeLowered source → length source.functions ≤ MOST_FUNCTIONS
     → plain ≡ lower_program source → Answers source (Ok plain)
-lowered source plain fit few is =
+lowered source plain well fit few is =
     decides (IsAccepted source) IsLowered (HasTooMany source) (HasTooMany source) (is_decided source) (Ok plain)
-    (source, (refl, few), subst (IsLowered source) (sym is) (is_lowered source fit))
+    (source, (refl, few), subst (IsLowered source) (sym is) (is_lowered source well fit))
     tt

@@ -4,6 +4,8 @@ use Rattle.std.specs.Prelude.{Contains, if◌then◌else◌}
 use Rattle.std.specs.List.{AllByRecursion}
 use Rattle.std.proofs.lemmas.Bool.{le-leb, and_from}
 use Rattle.cyc_words.specs.Ending.{Ending, Full}
+use Rattle.cyc_types.specs.declared.typed.Kind.{Kind}
+use Rattle.cyc_types.specs.declared.typed.Kind.TheVariants as kinds
 use Rattle.cyc_types.specs.declared.typed.Callee.TheVariants as callees
 use Rattle.cyc_types.specs.declared.typed.Operator.{Operator}
 use Rattle.cyc_types.specs.TypedTrees.{Expression, NoOperations, Program}
@@ -31,16 +33,16 @@ use Rattle.cyc_meaning.specs.Run.{is_within, limited_step}
 use Rattle.cyc_lower.specs.Lowering.{compared_of, lower_program}
 use Rattle.cyc_meaning.specs.SourceMachine.{status_in, source_machine}
 use Rattle.cyc_lower.proofs.Weights.{weight}
-use Rattle.cyc_lower.proofs.Relation.{IsPlainStack, Lands, in_temporary, in_local, HandsOn, drops, leaves, copies, Prints, prints_only, gives_byte, SharedAt, to_slot, to_jump, ValueStack, ConditionStack, DroppedStack, AheadStack, StatementStack, LandsStack, PrintsStack, AppliedStack, RightAt, ReadyAt, EvaluatingAt, as_operand, into_slot, for_effect, as_right, as_condition, FocusAt, GivenAt, in_operand, nowhere, ahead, compared, with_left, ProceedingAt, behind_statement, behind_call, behind_wrong, Related, Matches, code_of, top}
+use Rattle.cyc_lower.proofs.Relation.{IsPlainStack, Lands, in_temporary, in_local, HandsOn, drops, leaves, copies, Prints, prints_only, gives_byte, SharedAt, to_slot, to_jump, ValueStack, ConditionStack, DroppedStack, AheadStack, StatementStack, LandsStack, PrintsStack, AppliedStack, RightAt, ReadyAt, EvaluatingAt, as_operand, into_slot, for_effect, as_right, as_condition, FocusAt, GivenAt, in_operand, nowhere, ahead, compared, with_left, ProceedingAt, behind_statement, behind_call, behind_wrong, Related, Matches, code_of, given_at, called_at, returned_at, top}
 
 module _ (source : Program) where
   -- ---- where a value goes
 
-  pub by_lands : {base free d : ℕ} {temporary ahead : Type 0} {X : Type 0} → Lands source base free d temporary ahead → (temporary → X) → (ahead → X) → X
+  pub by_lands : {base free d words : ℕ} {temporary ahead : Type 0} {X : Type 0} → Lands source base free d words temporary ahead → (temporary → X) → (ahead → X) → X
   by_lands (in_temporary least stack) first second = first stack
   by_lands (in_local below stack) first second = second stack
 
-  by_hands : {code : List Instruction} {o : Operand} {p : ℕ} {dropped stays : Type 0} {comes : (d q : ℕ) → Type 0} {X : Type 0} → HandsOn source code o p dropped stays comes
+  by_hands : {code : List Instruction} {words : ℕ} {o : Operand} {p : ℕ} {dropped stays : Type 0} {comes : (d q : ℕ) → Type 0} {X : Type 0} → HandsOn source code words o p dropped stays comes
       → (dropped → X) → (stays → X) → ((d q : ℕ) → comes d q → X) → X
   by_hands (drops stack) first second third = first stack
   by_hands (leaves stack) first second third = second stack
@@ -58,37 +60,37 @@ module _ (source : Program) where
   HasDepth frames k = calls_in k ≡ suc (length frames)
 
   mutual
-    pub value_depth : (g : ℕ) (locals : ℕ → Option ℕ) (o : Operand) (p : ℕ) (frames : List Frame) (k : List Entry) → ValueStack source g locals o p frames k → HasDepth frames k
-    value_depth g locals o p frames [] stack = absurd stack
-    value_depth g locals o p frames (Needs (ConvertTo from to target) ∷ k) (q, at, stack) = value_depth g locals o q frames k stack
-    value_depth g locals o p frames (Needs (Operate u) ∷ k) (to_slot (d, at, lands)) =
-        by_lands lands (λ stack. value_depth g locals (operands.Slot d) (p + 1) frames k stack) (λ stack. ahead_depth g locals d (p + 1) frames k stack)
-    value_depth g locals o p frames (Needs (Operate u) ∷ k) (to_jump (is, stack)) = condition_depth g comparisons.NotEqual o (operands.Word 0) p frames k stack
-    value_depth g locals o p frames (Needs (Chain NoOperations) ∷ k) stack = value_depth g locals o p frames k stack
-    value_depth g locals o p frames (Needs (Chain os) ∷ k) (to_slot (d, q, at, lands)) =
-        by_lands lands (λ stack. value_depth g locals (operands.Slot d) q frames k stack) (λ stack. ahead_depth g locals d q frames k stack)
-    value_depth g locals o p frames (Needs (Chain os) ∷ k) (to_jump (failing, r, q, at, stack)) = condition_depth g failing o r q frames k stack
-    value_depth g locals o p frames (Needs (Apply u left) ∷ k) (to_slot (d, q, at, lands)) =
-        by_lands lands (λ stack. value_depth g locals (operands.Slot d) q frames k stack) (λ stack. ahead_depth g locals d q frames k stack)
-    value_depth g locals o p frames (Needs (Apply u left) ∷ k) (to_jump (failing, is, stack)) = condition_depth g failing (operands.Slot (top source g k)) o p frames k stack
-    value_depth g locals o p frames (Needs Decide ∷ k) (d, q, is, at, lands) =
-        by_lands lands (λ stack. value_depth g locals (operands.Slot d) q frames k stack) (λ stack. ahead_depth g locals d q frames k stack)
-    value_depth g locals o p frames (Needs (Store place) ∷ k) (l, to, q, at, is, hands) =
-        by_hands hands (λ stack. dropped_depth g q frames k stack) (λ stack. value_depth g locals to q frames k stack)
-        (λ d r lands. by_lands lands (λ stack. value_depth g locals (operands.Slot d) r frames k stack) (λ stack. ahead_depth g locals d r frames k stack))
-    value_depth g locals o p frames (Needs (Pass callees.Putchar before cs) ∷ k) (none, single, at, prints) =
+    pub value_depth : (g : ℕ) (locals : ℕ → Option ℕ) (kind : Kind) (o : Operand) (p : ℕ) (frames : List Frame) (k : List Entry) → ValueStack source g locals kind o p frames k → HasDepth frames k
+    value_depth g locals kind o p frames [] stack = absurd stack
+    value_depth g locals kind o p frames (Needs (ConvertTo from to target) ∷ k) (q, at, stack) = value_depth g locals to o q frames k stack
+    value_depth g locals kind o p frames (Needs (Operate u) ∷ k) (to_slot (d, at, lands)) =
+        by_lands lands (λ stack. value_depth g locals kinds.Int (operands.Slot d) (p + 1) frames k stack) (λ stack. ahead_depth g locals kinds.Int d (p + 1) frames k stack)
+    value_depth g locals kind o p frames (Needs (Operate u) ∷ k) (to_jump (is, stack)) = condition_depth g comparisons.NotEqual o (operands.Word 0) p frames k stack
+    value_depth g locals kind o p frames (Needs (Chain NoOperations) ∷ k) stack = value_depth g locals kind o p frames k stack
+    value_depth g locals kind o p frames (Needs (Chain os) ∷ k) (to_slot (d, q, at, lands)) =
+        by_lands lands (λ stack. value_depth g locals kinds.Int (operands.Slot d) q frames k stack) (λ stack. ahead_depth g locals kinds.Int d q frames k stack)
+    value_depth g locals kind o p frames (Needs (Chain os) ∷ k) (to_jump (failing, r, q, at, stack)) = condition_depth g failing o r q frames k stack
+    value_depth g locals kind o p frames (Needs (Apply u left) ∷ k) (to_slot (d, q, at, lands)) =
+        by_lands lands (λ stack. value_depth g locals kinds.Int (operands.Slot d) q frames k stack) (λ stack. ahead_depth g locals kinds.Int d q frames k stack)
+    value_depth g locals kind o p frames (Needs (Apply u left) ∷ k) (to_jump (failing, is, stack)) = condition_depth g failing (operands.Slot (top source g k)) o p frames k stack
+    value_depth g locals kind o p frames (Needs Decide ∷ k) (d, q, is, at, lands) =
+        by_lands lands (λ stack. value_depth g locals kinds.Int (operands.Slot d) q frames k stack) (λ stack. ahead_depth g locals kinds.Int d q frames k stack)
+    value_depth g locals kind o p frames (Needs (Store place) ∷ k) (l, to, q, at, is, hands) =
+        by_hands hands (λ stack. dropped_depth g q frames k stack) (λ stack. value_depth g locals kind to q frames k stack)
+        (λ d r lands. by_lands lands (λ stack. value_depth g locals kind (operands.Slot d) r frames k stack) (λ stack. ahead_depth g locals kind d r frames k stack))
+    value_depth g locals kind o p frames (Needs (Pass callees.Putchar before cs) ∷ k) (none, single, at, prints) =
         by_prints prints (λ stack. dropped_depth g (p + 1) frames k stack)
-        (λ d lands. by_lands lands (λ stack. value_depth g locals (operands.Slot d) (p + 1 + 1) frames k stack) (λ stack. ahead_depth g locals d (p + 1 + 1) frames k stack))
-    value_depth g locals o p frames (Needs (Pass callees.Getchar before cs) ∷ k) (d, m, q, all, is, at, call, long, lands) =
-        by_lands lands (λ stack. value_depth g locals (operands.Slot d) q frames k stack) (λ stack. ahead_depth g locals d q frames k stack)
-    value_depth g locals o p frames (Needs (Pass (callees.Function n) before cs) ∷ k) (d, m, q, all, is, at, call, long, lands) =
-        by_lands lands (λ stack. value_depth g locals (operands.Slot d) q frames k stack) (λ stack. ahead_depth g locals d q frames k stack)
-    value_depth g locals o p frames (Needs (Initialise n kind items) ∷ k) (loop, q, at, below, items_at, stack) = statement_depth g loop q frames k stack
-    value_depth g locals o p frames (Needs (Choose s t) ∷ k) (loop, r, q, at, at_s, jump, at_t, stack) = statement_depth g loop q frames k stack
-    value_depth g locals o p frames (Needs (Test a s) ∷ k) (loop, outer, q, at, r, jump, body, back, stack) = statement_depth g outer q frames k stack
-    value_depth g locals o p frames (Needs Return ∷ k) (loop, q, s, is, at, one, stack) = statement_depth g loop q frames k stack
-    value_depth g locals o p frames (Discard ∷ k) (loop, stack) = statement_depth g loop p frames k stack
-    value_depth g locals o p frames (entry ∷ k) stack = absurd stack
+        (λ d lands. by_lands lands (λ stack. value_depth g locals kinds.Int (operands.Slot d) (p + 1 + 1) frames k stack) (λ stack. ahead_depth g locals kinds.Int d (p + 1 + 1) frames k stack))
+    value_depth g locals kind o p frames (Needs (Pass callees.Getchar before cs) ∷ k) (d, m, q, all, is, at, call, long, lands) =
+        by_lands lands (λ stack. value_depth g locals kinds.Int (operands.Slot d) q frames k stack) (λ stack. ahead_depth g locals kinds.Int d q frames k stack)
+    value_depth g locals kind o p frames (Needs (Pass (callees.Function n) before cs) ∷ k) (d, m, q, all, is, at, call, long, lands) =
+        by_lands lands (λ stack. value_depth g locals (called_at source g (callees.Function n)) (operands.Slot d) q frames k stack) (λ stack. ahead_depth g locals (called_at source g (callees.Function n)) d q frames k stack)
+    value_depth g locals kind o p frames (Needs (Initialise n wanted items) ∷ k) (loop, q, at, below, items_at, stack) = statement_depth g loop q frames k stack
+    value_depth g locals kind o p frames (Needs (Choose s t) ∷ k) (loop, r, q, at, at_s, jump, at_t, stack) = statement_depth g loop q frames k stack
+    value_depth g locals kind o p frames (Needs (Test a s) ∷ k) (loop, outer, q, at, r, jump, body, back, stack) = statement_depth g outer q frames k stack
+    value_depth g locals kind o p frames (Needs Return ∷ k) (loop, q, s, is, at, one, stack) = statement_depth g loop q frames k stack
+    value_depth g locals kind o p frames (Discard ∷ k) (loop, stack) = statement_depth g loop p frames k stack
+    value_depth g locals kind o p frames (entry ∷ k) stack = absurd stack
 
     pub condition_depth : (g : ℕ) (failing : Comparison) (l r : Operand) (p : ℕ) (frames : List Frame) (k : List Entry) → ConditionStack source g failing l r p frames k → HasDepth frames k
     condition_depth g failing l r p frames (Needs (Chain NoOperations) ∷ k) stack = condition_depth g failing l r p frames k stack
@@ -100,14 +102,14 @@ module _ (source : Program) where
     dropped_depth g p frames (Discard ∷ k) (loop, stack) = statement_depth g loop p frames k stack
     dropped_depth g p frames k stack = absurd stack
 
-    pub ahead_depth : (g : ℕ) (locals : ℕ → Option ℕ) (n p : ℕ) (frames : List Frame) (k : List Entry) → AheadStack source g locals n p frames k → HasDepth frames k
-    ahead_depth g locals n p frames (Needs (ConvertTo from to target) ∷ k) (quiet, stack) = ahead_depth g locals n p frames k stack
-    ahead_depth g locals n p frames (Needs (Chain NoOperations) ∷ k) stack = ahead_depth g locals n p frames k stack
-    ahead_depth g locals n p frames (Needs (Store place) ∷ k) (number, object, is, found, same, hands) =
-        by_hands hands (λ stack. dropped_depth g p frames k stack) (λ stack. value_depth g locals (operands.Slot n) p frames k stack)
-        (λ d r lands. by_lands lands (λ stack. value_depth g locals (operands.Slot d) r frames k stack) (λ stack. ahead_depth g locals d r frames k stack))
-    ahead_depth g locals n p frames (Needs (Initialise number kind items) ∷ k) (loop, q, is, few, items_at, stack) = statement_depth g loop q frames k stack
-    ahead_depth g locals n p frames k stack = absurd stack
+    pub ahead_depth : (g : ℕ) (locals : ℕ → Option ℕ) (kind : Kind) (n p : ℕ) (frames : List Frame) (k : List Entry) → AheadStack source g locals kind n p frames k → HasDepth frames k
+    ahead_depth g locals kind n p frames (Needs (ConvertTo from to target) ∷ k) (quiet, stack) = ahead_depth g locals to n p frames k stack
+    ahead_depth g locals kind n p frames (Needs (Chain NoOperations) ∷ k) stack = ahead_depth g locals kind n p frames k stack
+    ahead_depth g locals kind n p frames (Needs (Store place) ∷ k) (number, object, is, found, same, room, hands) =
+        by_hands hands (λ stack. dropped_depth g p frames k stack) (λ stack. value_depth g locals kind (operands.Slot n) p frames k stack)
+        (λ d r lands. by_lands lands (λ stack. value_depth g locals kind (operands.Slot d) r frames k stack) (λ stack. ahead_depth g locals kind d r frames k stack))
+    ahead_depth g locals kind n p frames (Needs (Initialise number wanted items) ∷ k) (loop, q, is, few, items_at, stack) = statement_depth g loop q frames k stack
+    ahead_depth g locals kind n p frames k stack = absurd stack
 
     pub statement_depth : (g loop p : ℕ) (frames : List Frame) (k : List Entry) → StatementStack source g loop p frames k → HasDepth frames k
     statement_depth g loop p frames (Rest js ∷ k) (q, at, stack) = statement_depth g loop q frames k stack
@@ -116,7 +118,7 @@ module _ (source : Program) where
     statement_depth g loop p frames (CloseRegion r h ∷ k) stack = statement_depth g loop p frames k stack
     statement_depth g loop p [] (Caller e ∷ k) (s, at, below) = absurd below
     statement_depth g loop p (f ∷ frames) (Caller e ∷ k) (s, at, (holds, lands)) =
-        omega (arith, by_lands lands (λ stack. value_depth f.caller.function e.locals (operands.Slot f.result) f.caller.next frames k stack) (λ stack. ahead_depth f.caller.function e.locals f.result f.caller.next frames k stack))
+        omega (arith, by_lands lands (λ stack. value_depth f.caller.function e.locals (returned_at source g) (operands.Slot f.result) f.caller.next frames k stack) (λ stack. ahead_depth f.caller.function e.locals (returned_at source g) f.result f.caller.next frames k stack))
     statement_depth g loop p [] (Main ∷ []) (s, at, last) = omega arith
     statement_depth g loop p (f ∷ frames) (Main ∷ k) (s, at, last) = absurd last
     statement_depth g loop p [] (Main ∷ entry ∷ k) (s, at, last) = absurd last
@@ -124,37 +126,37 @@ module _ (source : Program) where
 
   -- and nothing waits but what the int language has
   mutual
-    pub value_plain : (g : ℕ) (locals : ℕ → Option ℕ) (o : Operand) (p : ℕ) (frames : List Frame) (k : List Entry) → ValueStack source g locals o p frames k → IsPlainStack k
-    value_plain g locals o p frames [] stack = absurd stack
-    value_plain g locals o p frames (Needs (ConvertTo from to target) ∷ k) (q, at, stack) = value_plain g locals o q frames k stack
-    value_plain g locals o p frames (Needs (Operate u) ∷ k) (to_slot (d, at, lands)) =
-        by_lands lands (λ stack. value_plain g locals (operands.Slot d) (p + 1) frames k stack) (λ stack. ahead_plain g locals d (p + 1) frames k stack)
-    value_plain g locals o p frames (Needs (Operate u) ∷ k) (to_jump (is, stack)) = condition_plain g comparisons.NotEqual o (operands.Word 0) p frames k stack
-    value_plain g locals o p frames (Needs (Chain NoOperations) ∷ k) stack = value_plain g locals o p frames k stack
-    value_plain g locals o p frames (Needs (Chain os) ∷ k) (to_slot (d, q, at, lands)) =
-        by_lands lands (λ stack. value_plain g locals (operands.Slot d) q frames k stack) (λ stack. ahead_plain g locals d q frames k stack)
-    value_plain g locals o p frames (Needs (Chain os) ∷ k) (to_jump (failing, r, q, at, stack)) = condition_plain g failing o r q frames k stack
-    value_plain g locals o p frames (Needs (Apply u left) ∷ k) (to_slot (d, q, at, lands)) =
-        by_lands lands (λ stack. value_plain g locals (operands.Slot d) q frames k stack) (λ stack. ahead_plain g locals d q frames k stack)
-    value_plain g locals o p frames (Needs (Apply u left) ∷ k) (to_jump (failing, is, stack)) = condition_plain g failing (operands.Slot (top source g k)) o p frames k stack
-    value_plain g locals o p frames (Needs Decide ∷ k) (d, q, is, at, lands) =
-        by_lands lands (λ stack. value_plain g locals (operands.Slot d) q frames k stack) (λ stack. ahead_plain g locals d q frames k stack)
-    value_plain g locals o p frames (Needs (Store place) ∷ k) (l, to, q, at, is, hands) =
-        by_hands hands (λ stack. dropped_plain g q frames k stack) (λ stack. value_plain g locals to q frames k stack)
-        (λ d r lands. by_lands lands (λ stack. value_plain g locals (operands.Slot d) r frames k stack) (λ stack. ahead_plain g locals d r frames k stack))
-    value_plain g locals o p frames (Needs (Pass callees.Putchar before cs) ∷ k) (none, single, at, prints) =
+    pub value_plain : (g : ℕ) (locals : ℕ → Option ℕ) (kind : Kind) (o : Operand) (p : ℕ) (frames : List Frame) (k : List Entry) → ValueStack source g locals kind o p frames k → IsPlainStack k
+    value_plain g locals kind o p frames [] stack = absurd stack
+    value_plain g locals kind o p frames (Needs (ConvertTo from to target) ∷ k) (q, at, stack) = value_plain g locals to o q frames k stack
+    value_plain g locals kind o p frames (Needs (Operate u) ∷ k) (to_slot (d, at, lands)) =
+        by_lands lands (λ stack. value_plain g locals kinds.Int (operands.Slot d) (p + 1) frames k stack) (λ stack. ahead_plain g locals kinds.Int d (p + 1) frames k stack)
+    value_plain g locals kind o p frames (Needs (Operate u) ∷ k) (to_jump (is, stack)) = condition_plain g comparisons.NotEqual o (operands.Word 0) p frames k stack
+    value_plain g locals kind o p frames (Needs (Chain NoOperations) ∷ k) stack = value_plain g locals kind o p frames k stack
+    value_plain g locals kind o p frames (Needs (Chain os) ∷ k) (to_slot (d, q, at, lands)) =
+        by_lands lands (λ stack. value_plain g locals kinds.Int (operands.Slot d) q frames k stack) (λ stack. ahead_plain g locals kinds.Int d q frames k stack)
+    value_plain g locals kind o p frames (Needs (Chain os) ∷ k) (to_jump (failing, r, q, at, stack)) = condition_plain g failing o r q frames k stack
+    value_plain g locals kind o p frames (Needs (Apply u left) ∷ k) (to_slot (d, q, at, lands)) =
+        by_lands lands (λ stack. value_plain g locals kinds.Int (operands.Slot d) q frames k stack) (λ stack. ahead_plain g locals kinds.Int d q frames k stack)
+    value_plain g locals kind o p frames (Needs (Apply u left) ∷ k) (to_jump (failing, is, stack)) = condition_plain g failing (operands.Slot (top source g k)) o p frames k stack
+    value_plain g locals kind o p frames (Needs Decide ∷ k) (d, q, is, at, lands) =
+        by_lands lands (λ stack. value_plain g locals kinds.Int (operands.Slot d) q frames k stack) (λ stack. ahead_plain g locals kinds.Int d q frames k stack)
+    value_plain g locals kind o p frames (Needs (Store place) ∷ k) (l, to, q, at, is, hands) =
+        by_hands hands (λ stack. dropped_plain g q frames k stack) (λ stack. value_plain g locals kind to q frames k stack)
+        (λ d r lands. by_lands lands (λ stack. value_plain g locals kind (operands.Slot d) r frames k stack) (λ stack. ahead_plain g locals kind d r frames k stack))
+    value_plain g locals kind o p frames (Needs (Pass callees.Putchar before cs) ∷ k) (none, single, at, prints) =
         by_prints prints (λ stack. dropped_plain g (p + 1) frames k stack)
-        (λ d lands. by_lands lands (λ stack. value_plain g locals (operands.Slot d) (p + 1 + 1) frames k stack) (λ stack. ahead_plain g locals d (p + 1 + 1) frames k stack))
-    value_plain g locals o p frames (Needs (Pass callees.Getchar before cs) ∷ k) (d, m, q, all, is, at, call, long, lands) =
-        by_lands lands (λ stack. value_plain g locals (operands.Slot d) q frames k stack) (λ stack. ahead_plain g locals d q frames k stack)
-    value_plain g locals o p frames (Needs (Pass (callees.Function n) before cs) ∷ k) (d, m, q, all, is, at, call, long, lands) =
-        by_lands lands (λ stack. value_plain g locals (operands.Slot d) q frames k stack) (λ stack. ahead_plain g locals d q frames k stack)
-    value_plain g locals o p frames (Needs (Initialise n kind items) ∷ k) (loop, q, at, below, items_at, stack) = statement_plain g loop q frames k stack
-    value_plain g locals o p frames (Needs (Choose s t) ∷ k) (loop, r, q, at, at_s, jump, at_t, stack) = statement_plain g loop q frames k stack
-    value_plain g locals o p frames (Needs (Test a s) ∷ k) (loop, outer, q, at, r, jump, body, back, stack) = statement_plain g outer q frames k stack
-    value_plain g locals o p frames (Needs Return ∷ k) (loop, q, s, is, at, one, stack) = statement_plain g loop q frames k stack
-    value_plain g locals o p frames (Discard ∷ k) (loop, stack) = statement_plain g loop p frames k stack
-    value_plain g locals o p frames (entry ∷ k) stack = absurd stack
+        (λ d lands. by_lands lands (λ stack. value_plain g locals kinds.Int (operands.Slot d) (p + 1 + 1) frames k stack) (λ stack. ahead_plain g locals kinds.Int d (p + 1 + 1) frames k stack))
+    value_plain g locals kind o p frames (Needs (Pass callees.Getchar before cs) ∷ k) (d, m, q, all, is, at, call, long, lands) =
+        by_lands lands (λ stack. value_plain g locals kinds.Int (operands.Slot d) q frames k stack) (λ stack. ahead_plain g locals kinds.Int d q frames k stack)
+    value_plain g locals kind o p frames (Needs (Pass (callees.Function n) before cs) ∷ k) (d, m, q, all, is, at, call, long, lands) =
+        by_lands lands (λ stack. value_plain g locals (called_at source g (callees.Function n)) (operands.Slot d) q frames k stack) (λ stack. ahead_plain g locals (called_at source g (callees.Function n)) d q frames k stack)
+    value_plain g locals kind o p frames (Needs (Initialise n wanted items) ∷ k) (loop, q, at, below, items_at, stack) = statement_plain g loop q frames k stack
+    value_plain g locals kind o p frames (Needs (Choose s t) ∷ k) (loop, r, q, at, at_s, jump, at_t, stack) = statement_plain g loop q frames k stack
+    value_plain g locals kind o p frames (Needs (Test a s) ∷ k) (loop, outer, q, at, r, jump, body, back, stack) = statement_plain g outer q frames k stack
+    value_plain g locals kind o p frames (Needs Return ∷ k) (loop, q, s, is, at, one, stack) = statement_plain g loop q frames k stack
+    value_plain g locals kind o p frames (Discard ∷ k) (loop, stack) = statement_plain g loop p frames k stack
+    value_plain g locals kind o p frames (entry ∷ k) stack = absurd stack
 
     pub condition_plain : (g : ℕ) (failing : Comparison) (l r : Operand) (p : ℕ) (frames : List Frame) (k : List Entry) → ConditionStack source g failing l r p frames k → IsPlainStack k
     condition_plain g failing l r p frames (Needs (Chain NoOperations) ∷ k) stack = condition_plain g failing l r p frames k stack
@@ -166,14 +168,14 @@ module _ (source : Program) where
     dropped_plain g p frames (Discard ∷ k) (loop, stack) = statement_plain g loop p frames k stack
     dropped_plain g p frames k stack = absurd stack
 
-    pub ahead_plain : (g : ℕ) (locals : ℕ → Option ℕ) (n p : ℕ) (frames : List Frame) (k : List Entry) → AheadStack source g locals n p frames k → IsPlainStack k
-    ahead_plain g locals n p frames (Needs (ConvertTo from to target) ∷ k) (quiet, stack) = ahead_plain g locals n p frames k stack
-    ahead_plain g locals n p frames (Needs (Chain NoOperations) ∷ k) stack = ahead_plain g locals n p frames k stack
-    ahead_plain g locals n p frames (Needs (Store place) ∷ k) (number, object, is, found, same, hands) =
-        by_hands hands (λ stack. dropped_plain g p frames k stack) (λ stack. value_plain g locals (operands.Slot n) p frames k stack)
-        (λ d r lands. by_lands lands (λ stack. value_plain g locals (operands.Slot d) r frames k stack) (λ stack. ahead_plain g locals d r frames k stack))
-    ahead_plain g locals n p frames (Needs (Initialise number kind items) ∷ k) (loop, q, is, few, items_at, stack) = statement_plain g loop q frames k stack
-    ahead_plain g locals n p frames k stack = absurd stack
+    pub ahead_plain : (g : ℕ) (locals : ℕ → Option ℕ) (kind : Kind) (n p : ℕ) (frames : List Frame) (k : List Entry) → AheadStack source g locals kind n p frames k → IsPlainStack k
+    ahead_plain g locals kind n p frames (Needs (ConvertTo from to target) ∷ k) (quiet, stack) = ahead_plain g locals to n p frames k stack
+    ahead_plain g locals kind n p frames (Needs (Chain NoOperations) ∷ k) stack = ahead_plain g locals kind n p frames k stack
+    ahead_plain g locals kind n p frames (Needs (Store place) ∷ k) (number, object, is, found, same, room, hands) =
+        by_hands hands (λ stack. dropped_plain g p frames k stack) (λ stack. value_plain g locals kind (operands.Slot n) p frames k stack)
+        (λ d r lands. by_lands lands (λ stack. value_plain g locals kind (operands.Slot d) r frames k stack) (λ stack. ahead_plain g locals kind d r frames k stack))
+    ahead_plain g locals kind n p frames (Needs (Initialise number wanted items) ∷ k) (loop, q, is, few, items_at, stack) = statement_plain g loop q frames k stack
+    ahead_plain g locals kind n p frames k stack = absurd stack
 
     pub statement_plain : (g loop p : ℕ) (frames : List Frame) (k : List Entry) → StatementStack source g loop p frames k → IsPlainStack k
     statement_plain g loop p frames (Rest js ∷ k) (q, at, stack) = statement_plain g loop q frames k stack
@@ -182,23 +184,23 @@ module _ (source : Program) where
     statement_plain g loop p frames (CloseRegion r h ∷ k) stack = statement_plain g loop p frames k stack
     statement_plain g loop p [] (Caller e ∷ k) (s, at, below) = absurd below
     statement_plain g loop p (f ∷ frames) (Caller e ∷ k) (s, at, (holds, lands)) =
-        by_lands lands (λ stack. value_plain f.caller.function e.locals (operands.Slot f.result) f.caller.next frames k stack) (λ stack. ahead_plain f.caller.function e.locals f.result f.caller.next frames k stack)
+        by_lands lands (λ stack. value_plain f.caller.function e.locals (returned_at source g) (operands.Slot f.result) f.caller.next frames k stack) (λ stack. ahead_plain f.caller.function e.locals (returned_at source g) f.result f.caller.next frames k stack)
     statement_plain g loop p [] (Main ∷ []) (s, at, last) = tt
     statement_plain g loop p (f ∷ frames) (Main ∷ k) (s, at, last) = absurd last
     statement_plain g loop p [] (Main ∷ entry ∷ k) (s, at, last) = absurd last
     statement_plain g loop p frames k stack = absurd stack
 
-  pub lands_depth : (g : ℕ) (locals : ℕ → Option ℕ) (d p : ℕ) (frames : List Frame) (k : List Entry) → LandsStack source g locals d p frames k → HasDepth frames k
-  lands_depth g locals d p frames k lands = by_lands lands (λ stack. value_depth g locals (operands.Slot d) p frames k stack) (λ stack. ahead_depth g locals d p frames k stack)
+  pub lands_depth : (g : ℕ) (locals : ℕ → Option ℕ) (kind : Kind) (d p : ℕ) (frames : List Frame) (k : List Entry) → LandsStack source g locals kind d p frames k → HasDepth frames k
+  lands_depth g locals kind d p frames k lands = by_lands lands (λ stack. value_depth g locals kind (operands.Slot d) p frames k stack) (λ stack. ahead_depth g locals kind d p frames k stack)
 
-  pub lands_plain : (g : ℕ) (locals : ℕ → Option ℕ) (d p : ℕ) (frames : List Frame) (k : List Entry) → LandsStack source g locals d p frames k → IsPlainStack k
-  lands_plain g locals d p frames k lands = by_lands lands (λ stack. value_plain g locals (operands.Slot d) p frames k stack) (λ stack. ahead_plain g locals d p frames k stack)
+  pub lands_plain : (g : ℕ) (locals : ℕ → Option ℕ) (kind : Kind) (d p : ℕ) (frames : List Frame) (k : List Entry) → LandsStack source g locals kind d p frames k → IsPlainStack k
+  lands_plain g locals kind d p frames k lands = by_lands lands (λ stack. value_plain g locals kind (operands.Slot d) p frames k stack) (λ stack. ahead_plain g locals kind d p frames k stack)
 
   prints_depth : (g : ℕ) (locals : ℕ → Option ℕ) (o : Operand) (p : ℕ) (frames : List Frame) (k : List Entry) → PrintsStack source g locals o p frames k → HasDepth frames k
-  prints_depth g locals o p frames k (at, prints) = by_prints prints (λ stack. dropped_depth g (p + 1) frames k stack) (λ d lands. lands_depth g locals d (p + 1 + 1) frames k lands)
+  prints_depth g locals o p frames k (at, prints) = by_prints prints (λ stack. dropped_depth g (p + 1) frames k stack) (λ d lands. lands_depth g locals kinds.Int d (p + 1 + 1) frames k lands)
 
   applied_depth : (g : ℕ) (locals : ℕ → Option ℕ) (u : Operator) (l r : Operand) (p : ℕ) (frames : List Frame) (k : List Entry) → AppliedStack source g locals u l r p frames k → HasDepth frames k
-  applied_depth g locals u l r p frames k (to_slot (d, q, at, lands)) = lands_depth g locals d q frames k lands
+  applied_depth g locals u l r p frames k (to_slot (d, q, at, lands)) = lands_depth g locals kinds.Int d q frames k lands
   applied_depth g locals u l r p frames k (to_jump (failing, is, stack)) = condition_depth g failing l r p frames k stack
 
   right_depth : (a : Expression) (locals : ℕ → Option ℕ) (g p : ℕ) (slots : ℕ → ℕ) (frames : List Frame) (k : List Entry) → RightAt source a locals g p slots frames k → HasDepth frames k
@@ -210,8 +212,8 @@ module _ (source : Program) where
   ready_depth v locals g p slots frames k ready = absurd ready
 
   evaluating_depth : (a : Expression) (locals : ℕ → Option ℕ) (g p : ℕ) (slots : ℕ → ℕ) (frames : List Frame) (k : List Entry) → EvaluatingAt source a locals g p slots frames k → HasDepth frames k
-  evaluating_depth a locals g p slots frames k (as_operand o q at holds stack) = value_depth g locals o q frames k stack
-  evaluating_depth a locals g p slots frames k (into_slot d q at holds lands) = lands_depth g locals d q frames k lands
+  evaluating_depth a locals g p slots frames k (as_operand o q at holds stack) = value_depth g locals (given_at source g a) o q frames k stack
+  evaluating_depth a locals g p slots frames k (into_slot d q at holds lands) = lands_depth g locals (given_at source g a) d q frames k lands
   evaluating_depth a locals g p slots frames k (for_effect q at holds stack) = dropped_depth g q frames k stack
   evaluating_depth a locals g p slots frames k (as_right right) = right_depth a locals g p slots frames k right
   evaluating_depth a locals g p slots frames k (as_condition l r q at holds stack) = condition_depth g (compared_of a).failing l r q frames k stack
@@ -227,10 +229,10 @@ module _ (source : Program) where
   depth_going (Evaluating a) k locals g p slots frames at = evaluating_depth a locals g p slots frames k at
   depth_going (Executing s) k locals g p slots frames (loop, q, at, stack) = statement_depth g loop q frames k stack
   depth_going (Calling callees.Putchar before) k locals g p slots frames (v, o, single, is, holds, prints) = prints_depth g locals o p frames k prints
-  depth_going (Calling callees.Getchar before) k locals g p slots frames (d, q, at, holds, lands) = lands_depth g locals d q frames k lands
-  depth_going (Calling (callees.Function n) before) k locals g p slots frames (d, q, at, holds, lands) = lands_depth g locals d q frames k lands
+  depth_going (Calling callees.Getchar before) k locals g p slots frames (d, q, at, holds, lands) = lands_depth g locals kinds.Int d q frames k lands
+  depth_going (Calling (callees.Function n) before) k locals g p slots frames (d, q, at, holds, lands) = lands_depth g locals (called_at source g (callees.Function n)) d q frames k lands
   depth_going (Entering h arguments) k locals g p slots frames (m, at, stack, holds, few) = statement_depth g 0 m frames k stack
-  depth_going (Binding n types arguments body) k locals g p slots frames (m, at, stack, holds, few) = statement_depth g 0 m frames k stack
+  depth_going (Binding n types arguments body) k locals g p slots frames (m, first, at, stack, holds, few, count) = statement_depth g 0 m frames k stack
   depth_going Breaking k locals g p slots frames (loop, q, at, stack) = statement_depth g loop q frames k stack
   depth_going Continuing k locals g p slots frames (loop, q, at, stack) = statement_depth g loop q frames k stack
   depth_going (Returning (Some v)) k locals g p slots frames (loop, q, s, at, is, one, stack) = statement_depth g loop q frames k stack
@@ -238,16 +240,16 @@ module _ (source : Program) where
   depth_going focus k locals g p slots frames at = absurd at
 
   depth_given : (v : Kinded) (k : List Entry) (e : Environment) (w : World) (c : Configuration) → GivenAt source v k e w c → HasDepth c.frames k
-  depth_given v k e w c (in_operand o facts is holds stack) = value_depth c.active.function e.locals o c.active.next c.frames k stack
+  depth_given v k e w c (in_operand o facts is holds stack) = value_depth c.active.function e.locals v.kind o c.active.next c.frames k stack
   depth_given v k e w c (nowhere facts stack) = dropped_depth c.active.function c.active.next c.frames k stack
-  depth_given v k e w c (ahead n facts below is holds stack) = ahead_depth c.active.function e.locals n c.active.next c.frames k stack
+  depth_given v k e w c (ahead n facts is holds stack) = ahead_depth c.active.function e.locals v.kind n c.active.next c.frames k stack
   depth_given v k e w c (compared failing l r facts zero stack) = condition_depth c.active.function failing l r c.active.next c.frames k stack
   depth_given v k e w c (with_left facts ready) = ready_depth v e.locals c.active.function c.active.next c.active.slots c.frames k ready
 
   depth_proceeding : (k : List Entry) (e : Environment) (w : World) (c : Configuration) → ProceedingAt source k e w c → HasDepth c.frames k
   depth_proceeding k e w c (behind_statement loop facts stack) = statement_depth c.active.function loop c.active.next c.frames k stack
-  depth_proceeding k e w c (behind_call o facts stack) = value_depth c.active.function e.locals o c.active.next c.frames k stack
-  depth_proceeding k e w c (behind_wrong n stack) = ahead_depth c.active.function e.locals n c.active.next c.frames k stack
+  depth_proceeding k e w c (behind_call kind o facts stack) = value_depth c.active.function e.locals kind o c.active.next c.frames k stack
+  depth_proceeding k e w c (behind_wrong kind n stack) = ahead_depth c.active.function e.locals kind n c.active.next c.frames k stack
 
   depth_fits : (pages calls : ℕ) (focus : Focus) (k : List Entry) (e : Environment) (w : World) (c : Configuration) → Related source pages calls focus k e w c → calls_in k ≤ calls
   depth_fits pages calls (Throwing tag value) k e w c r = r.1

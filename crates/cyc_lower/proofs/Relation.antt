@@ -1,5 +1,5 @@
 -- What a state of the source and one of the plain program have in common while the one is matched by the other.
-use Rattle.std.proofs.Common.{◌≡◌, ℕ, suc, ◌+◌, ◌≤◌, ◌<◌, List, [], ◌∷◌, ◌++◌, length, Option, None, Some, slice_get}
+use Rattle.std.proofs.Common.{◌≡◌, ℕ, suc, ◌+◌, ◌≤◌, ◌<◌, true, List, [], ◌∷◌, ◌++◌, length, Option, None, Some, slice_get}
 use Rattle.cyc_types.specs.declared.typed.Kind.{Kind}
 use Rattle.cyc_types.specs.declared.typed.Kind.TheVariants as kinds
 use Rattle.cyc_types.specs.declared.typed.Callee.{Callee}
@@ -8,7 +8,7 @@ use Rattle.cyc_types.specs.declared.typed.Operator.{Operator}
 use Rattle.cyc_types.specs.declared.typed.Callee.TheVariants as callees
 use Rattle.cyc_types.specs.Types.{Ty}
 use Rattle.cyc_types.specs.TypedTrees.{Lvalue, Local, Global, Expression, NoArguments, NoOperations, Statement, Function, Program}
-use Rattle.cyc_types.specs.Numbered.{Numbering, numbering_of, signatures_of, argument_count}
+use Rattle.cyc_types.specs.Numbered.{Numbering, numbering_of, signatures_of}
 use Rattle.cyc_store.specs.State.{StoreState, sizes_in, demand}
 use Rattle.cyc_plain.specs.declared.instruction.Comparison.{Comparison}
 use Rattle.cyc_plain.specs.declared.instruction.Comparison.TheVariants as comparisons
@@ -18,43 +18,52 @@ use Rattle.cyc_plain.specs.declared.instruction.Operand.TheVariants as operands
 use Rattle.cyc_plain.specs.declared.instruction.Instruction.{Instruction}
 use Rattle.cyc_plain.specs.declared.instruction.Instruction.TheVariants as instructions
 use Rattle.cyc_plain.specs.Program.{routine_at}
-use Rattle.cyc_plain.specs.State.{Words, put, Frame, Configuration}
+use Rattle.cyc_plain.specs.State.{Words, Frame, Configuration}
 use Rattle.cyc_plain.specs.Step.{operand_word}
 use Rattle.cyc_plain.specs.State as plain
 use Rattle.cyc_plain.specs.Straight.{At}
-use Rattle.cyc_meaning.specs.Values.{Value, Int, Null, Thin, Fat, Handle, Key, Operand as Kinded, Cell}
+use Rattle.cyc_meaning.specs.Values.{Value, Int, Null, Thin, Operand as Kinded, Cell, words_of_kind}
 use Rattle.cyc_meaning.specs.State.{Sort, Heap, Globals, Stack, Lexical, Dynamic, Region, Object, World, counted, Environment, ConvertTo, Operate, Chain, Apply, Decide, Store, Pass, Initialise, Choose, Test, Return, Entry, Needs, NeedsPlace, Discard, Rest, Join, Loop, CloseRegion, CloseLexical, EndLoan, Handler, Caller, Main, calls_in, Focus, Evaluating, Given, Executing, Proceeding, Calling, Entering, Binding, Breaking, Continuing, Returning, Throwing, State, Running, Ended}
 use Rattle.cyc_meaning.specs.Step.{object_of}
 use Rattle.cyc_meaning.specs.Operators.{is_zero}
 use Rattle.cyc_meaning.specs.FrameCount.{words_of_all}
 use Rattle.cyc_lower.specs.Slots.{starts_of, slot_of}
-use Rattle.cyc_lower.specs.Lowering.{slot_types, unary_operator, failing_comparison, operand_of, low_byte, compared_of, break_target, continue_target, results_of, lower_program}
+use Rattle.cyc_lower.specs.Lowering.{slot_types, unary_operator, failing_comparison, operand_of, move_of, low_byte, converts_there, all_passed, compared_of, break_target, continue_target, results_of, lower_program}
+use Rattle.cyc_lower.proofs.Widths.{kind_of_result, given, called_kind, HasRoom, Outside}
 use Rattle.cyc_lower.proofs.Stands.{ConversionAt, OperatorAt, TruthAt, CopyAt, ExpressionAt, ArgumentsAt, OperationsAt, ValueAt, ConditionAt, FailingAt, ComparesAt, DiscardedAt, StatementAt, ItemsAt}
 
 -- ---- values in slots
 
--- the word that a value is
-abbrev pub Is : Value → ℕ → Type 0
-Is (Int a) w = w ≡ a
-Is Null w = w ≡ 0
-Is (Thin object offset) w = ⊥
-Is (Fat object start many index) w = ⊥
-Is (Handle region) w = ⊥
-Is (Key region) w = ⊥
+-- The words from a place on are a value of a kind. Of a fat null pointer the first is 0, and the others are anything. No pointer but
+-- null is there yet.
+abbrev pub Is : Kind → Value → Words → (place : ℕ) → Type 0
+Is kinds.Int (Int a) words place = words place ≡ a
+Is kinds.Nullable Null words place = words place ≡ 0
+Is kinds.Fat Null words place = words place ≡ 0
+Is kind v words place = ⊥
 
--- the slot behind values, of which the last one stands in the first slot
+-- the same for those that an operand stands for
+abbrev pub IsIn : Kinded → Words → Operand → Type 0
+IsIn v slots (operands.Slot n) = Is v.kind v.value slots n
+IsIn v slots (operands.Word w) = Is v.kind v.value (λ (i : ℕ). w) 0
+
+abbrev pub words_held : List Kinded → ℕ
+words_held [] = 0
+words_held (v ∷ vs) = words_held vs + words_of_kind v.kind
+
+-- the slot behind values, of which the last one stands in the first slots
 abbrev pub height : ℕ → List Kinded → ℕ
 height base [] = base
-height base (v ∷ vs) = suc (height base vs)
+height base (v ∷ vs) = height base vs + words_of_kind v.kind
 
 abbrev pub Holds : Words → ℕ → List Kinded → Type 0
 Holds slots base [] = Unit {0}
-Holds slots base (v ∷ vs) = Is v.value (slots (height base vs)) × Holds slots base vs
+Holds slots base (v ∷ vs) = Is v.kind v.value slots (height base vs) × Holds slots base vs
 
 -- values in order from this slot on
 abbrev pub HoldsFrom : Words → ℕ → List Kinded → Type 0
 HoldsFrom slots first [] = Unit {0}
-HoldsFrom slots first (v ∷ vs) = Is v.value (slots first) × HoldsFrom slots (suc first) vs
+HoldsFrom slots first (v ∷ vs) = Is v.kind v.value slots first × HoldsFrom slots (first + words_of_kind v.kind) vs
 
 -- the values of the running call that are inside the entries of a stack
 abbrev pub held : List Entry → List Kinded
@@ -74,27 +83,33 @@ held (entry ∷ k) = []
 
 -- ---- objects and the words that stand for them
 
-abbrev pub content_of_cell : Option Cell → Option Value
-content_of_cell None = None
-content_of_cell (Some c) = c.content
+abbrev pub with_kind : Kind → Option Value → Option Kinded
+with_kind kind None = None
+with_kind kind (Some v) = Some (record { kind = kind; value = v })
 
-abbrev pub content_of : Option Object → Option Value
+abbrev pub content_of_cell : Option Cell → Option Kinded
+content_of_cell None = None
+content_of_cell (Some c) = with_kind c.kind c.content
+
+abbrev pub content_of : Option Object → Option Kinded
 content_of None = None
 content_of (Some x) = content_of_cell (slice_get x.cells 0)
 
 -- what a variable holds, by the number of its object
-abbrev pub contents : List Object → ℕ → Option Value
+abbrev pub contents : List Object → ℕ → Option Kinded
 contents objects number = content_of (slice_get objects number)
 
--- The locals of a call, which have these types and whose objects are all from `low` on and below `high`: the slot of each has what
--- it holds.
+-- The locals of a call, which have these types and whose objects are all from `low` on and below `high`: the slots of each have what
+-- it holds, and there is room for it.
 pub record LocalsHold (types : List Ty) (objects : List Object) (locals : ℕ → Option ℕ) (low high : ℕ) (slots : Words) : Type 0 where
   pub within : (number object : ℕ) → locals number ≡ Some object → (number < length types) × (low ≤ object) × (object < high)
   pub apart : (number other object : ℕ) → locals number ≡ Some object → locals other ≡ Some object → number ≡ other
-  pub holds : (number object : ℕ) (v : Value) → locals number ≡ Some object → contents objects object ≡ Some v → Is v (slots (slot_of (starts_of types) number))
+  pub holds : (number object : ℕ) (v : Kinded) → locals number ≡ Some object → contents objects object ≡ Some v
+      → Is v.kind v.value slots (slot_of (starts_of types) number) × HasRoom types number v.kind
 
+-- a global has one word yet
 abbrev pub GlobalsHold : (globals : ℕ) → List Object → Words → Type 0
-GlobalsHold globals objects words = (number : ℕ) (v : Value) → number < globals → contents objects number ≡ Some v → Is v (words number)
+GlobalsHold globals objects words = (number : ℕ) (v : Kinded) → number < globals → contents objects number ≡ Some v → Is v.kind v.value words number
 
 -- the environments of the calls that wait
 abbrev pub callers : List Entry → List Environment
@@ -160,16 +175,26 @@ module _ (source : Program) where
   abbrev pub starts_at : ℕ → List ℕ
   starts_at g = starts_of (types_at g)
 
-  abbrev pub parameters_in : Option Function → ℕ
-  parameters_in None = 0
-  parameters_in (Some h) = length h.parameters
+  abbrev pub parameters_in : Option Function → List Ty
+  parameters_in None = []
+  parameters_in (Some h) = h.parameters
 
-  abbrev pub parameters_at : ℕ → ℕ
+  abbrev pub parameters_at : ℕ → List Ty
   parameters_at g = parameters_in (slice_get source.functions g)
 
   -- the first slot behind the locals
   abbrev pub base_of : ℕ → ℕ
   base_of g = words_of_all (types_at g)
+
+  -- the kind of what an expression gives in a function, of what is called there, and of what the function itself returns
+  abbrev pub given_at : ℕ → Expression → Kind
+  given_at g a = given (bounds_at g).functions a
+
+  abbrev pub called_at : ℕ → Callee → Kind
+  called_at g f = called_kind (bounds_at g).functions f
+
+  abbrev pub returned_at : ℕ → Kind
+  returned_at g = kind_of_result (bounds_at g).result
 
   -- the slot of the next value
   abbrev pub top : ℕ → List Entry → ℕ
@@ -197,16 +222,16 @@ module _ (source : Program) where
     in_place : p ≡ q → Arrives code p q
     by_jump : At code p (instructions.Jump q) → Arrives code p q
 
-  -- A value comes to slot d: that of a temporary, from `free` on, or that of a local which is about to be assigned.
-  pub data Lands (base free d : ℕ) (temporary ahead : Type 0) : Type 0 where
-    in_temporary : free ≤ d → temporary → Lands base free d temporary ahead
-    in_local : d < base → ahead → Lands base free d temporary ahead
+  -- A value of so many words comes to slot d: that of a temporary, from `free` on, or that of a local which is about to be assigned.
+  pub data Lands (base free d words : ℕ) (temporary ahead : Type 0) : Type 0 where
+    in_temporary : free ≤ d → temporary → Lands base free d words temporary ahead
+    in_local : d + words ≤ base → ahead → Lands base free d words temporary ahead
 
   -- The value of an assignment, which stands in an operand: it is dropped, or stays there, or comes to another slot.
-  pub data HandsOn (code : List Instruction) (o : Operand) (p : ℕ) (dropped stays : Type 0) (comes : (d q : ℕ) → Type 0) : Type 0 where
-    drops : dropped → HandsOn code o p dropped stays comes
-    leaves : stays → HandsOn code o p dropped stays comes
-    copies : (d q : ℕ) → CopyAt code o d p q → comes d q → HandsOn code o p dropped stays comes
+  pub data HandsOn (code : List Instruction) (words : ℕ) (o : Operand) (p : ℕ) (dropped stays : Type 0) (comes : (d q : ℕ) → Type 0) : Type 0 where
+    drops : dropped → HandsOn code words o p dropped stays comes
+    leaves : stays → HandsOn code words o p dropped stays comes
+    copies : (d q : ℕ) → CopyAt code words o d p q → comes d q → HandsOn code words o p dropped stays comes
 
   -- a byte is printed, and its value is dropped, or comes to a slot
   pub data Prints (code : List Instruction) (o : Operand) (p : ℕ) (dropped : Type 0) (comes : (d : ℕ) → Type 0) : Type 0 where
@@ -220,23 +245,23 @@ module _ (source : Program) where
 
   abbrev pub LoopAt : ℕ → Expression → Statement → (loop q : ℕ) → Type 0
   LoopAt g condition body loop q = (x : Operand) × (y : Operand) × (m : ℕ) × (r : ℕ) × At (code_of g) (break_target loop) (instructions.Jump q)
-      × ConditionAt (code_of g) (bounds_at g) (starts_at g) condition x y (base_of g) (continue_target loop) m
-      × FailingAt (code_of g) (bounds_at g) (starts_at g) condition x y m (break_target loop)
-      × StatementAt (code_of g) (bounds_at g) (starts_at g) body loop (base_of g) (m + 1) r
+      × ConditionAt (code_of g) (bounds_at g) (types_at g) condition x y (base_of g) (continue_target loop) m
+      × FailingAt (code_of g) (bounds_at g) (types_at g) condition x y m (break_target loop)
+      × StatementAt (code_of g) (bounds_at g) (types_at g) body loop (base_of g) (m + 1) r
       × At (code_of g) r (instructions.Jump (continue_target loop)) × (break_target loop < q)
 
   -- A branch that is taken where a condition has failed, and what stands behind it. From a place in a loop on stands what waits.
   abbrev pub ChoosesAt : (g : ℕ) → Comparison → (l r : Operand) → (p : ℕ) → (first second : Statement) → (waits : (loop q : ℕ) → Type 0) → Type 0
   ChoosesAt g failing l r p first second waits =
       (loop : ℕ) × (m : ℕ) × (q : ℕ) × At (code_of g) p (instructions.Branch failing l r (m + 1))
-      × StatementAt (code_of g) (bounds_at g) (starts_at g) first loop (base_of g) (p + 1) m × At (code_of g) m (instructions.Jump q)
-      × StatementAt (code_of g) (bounds_at g) (starts_at g) second loop (base_of g) (m + 1) q × waits loop q
+      × StatementAt (code_of g) (bounds_at g) (types_at g) first loop (base_of g) (p + 1) m × At (code_of g) m (instructions.Jump q)
+      × StatementAt (code_of g) (bounds_at g) (types_at g) second loop (base_of g) (m + 1) q × waits loop q
 
   abbrev pub RepeatsAt : (g : ℕ) → Comparison → (l r : Operand) → (p : ℕ) → Expression → Statement → (waits : (loop q : ℕ) → Type 0) → Type 0
   RepeatsAt g failing l r p condition body waits =
       (loop : ℕ) × (outer : ℕ) × (q : ℕ) × LoopAt g condition body loop q
       × (m : ℕ) × At (code_of g) p (instructions.Branch failing l r (break_target loop))
-      × StatementAt (code_of g) (bounds_at g) (starts_at g) body loop (base_of g) (p + 1) m
+      × StatementAt (code_of g) (bounds_at g) (types_at g) body loop (base_of g) (p + 1) m
       × At (code_of g) m (instructions.Jump (continue_target loop)) × waits outer q
 
   abbrev pub Below : List Frame → (Frame → List Frame → Type 0) → Type 0
@@ -252,71 +277,72 @@ module _ (source : Program) where
   abbrev pub IsPlaceOf : (ℕ → Option ℕ) → Lvalue → Value → Type 0
   IsPlaceOf locals l place = (object : ℕ) × (place ≡ Thin object 0) × (object_of (record { locals = locals; home = 0; counters = λ level. None }) l ≡ Some object)
 
-  -- a conversion that raises nothing
-  abbrev pub IsQuiet : Kind → Type 0
-  IsQuiet kinds.NonNull = ⊥
-  IsQuiet kind = Unit {0}
-
-  -- the value in an operand is stored, and then stands in another
-  abbrev pub StoreAt : (g : ℕ) → Lvalue → (from to : Operand) → (p q : ℕ) → Type 0
-  StoreAt g (Local w n) from to p q = At (code_of g) p (instructions.Move (slot_of (starts_at g) n) from) × (p + 1 ≡ q) × (to ≡ operands.Slot (slot_of (starts_at g) n))
-  StoreAt g (Global n) from to p q =
+  -- the value of a kind in an operand is stored, and then stands in another
+  abbrev pub StoreAt : (g : ℕ) → Kind → Lvalue → (from to : Operand) → (p q : ℕ) → Type 0
+  StoreAt g kind (Local w n) from to p q =
+      At (code_of g) p (move_of (words_of_kind kind) (slot_of (starts_at g) n) from) × (p + 1 ≡ q) × (to ≡ operands.Slot (slot_of (starts_at g) n))
+      × HasRoom (types_at g) n kind
+  StoreAt g kind (Global n) from to p q =
       At (code_of g) p (instructions.StoreGlobal n from) × (p + 1 ≡ q) × (to ≡ from) × (n < (bounds_at g).globals)
 
-  -- a call of so many arguments, which stand in the slots from t on, and what it gives comes to slot d
+  -- what this function returns is of this kind
+  abbrev pub IsReturned : (g : ℕ) → Kind → Type 0
+  IsReturned g kind = (results_of (bounds_at g).result ≡ words_of_kind kind) × (kind ≡ returned_at g)
+
+  -- a call of arguments of so many words, which stand in the slots from t on, and what it gives comes to slot d
   abbrev pub CallAt : (g : ℕ) → Callee → (arguments t d p q : ℕ) → Type 0
   CallAt g callees.Putchar arguments t d p q = ⊥
   CallAt g callees.Getchar arguments t d p q = At (code_of g) p (instructions.ReadByte d) × (p + 1 ≡ q)
   CallAt g (callees.Function n) arguments t d p q = At (code_of g) p (instructions.Call n t arguments d) × (p + 1 ≡ q)
 
   -- From place p on stands what is done with a value, and with all that waits: of the running call, whose function is g, and of
-  -- its callers. The value stands in operand o.
+  -- its callers. The value is of a kind, and stands in operand o.
   abbrev mutual
-    pub ValueStack : (g : ℕ) → (ℕ → Option ℕ) → Operand → (p : ℕ) → List Frame → List Entry → Type 0
-    ValueStack g locals o p frames [] = ⊥
-    ValueStack g locals o p frames (Needs (ConvertTo from to target) ∷ k) =
-        (q : ℕ) × ConversionAt (code_of g) (bounds_at g) (starts_at g) to o p q × ValueStack g locals o q frames k
-    ValueStack g locals o p frames (Needs (Operate operator) ∷ k) =
+    pub ValueStack : (g : ℕ) → (ℕ → Option ℕ) → Kind → Operand → (p : ℕ) → List Frame → List Entry → Type 0
+    ValueStack g locals kind o p frames [] = ⊥
+    ValueStack g locals kind o p frames (Needs (ConvertTo from to target) ∷ k) =
+        (q : ℕ) × ConversionAt (code_of g) (bounds_at g) (types_at g) to o p q × ValueStack g locals to o q frames k
+    ValueStack g locals kind o p frames (Needs (Operate operator) ∷ k) =
         Yields ((d : ℕ) × At (code_of g) p (instructions.Unary (unary_operator operator) d o)
-        × Lands (base_of g) (top g k) d (ValueStack g locals (operands.Slot d) (p + 1) frames k) (AheadStack g locals d (p + 1) frames k))
+        × Lands (base_of g) (top g k) d 1 (ValueStack g locals kinds.Int (operands.Slot d) (p + 1) frames k) (AheadStack g locals kinds.Int d (p + 1) frames k))
         ((operator ≡ unary.Not) × ConditionStack g comparisons.NotEqual o (operands.Word 0) p frames k)
-    ValueStack g locals o p frames (Needs (Chain NoOperations) ∷ k) = ValueStack g locals o p frames k
-    ValueStack g locals o p frames (Needs (Chain operations) ∷ k) =
-        Yields ((d : ℕ) × (q : ℕ) × OperationsAt (code_of g) (bounds_at g) (starts_at g) operations o d (top g k) p q
-        × Lands (base_of g) (top g k) d (ValueStack g locals (operands.Slot d) q frames k) (AheadStack g locals d q frames k))
-        ((failing : Comparison) × (r : Operand) × (q : ℕ) × ComparesAt (code_of g) (bounds_at g) (starts_at g) operations failing o r (top g k) p q × ConditionStack g failing o r q frames k)
-    ValueStack g locals o p frames (Needs (Apply operator left) ∷ k) =
-        Yields ((d : ℕ) × (q : ℕ) × OperatorAt (code_of g) (bounds_at g) (starts_at g) operator d (operands.Slot (top g k)) o p q
-        × Lands (base_of g) (top g k) d (ValueStack g locals (operands.Slot d) q frames k) (AheadStack g locals d q frames k))
+    ValueStack g locals kind o p frames (Needs (Chain NoOperations) ∷ k) = ValueStack g locals kind o p frames k
+    ValueStack g locals kind o p frames (Needs (Chain operations) ∷ k) =
+        Yields ((d : ℕ) × (q : ℕ) × OperationsAt (code_of g) (bounds_at g) (types_at g) operations o d (top g k) p q
+        × Lands (base_of g) (top g k) d 1 (ValueStack g locals kinds.Int (operands.Slot d) q frames k) (AheadStack g locals kinds.Int d q frames k))
+        ((failing : Comparison) × (r : Operand) × (q : ℕ) × ComparesAt (code_of g) (bounds_at g) (types_at g) operations failing o r (top g k) p q × ConditionStack g failing o r q frames k)
+    ValueStack g locals kind o p frames (Needs (Apply operator left) ∷ k) =
+        Yields ((d : ℕ) × (q : ℕ) × OperatorAt (code_of g) (bounds_at g) (types_at g) operator d (operands.Slot (top g k)) o p q
+        × Lands (base_of g) (top g k) d 1 (ValueStack g locals kinds.Int (operands.Slot d) q frames k) (AheadStack g locals kinds.Int d q frames k))
         ((failing : Comparison) × (failing_comparison operator ≡ Some failing) × ConditionStack g failing (operands.Slot (top g k)) o p frames k)
-    ValueStack g locals o p frames (Needs Decide ∷ k) =
-        (d : ℕ) × (q : ℕ) × (o ≡ operands.Slot (top g k)) × TruthAt (code_of g) (bounds_at g) (starts_at g) (top g k) d p q
-        × Lands (base_of g) (top g k) d (ValueStack g locals (operands.Slot d) q frames k) (AheadStack g locals d q frames k)
-    ValueStack g locals o p frames (Needs (Store place) ∷ k) =
-        (l : Lvalue) × (to : Operand) × (q : ℕ) × StoreAt g l o to p q × IsPlaceOf locals l place
-        × HandsOn (code_of g) to q (DroppedStack g q frames k) (ValueStack g locals to q frames k)
-        (λ d r. Lands (base_of g) (top g k) d (ValueStack g locals (operands.Slot d) r frames k) (AheadStack g locals d r frames k))
-    ValueStack g locals o p frames (Needs (Pass callees.Putchar before arguments) ∷ k) =
+    ValueStack g locals kind o p frames (Needs Decide ∷ k) =
+        (d : ℕ) × (q : ℕ) × (o ≡ operands.Slot (top g k)) × TruthAt (code_of g) (bounds_at g) (types_at g) (top g k) d p q
+        × Lands (base_of g) (top g k) d 1 (ValueStack g locals kinds.Int (operands.Slot d) q frames k) (AheadStack g locals kinds.Int d q frames k)
+    ValueStack g locals kind o p frames (Needs (Store place) ∷ k) =
+        (l : Lvalue) × (to : Operand) × (q : ℕ) × StoreAt g kind l o to p q × IsPlaceOf locals l place
+        × HandsOn (code_of g) (words_of_kind kind) to q (DroppedStack g q frames k) (ValueStack g locals kind to q frames k)
+        (λ d r. Lands (base_of g) (top g k) d (words_of_kind kind) (ValueStack g locals kind (operands.Slot d) r frames k) (AheadStack g locals kind d r frames k))
+    ValueStack g locals kind o p frames (Needs (Pass callees.Putchar before arguments) ∷ k) =
         (before ≡ []) × (arguments ≡ NoArguments) × At (code_of g) p (instructions.WriteByte o)
         × Prints (code_of g) o (p + 1) (DroppedStack g (p + 1) frames k)
-        (λ d. Lands (base_of g) (top g k) d (ValueStack g locals (operands.Slot d) (p + 1 + 1) frames k) (AheadStack g locals d (p + 1 + 1) frames k))
-    ValueStack g locals o p frames (Needs (Pass callee before arguments) ∷ k) =
+        (λ d. Lands (base_of g) (top g k) d 1 (ValueStack g locals kinds.Int (operands.Slot d) (p + 1 + 1) frames k) (AheadStack g locals kinds.Int d (p + 1 + 1) frames k))
+    ValueStack g locals kind o p frames (Needs (Pass callee before arguments) ∷ k) =
         (d : ℕ) × (m : ℕ) × (q : ℕ) × (all : ℕ) × (o ≡ operands.Slot (height (base_of g) (before ++ held k)))
-        × ArgumentsAt (code_of g) (bounds_at g) (starts_at g) arguments (suc (height (base_of g) (before ++ held k))) p m
-        × CallAt g callee all (top g k) d m q × (length before + suc (argument_count arguments) ≡ all)
-        × Lands (base_of g) (top g k) d (ValueStack g locals (operands.Slot d) q frames k) (AheadStack g locals d q frames k)
-    ValueStack g locals o p frames (Needs (Initialise number kind items) ∷ k) =
-        (loop : ℕ) × (q : ℕ) × At (code_of g) p (instructions.Move (slot_of (starts_at g) number) o) × (number < length (types_at g))
-        × ItemsAt (code_of g) (bounds_at g) (starts_at g) items loop (base_of g) (p + 1) q × StatementStack g loop q frames k
-    ValueStack g locals o p frames (Needs (Choose first second) ∷ k) =
+        × ArgumentsAt (code_of g) (bounds_at g) (types_at g) arguments (height (base_of g) (before ++ held k) + words_of_kind kind) p m
+        × CallAt g callee all (top g k) d m q × (words_held before + (words_of_kind kind + all_passed arguments) ≡ all)
+        × Lands (base_of g) (top g k) d (words_of_kind (called_at g callee)) (ValueStack g locals (called_at g callee) (operands.Slot d) q frames k) (AheadStack g locals (called_at g callee) d q frames k)
+    ValueStack g locals kind o p frames (Needs (Initialise number wanted items) ∷ k) =
+        (loop : ℕ) × (q : ℕ) × At (code_of g) p (move_of (words_of_kind kind) (slot_of (starts_at g) number) o) × HasRoom (types_at g) number kind
+        × ItemsAt (code_of g) (bounds_at g) (types_at g) items loop (base_of g) (p + 1) q × StatementStack g loop q frames k
+    ValueStack g locals kind o p frames (Needs (Choose first second) ∷ k) =
         ChoosesAt g comparisons.Equal o (operands.Word 0) p first second (λ loop q. StatementStack g loop q frames k)
-    ValueStack g locals o p frames (Needs (Test condition body) ∷ k) =
+    ValueStack g locals kind o p frames (Needs (Test condition body) ∷ k) =
         RepeatsAt g comparisons.Equal o (operands.Word 0) p condition body (λ loop q. StatementStack g loop q frames k)
-    ValueStack g locals o p frames (Needs Return ∷ k) =
-        (loop : ℕ) × (q : ℕ) × (s : ℕ) × (o ≡ operands.Slot s) × At (code_of g) p (instructions.Return s) × (results_of (bounds_at g).result ≡ 1)
+    ValueStack g locals kind o p frames (Needs Return ∷ k) =
+        (loop : ℕ) × (q : ℕ) × (s : ℕ) × (o ≡ operands.Slot s) × At (code_of g) p (instructions.Return s) × IsReturned g kind
         × StatementStack g loop q frames k
-    ValueStack g locals o p frames (Discard ∷ k) = (loop : ℕ) × StatementStack g loop p frames k
-    ValueStack g locals o p frames (entry ∷ k) = ⊥
+    ValueStack g locals kind o p frames (Discard ∷ k) = (loop : ℕ) × StatementStack g loop p frames k
+    ValueStack g locals kind o p frames (entry ∷ k) = ⊥
 
     -- the same for a condition, which fails where this comparison holds
     pub ConditionStack : (g : ℕ) → Comparison → (l r : Operand) → (p : ℕ) → List Frame → List Entry → Type 0
@@ -331,21 +357,22 @@ module _ (source : Program) where
     DroppedStack g p frames k = ⊥
 
     -- the same for a value that stands already in the slot n of a local, which is about to get it
-    pub AheadStack : (g : ℕ) → (ℕ → Option ℕ) → (n p : ℕ) → List Frame → List Entry → Type 0
-    AheadStack g locals n p frames (Needs (ConvertTo from to target) ∷ k) = IsQuiet to × AheadStack g locals n p frames k
-    AheadStack g locals n p frames (Needs (Chain NoOperations) ∷ k) = AheadStack g locals n p frames k
-    AheadStack g locals n p frames (Needs (Store place) ∷ k) =
+    pub AheadStack : (g : ℕ) → (ℕ → Option ℕ) → Kind → (n p : ℕ) → List Frame → List Entry → Type 0
+    AheadStack g locals kind n p frames (Needs (ConvertTo from to target) ∷ k) = (converts_there from to ≡ true) × AheadStack g locals to n p frames k
+    AheadStack g locals kind n p frames (Needs (Chain NoOperations) ∷ k) = AheadStack g locals kind n p frames k
+    AheadStack g locals kind n p frames (Needs (Store place) ∷ k) =
         (number : ℕ) × (object : ℕ) × (place ≡ Thin object 0) × (locals number ≡ Some object) × (slot_of (starts_at g) number ≡ n)
-        × HandsOn (code_of g) (operands.Slot n) p (DroppedStack g p frames k) (ValueStack g locals (operands.Slot n) p frames k)
-        (λ d r. Lands (base_of g) (top g k) d (ValueStack g locals (operands.Slot d) r frames k) (AheadStack g locals d r frames k))
-    AheadStack g locals n p frames (Needs (Initialise number kind items) ∷ k) =
-        (loop : ℕ) × (q : ℕ) × (slot_of (starts_at g) number ≡ n) × (number < length (types_at g)) × ItemsAt (code_of g) (bounds_at g) (starts_at g) items loop (base_of g) p q × StatementStack g loop q frames k
-    AheadStack g locals n p frames k = ⊥
+        × HasRoom (types_at g) number kind
+        × HandsOn (code_of g) (words_of_kind kind) (operands.Slot n) p (DroppedStack g p frames k) (ValueStack g locals kind (operands.Slot n) p frames k)
+        (λ d r. Lands (base_of g) (top g k) d (words_of_kind kind) (ValueStack g locals kind (operands.Slot d) r frames k) (AheadStack g locals kind d r frames k))
+    AheadStack g locals kind n p frames (Needs (Initialise number wanted items) ∷ k) =
+        (loop : ℕ) × (q : ℕ) × (slot_of (starts_at g) number ≡ n) × HasRoom (types_at g) number kind × ItemsAt (code_of g) (bounds_at g) (types_at g) items loop (base_of g) p q × StatementStack g loop q frames k
+    AheadStack g locals kind n p frames k = ⊥
 
     -- the same where no value waits
     pub StatementStack : (g loop p : ℕ) → List Frame → List Entry → Type 0
     StatementStack g loop p frames (Rest items ∷ k) =
-        (q : ℕ) × ItemsAt (code_of g) (bounds_at g) (starts_at g) items loop (base_of g) p q × StatementStack g loop q frames k
+        (q : ℕ) × ItemsAt (code_of g) (bounds_at g) (types_at g) items loop (base_of g) p q × StatementStack g loop q frames k
     StatementStack g loop p frames (Join ∷ k) = (q : ℕ) × Arrives (code_of g) p q × StatementStack g loop q frames k
     StatementStack g loop p frames (Loop condition body ∷ k) =
         (outer : ℕ) × (q : ℕ) × LoopAt g condition body loop q × At (code_of g) p (instructions.Jump (continue_target loop))
@@ -354,30 +381,30 @@ module _ (source : Program) where
     StatementStack g loop p frames (Caller e ∷ k) =
         (s : ℕ) × At (code_of g) p (instructions.Return s)
         × Below frames (λ f rest. Holds f.caller.slots (base_of f.caller.function) (held k)
-        × Lands (base_of f.caller.function) (top f.caller.function k) f.result
-        (ValueStack f.caller.function e.locals (operands.Slot f.result) f.caller.next rest k)
-        (AheadStack f.caller.function e.locals f.result f.caller.next rest k))
+        × Lands (base_of f.caller.function) (top f.caller.function k) f.result (words_of_kind (returned_at g))
+        (ValueStack f.caller.function e.locals (returned_at g) (operands.Slot f.result) f.caller.next rest k)
+        (AheadStack f.caller.function e.locals (returned_at g) f.result f.caller.next rest k))
     StatementStack g loop p frames (Main ∷ k) = (s : ℕ) × At (code_of g) p (instructions.Return s) × IsLast frames k
     StatementStack g loop p frames k = ⊥
 
-  -- a value comes to slot d, and what is done with it stands from place p on
-  abbrev pub LandsStack : (g : ℕ) → (ℕ → Option ℕ) → (d p : ℕ) → List Frame → List Entry → Type 0
-  LandsStack g locals d p frames k =
-      Lands (base_of g) (top g k) d (ValueStack g locals (operands.Slot d) p frames k) (AheadStack g locals d p frames k)
+  -- a value of a kind comes to slot d, and what is done with it stands from place p on
+  abbrev pub LandsStack : (g : ℕ) → (ℕ → Option ℕ) → Kind → (d p : ℕ) → List Frame → List Entry → Type 0
+  LandsStack g locals kind d p frames k =
+      Lands (base_of g) (top g k) d (words_of_kind kind) (ValueStack g locals kind (operands.Slot d) p frames k) (AheadStack g locals kind d p frames k)
 
-  abbrev pub HandsOnStack : (g : ℕ) → (ℕ → Option ℕ) → Operand → (p : ℕ) → List Frame → List Entry → Type 0
-  HandsOnStack g locals o p frames k =
-      HandsOn (code_of g) o p (DroppedStack g p frames k) (ValueStack g locals o p frames k) (λ d q. LandsStack g locals d q frames k)
+  abbrev pub HandsOnStack : (g : ℕ) → (ℕ → Option ℕ) → Kind → Operand → (p : ℕ) → List Frame → List Entry → Type 0
+  HandsOnStack g locals kind o p frames k =
+      HandsOn (code_of g) (words_of_kind kind) o p (DroppedStack g p frames k) (ValueStack g locals kind o p frames k) (λ d q. LandsStack g locals kind d q frames k)
 
   abbrev pub PrintsStack : (g : ℕ) → (ℕ → Option ℕ) → Operand → (p : ℕ) → List Frame → List Entry → Type 0
   PrintsStack g locals o p frames k =
       At (code_of g) p (instructions.WriteByte o)
-      × Prints (code_of g) o (p + 1) (DroppedStack g (p + 1) frames k) (λ d. LandsStack g locals d (p + 1 + 1) frames k)
+      × Prints (code_of g) o (p + 1) (DroppedStack g (p + 1) frames k) (λ d. LandsStack g locals kinds.Int d (p + 1 + 1) frames k)
 
   -- what an operator on two operands gives is brought to a slot, or tested
   abbrev pub AppliedStack : (g : ℕ) → (ℕ → Option ℕ) → Operator → (l r : Operand) → (p : ℕ) → List Frame → List Entry → Type 0
   AppliedStack g locals operator l r p frames k =
-      Yields ((d : ℕ) × (q : ℕ) × OperatorAt (code_of g) (bounds_at g) (starts_at g) operator d l r p q × LandsStack g locals d q frames k)
+      Yields ((d : ℕ) × (q : ℕ) × OperatorAt (code_of g) (bounds_at g) (types_at g) operator d l r p q × LandsStack g locals kinds.Int d q frames k)
       ((failing : Comparison) × (failing_comparison operator ≡ Some failing) × ConditionStack g failing l r p frames k)
 
   -- ---- the focus
@@ -385,50 +412,50 @@ module _ (source : Program) where
   -- A right operand without code: the left one may be without code too, and both are read at once.
   abbrev pub RightAt : Expression → (ℕ → Option ℕ) → (g p : ℕ) → Words → List Frame → List Entry → Type 0
   RightAt a locals g p slots frames (Needs (Apply operator left) ∷ k) =
-      (l : Operand) × (r : Operand) × (operand_of (starts_at g) a ≡ Some r) × Is left.value (operand_word slots l) × Holds slots (base_of g) (held k)
+      (l : Operand) × (r : Operand) × (operand_of (starts_at g) a ≡ Some r) × IsIn left slots l × Holds slots (base_of g) (held k)
       × AppliedStack g locals operator l r p frames k
   RightAt a locals g p slots frames k = ⊥
 
   -- both operands are there
   abbrev pub ReadyAt : Kinded → (ℕ → Option ℕ) → (g p : ℕ) → Words → List Frame → List Entry → Type 0
   ReadyAt v locals g p slots frames (Needs (Apply operator left) ∷ k) =
-      (l : Operand) × (r : Operand) × Is left.value (operand_word slots l) × Is v.value (operand_word slots r) × Holds slots (base_of g) (held k)
+      (l : Operand) × (r : Operand) × IsIn left slots l × IsIn v slots r × Holds slots (base_of g) (held k)
       × AppliedStack g locals operator l r p frames k
   ReadyAt v locals g p slots frames k = ⊥
 
   -- the code of an expression, by where its value is to be
   pub data EvaluatingAt (a : Expression) (locals : ℕ → Option ℕ) (g p : ℕ) (slots : Words) (frames : List Frame) (k : List Entry) : Type 0 where
-    as_operand : (o : Operand) → (q : ℕ) → ValueAt (code_of g) (bounds_at g) (starts_at g) a (top g k) o p q → Holds slots (base_of g) (held k)
-        → ValueStack g locals o q frames k → EvaluatingAt a locals g p slots frames k
-    into_slot : (d q : ℕ) → ExpressionAt (code_of g) (bounds_at g) (starts_at g) a d (top g k) p q → Holds slots (base_of g) (held k)
-        → LandsStack g locals d q frames k → EvaluatingAt a locals g p slots frames k
-    for_effect : (q : ℕ) → DiscardedAt (code_of g) (bounds_at g) (starts_at g) a (top g k) p q → Holds slots (base_of g) (held k)
+    as_operand : (o : Operand) → (q : ℕ) → ValueAt (code_of g) (bounds_at g) (types_at g) a (top g k) o p q → Holds slots (base_of g) (held k)
+        → ValueStack g locals (given_at g a) o q frames k → EvaluatingAt a locals g p slots frames k
+    into_slot : (d q : ℕ) → ExpressionAt (code_of g) (bounds_at g) (types_at g) a d (top g k) p q → Holds slots (base_of g) (held k)
+        → LandsStack g locals (given_at g a) d q frames k → EvaluatingAt a locals g p slots frames k
+    for_effect : (q : ℕ) → DiscardedAt (code_of g) (bounds_at g) (types_at g) a (top g k) p q → Holds slots (base_of g) (held k)
         → DroppedStack g q frames k → EvaluatingAt a locals g p slots frames k
     as_right : RightAt a locals g p slots frames k → EvaluatingAt a locals g p slots frames k
-    as_condition : (l r : Operand) → (q : ℕ) → ConditionAt (code_of g) (bounds_at g) (starts_at g) a l r (top g k) p q → Holds slots (base_of g) (held k)
+    as_condition : (l r : Operand) → (q : ℕ) → ConditionAt (code_of g) (bounds_at g) (types_at g) a l r (top g k) p q → Holds slots (base_of g) (held k)
         → ConditionStack g (compared_of a).failing l r q frames k → EvaluatingAt a locals g p slots frames k
 
   abbrev pub FocusAt : Focus → List Entry → (ℕ → Option ℕ) → (g p : ℕ) → Words → List Frame → Type 0
   FocusAt (Evaluating a) k locals g p slots frames = EvaluatingAt a locals g p slots frames k
   FocusAt (Executing s) k locals g p slots frames =
-      (loop : ℕ) × (q : ℕ) × StatementAt (code_of g) (bounds_at g) (starts_at g) s loop (base_of g) p q × StatementStack g loop q frames k
+      (loop : ℕ) × (q : ℕ) × StatementAt (code_of g) (bounds_at g) (types_at g) s loop (base_of g) p q × StatementStack g loop q frames k
   FocusAt (Calling callees.Putchar before) k locals g p slots frames =
-      (v : Kinded) × (o : Operand) × (before ≡ v ∷ []) × Is v.value (operand_word slots o) × Holds slots (base_of g) (held k) × PrintsStack g locals o p frames k
+      (v : Kinded) × (o : Operand) × (before ≡ v ∷ []) × IsIn v slots o × Holds slots (base_of g) (held k) × PrintsStack g locals o p frames k
   FocusAt (Calling callee before) k locals g p slots frames =
-      (d : ℕ) × (q : ℕ) × CallAt g callee (length before) (top g k) d p q × Holds slots (base_of g) (before ++ held k)
-      × LandsStack g locals d q frames k
+      (d : ℕ) × (q : ℕ) × CallAt g callee (words_held before) (top g k) d p q × Holds slots (base_of g) (before ++ held k)
+      × LandsStack g locals (called_at g callee) d q frames k
   FocusAt (Entering h arguments) k locals g p slots frames =
-      (m : ℕ) × ItemsAt (code_of g) (bounds_at g) (starts_at g) h.body 0 (base_of g) p m × StatementStack g 0 m frames k
-      × HoldsFrom slots 0 arguments × (length h.parameters ≤ parameters_at g)
+      (m : ℕ) × ItemsAt (code_of g) (bounds_at g) (types_at g) h.body 0 (base_of g) p m × StatementStack g 0 m frames k
+      × HoldsFrom slots 0 arguments × (parameters_at g ≡ h.parameters)
   FocusAt (Binding number types arguments body) k locals g p slots frames =
-      (m : ℕ) × ItemsAt (code_of g) (bounds_at g) (starts_at g) body 0 (base_of g) p m × StatementStack g 0 m frames k
-      × HoldsFrom slots number arguments × (number + length types ≤ parameters_at g)
+      (m : ℕ) × (first : List Ty) × ItemsAt (code_of g) (bounds_at g) (types_at g) body 0 (base_of g) p m × StatementStack g 0 m frames k
+      × HoldsFrom slots (words_of_all first) arguments × (parameters_at g ≡ first ++ types) × (length first ≡ number)
   FocusAt Breaking k locals g p slots frames =
       (loop : ℕ) × (q : ℕ) × At (code_of g) p (instructions.Jump (break_target loop)) × StatementStack g loop q frames k
   FocusAt Continuing k locals g p slots frames =
       (loop : ℕ) × (q : ℕ) × At (code_of g) p (instructions.Jump (continue_target loop)) × StatementStack g loop q frames k
   FocusAt (Returning (Some v)) k locals g p slots frames =
-      (loop : ℕ) × (q : ℕ) × (s : ℕ) × At (code_of g) p (instructions.Return s) × Is v.value (slots s) × (results_of (bounds_at g).result ≡ 1)
+      (loop : ℕ) × (q : ℕ) × (s : ℕ) × At (code_of g) p (instructions.Return s) × Is v.kind v.value slots s × IsReturned g v.kind
       × StatementStack g loop q frames k
   FocusAt (Returning None) k locals g p slots frames =
       (loop : ℕ) × (q : ℕ) × (s : ℕ) × At (code_of g) p (instructions.Return s) × StatementStack g loop q frames k
@@ -443,9 +470,9 @@ module _ (source : Program) where
   abbrev pub DataIn : (slots : Words) → List Entry → Environment → World → Configuration → Type 0
   DataIn slots k e w c = DataAt c.active.function w.objects e.locals (callers k) slots c.globals c.frames
 
-  -- the same, but for the slot of one local, which had another word before
-  abbrev pub DataBut : (n : ℕ) → List Entry → Environment → World → Configuration → Type 0
-  DataBut n k e w c = (word : ℕ) × DataIn (put c.active.slots n word) k e w c
+  -- the same, but for the slots of one local, which had other words before
+  abbrev pub DataBut : (n words : ℕ) → List Entry → Environment → World → Configuration → Type 0
+  DataBut n words k e w c = (old : Words) × ((m : ℕ) → Outside n words m → old m ≡ c.active.slots m) × DataIn old k e w c
 
   abbrev pub GoesOn : (pages calls : ℕ) → Focus → List Entry → Environment → World → Configuration → Type 0
   GoesOn pages calls focus k e w c =
@@ -454,11 +481,11 @@ module _ (source : Program) where
 
   -- where a value stands that is handed on; one that is only tested is the comparison of two operands
   pub data GivenAt (v : Kinded) (k : List Entry) (e : Environment) (w : World) (c : Configuration) : Type 0 where
-    in_operand : (o : Operand) → DataIn c.active.slots k e w c → Is v.value (operand_word c.active.slots o)
-        → Holds c.active.slots (base_of c.active.function) (held k) → ValueStack c.active.function e.locals o c.active.next c.frames k → GivenAt v k e w c
+    in_operand : (o : Operand) → DataIn c.active.slots k e w c → IsIn v c.active.slots o
+        → Holds c.active.slots (base_of c.active.function) (held k) → ValueStack c.active.function e.locals v.kind o c.active.next c.frames k → GivenAt v k e w c
     nowhere : DataIn c.active.slots k e w c → DroppedStack c.active.function c.active.next c.frames k → GivenAt v k e w c
-    ahead : (n : ℕ) → DataBut n k e w c → n < base_of c.active.function → Is v.value (c.active.slots n)
-        → Holds c.active.slots (base_of c.active.function) (held k) → AheadStack c.active.function e.locals n c.active.next c.frames k → GivenAt v k e w c
+    ahead : (n : ℕ) → DataBut n (words_of_kind v.kind) k e w c → Is v.kind v.value c.active.slots n
+        → Holds c.active.slots (base_of c.active.function) (held k) → AheadStack c.active.function e.locals v.kind n c.active.next c.frames k → GivenAt v k e w c
     compared : (failing : Comparison) → (l r : Operand) → DataIn c.active.slots k e w c
         → is_zero v.value ≡ Some (compares failing (operand_word c.active.slots l) (operand_word c.active.slots r))
         → ConditionStack c.active.function failing l r c.active.next c.frames k → GivenAt v k e w c
@@ -467,8 +494,8 @@ module _ (source : Program) where
   -- What goes on without a value: a statement, or what was called without one. Where a value is wanted, the source goes wrong next.
   pub data ProceedingAt (k : List Entry) (e : Environment) (w : World) (c : Configuration) : Type 0 where
     behind_statement : (loop : ℕ) → DataIn c.active.slots k e w c → StatementStack c.active.function loop c.active.next c.frames k → ProceedingAt k e w c
-    behind_call : (o : Operand) → DataIn c.active.slots k e w c → ValueStack c.active.function e.locals o c.active.next c.frames k → ProceedingAt k e w c
-    behind_wrong : (n : ℕ) → AheadStack c.active.function e.locals n c.active.next c.frames k → ProceedingAt k e w c
+    behind_call : (kind : Kind) → (o : Operand) → DataIn c.active.slots k e w c → ValueStack c.active.function e.locals kind o c.active.next c.frames k → ProceedingAt k e w c
+    behind_wrong : (kind : Kind) → (n : ℕ) → AheadStack c.active.function e.locals kind n c.active.next c.frames k → ProceedingAt k e w c
 
   -- An exception that nothing catches ends the plain program at once, while the source leaves one entry after the other.
   abbrev pub Throws : (pages calls : ℕ) → (tag value : ℕ) → List Entry → World → Configuration → Type 0

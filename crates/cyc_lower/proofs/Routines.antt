@@ -11,7 +11,7 @@ use Rattle.cyc_meaning.specs.FrameCount.{frame_count, words_of_all}
 use Rattle.cyc_plain.specs.declared.instruction.Instruction.{Instruction}
 use Rattle.cyc_plain.specs.declared.instruction.Instruction.TheVariants.{Return}
 use Rattle.cyc_lower.specs.Slots.{starts_of}
-use Rattle.cyc_lower.specs.Lowering.{one_word, slot_types, first_temporary, items_code, function_code}
+use Rattle.cyc_lower.specs.Lowering.{slot_types, first_temporary, items_code, function_code}
 use Rattle.cyc_lower.specs.declared.limits.TheConstants.{MOST_FUNCTIONS}
 use Rattle.cyc_lower.specs.Lowered.{HasTooMany}
 use Rattle.cyc_lower.specs.Emission.{most_frame_count, most_locals}
@@ -29,8 +29,8 @@ numbered_at f (y ∷ ys) (suc n) x inside at = numbered_at f ys n x (omega arith
 
 -- a frame has room for the slots of the locals
 pub few_locals : (f : FunctionCode) → frame_count (view_function f) ≤ most_frame_count
-    → (words_of_all (map one_word (view_function f).parameters) ≤ most_frame_count) × (first_temporary (view_function f) ≤ most_locals)
-few_locals f small = let few = slots-few (view_function f) in (omega (arith, small, few.0), omega (arith, small, few.1))
+    → (words_of_all (view_function f).parameters ≤ most_frame_count) × (first_temporary (view_function f) ≤ most_locals)
+few_locals f small = (omega (arith, small), omega (arith, small, slots-few (view_function f)))
 
 -- the code of a function's body, with a return behind it
 pub function_made : (h : Function) (starts : List ℕ) (free : ℕ) (js : Items) (begun body code : List Instruction) → starts ≡ starts_of (slot_types h) → free ≡ first_temporary h → js ≡ h.body → begun ≡ []

@@ -1,7 +1,7 @@
 -- The size of a function's code is at most three for each token that its spelling needs.
 use Rattle.std.proofs.Common.{◌≡◌, ℕ, zero, suc, ◌+◌, ◌*◌, ◌≤◌, Bool, true, false, List, [], ◌∷◌, ◌++◌, length, Option, None, Some, arith}
 use Rattle.cyc_meaning.specs.Operators.{null_exception}
-use Rattle.std.specs.Prelude.{sum_by, if◌then◌else◌}
+use Rattle.std.specs.Prelude.{◌==◌, sum_by, if◌then◌else◌}
 use Rattle.std.proofs.lemmas.List.Sums.{sum_by-append, sum_by-cons}
 use Rattle.cyc_types.specs.declared.typed.Kind.{Kind}
 use Rattle.cyc_types.specs.declared.typed.Kind.TheVariants as kinds
@@ -12,7 +12,7 @@ use Rattle.cyc_types.specs.declared.typed.Operator.TheVariants as operators
 use Rattle.cyc_types.specs.declared.typed.LogicalOperator.{LogicalOperator}
 use Rattle.cyc_types.specs.declared.typed.LogicalOperator.TheVariants as logical
 use Rattle.cyc_types.specs.TypedTrees.{Lvalue, Local, Global, Expression, Number, Copy, Call, Unary, Binary, Assign, Converted, Convert, Arguments, NoArguments, MoreArguments, Operations, NoOperations, ThenCompute, ThenTest, ThenPointer, ThenPointerPeek, Statement, Block, Empty, Evaluate, If, While, Return, Break, Continue, Items, NoItems, MoreItems, Execute, Declare, Function}
-use Rattle.cyc_types.specs.Numbered.{argument_count}
+use Rattle.cyc_types.specs.Types.{Ty, words_of}
 use Rattle.cyc_types.proofs.WeightLemmas.{some_token}
 use Rattle.cyc_types.specs.Weight.{expression_weight, converted_weight, arguments_weight, more_arguments_weight, operations_weight, else_weight, statement_weight, items_weight, function_weight}
 use Rattle.cyc_plain.specs.declared.instruction.Comparison.{Comparison}
@@ -22,7 +22,9 @@ use Rattle.cyc_plain.specs.declared.instruction.Instruction.{Instruction}
 use Rattle.cyc_plain.specs.declared.instruction.Instruction.TheVariants as instructions
 use Rattle.cyc_plain.specs.Program.{instruction_size, size}
 use Rattle.cyc_lower.specs.Slots.{starts_of, slot_of}
-use Rattle.cyc_lower.specs.Lowering.{slot_types, unary_operator, binary_operator, operand_of, operand_or, code_unless, slot_or, code_unless_slot, left_of, value_slot, next_slot, left_slot, value_operand, converted_operand, printed_operand, check_code, conversion_code, divisor_code, checked_code, operator_code, truth_code, load_code, low_byte, test_code, is_in, copy_code, expression_code, arguments_code, converted_code, converted_operand_code, printed_code, initial_code, assignment_code, operations_code, discarded_code, failing_comparison, compared_or, left_with, slot_with, first_code, second_code, pair_code, condition_code, condition_of, failing_jump, break_target, continue_target, return_code, declaration_code, statement_code, items_code, first_temporary, jump_if_zero, jump_if_nonzero, lower_function}
+use Rattle.cyc_meaning.specs.Values.{kind_of, words_of_kind}
+use Rattle.cyc_lower.proofs.Widths.{kind_few, type_words}
+use Rattle.cyc_lower.specs.Lowering.{slot_types, converts_there, passed_words, all_passed, source_of, source_slot, converted_by, moved_by, move_of, unary_operator, binary_operator, operand_of, operand_or, code_unless, slot_or, code_unless_slot, left_of, value_slot, next_slot, left_slot, value_operand, converted_operand, printed_operand, check_code, conversion_code, divisor_code, checked_code, operator_code, truth_code, load_code, low_byte, test_code, is_in, copy_code, expression_code, arguments_code, converted_code, converted_operand_code, printed_code, initial_code, assignment_code, operations_code, discarded_code, failing_comparison, compared_or, left_with, slot_with, first_code, second_code, pair_code, condition_code, condition_of, failing_jump, break_target, continue_target, return_code, declaration_code, statement_code, items_code, first_temporary, jump_if_zero, jump_if_nonzero, lower_function}
 use Rattle.cyc_lower.specs.Lowered.{size_per_weight}
 
 abbrev code_size : List Instruction → ℕ
@@ -67,12 +69,34 @@ operator_size operators.Divide l r p d = checked_size operators.Divide l r p d
 operator_size operators.Remainder l r p d = checked_size operators.Remainder l r p d
 operator_size o l r p d = omega arith
 
-copy_by_size : (is : Bool) (o : Operand) (d : ℕ) → code_size (if is then [] else instructions.Move d o ∷ []) ≤ 6
-copy_by_size true o d = omega arith
-copy_by_size false o d = omega arith
+move_size : (words d : ℕ) (o : Operand) → words ≤ 3 → code_size (move_of words d o ∷ []) ≤ 20
+move_size words d (operands.Word n) few = omega arith
+move_size words d (operands.Slot n) few = by (words == 1)
+  where
+    by : (one : Bool) → code_size ((if one then instructions.Move d (operands.Slot n) else instructions.MoveWords d n words) ∷ []) ≤ 20
+    by true = omega arith
+    by false = omega (arith, few)
 
-copy_size : (o : Operand) (d : ℕ) → code_size (copy_code o d) ≤ 6
-copy_size o d = copy_by_size (is_in o d) o d
+passed_few : (c : Converted) → passed_words c ≤ 3
+passed_few (Convert from to a) = kind_few to
+
+copy_size : (c : Converted) (o : Operand) (d : ℕ) → code_size (copy_code (passed_words c) o d) ≤ 20
+copy_size c o d = by (is_in o d)
+  where
+    by : (is : Bool) → code_size (if is then [] else move_of (passed_words c) d o ∷ []) ≤ 20
+    by true = omega arith
+    by false = move_size (passed_words c) d o (passed_few c)
+
+converted_by_size : (known : Option Operand) (inner : List Instruction) (to : Kind) (o : Operand) (p bound : ℕ) → code_size inner ≤ bound → code_size (converted_by known inner to o p) ≤ bound + 18
+converted_by_size known inner to o p bound few =
+    let front = code_unless known inner in
+    omega (arith, both front (conversion_code to o (p + length front)), unless_size known inner, few, conversion_size to o (p + length front))
+
+initial_by_size : (there : Bool) (known : Option Operand) (at_once inner : List Instruction) (to : Kind) (o : Operand) (p d bound : ℕ) → code_size at_once ≤ bound → code_size inner ≤ bound
+    → code_size (if there then at_once else moved_by known inner to o p d) ≤ bound + 38
+initial_by_size true known at_once inner to o p d bound few other = omega (arith, few)
+initial_by_size false known at_once inner to o p d bound few other =
+    omega (arith, both (converted_by known inner to o p) (move_of (words_of_kind to) d o ∷ []), converted_by_size known inner to o p bound other, move_size (words_of_kind to) d o (kind_few to))
 
 test_size : (o : LogicalOperator) (operand : List Instruction) (p d t : ℕ) → code_size (test_code o operand p d t) ≤ 25 + code_size operand
 test_size logical.AndThen operand p d t = omega (arith, both operand (truth_code t d), cons (jump_if_zero (operands.Slot t) (p + 1 + length operand)) (operand ++ truth_code t d))
@@ -81,21 +105,21 @@ test_size logical.OrElse operand p d t = omega (arith, both operand (truth_code 
 -- ---- locals that have these first slots
 
 module _ (starts : List ℕ) where
-  load_size : (l : Lvalue) (d : ℕ) → code_size (load_code starts l d) ≤ 6
-  load_size (Local w n) d = omega arith
-  load_size (Global n) d = omega arith
+  load_size : (l : Lvalue) (t : Ty) (d : ℕ) → code_size (load_code starts (words_of t) l d) ≤ 20
+  load_size (Local w n) t d = move_size (words_of t) d (operands.Slot (slot_of starts n)) (omega (arith, type_words t, kind_few (kind_of t)))
+  load_size (Global n) t d = omega arith
 
   mutual
     expression_size : (a : Expression) (p d t : ℕ) → code_size (expression_code starts a p d t) ≤ size_per_weight * expression_weight a
     expression_size (Number n) p d t = omega arith
-    expression_size (Copy l ty) p d t = omega (arith, load_size l d)
+    expression_size (Copy l ty) p d t = omega (arith, load_size l ty d)
     expression_size (Call callees.Putchar cs ty) p d t =
         let o = printed_operand starts cs (operands.Slot t) t in
         omega (arith, both (printed_code starts cs p t) (instructions.WriteByte o ∷ low_byte o d ∷ []), printed_size cs p t)
     expression_size (Call callees.Getchar cs ty) p d t =
         omega (arith, both (arguments_code starts cs p t) (instructions.ReadByte d ∷ []), arguments_size cs p t)
     expression_size (Call (callees.Function n) cs ty) p d t =
-        omega (arith, both (arguments_code starts cs p t) (instructions.Call n t (argument_count cs) d ∷ []), arguments_size cs p t)
+        omega (arith, both (arguments_code starts cs p t) (instructions.Call n t (all_passed cs) d ∷ []), arguments_size cs p t)
     expression_size (Unary o a) p d t =
         let inner = expression_code starts a p (value_slot starts a t) t in
         omega (arith, both (code_unless (operand_of starts a) inner) (instructions.Unary (unary_operator o) d (value_operand starts a t) ∷ []), unless_size (operand_of starts a) inner, expression_size a p (value_slot starts a t) t)
@@ -106,22 +130,19 @@ module _ (starts : List ℕ) where
         omega (arith, both front (operations_code starts os (p + length front) l d t), unless_size (left_of starts a os) inner, expression_size a p (left_slot starts a os d t) t, operations_size os (p + length front) l d t)
     expression_size (Assign (Local w n) c ty) p d t =
         let o = operands.Slot (slot_of starts n) in
-        omega (arith, both (initial_code starts c p (slot_of starts n) t) (copy_code o d), initial_size c p (slot_of starts n) t, copy_size o d)
+        omega (arith, both (initial_code starts c p (slot_of starts n) t) (copy_code (passed_words c) o d), initial_size c p (slot_of starts n) t, copy_size c o d)
     expression_size (Assign (Global n) c ty) p d t =
         let o = converted_operand starts c t in
         let front = converted_operand_code starts c p t in
         let store = instructions.StoreGlobal n o ∷ [] in
-        omega (arith, both (front ++ store) (copy_code o d), both front store, converted_operand_size c p t, copy_size o d)
+        omega (arith, both (front ++ store) (copy_code (passed_words c) o d), both front store, converted_operand_size c p t, copy_size c o d)
     expression_size a p d t = omega (arith, some_token a)
 
-    initial_size : (c : Converted) (p d t : ℕ) → code_size (initial_code starts c p d t) ≤ size_per_weight * converted_weight c + 24
-    initial_size (Convert from kinds.NonNull a) p d t =
-        let inner = expression_code starts a p (value_slot starts a t) t in
-        let front = code_unless (operand_of starts a) inner in
-        let o = value_operand starts a t in
-        let check = check_code null_exception o (p + length front) in
-        omega (arith, both (front ++ check) (instructions.Move d o ∷ []), both front check, unless_size (operand_of starts a) inner, expression_size a p (value_slot starts a t) t)
-    initial_size (Convert from to a) p d t = omega (arith, expression_size a p d t)
+    initial_size : (c : Converted) (p d t : ℕ) → code_size (initial_code starts c p d t) ≤ size_per_weight * converted_weight c + 38
+    initial_size (Convert from to a) p d t =
+        let slot = source_slot starts (Convert from to a) t in
+        initial_by_size (converts_there from to) (source_of starts (Convert from to a)) (expression_code starts a p d t) (expression_code starts a p slot t) to (converted_operand starts (Convert from to a) t) p d
+        (size_per_weight * expression_weight a) (expression_size a p d t) (expression_size a p slot t)
 
     converted_size : (c : Converted) (p t : ℕ) → code_size (converted_code starts c p t) ≤ size_per_weight * converted_weight c + 18
     converted_size (Convert from to a) p t =
@@ -130,9 +151,9 @@ module _ (starts : List ℕ) where
 
     converted_operand_size : (c : Converted) (p t : ℕ) → code_size (converted_operand_code starts c p t) ≤ size_per_weight * converted_weight c + 18
     converted_operand_size (Convert from to a) p t =
-        let inner = expression_code starts a p (value_slot starts a t) t in
-        let front = code_unless (operand_of starts a) inner in
-        omega (arith, both front (conversion_code to (value_operand starts a t) (p + length front)), unless_size (operand_of starts a) inner, expression_size a p (value_slot starts a t) t, conversion_size to (value_operand starts a t) (p + length front))
+        let slot = source_slot starts (Convert from to a) t in
+        converted_by_size (source_of starts (Convert from to a)) (expression_code starts a p slot t) to (converted_operand starts (Convert from to a) t) p
+        (size_per_weight * expression_weight a) (expression_size a p slot t)
 
     printed_size : (cs : Arguments) (p t : ℕ) → code_size (printed_code starts cs p t) ≤ size_per_weight * arguments_weight cs + 18
     printed_size NoArguments p t = omega arith
@@ -147,17 +168,17 @@ module _ (starts : List ℕ) where
         omega (arith, both front (printed_code starts cs (p + length front) t), converted_operand_size c p t, more_printed_size cs (p + length front) t)
 
     -- with the words that are passed
-    arguments_size : (cs : Arguments) (p t : ℕ) → code_size (arguments_code starts cs p t) + 4 * argument_count cs ≤ size_per_weight * arguments_weight cs + 22
+    arguments_size : (cs : Arguments) (p t : ℕ) → code_size (arguments_code starts cs p t) + 4 * all_passed cs ≤ size_per_weight * arguments_weight cs + 30
     arguments_size NoArguments p t = omega arith
     arguments_size (MoreArguments c cs) p t =
         let q = p + length (converted_code starts c p t) in
-        omega (arith, both (converted_code starts c p t) (arguments_code starts cs q (suc t)), converted_size c p t, more_arguments_size cs q (suc t))
+        omega (arith, both (converted_code starts c p t) (arguments_code starts cs q (t + passed_words c)), converted_size c p t, passed_few c, more_arguments_size cs q (t + passed_words c))
 
-    more_arguments_size : (cs : Arguments) (p t : ℕ) → code_size (arguments_code starts cs p t) + 4 * argument_count cs ≤ size_per_weight * more_arguments_weight cs
+    more_arguments_size : (cs : Arguments) (p t : ℕ) → code_size (arguments_code starts cs p t) + 4 * all_passed cs ≤ size_per_weight * more_arguments_weight cs
     more_arguments_size NoArguments p t = omega arith
     more_arguments_size (MoreArguments c cs) p t =
         let q = p + length (converted_code starts c p t) in
-        omega (arith, both (converted_code starts c p t) (arguments_code starts cs q (suc t)), converted_size c p t, more_arguments_size cs q (suc t))
+        omega (arith, both (converted_code starts c p t) (arguments_code starts cs q (t + passed_words c)), converted_size c p t, passed_few c, more_arguments_size cs q (t + passed_words c))
 
     operations_size : (os : Operations) (p : ℕ) (l : Operand) (d t : ℕ) → code_size (operations_code starts os p l d t) ≤ size_per_weight * operations_weight os
     operations_size NoOperations p l d t = omega arith
@@ -189,7 +210,7 @@ module _ (starts : List ℕ) where
         let next = next_slot os d t in
         omega (arith, cons (instructions.Move next (operands.Word 0)) (operations_code starts os (p + 1) (operands.Slot next) d t), operations_size os (p + 1) (operands.Slot next) d t)
 
-  assignment_size : (l : Lvalue) (c : Converted) (p t : ℕ) → code_size (assignment_code starts l c p t) ≤ size_per_weight * converted_weight c + 24
+  assignment_size : (l : Lvalue) (c : Converted) (p t : ℕ) → code_size (assignment_code starts l c p t) ≤ size_per_weight * converted_weight c + 38
   assignment_size (Local w n) c p t = initial_size c p (slot_of starts n) t
   assignment_size (Global n) c p t =
       let front = converted_operand_code starts c p t in
@@ -230,11 +251,12 @@ module _ (starts : List ℕ) where
   return_size : (v : Option Converted) (p t : ℕ) → code_size (return_code starts v p t) ≤ size_per_weight * statement_weight (Return v)
   return_size None p t = omega arith
   return_size (Some (Convert from to a)) p t =
+      let known = source_of starts (Convert from to a) in
       let inner = expression_code starts a p t t in
-      let front = code_unless_slot (operand_of starts a) inner in
-      let s = slot_or (operand_of starts a) t in
+      let front = code_unless_slot known inner in
+      let s = slot_or known t in
       let conversion = conversion_code to (operands.Slot s) (p + length front) in
-      omega (arith, both (front ++ conversion) (instructions.Return s ∷ []), both front conversion, unless_slot_size (operand_of starts a) inner, expression_size a p t t, conversion_size to (operands.Slot s) (p + length front))
+      omega (arith, both (front ++ conversion) (instructions.Return s ∷ []), both front conversion, unless_slot_size known inner, expression_size a p t t, conversion_size to (operands.Slot s) (p + length front))
 
   else_size : (t : Statement) (p loop d : ℕ) → code_size (statement_code starts t p loop d) ≤ size_per_weight * statement_weight t → code_size (statement_code starts t p loop d) ≤ size_per_weight * else_weight t (statement_weight t)
   else_size Empty p loop d bound = omega arith

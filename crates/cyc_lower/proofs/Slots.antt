@@ -1,16 +1,18 @@
 -- The slots of locals are apart, in their order, and none is left out.
-use Rattle.std.proofs.Common.{◌≡◌, ◌≢◌, ℕ, zero, suc, ◌+◌, ◌≤◌, ◌<◌, List, [], ◌∷◌, ◌++◌, length, map, Some, slice_get, refl, sym, ap, ◌∙◌, arith, inl, inr, length-append}
+use Rattle.std.proofs.Common.{◌≡◌, ◌≢◌, ◌⊎◌, ℕ, zero, suc, ◌+◌, ◌≤◌, ◌<◌, List, [], ◌∷◌, ◌++◌, length, Some, slice_get, refl, sym, ap, ◌∙◌, arith, inl, inr, length-append, append_assoc}
 use Rattle.std.specs.List.{AllByRecursion}
 use Rattle.std.proofs.lemmas.Option.{same_Some, none-some}
 use Rattle.std.proofs.lemmas.Bool.{cases_lt}
 use Rattle.cyc_syntax.specs.declared.tree.PointerKind.{PointerKind}
 use Rattle.cyc_syntax.specs.declared.tree.PointerKind.TheVariants.{Nullable, NonNull, Fat}
+use Rattle.cyc_types.specs.declared.typed.Kind.{Kind}
 use Rattle.cyc_types.specs.Types.{Ty, words_of, words_of_mark}
 use Rattle.cyc_types.specs.Types as types
 use Rattle.cyc_types.specs.TypedTrees.{Function}
 use Rattle.cyc_meaning.specs.FrameCount.{words_of_all}
 use Rattle.cyc_lower.specs.Slots.{slot_in, starts_from, starts_of, slot_of}
-use Rattle.cyc_lower.specs.Lowering.{one_word, slot_types, first_temporary}
+use Rattle.cyc_lower.specs.Lowering.{slot_types, first_temporary}
+use Rattle.cyc_lower.proofs.Widths.{kind_positive, words_in, HasRoom}
 
 -- ---- words
 
@@ -96,21 +98,56 @@ slot-other ts n m inside there other same = elim (cases_lt n m) [
   ]
 ]
 
-parameter-from : (ps ls : List Ty) (slot n : ℕ) → n < length ps → slot_of (starts_from slot (map one_word ps ++ ls)) n ≡ slot + n
-parameter-from [] ls slot n inside = absurd (omega (arith, inside))
-parameter-from (p ∷ ps) ls slot zero inside = omega arith
-parameter-from (p ∷ ps) ls slot (suc n) inside = omega (arith, parameter-from ps ls (slot + 1) n (omega (arith, inside)))
+-- the words of a local end before those of the next begin, and all do before the first temporary
+pub words-there : (ts : List Ty) (n : ℕ) (t : Ty) → slice_get ts n ≡ Some t → words_in ts n ≡ words_of t
+words-there [] n t at = absurd (none-some t at)
+words-there (u ∷ ts) zero t at = ap words_of (same_Some u t at)
+words-there (u ∷ ts) (suc n) t at = words-there ts n t at
 
--- the slot of a parameter is its number
-pub slot-parameter : (h : Function) (n : ℕ) → n < length h.parameters → slot_of (starts_of (slot_types h)) n ≡ n
-slot-parameter h n inside = omega (arith, parameter-from h.parameters h.locals 0 n inside)
+pub slot-room : (ts : List Ty) (n : ℕ) → n < length ts → slot_of (starts_of ts) n + words_in ts n ≤ words_of_all ts
+slot-room ts n inside =
+    let (t, at) = type-there ts n inside in
+    omega (arith, starts-are ts n inside, slot-below ts n t at, words-there ts n t at)
 
-mapped-many : (ps : List Ty) → length (map one_word ps) ≡ length ps
-mapped-many [] = refl
-mapped-many (p ∷ ps) = ap suc (mapped-many ps)
+slot-behind-other : (ts : List Ty) (n m : ℕ) → n < m → m < length ts → slot_of (starts_of ts) n + words_in ts n ≤ slot_of (starts_of ts) m
+slot-behind-other ts n m less inside =
+    let (t, at) = type-there ts n (omega (arith, less, inside)) in
+    let (u, there) = type-there ts m inside in
+    omega (arith, starts-are ts n (omega (arith, less, inside)), starts-are ts m inside, slots-apart ts n m t u less at there, words-there ts n t at)
+
+pub slot-apart : (ts : List Ty) (n m : ℕ) → n < length ts → m < length ts → n ≢ m
+    → (slot_of (starts_of ts) n + words_in ts n ≤ slot_of (starts_of ts) m) ⊎ (slot_of (starts_of ts) m + words_in ts m ≤ slot_of (starts_of ts) n)
+slot-apart ts n m inside there other = elim (cases_lt n m) [
+  | inl less ↦ inl (slot-behind-other ts n m less there)
+  | inr most ↦ elim (cases_lt m n) [
+    | inl less ↦ inr (slot-behind-other ts m n less inside)
+    | inr least ↦ absurd (other (omega (arith, most, least)))
+  ]
+]
+
+-- a local that has room for something is there
+pub room-inside : (ts : List Ty) (n : ℕ) (kind : Kind) → HasRoom ts n kind → n < length ts
+room-inside [] n kind room = absurd (omega (arith, room, kind_positive kind))
+room-inside (t ∷ ts) zero kind room = omega arith
+room-inside (t ∷ ts) (suc n) kind room = omega (arith, room-inside ts n kind room)
+
+-- the slot of a parameter is behind the words of those before it
+pub slot-parameter : (first rest : List Ty) (t : Ty) (more : List Ty) → slot_of (starts_of ((first ++ t ∷ rest) ++ more)) (length first) ≡ words_of_all first
+slot-parameter first rest t more =
+    let ts = (first ++ t ∷ rest) ++ more in
+    let long : length ts ≡ length (first ++ t ∷ rest) + length more = length-append (first ++ t ∷ rest) more in
+    let shorter : length (first ++ t ∷ rest) ≡ length first + length (t ∷ rest) = length-append first (t ∷ rest) in
+    let next : length first + 0 ≡ length first = omega arith in
+    let at : slot_in ts (length first) ≡ words_of_all first + 0
+    = ap (λ (us : List Ty). slot_in us (length first)) (append_assoc first (t ∷ rest) more) ∙ ap (slot_in (first ++ (t ∷ rest ++ more))) (sym next) ∙ slot-append first (t ∷ rest ++ more) 0 in
+    omega (arith, starts-are ts (length first) (omega (arith, long, shorter)), at)
+
+pub words-parameter : (first rest : List Ty) (t : Ty) (more : List Ty) → words_in ((first ++ t ∷ rest) ++ more) (length first) ≡ words_of t
+words-parameter [] rest t more = refl
+words-parameter (u ∷ first) rest t more = words-parameter first rest t more
 
 pub slot_types-many : (h : Function) → length (slot_types h) ≡ length h.parameters + length h.locals
-slot_types-many h = omega (arith, length-append (map one_word h.parameters) h.locals, mapped-many h.parameters)
+slot_types-many h = length-append h.parameters h.locals
 
 pub words-append : (ts us : List Ty) → words_of_all (ts ++ us) ≡ words_of_all ts + words_of_all us
 words-append [] us = omega arith
@@ -123,21 +160,17 @@ starts-append slot (t ∷ ts) us =
     (starts-append (slot + words_of t) ts us
     ∙ ap (λ (n : ℕ). starts_from (slot + words_of t) ts ++ starts_from n us) (let e : slot + words_of t + words_of_all ts ≡ slot + words_of_all (t ∷ ts) = omega arith in e))
 
-parameter-words : (ps : List Ty) → words_of_all (map one_word ps) ≤ words_of_all ps
-parameter-words [] = omega arith
-parameter-words (p ∷ ps) = omega (arith, parameter-words ps, words_positive p)
-
--- the locals' slots are no more than their words
-pub slots-few : (h : Function) → (words_of_all (map one_word h.parameters) ≤ words_of_all h.parameters) × (first_temporary h ≤ words_of_all h.parameters + words_of_all h.locals)
-slots-few h = (parameter-words h.parameters, omega (arith, words-append (map one_word h.parameters) h.locals, parameter-words h.parameters))
+-- the locals' slots are their words
+pub slots-few : (h : Function) → first_temporary h ≡ words_of_all h.parameters + words_of_all h.locals
+slots-few h = words-append h.parameters h.locals
 
 -- the slots of the parameters, and behind them those of the other locals
-pub slots-made : (h : Function) (behind free : ℕ) (first all : List ℕ) → behind ≡ words_of_all (map one_word h.parameters) → first ≡ starts_from 0 (map one_word h.parameters)
+pub slots-made : (h : Function) (behind free : ℕ) (first all : List ℕ) → behind ≡ words_of_all h.parameters → first ≡ starts_from 0 h.parameters
     → free ≡ behind + words_of_all h.locals → all ≡ first ++ starts_from behind h.locals → (all ≡ starts_of (slot_types h)) × (free ≡ first_temporary h)
 slots-made h behind free first all behind_is first_is free_is all_is = (
   all_is
       ∙ ap (λ (l : List ℕ). l ++ starts_from behind h.locals) first_is
-      ∙ ap (λ (n : ℕ). starts_from 0 (map one_word h.parameters) ++ starts_from n h.locals) (let e : behind ≡ 0 + words_of_all (map one_word h.parameters) = omega (arith, behind_is) in e)
-      ∙ sym (starts-append 0 (map one_word h.parameters) h.locals),
-  omega (arith, free_is, behind_is, words-append (map one_word h.parameters) h.locals),
+      ∙ ap (λ (n : ℕ). starts_from 0 h.parameters ++ starts_from n h.locals) (let e : behind ≡ 0 + words_of_all h.parameters = omega (arith, behind_is) in e)
+      ∙ sym (starts-append 0 h.parameters h.locals),
+  omega (arith, free_is, behind_is, words-append h.parameters h.locals),
 )

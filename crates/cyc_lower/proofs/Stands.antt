@@ -6,7 +6,8 @@ use Rattle.cyc_types.specs.declared.typed.Callee.TheVariants as callees
 use Rattle.cyc_types.specs.declared.typed.Operator.{Operator}
 use Rattle.cyc_types.specs.declared.typed.Operator.TheVariants as operators
 use Rattle.cyc_types.specs.TypedTrees.{Lvalue, Local, Global, Expression, Number, Copy, Call, Unary, Binary, Assign, Converted, Convert, Arguments, NoArguments, MoreArguments, Operations, NoOperations, ThenCompute, ThenTest, Statement, Block, Empty, Evaluate, If, While, Return, Break, Continue, Items, NoItems, MoreItems, Execute, Declare}
-use Rattle.cyc_types.specs.Numbered.{Numbering, argument_count}
+use Rattle.cyc_types.specs.Types.{Ty, words_of}
+use Rattle.cyc_types.specs.Numbered.{Numbering}
 use Rattle.cyc_plain.specs.declared.instruction.UnaryOperator.TheVariants as plain_unary
 use Rattle.cyc_plain.specs.declared.instruction.Comparison.{Comparison}
 use Rattle.cyc_plain.specs.declared.instruction.Operand.{Operand}
@@ -15,22 +16,30 @@ use Rattle.cyc_plain.specs.declared.instruction.Instruction.{Instruction}
 use Rattle.cyc_plain.specs.declared.instruction.Instruction.TheVariants as instructions
 use Rattle.cyc_plain.specs.Straight.{At}
 use Rattle.cyc_meaning.specs.Operators.{null_exception, division_by_zero}
-use Rattle.cyc_lower.specs.Slots.{slot_of}
-use Rattle.cyc_lower.specs.Lowering.{unary_operator, binary_operator, operand_of, failing_comparison, left_with, left_of, value_slot, next_slot, slot_with, left_slot, is_in, jump_if_nonzero, test_jump, compared_of, low_byte, break_target, continue_target, results_of}
+use Rattle.cyc_meaning.specs.Values.{words_of_kind}
+use Rattle.cyc_lower.specs.Slots.{starts_of, slot_of}
+use Rattle.cyc_lower.specs.Lowering.{unary_operator, binary_operator, operand_of, source_of, source_slot, failing_comparison, left_with, left_of, value_slot, next_slot, slot_with, left_slot, is_in, jump_if_nonzero, move_of, test_jump, converts_there, passed_words, all_passed, compared_of, low_byte, break_target, continue_target, results_of}
+use Rattle.cyc_lower.proofs.Widths.{kind_of_result, given, passed_kind, HasRoom}
 
 -- ---- expressions
 
 -- a value comes to a slot, where it is not there yet
 module _ (code : List Instruction) where
-  abbrev pub CopyBy : Bool → Operand → (d p q : ℕ) → Type 0
-  CopyBy true o d p q = p ≡ q
-  CopyBy false o d p q = At code p (instructions.Move d o) × (p + 1 ≡ q)
+  abbrev pub CopyBy : Bool → (words : ℕ) → Operand → (d p q : ℕ) → Type 0
+  CopyBy true words o d p q = p ≡ q
+  CopyBy false words o d p q = At code p (move_of words d o) × (p + 1 ≡ q)
 
-  abbrev pub CopyAt : Operand → (d p q : ℕ) → Type 0
-  CopyAt o d p q = CopyBy (is_in o d) o d p q
+  abbrev pub CopyAt : (words : ℕ) → Operand → (d p q : ℕ) → Type 0
+  CopyAt words o d p q = CopyBy (is_in o d) words o d p q
 
--- In a code of a function with these bounds, from p to q stands the code of this, with temporaries from slot t on.
-module _ (code : List Instruction) (bounds : Numbering) (starts : List ℕ) where
+-- In a code of a function with these bounds, whose locals have these types, from p to q stands the code of this, with temporaries from
+-- slot t on.
+module _ (code : List Instruction) (bounds : Numbering) (types : List Ty) where
+  -- one or the other
+  abbrev pub EitherBy : Bool → (there otherwise : Type 0) → Type 0
+  EitherBy true first second = first
+  EitherBy false first second = second
+
   -- an operand without code, or code that brings the value to a slot
   abbrev pub OperandBy : Option Operand → (computed : Type 0) → (slot : ℕ) → Operand → (p q : ℕ) → Type 0
   OperandBy (Some known) computed slot o p q = (o ≡ known) × (p ≡ q)
@@ -60,40 +69,42 @@ module _ (code : List Instruction) (bounds : Numbering) (starts : List ℕ) wher
       At code p (instructions.Unary plain_unary.Not t (operands.Slot t)) × At code (p + 1) (instructions.Unary plain_unary.Not d (operands.Slot t))
       × (p + 1 + 1 ≡ q)
 
-  abbrev pub LoadAt : Lvalue → (d p q : ℕ) → Type 0
-  LoadAt (Local w n) d p q = At code p (instructions.Move d (operands.Slot (slot_of starts n))) × (p + 1 ≡ q)
-  LoadAt (Global n) d p q = (n < bounds.globals) × At code p (instructions.LoadGlobal d n) × (p + 1 ≡ q)
+  abbrev pub LoadAt : (words : ℕ) → Lvalue → (d p q : ℕ) → Type 0
+  LoadAt words (Local w n) d p q = At code p (move_of words d (operands.Slot (slot_of (starts_of types) n))) × (p + 1 ≡ q)
+  LoadAt words (Global n) d p q = (n < bounds.globals) × At code p (instructions.LoadGlobal d n) × (p + 1 ≡ q)
 
   abbrev mutual
     -- the value comes to slot d by the last instruction
     pub ExpressionAt : Expression → (d t p q : ℕ) → Type 0
     ExpressionAt (Number n) d t p q = At code p (instructions.Move d (operands.Word n)) × (p + 1 ≡ q)
-    ExpressionAt (Copy l ty) d t p q = LoadAt l d p q
+    ExpressionAt (Copy l ty) d t p q = LoadAt (words_of ty) l d p q
     ExpressionAt (Call callees.Putchar cs ty) d t p q =
         (o : Operand) × (m : ℕ) × PrintedAt cs t o p m × At code m (instructions.WriteByte o) × At code (m + 1) (low_byte o d) × (m + 1 + 1 ≡ q)
     ExpressionAt (Call callees.Getchar cs ty) d t p q = (m : ℕ) × ArgumentsAt cs t p m × At code m (instructions.ReadByte d) × (m + 1 ≡ q)
     ExpressionAt (Call (callees.Function n) cs ty) d t p q =
-        (m : ℕ) × ArgumentsAt cs t p m × At code m (instructions.Call n t (argument_count cs) d) × (m + 1 ≡ q)
+        (m : ℕ) × ArgumentsAt cs t p m × At code m (instructions.Call n t (all_passed cs) d) × (m + 1 ≡ q)
     ExpressionAt (Unary o a) d t p q =
-        (r : Operand) × (m : ℕ) × OperandBy (operand_of starts a) (ExpressionAt a (value_slot starts a t) t p m) (value_slot starts a t) r p m
+        (r : Operand) × (m : ℕ) × OperandBy (operand_of (starts_of types) a) (ExpressionAt a (value_slot (starts_of types) a t) t p m) (value_slot (starts_of types) a t) r p m
         × At code m (instructions.Unary (unary_operator o) d r) × (m + 1 ≡ q)
     ExpressionAt (Binary a os ty) d t p q =
-        (l : Operand) × (m : ℕ) × OperandBy (left_of starts a os) (ExpressionAt a (left_slot starts a os d t) t p m) (left_slot starts a os d t) l p m
+        (l : Operand) × (m : ℕ) × OperandBy (left_of (starts_of types) a os) (ExpressionAt a (left_slot (starts_of types) a os d t) t p m) (left_slot (starts_of types) a os d t) l p m
         × OperationsAt os l d t m q
     ExpressionAt (Assign (Local w n) c ty) d t p q =
-        (o : Operand) × (m : ℕ) × ((o ≡ operands.Slot (slot_of starts n)) × InitialAt c (slot_of starts n) t p m) × CopyAt code o d m q
+        (o : Operand) × (m : ℕ) × ((o ≡ operands.Slot (slot_of (starts_of types) n)) × HasRoom types n (passed_kind c) × InitialAt c (slot_of (starts_of types) n) t p m)
+        × CopyAt code (passed_words c) o d m q
     ExpressionAt (Assign (Global n) c ty) d t p q =
         (o : Operand) × (m : ℕ)
         × ((r : ℕ) × ConvertedOperandAt c t o p r × (n < bounds.globals) × At code r (instructions.StoreGlobal n o) × (r + 1 ≡ m))
-        × CopyAt code o d m q
+        × CopyAt code (passed_words c) o d m q
     ExpressionAt a d t p q = ⊥
 
     -- the value comes to slot d, converted
     pub InitialAt : Converted → (d t p q : ℕ) → Type 0
-    InitialAt (Convert from kinds.NonNull a) d t p q =
-        (o : Operand) × (m : ℕ) × (r : ℕ) × OperandBy (operand_of starts a) (ExpressionAt a (value_slot starts a t) t p m) (value_slot starts a t) o p m
-        × CheckAt null_exception o m r × At code r (instructions.Move d o) × (r + 1 ≡ q)
-    InitialAt (Convert from to a) d t p q = ExpressionAt a d t p q
+    InitialAt (Convert from to a) d t p q =
+        EitherBy (converts_there from to) ((words_of_kind (given bounds.functions a) ≡ words_of_kind to) × ExpressionAt a d t p q)
+        ((o : Operand) × (m : ℕ) × (r : ℕ)
+        × OperandBy (source_of (starts_of types) (Convert from to a)) (ExpressionAt a (source_slot (starts_of types) (Convert from to a) t) t p m) (source_slot (starts_of types) (Convert from to a) t) o p m
+        × ConversionAt to o m r × At code r (move_of (words_of_kind to) d o) × (r + 1 ≡ q))
 
     -- the value comes to slot t and is converted there
     pub ConvertedAt : Converted → (t p q : ℕ) → Type 0
@@ -102,7 +113,8 @@ module _ (code : List Instruction) (bounds : Numbering) (starts : List ℕ) wher
     -- the value is converted where it is
     pub ConvertedOperandAt : Converted → (t : ℕ) → Operand → (p q : ℕ) → Type 0
     ConvertedOperandAt (Convert from to a) t o p q =
-        (m : ℕ) × OperandBy (operand_of starts a) (ExpressionAt a (value_slot starts a t) t p m) (value_slot starts a t) o p m × ConversionAt to o m q
+        (m : ℕ) × OperandBy (source_of (starts_of types) (Convert from to a)) (ExpressionAt a (source_slot (starts_of types) (Convert from to a) t) t p m) (source_slot (starts_of types) (Convert from to a) t) o p m
+        × ConversionAt to o m q
 
     -- the only argument of `putchar`
     pub PrintedAt : Arguments → (t : ℕ) → Operand → (p q : ℕ) → Type 0
@@ -111,31 +123,39 @@ module _ (code : List Instruction) (bounds : Numbering) (starts : List ℕ) wher
 
     pub ArgumentsAt : Arguments → (t p q : ℕ) → Type 0
     ArgumentsAt NoArguments t p q = p ≡ q
-    ArgumentsAt (MoreArguments c cs) t p q = (m : ℕ) × ConvertedAt c t p m × ArgumentsAt cs (suc t) m q
+    ArgumentsAt (MoreArguments c cs) t p q = (m : ℕ) × ConvertedAt c t p m × ArgumentsAt cs (t + passed_words c) m q
 
     -- The left operand is l. It is slot t where it may not be any operand.
     pub OperationsAt : Operations → (l : Operand) → (d t p q : ℕ) → Type 0
     OperationsAt NoOperations l d t p q = (l ≡ operands.Slot d) × (p ≡ q)
     OperationsAt (ThenCompute o a os) l d t p q =
         (r : Operand) × (m : ℕ) × (s : ℕ)
-        × OperandBy (operand_of starts a) ((l ≡ operands.Slot t) × ExpressionAt a (value_slot starts a (suc t)) (suc t) p m) (value_slot starts a (suc t)) r p m
+        × OperandBy (operand_of (starts_of types) a) ((l ≡ operands.Slot t) × ExpressionAt a (value_slot (starts_of types) a (suc t)) (suc t) p m) (value_slot (starts_of types) a (suc t)) r p m
         × OperatorAt o (next_slot os d t) l r m s × OperationsAt os (operands.Slot (next_slot os d t)) d t s q
     OperationsAt (ThenTest o a os) l d t p q =
         (m : ℕ) × (r : ℕ) × (l ≡ operands.Slot t) × At code p (test_jump o t m) × ExpressionAt a t t (p + 1) m × TruthAt t (next_slot os d t) m r
         × OperationsAt os (operands.Slot (next_slot os d t)) d t r q
     OperationsAt os l d t p q = ⊥
 
+  -- a value that comes to slot d, where it is told whether it does so before it is converted
+  abbrev pub InitialBy : Bool → (from to : Kind) → Expression → (d t p q : ℕ) → Type 0
+  InitialBy there from to a d t p q =
+      EitherBy there ((words_of_kind (given bounds.functions a) ≡ words_of_kind to) × ExpressionAt a d t p q)
+      ((o : Operand) × (m : ℕ) × (r : ℕ)
+      × OperandBy (source_of (starts_of types) (Convert from to a)) (ExpressionAt a (source_slot (starts_of types) (Convert from to a) t) t p m) (source_slot (starts_of types) (Convert from to a) t) o p m
+      × ConversionAt to o m r × At code r (move_of (words_of_kind to) d o) × (r + 1 ≡ q))
+
   -- where the value of an expression stands that is an operand
   abbrev pub ValueAt : Expression → (t : ℕ) → Operand → (p q : ℕ) → Type 0
-  ValueAt a t o p q = OperandBy (operand_of starts a) (ExpressionAt a (value_slot starts a t) t p q) (value_slot starts a t) o p q
+  ValueAt a t o p q = OperandBy (operand_of (starts_of types) a) (ExpressionAt a (value_slot (starts_of types) a t) t p q) (value_slot (starts_of types) a t) o p q
 
   -- the second of two operands that are compared, where the first one is l
   abbrev pub SecondAt : Expression → (l r : Operand) → (t p q : ℕ) → Type 0
-  SecondAt a l r t p q = OperandBy (operand_of starts a) ((l ≡ operands.Slot t) × ExpressionAt a (value_slot starts a (suc t)) (suc t) p q) (value_slot starts a (suc t)) r p q
+  SecondAt a l r t p q = OperandBy (operand_of (starts_of types) a) ((l ≡ operands.Slot t) × ExpressionAt a (value_slot (starts_of types) a (suc t)) (suc t) p q) (value_slot (starts_of types) a (suc t)) r p q
 
   abbrev pub PairAt : (a b : Expression) → (l r : Operand) → (t p q : ℕ) → Type 0
   PairAt a b l r t p q =
-      (m : ℕ) × OperandBy (left_with (operand_of starts b) (operand_of starts a)) (ExpressionAt a (slot_with starts (operand_of starts b) a t) t p m) (slot_with starts (operand_of starts b) a t) l p m
+      (m : ℕ) × OperandBy (left_with (operand_of (starts_of types) b) (operand_of (starts_of types) a)) (ExpressionAt a (slot_with (starts_of types) (operand_of (starts_of types) b) a t) t p m) (slot_with (starts_of types) (operand_of (starts_of types) b) a t) l p m
       × SecondAt b l r t m q
 
   abbrev pub ConditionAt : Expression → (l r : Operand) → (t p q : ℕ) → Type 0
@@ -152,7 +172,7 @@ module _ (code : List Instruction) (bounds : Numbering) (starts : List ℕ) wher
 
   -- what is assigned comes to its place, and then stands in an operand too
   abbrev pub AssignmentAt : Lvalue → Converted → Operand → (t p q : ℕ) → Type 0
-  AssignmentAt (Local w n) c o t p q = (o ≡ operands.Slot (slot_of starts n)) × InitialAt c (slot_of starts n) t p q
+  AssignmentAt (Local w n) c o t p q = (o ≡ operands.Slot (slot_of (starts_of types) n)) × HasRoom types n (passed_kind c) × InitialAt c (slot_of (starts_of types) n) t p q
   AssignmentAt (Global n) c o t p q =
       (r : ℕ) × ConvertedOperandAt c t o p r × (n < bounds.globals) × At code r (instructions.StoreGlobal n o) × (r + 1 ≡ q)
 
@@ -160,7 +180,7 @@ module _ (code : List Instruction) (bounds : Numbering) (starts : List ℕ) wher
   abbrev pub DiscardedAt : Expression → (t p q : ℕ) → Type 0
   DiscardedAt (Call callees.Putchar cs ty) t p q = (o : Operand) × (m : ℕ) × PrintedAt cs t o p m × At code m (instructions.WriteByte o) × (m + 1 ≡ q)
   DiscardedAt (Assign l c ty) t p q = (o : Operand) × AssignmentAt l c o t p q
-  DiscardedAt a t p q = (o : Operand) × OperandBy (operand_of starts a) (ExpressionAt a t t p q) t o p q
+  DiscardedAt a t p q = (o : Operand) × OperandBy (operand_of (starts_of types) a) (ExpressionAt a t t p q) t o p q
 
   -- ---- statements
 
@@ -172,12 +192,12 @@ module _ (code : List Instruction) (bounds : Numbering) (starts : List ℕ) wher
   abbrev pub ReturnAt : Option Converted → (t p : ℕ) → Type 0
   ReturnAt None t p = (s : ℕ) × At code p (instructions.Return s)
   ReturnAt (Some (Convert from to a)) t p =
-      (s : ℕ) × (m : ℕ) × (r : ℕ) × ReturnedAt (operand_of starts a) (ExpressionAt a t t p m) t s p m × ConversionAt to (operands.Slot s) m r
-      × At code r (instructions.Return s) × (results_of bounds.result ≡ 1)
+      (s : ℕ) × (m : ℕ) × (r : ℕ) × ReturnedAt (source_of (starts_of types) (Convert from to a)) (ExpressionAt a t t p m) t s p m × ConversionAt to (operands.Slot s) m r
+      × At code r (instructions.Return s) × (results_of bounds.result ≡ words_of_kind to) × (to ≡ kind_of_result bounds.result)
 
   abbrev pub DeclarationAt : ℕ → Option Converted → (t p q : ℕ) → Type 0
   DeclarationAt n None t p q = (n < bounds.locals) × (p ≡ q)
-  DeclarationAt n (Some c) t p q = (n < bounds.locals) × InitialAt c (slot_of starts n) t p q
+  DeclarationAt n (Some c) t p q = (n < bounds.locals) × HasRoom types n (passed_kind c) × InitialAt c (slot_of (starts_of types) n) t p q
 
   -- in a loop that begins at this place
   abbrev mutual

@@ -1,6 +1,6 @@
 -- The steps of statements, and those that leave entries.
-use Rattle.std.proofs.Common.{◌≡◌, ◌≢◌, ℕ, zero, suc, ◌+◌, ◌≤◌, ◌<◌, List, [], ◌∷◌, length, map, slice_index_or, Option, None, Some, slice_get, refl, sym, ap, subst, ◌∙◌, arith, inl, inr}
-use Rattle.std.proofs.lemmas.Bool.{cases_eq, cases_lt}
+use Rattle.std.proofs.Common.{◌≡◌, ℕ, zero, suc, ◌+◌, ◌≤◌, ◌<◌, Bool, true, false, List, [], ◌∷◌, length, map, slice_index_or, Option, None, Some, slice_get, refl, sym, ap, subst, ◌∙◌, arith, inl, inr}
+use Rattle.std.specs.Prelude.{if◌then◌else◌}
 use Rattle.std.proofs.lemmas.Option.{same_Some, none-some}
 use Rattle.cyc_words.specs.Word.{signed}
 use Rattle.cyc_words.specs.Ending.{Returned, Uncaught}
@@ -18,20 +18,23 @@ use Rattle.cyc_store.specs.State.{StoreState}
 use Rattle.cyc_plain.specs.State as plain
 use Rattle.cyc_plain.specs.State.{Words, put, copied, Activation, Frame, Configuration}
 use Rattle.cyc_plain.specs.Step.{at}
-use Rattle.cyc_plain.proofs.SlotLaws.{put-same, put-other, copied-inside, copied-below, copied-above}
+use Rattle.cyc_plain.proofs.SlotLaws.{copied-below}
 use Rattle.cyc_plain.specs.Straight.{At}
-use Rattle.cyc_meaning.specs.Values.{Value, Int, kind_of, Operand as Kinded}
+use Rattle.cyc_meaning.specs.Values.{Value, Int, kind_of, Operand as Kinded, words_of_kind}
 use Rattle.cyc_meaning.specs.State.{Region, World, Environment, variable, made, opened, closed, with_local, region_at, ConvertTo, Initialise, Choose, Return, Entry, Needs, NeedsPlace, Discard, Rest, Join, Loop, CloseRegion, CloseLexical, EndLoan, Handler, Caller, Main, Focus, Evaluating, Executing, Proceeding, Breaking, Continuing, Returning, Throwing, Running}
 use Rattle.cyc_meaning.specs.Step.{target_by, inside, region_end, step}
 use Rattle.cyc_lower.specs.Slots.{slot_of}
-use Rattle.cyc_lower.proofs.Slots.{slot-inside, slot_types-many}
-use Rattle.cyc_lower.specs.Lowering.{operand_of, break_target, results_of, lower_function, lower_program}
-use Rattle.cyc_lower.proofs.Stands.{ExpressionAt, InitialAt, ReturnedAt, ItemsAt}
-use Rattle.cyc_lower.proofs.Relation.{Is, types_in, types_at, starts_at, Holds, held, callers, Shared, DataAt, SharedAt, in_temporary, in_local, ValueStack, AheadStack, StatementStack, LandsStack, EvaluatingAt, as_operand, into_slot, for_effect, as_condition, in_operand, ahead, behind_statement, behind_call, behind_wrong, Below, IsLast, Arrives, in_place, by_jump, code_of, bounds_in, bounds_at, base_of, top}
+use Rattle.cyc_lower.proofs.Slots.{slot-room, room-inside, slot_types-many}
+use Rattle.cyc_lower.proofs.Widths.{HasRoom, Outside}
+use Rattle.cyc_lower.proofs.Moves.{copied_is, copied_elsewhere}
+use Rattle.cyc_lower.specs.Lowering.{operand_of, are_as_wide, converts_there, break_target, results_of, lower_function, lower_program}
+use Rattle.cyc_lower.proofs.Stands.{ExpressionAt, InitialAt, InitialBy, ReturnedAt, ItemsAt}
+use Rattle.cyc_lower.proofs.Relation.{Is, types_in, types_at, starts_at, given_at, returned_at, Holds, held, callers, Shared, DataAt, SharedAt, in_temporary, in_local, ValueStack, AheadStack, StatementStack, LandsStack, Related, EvaluatingAt, as_operand, into_slot, for_effect, as_condition, in_operand, ahead, behind_statement, behind_call, behind_wrong, Below, IsLast, Arrives, in_place, by_jump, code_of, bounds_in, bounds_at, base_of, top}
 use Rattle.cyc_lower.proofs.Data.{height-least, Holds-same, Holds-above, data_declared, data_returned}
+use Rattle.cyc_lower.proofs.Values.{int_at}
 use Rattle.cyc_lower.proofs.Accesses.{IsWell, is_declared, is_closed, quiet_opened, quiet_closed, counted_opened, counted_closed}
 use Rattle.cyc_lower.proofs.Matched.{IsMatched, silently, by_one, by_two}
-use Rattle.cyc_lower.proofs.Evaluations.{IsStep}
+use Rattle.cyc_lower.proofs.Evaluations.{IsStep, sources}
 
 module _ (source : Program) (pages calls : ℕ) where
   -- ---- regions
@@ -73,12 +76,15 @@ module _ (source : Program) (pages calls : ℕ) where
   -- ---- statements
 
   -- a value that is returned comes to a slot, or is in that of a local
-  returned : (a : Expression) (locals : ℕ → Option ℕ) (g p : ℕ) (slots : Words) (frames : List Frame) (k : List Entry) (s m : ℕ)
-      → ReturnedAt (code_of source g) (bounds_at source g) (starts_at source g) (operand_of (starts_at source g) a) (ExpressionAt (code_of source g) (bounds_at source g) (starts_at source g) a (top source g k) (top source g k) p m) (top source g k) s p m
-      → Holds slots (base_of source g) (held k) → ValueStack source g locals (operands.Slot s) m frames k → EvaluatingAt source a locals g p slots frames k
-  returned (Copy (Local w n) t) locals g p slots frames k s m (is, end) holds stack = as_operand (operands.Slot s) m (ap operands.Slot is, end) holds stack
-  returned a locals g p slots frames k s m (is, at) holds stack =
-      into_slot (top source g k) m at holds (in_temporary (omega arith) (subst (λ x. ValueStack source g locals (operands.Slot x) m frames k) is stack))
+  returned : (a : Expression) (same : Bool) (locals : ℕ → Option ℕ) (g p : ℕ) (slots : Words) (frames : List Frame) (k : List Entry) (s m : ℕ)
+      → ReturnedAt (code_of source g) (bounds_at source g) (types_at source g) (if same then operand_of (starts_at source g) a else None)
+      (ExpressionAt (code_of source g) (bounds_at source g) (types_at source g) a (top source g k) (top source g k) p m) (top source g k) s p m
+      → Holds slots (base_of source g) (held k) → ValueStack source g locals (given_at source g a) (operands.Slot s) m frames k → EvaluatingAt source a locals g p slots frames k
+  returned a false locals g p slots frames k s m (is, at) holds stack =
+      into_slot (top source g k) m at holds (in_temporary (omega arith) (subst (λ x. ValueStack source g locals (given_at source g a) (operands.Slot x) m frames k) is stack))
+  returned (Copy (Local w n) t) true locals g p slots frames k s m (is, end) holds stack = as_operand (operands.Slot s) m (ap operands.Slot is, end) holds stack
+  returned a true locals g p slots frames k s m (is, at) holds stack =
+      into_slot (top source g k) m at holds (in_temporary (omega arith) (subst (λ x. ValueStack source g locals (given_at source g a) (operands.Slot x) m frames k) is stack))
 
   pub executing : (s : Statement) (k : List Entry) (e : Environment) (w : World) (c : Configuration) → IsStep source pages calls (Executing s) k e w c
   executing (Block r js) k e w c well (shared, facts, (loop, q, items, stack)) =
@@ -104,9 +110,9 @@ module _ (source : Program) (pages calls : ℕ) where
       silently source pages calls (Running (Executing (typed.Return None)) k e w) (Running (Returning None) k e w) (plain.Running c) refl
       (shared, facts, (loop, q, s, here, stack))
       (omega arith)
-  executing (typed.Return (Some (Convert from to a))) k e w c well (shared, facts, (loop, q, (s, m, r, at_a, at_to, here, single), stack)) =
+  executing (typed.Return (Some (Convert from to a))) k e w c well (shared, facts, (loop, q, (s, m, r, at_a, at_to, here, wide, kind_is), stack)) =
       silently source pages calls (Running (Executing (typed.Return (Some (Convert from to a)))) k e w) (Running (Evaluating a) (Needs (ConvertTo from to (target_by a)) ∷ Needs Return ∷ k) e w) (plain.Running c) refl
-      (shared, facts, returned a e.locals c.active.function c.active.next c.active.slots c.frames (Needs (ConvertTo from to (target_by a)) ∷ Needs Return ∷ k) s m at_a tt (r, at_to, (loop, q, s, refl, here, single, stack)))
+      (shared, facts, returned a (are_as_wide from to) e.locals c.active.function c.active.next c.active.slots c.frames (Needs (ConvertTo from to (target_by a)) ∷ Needs Return ∷ k) s m at_a tt (r, at_to, (loop, q, s, refl, here, (wide, kind_is), stack)))
       (omega arith)
   executing Break k e w c well (shared, facts, (loop, q, here, stack)) =
       silently source pages calls (Running (Executing Break) k e w) (Running Breaking k e w) (plain.Running c) refl
@@ -121,21 +127,8 @@ module _ (source : Program) (pages calls : ℕ) where
   -- ---- the end of a call
 
   -- what a caller has waits behind the call
-  abbrev pub Waits : Environment → List Entry → Frame → List Frame → Type 0
-  Waits outer k f rest = Holds f.caller.slots (base_of source f.caller.function) (held k) × LandsStack source f.caller.function outer.locals f.result f.caller.next rest k
-
-  -- the value comes to the slot for it
-  value_copied : (from to : Words) (value results d : ℕ) → results ≡ 1 → copied from value results to d d ≡ from value
-  value_copied from to value results d single =
-      ap (copied from value results to d) (let z : d ≡ d + 0 = omega arith in z) ∙ copied-inside from to value results d 0 (omega (arith, single))
-      ∙ ap from (let z : value + 0 ≡ value = omega arith in z)
-
-  -- one slot differs, and gets its word back
-  as_before : (old now : Words) (d n : ℕ) → ((m : ℕ) → m ≢ d → now m ≡ old m) → put now d (old d) n ≡ old n
-  as_before old now d n elsewhere = elim (cases_eq n d) [
-    | inl equal ↦ ap (put now d (old d)) equal ∙ put-same now d (old d) ∙ sym (ap old equal)
-    | inr apart ↦ put-other now d n (old d) apart ∙ elsewhere n apart
-  ]
+  abbrev pub Waits : Kind → Environment → List Entry → Frame → List Frame → Type 0
+  Waits kind outer k f rest = Holds f.caller.slots (base_of source f.caller.function) (held k) × LandsStack source f.caller.function outer.locals kind f.result f.caller.next rest k
 
   -- the caller goes on behind the call, with a temporary written
   comes_back : (g value results : ℕ) (slots globals : Words) (f : Frame) (frames : List Frame) (k : List Entry) (locals : ℕ → Option ℕ) (outer : Environment) (w : World)
@@ -151,65 +144,52 @@ module _ (source : Program) (pages calls : ℕ) where
             (λ n less. copied-below slots f.caller.slots value results f.result n (omega (arith, less, least))) holds,
       )
 
-  -- where one word is copied, all other slots are as before
-  one_copied : (from to : Words) (value d n : ℕ) → n ≢ d → copied from value 1 to d n ≡ to n
-  one_copied from to value d n other = elim (cases_lt n d) [
-    | inl less ↦ copied-below from to value 1 d n less
-    | inr more ↦ copied-above from to value 1 d n (omega (arith, more, cases_more more))
-  ]
-    where
-      cases_more : d ≤ n → suc d ≤ n
-      cases_more more = elim (cases_eq n d) [
-        | inl equal ↦ absurd (other equal)
-        | inr apart ↦ omega (arith, more, apart)
-      ]
-
   -- without a value
   leaves_call : (focus : Focus) (active : Activation) (frames : List Frame) (globals : Words) (store : StoreState) (output input : List ℕ) (k : List Entry) (e outer : Environment) (w : World) (s : ℕ)
       → step source (Running focus (Caller outer ∷ k) e w) ≡ Running Proceeding k outer w
       → SharedAt source pages calls w (record { active = active; frames = frames; globals = globals; store = store; output = output; input = input })
       → DataAt source active.function w.objects e.locals (outer ∷ callers k) active.slots globals frames
       → At (code_of source active.function) active.next (instructions.Return s)
-      → Below source frames (Waits outer k)
+      → Below source frames (Waits (returned_at source active.function) outer k)
       → IsMatched source pages calls (Running focus (Caller outer ∷ k) e w) (plain.Running (record { active = active; frames = frames; globals = globals; store = store; output = output; input = input }))
   leaves_call focus active [] globals store output input k e outer w s does shared facts here below = absurd below
   leaves_call focus active (f ∷ frames) globals store output input k e outer w s does shared facts here (holds, in_temporary least stack) =
       let results = (routine_at (lower_program source) active.function).results in
       let back = comes_back active.function s results active.slots globals f frames k e.locals outer w facts least holds in
-      by_one source pages calls does shared here (λ choice. (shared_returned w output input store (length frames) shared, behind_call (operands.Slot f.result) back.0 stack))
+      by_one source pages calls does shared here (λ choice. (shared_returned w output input store (length frames) shared, behind_call (returned_at source active.function) (operands.Slot f.result) back.0 stack))
   leaves_call focus active (f ∷ frames) globals store output input k e outer w s does shared facts here (holds, in_local below stack) =
-      by_one source pages calls does shared here (λ choice. (shared_returned w output input store (length frames) shared, behind_wrong f.result stack))
+      by_one source pages calls does shared here (λ choice. (shared_returned w output input store (length frames) shared, behind_wrong (returned_at source active.function) f.result stack))
 
   -- with a value
   hands_back : (v : Kinded) (active : Activation) (frames : List Frame) (globals : Words) (store : StoreState) (output input : List ℕ) (k : List Entry) (e outer : Environment) (w : World) (s : ℕ)
       → SharedAt source pages calls w (record { active = active; frames = frames; globals = globals; store = store; output = output; input = input })
       → DataAt source active.function w.objects e.locals (outer ∷ callers k) active.slots globals frames
-      → At (code_of source active.function) active.next (instructions.Return s) → Is v.value (active.slots s) → (routine_at (lower_program source) active.function).results ≡ 1
-      → Below source frames (Waits outer k)
+      → At (code_of source active.function) active.next (instructions.Return s) → Is v.kind v.value active.slots s → (routine_at (lower_program source) active.function).results ≡ words_of_kind v.kind
+      → Below source frames (Waits v.kind outer k)
       → IsMatched source pages calls (Running (Returning (Some v)) (Caller outer ∷ k) e w) (plain.Running (record { active = active; frames = frames; globals = globals; store = store; output = output; input = input }))
-  hands_back v active [] globals store output input k e outer w s shared facts here is single below = absurd below
-  hands_back v active (f ∷ frames) globals store output input k e outer w s shared facts here is single (holds, in_temporary least stack) =
+  hands_back v active [] globals store output input k e outer w s shared facts here is wide below = absurd below
+  hands_back v active (f ∷ frames) globals store output input k e outer w s shared facts here is wide (holds, in_temporary least stack) =
       let results = (routine_at (lower_program source) active.function).results in
       let back = comes_back active.function s results active.slots globals f frames k e.locals outer w facts least holds in
       by_one source pages calls refl shared here
       (λ choice. (
         shared_returned w output input store (length frames) shared,
-        in_operand (operands.Slot f.result) back.0 (subst (Is v.value) (sym (value_copied active.slots f.caller.slots s results f.result single)) is) back.1 stack,
+        in_operand (operands.Slot f.result) back.0 (copied_is v active.slots f.caller.slots s results f.result (omega (arith, wide)) is) back.1 stack,
       ))
-  hands_back v active (f ∷ frames) globals store output input k e outer w s shared facts here is single (holds, in_local below stack) =
+  hands_back v active (f ∷ frames) globals store output input k e outer w s shared facts here is wide (holds, in_local below stack) =
       let results = (routine_at (lower_program source) active.function).results in
       let base = base_of source f.caller.function in
       let d = f.result in
       let now = copied active.slots s results f.caller.slots d in
-      let elsewhere : (n : ℕ) → n ≢ d → now n ≡ f.caller.slots n =
-      λ n other. ap (λ many. copied active.slots s many f.caller.slots d n) single ∙ one_copied active.slots f.caller.slots s d n other in
+      let elsewhere : (n : ℕ) → Outside d (words_of_kind v.kind) n → now n ≡ f.caller.slots n =
+      λ n out. copied_elsewhere active.slots f.caller.slots s results d n (subst (λ many. Outside d many n) (sym wide) out) in
       by_one source pages calls refl shared here
       (λ choice. (
         shared_returned w output input store (length frames) shared,
         ahead d
-            (f.caller.slots d, data_returned source active.function w.objects e.locals outer (callers k) active.slots (put now d (f.caller.slots d)) globals f frames (λ n less. as_before f.caller.slots now d n elsewhere) facts)
-            below (subst (Is v.value) (sym (value_copied active.slots f.caller.slots s results d single)) is)
-            (Holds-above f.caller.slots now base (held k) (λ n from. elsewhere n (λ same. absurd (omega (arith, same, from, below)))) holds)
+            (f.caller.slots, λ n out. sym (elsewhere n out), data_returned source active.function w.objects e.locals outer (callers k) active.slots f.caller.slots globals f frames (λ n less. refl) facts)
+            (copied_is v active.slots f.caller.slots s results d (omega (arith, wide)) is)
+            (Holds-above f.caller.slots now base (held k) (λ n from. elsewhere n (inr (omega (arith, from, below)))) holds)
             stack,
       ))
 
@@ -236,7 +216,7 @@ module _ (source : Program) (pages calls : ℕ) where
       → IsWell (step source (Running Proceeding (Rest (MoreItems (Declare n t None) js) ∷ k) e w))
       → SharedAt source pages calls w c → DataAt source c.active.function w.objects e.locals (callers k) c.active.slots c.globals c.frames
       → n < length (types_at source c.active.function) → c.active.next ≡ m
-      → ItemsAt (code_of source c.active.function) (bounds_at source c.active.function) (starts_at source c.active.function) js loop (base_of source c.active.function) m q
+      → ItemsAt (code_of source c.active.function) (bounds_at source c.active.function) (types_at source c.active.function) js loop (base_of source c.active.function) m q
       → StatementStack source c.active.function loop q c.frames k
       → IsMatched source pages calls (Running Proceeding (Rest (MoreItems (Declare n t None) js) ∷ k) e w) (plain.Running c)
   declares n t js k e w c loop m q well shared facts few end items stack =
@@ -246,8 +226,8 @@ module _ (source : Program) (pages calls : ℕ) where
       (Running Proceeding (Rest js ∷ k) (with_local e n (length w.objects)) (made w x)) (plain.Running c)
       (is_declared (region_at w e.home) Proceeding n (kind_of t) None (Rest js ∷ k) e w well) (
         shared,
-        behind_statement loop (data_declared source g w.objects e (callers k) c.active.slots c.active.slots c.globals c.frames n x few (λ i less other. refl) (λ v has. absurd (none-some v has)) facts)
-            (q, subst (λ p. ItemsAt (code_of source g) (bounds_at source g) (starts_at source g) js loop (base_of source g) p q) (sym end) items, stack),
+        behind_statement loop (data_declared source g w.objects e (callers k) c.active.slots c.active.slots c.globals c.frames n 0 x few (omega arith) (λ m out. refl) (λ v has. absurd (none-some v has)) facts)
+            (q, subst (λ p. ItemsAt (code_of source g) (bounds_at source g) (types_at source g) js loop (base_of source g) p q) (sym end) items, stack),
       )
       (omega arith)
 
@@ -262,25 +242,35 @@ module _ (source : Program) (pages calls : ℕ) where
   joins k e w c loop q shared facts (by_jump jump) stack =
       by_one source pages calls refl shared jump (λ choice. (shared, behind_statement loop facts stack))
 
-  -- a local gets its initial value
+  -- a local gets its initial value: it comes to its slots at once, or is moved there once it is converted
+  initial_by : (there : Bool) (n : ℕ) (ty : Ty) (from to : Kind) (a : Expression) (js : Items) (k : List Entry) (e : Environment) (w : World) (c : Configuration) (loop m q : ℕ)
+      → converts_there from to ≡ there
+      → SharedAt source pages calls w c → DataAt source c.active.function w.objects e.locals (callers k) c.active.slots c.globals c.frames
+      → HasRoom (types_at source c.active.function) n to
+      → InitialBy (code_of source c.active.function) (bounds_at source c.active.function) (types_at source c.active.function) there from to a (slot_of (starts_at source c.active.function) n) (base_of source c.active.function) c.active.next m
+      → ItemsAt (code_of source c.active.function) (bounds_at source c.active.function) (types_at source c.active.function) js loop (base_of source c.active.function) m q
+      → StatementStack source c.active.function loop q c.frames k
+      → Related source pages calls (Evaluating a) (Needs (ConvertTo from to (target_by a)) ∷ Needs (Initialise n (kind_of ty) js) ∷ k) e w c
+  initial_by true n ty from to a js k e w c loop m q lands shared facts room (wide, at_a) items stack =
+      let g = c.active.function in
+      let inside = slot-room (types_at source g) n (room-inside (types_at source g) n to room) in
+      (shared, facts, into_slot (slot_of (starts_at source g) n) m at_a tt (in_local (omega (arith, inside, room, wide)) (lands, (loop, q, refl, room, items, stack))))
+  initial_by false n ty from to a js k e w c loop m q lands shared facts room (o, s, r, at_a, at_to, move, end) items stack =
+      let g = c.active.function in
+      let rest = subst (λ p. ItemsAt (code_of source g) (bounds_at source g) (types_at source g) js loop (base_of source g) p q) (sym end) items in
+      (shared, facts, sources source pages calls from to a (Needs (ConvertTo from to (target_by a)) ∷ Needs (Initialise n (kind_of ty) js) ∷ k) e w c o s at_a tt (r, at_to, (loop, q, move, room, rest, stack)))
+
   initial : (n : ℕ) (ty : Ty) (from to : Kind) (a : Expression) (js : Items) (k : List Entry) (e : Environment) (w : World) (c : Configuration) (loop m q : ℕ)
       → SharedAt source pages calls w c → DataAt source c.active.function w.objects e.locals (callers k) c.active.slots c.globals c.frames
-      → n < length (types_at source c.active.function)
-      → InitialAt (code_of source c.active.function) (bounds_at source c.active.function) (starts_at source c.active.function) (Convert from to a) (slot_of (starts_at source c.active.function) n) (base_of source c.active.function) c.active.next m
-      → ItemsAt (code_of source c.active.function) (bounds_at source c.active.function) (starts_at source c.active.function) js loop (base_of source c.active.function) m q
+      → HasRoom (types_at source c.active.function) n to
+      → InitialAt (code_of source c.active.function) (bounds_at source c.active.function) (types_at source c.active.function) (Convert from to a) (slot_of (starts_at source c.active.function) n) (base_of source c.active.function) c.active.next m
+      → ItemsAt (code_of source c.active.function) (bounds_at source c.active.function) (types_at source c.active.function) js loop (base_of source c.active.function) m q
       → StatementStack source c.active.function loop q c.frames k
       → IsMatched source pages calls (Running Proceeding (Rest (MoreItems (Declare n ty (Some (Convert from to a))) js) ∷ k) e w) (plain.Running c)
-  initial n ty from kinds.NonNull a js k e w c loop m q shared facts few (o, s, r, at_a, check, move, end) items stack =
-      let g = c.active.function in
-      silently source pages calls (Running Proceeding (Rest (MoreItems (Declare n ty (Some (Convert from kinds.NonNull a))) js) ∷ k) e w)
-      (Running (Evaluating a) (Needs (ConvertTo from kinds.NonNull (target_by a)) ∷ Needs (Initialise n (kind_of ty) js) ∷ k) e w) (plain.Running c) refl
-      (shared, facts, as_operand o s at_a tt (r, check, (loop, q, move, few, subst (λ p. ItemsAt (code_of source g) (bounds_at source g) (starts_at source g) js loop (base_of source g) p q) (sym end) items, stack)))
-      (omega arith)
-  initial n ty from to a js k e w c loop m q shared facts few at_a items stack =
-      let g = c.active.function in
+  initial n ty from to a js k e w c loop m q shared facts room at items stack =
       silently source pages calls (Running Proceeding (Rest (MoreItems (Declare n ty (Some (Convert from to a))) js) ∷ k) e w)
       (Running (Evaluating a) (Needs (ConvertTo from to (target_by a)) ∷ Needs (Initialise n (kind_of ty) js) ∷ k) e w) (plain.Running c) refl
-      (shared, facts, into_slot (slot_of (starts_at source g) n) m at_a tt (in_local (slot-inside (types_at source g) n few) (tt, (loop, q, refl, few, items, stack))))
+      (initial_by (converts_there from to) n ty from to a js k e w c loop m q refl shared facts room at items stack)
       (omega arith)
 
   after_statement : (k : List Entry) (e : Environment) (w : World) (c : Configuration) (loop : ℕ) → IsWell (step source (Running Proceeding k e w))
@@ -296,8 +286,8 @@ module _ (source : Program) (pages calls : ℕ) where
       (omega arith)
   after_statement (Rest (MoreItems (Declare n t None) js) ∷ k) e w c loop well shared facts (q, (m, (few, end), items), stack) =
       declares n t js k e w c loop m q well shared facts (local_there c.active.function n few) end items stack
-  after_statement (Rest (MoreItems (Declare n t (Some (Convert from to a))) js) ∷ k) e w c loop well shared facts (q, (m, (few, at), items), stack) =
-      initial n t from to a js k e w c loop m q shared facts (local_there c.active.function n few) at items stack
+  after_statement (Rest (MoreItems (Declare n t (Some (Convert from to a))) js) ∷ k) e w c loop well shared facts (q, (m, (few, room, at), items), stack) =
+      initial n t from to a js k e w c loop m q shared facts room at items stack
   after_statement (Rest js ∷ k) e w c loop well shared facts (q, at, stack) = absurd at
   after_statement (Join ∷ k) e w c loop well shared facts (q, arrives, stack) = joins k e w c loop q shared facts arrives stack
   after_statement (Loop a s ∷ k) e w c loop well shared facts (outer, q, (x, y, m, r, leave, at_a, jump, at_s, back, after), here, stack) =
@@ -313,25 +303,25 @@ module _ (source : Program) (pages calls : ℕ) where
   after_statement (Main ∷ k) e w c loop well shared facts stack = absurd (well refl)
   after_statement k e w c loop well shared facts stack = absurd stack
 
-  after_call : (k : List Entry) (e : Environment) (w : World) (c : Configuration) (o : Operand) → IsWell (step source (Running Proceeding k e w))
+  after_call : (k : List Entry) (e : Environment) (w : World) (c : Configuration) (kind : Kind) (o : Operand) → IsWell (step source (Running Proceeding k e w))
       → SharedAt source pages calls w c → DataAt source c.active.function w.objects e.locals (callers k) c.active.slots c.globals c.frames
-      → ValueStack source c.active.function e.locals o c.active.next c.frames k → IsMatched source pages calls (Running Proceeding k e w) (plain.Running c)
-  after_call (Needs a ∷ k) e w c o well shared facts stack = absurd (well refl)
-  after_call (Discard ∷ k) e w c o well shared facts (loop, stack) =
+      → ValueStack source c.active.function e.locals kind o c.active.next c.frames k → IsMatched source pages calls (Running Proceeding k e w) (plain.Running c)
+  after_call (Needs a ∷ k) e w c kind o well shared facts stack = absurd (well refl)
+  after_call (Discard ∷ k) e w c kind o well shared facts (loop, stack) =
       silently source pages calls (Running Proceeding (Discard ∷ k) e w) (Running Proceeding k e w) (plain.Running c) refl
       (shared, behind_statement loop facts stack)
       (omega arith)
-  after_call k e w c o well shared facts stack = absurd stack
+  after_call k e w c kind o well shared facts stack = absurd stack
 
-  after_wrong : (k : List Entry) (e : Environment) (w : World) (c : Configuration) (n : ℕ) → IsWell (step source (Running Proceeding k e w))
-      → AheadStack source c.active.function e.locals n c.active.next c.frames k → IsMatched source pages calls (Running Proceeding k e w) (plain.Running c)
-  after_wrong (Needs a ∷ k) e w c n well stack = absurd (well refl)
-  after_wrong k e w c n well stack = absurd stack
+  after_wrong : (k : List Entry) (e : Environment) (w : World) (c : Configuration) (kind : Kind) (n : ℕ) → IsWell (step source (Running Proceeding k e w))
+      → AheadStack source c.active.function e.locals kind n c.active.next c.frames k → IsMatched source pages calls (Running Proceeding k e w) (plain.Running c)
+  after_wrong (Needs a ∷ k) e w c kind n well stack = absurd (well refl)
+  after_wrong k e w c kind n well stack = absurd stack
 
   pub proceeding : (k : List Entry) (e : Environment) (w : World) (c : Configuration) → IsStep source pages calls Proceeding k e w c
   proceeding k e w c well (shared, behind_statement loop facts stack) = after_statement k e w c loop well shared facts stack
-  proceeding k e w c well (shared, behind_call o facts stack) = after_call k e w c o well shared facts stack
-  proceeding k e w c well (shared, behind_wrong n stack) = after_wrong k e w c n well stack
+  proceeding k e w c well (shared, behind_call kind o facts stack) = after_call k e w c kind o well shared facts stack
+  proceeding k e w c well (shared, behind_wrong kind n stack) = after_wrong k e w c kind n well stack
 
   -- ---- breaks
 
@@ -394,10 +384,10 @@ module _ (source : Program) (pages calls : ℕ) where
   ends_main : (i : Kind) (v : Value) (active : Activation) (frames : List Frame) (globals : Words) (store : StoreState) (output input : List ℕ) (k : List Entry) (e : Environment) (w : World) (s : ℕ)
       → IsWell (step source (Running (Returning (Some (record { kind = i; value = v }))) (Main ∷ k) e w))
       → SharedAt source pages calls w (record { active = active; frames = frames; globals = globals; store = store; output = output; input = input })
-      → At (code_of source active.function) active.next (instructions.Return s) → Is v (active.slots s) → IsLast source frames k
+      → At (code_of source active.function) active.next (instructions.Return s) → Is i v active.slots s → IsLast source frames k
       → IsMatched source pages calls (Running (Returning (Some (record { kind = i; value = v }))) (Main ∷ k) e w) (plain.Running (record { active = active; frames = frames; globals = globals; store = store; output = output; input = input }))
   ends_main i (Int a) active [] globals store output input [] e w s well shared here is last =
-      by_one source pages calls refl shared here (λ choice. (ap (λ x. Returned (signed x)) is, shared.same_output))
+      by_one source pages calls refl shared here (λ choice. (ap (λ x. Returned (signed x)) (int_at i a active.slots s is), shared.same_output))
   ends_main i (Int a) active [] globals store output input (entry ∷ k) e w s well shared here is last = absurd last
   ends_main i (Int a) active (f ∷ frames) globals store output input k e w s well shared here is last = absurd last
   ends_main i v active frames globals store output input k e w s well shared here is last = absurd (well refl)
@@ -441,7 +431,8 @@ module _ (source : Program) (pages calls : ℕ) where
       (shared_closed w c region found.region found.there shared, facts, (loop, q, s, here, is, single, stack))
       (omega arith)
   returning_some v (Caller outer ∷ k) e w c well (shared, facts, (loop, q, s, here, is, single, (u, last, below))) =
-      hands_back v c.active c.frames c.globals c.store c.output c.input k e outer w s shared facts here is (results_at c.active.function ∙ single) below
+      hands_back v c.active c.frames c.globals c.store c.output c.input k e outer w s shared facts here is (results_at c.active.function ∙ single.0)
+      (subst (λ i. Below source c.frames (Waits i outer k)) (sym single.1) below)
   returning_some v (NeedsPlace a ∷ k) e w c well (shared, facts, (loop, q, s, here, is, single, stack)) = absurd stack
   returning_some v (CloseLexical region ∷ k) e w c well (shared, facts, (loop, q, s, here, is, single, stack)) = absurd stack
   returning_some v (EndLoan lent ∷ k) e w c well (shared, facts, (loop, q, s, here, is, single, stack)) = absurd stack

@@ -2,7 +2,7 @@
 use Rattle.std.proofs.Common.{◌≡◌, ◌≢◌, ℕ, zero, suc, ◌+◌, ◌<◌, Bool, true, false, not, List, [], ◌∷◌, Option, None, Some, slice_get, refl, sym, ap, subst, ◌∙◌, arith, inl, inr, length}
 use Rattle.std.specs.Prelude.{◌&&◌, ℤ, ◌==◌, ◌<ℤ◌, ◌≤ℤ◌, int_le, int_lt, if◌then◌else◌}
 use Rattle.std.proofs.lemmas.Int.{ints}
-use Rattle.std.proofs.lemmas.Bool.{cases_eq, eqb-true, false_from_ne_true}
+use Rattle.std.proofs.lemmas.Bool.{and_parts, cases_eq, eqb-true, false_from_ne_true}
 use Rattle.std.proofs.lemmas.Option.{same_Some, none-some}
 use Rattle.cyc_words.specs.Word.{signed, slt_of}
 use Rattle.cyc_words.proofs.WordLemmas.{slt_of_cases}
@@ -27,28 +27,31 @@ use Rattle.cyc_plain.specs.declared.instruction.UnaryOperator.TheVariants as pla
 use Rattle.cyc_plain.specs.Operators.{truth, compares}
 use Rattle.cyc_plain.specs.Operators as plain_operators
 use Rattle.cyc_plain.specs.State as plain
-use Rattle.cyc_plain.specs.State.{put, Frame, Configuration}
+use Rattle.cyc_plain.specs.State.{Words, put, Frame, Configuration}
 use Rattle.cyc_plain.specs.Step.{Choice, operand_word, with_slots, at, advanced, gives, performed}
 use Rattle.cyc_plain.specs.Step as plain_step
-use Rattle.cyc_plain.proofs.SlotLaws.{put-same, put-other}
+use Rattle.cyc_plain.proofs.SlotLaws.{put-same}
 use Rattle.cyc_plain.specs.Straight.{At}
-use Rattle.cyc_meaning.specs.Values.{Value, Int, Null, Thin, Fat, Handle, Key, Operand as Kinded, is_kind}
-use Rattle.cyc_meaning.specs.Operators.{Gives, Raises, has_no_result, binary_word, is_zero, unary_result, truth_result, truth_of, division_by_zero}
+use Rattle.cyc_types.specs.Types.{Ty}
+use Rattle.cyc_meaning.specs.Values.{Value, Int, Null, Thin, Fat, Handle, Key, Operand as Kinded, is_kind, words_of_kind}
+use Rattle.cyc_meaning.specs.Operators.{Gives, Raises, Misfits, has_no_result, binary_word, is_zero, unary_result, truth_result, truth_of, division_by_zero}
 use Rattle.cyc_meaning.specs.Conversion.{conversion}
 use Rattle.cyc_meaning.specs.Pointers.{followed}
 use Rattle.cyc_meaning.specs.State.{World, Environment, with_local, made, variable, written, region_at, Awaiting, ConvertTo, Operate, Chain, Apply, Decide, Store, Pass, Initialise, Choose, Test, Return, Entry, Needs, Discard, Rest, Join, Loop, Focus, Evaluating, Given, Executing, Proceeding, Calling, Returning, Throwing, State, Running}
 use Rattle.cyc_meaning.specs.Step.{wrong, leads_to, object_of, computed, stored_at, declared, passes, tested, awaits_right, chosen, looped, step}
 use Rattle.cyc_lower.specs.Slots.{slot_of}
-use Rattle.cyc_lower.proofs.Slots.{slot-inside}
-use Rattle.cyc_lower.specs.Lowering.{unary_operator, binary_operator, failing_comparison, operand_of, value_slot, next_slot, is_in, jump_if_zero, jump_if_nonzero, break_target, lower_program}
+use Rattle.cyc_lower.proofs.Slots.{slot-room, room-inside}
+use Rattle.cyc_lower.proofs.Widths.{kind_positive, same_kind, HasRoom, Outside}
+use Rattle.cyc_lower.proofs.Moves.{moved_slots, moves, put_elsewhere, moved_elsewhere, moved_is}
+use Rattle.cyc_lower.specs.Lowering.{unary_operator, binary_operator, failing_comparison, operand_of, value_slot, next_slot, is_in, jump_if_zero, jump_if_nonzero, move_of, converts_there, break_target, lower_program}
 use Rattle.cyc_lower.proofs.Stands.{OperandBy, CopyBy, CopyAt, CheckAt, CheckedAt, OperatorAt, TruthAt, ExpressionAt, OperationsAt}
-use Rattle.cyc_lower.proofs.Relation.{Is, types_at, starts_at, Holds, held, contents, callers, in_place, by_jump, IsQuiet, in_temporary, in_local, drops, leaves, copies, DataIn, SharedAt, StoreAt, to_slot, to_jump, ValueStack, ConditionStack, DroppedStack, AheadStack, LandsStack, HandsOnStack, AppliedStack, ReadyAt, as_operand, into_slot, as_right, in_operand, nowhere, ahead, compared, with_left, behind_statement, Related, Matches, code_of, bounds_at, base_of, top}
-use Rattle.cyc_lower.proofs.Data.{height-least, Holds-put, Holds-local, data_same, data_put, data_assigned, data_caught_up, data_assigned_global, data_declared}
+use Rattle.cyc_lower.proofs.Relation.{Is, IsIn, with_kind, types_at, starts_at, Holds, held, contents, callers, in_place, by_jump, in_temporary, in_local, drops, leaves, copies, DataIn, SharedAt, StoreAt, to_slot, to_jump, ValueStack, ConditionStack, DroppedStack, AheadStack, LandsStack, HandsOnStack, AppliedStack, ReadyAt, as_operand, into_slot, as_right, in_operand, nowhere, ahead, compared, with_left, behind_statement, Related, Matches, code_of, bounds_at, base_of, top}
+use Rattle.cyc_lower.proofs.Data.{Is-first, height-least, Holds-same, Holds-above, data_above, data_assigned, data_assigned_global, data_declared}
 use Rattle.cyc_lower.proofs.Accesses.{IsWell, is_fitting, is_stored, written_here, written_elsewhere, written_length, is_declared}
 use Rattle.cyc_lower.proofs.Weights.{weight}
 use Rattle.cyc_lower.proofs.Relation.{StatementStack}
 use Rattle.cyc_lower.proofs.Matched.{IsMatched, silently, by_one, by_two, by_three, shared_way, shared_within, lands_depth, value_depth, lands_plain, value_plain}
-use Rattle.cyc_lower.proofs.Evaluations.{IsStep, landed, lands_at, passes_related, passes_weight, object_of_same, global_there}
+use Rattle.cyc_lower.proofs.Evaluations.{IsStep, landed_word, landed_moved, lands_at, passes_related, passes_weight, object_of_same, global_there}
 
 -- an operand of a kind, and an int
 abbrev pub of_kind : Kind → Value → Kinded
@@ -57,14 +60,115 @@ of_kind kind v = record { kind = kind; value = v }
 abbrev pub int_of : ℕ → Kinded
 int_of word = of_kind kinds.Int (Int word)
 
--- whether a value is zero is told by its word
-pub zero_is : (v : Value) (x : ℕ) → Is v x → is_zero v ≡ Some (x == 0)
-zero_is (Int a) x is = ap (λ y. Some (y == 0)) (sym is)
-zero_is Null x is = ap (λ y. Some (y == 0)) (sym is)
-zero_is (Thin object offset) x is = absurd is
-zero_is (Fat object start many index) x is = absurd is
-zero_is (Handle region) x is = absurd is
-zero_is (Key region) x is = absurd is
+-- whether a value is zero is told by its first word
+zero_at : (kind : Kind) (v : Value) (words : Words) (p : ℕ) → Is kind v words p → is_zero v ≡ Some (words p == 0)
+zero_at kinds.Int (Int a) words p is = ap (λ y. Some (y == 0)) (sym is)
+zero_at kinds.Nullable Null words p is = ap (λ y. Some (y == 0)) (sym is)
+zero_at kinds.Fat Null words p is = ap (λ y. Some (y == 0)) (sym is)
+zero_at kind v words p is = absurd is
+
+pub zero_is : (v : Kinded) (slots : Words) (o : Operand) → IsIn v slots o → is_zero v.value ≡ Some (operand_word slots o == 0)
+zero_is v slots (operands.Slot n) is = zero_at v.kind v.value slots n is
+zero_is v slots (operands.Word w) is = zero_at v.kind v.value (λ (i : ℕ). w) 0 is
+
+-- an int is its word, and null is 0
+pub int_at : (kind : Kind) (a : ℕ) (words : Words) (p : ℕ) → Is kind (Int a) words p → words p ≡ a
+int_at kinds.Int a words p is = is
+int_at kind a words p is = absurd is
+
+pub int_is : (kind : Kind) (a : ℕ) (slots : Words) (o : Operand) → IsIn (of_kind kind (Int a)) slots o → operand_word slots o ≡ a
+int_is kind a slots (operands.Slot n) is = int_at kind a slots n is
+int_is kind a slots (operands.Word w) is = int_at kind a (λ (i : ℕ). w) 0 is
+
+null_at : (kind : Kind) (words : Words) (p : ℕ) → Is kind Null words p → words p ≡ 0
+null_at kinds.Nullable words p is = is
+null_at kinds.Fat words p is = is
+null_at kind words p is = absurd is
+
+pub null_is : (kind : Kind) (slots : Words) (o : Operand) → IsIn (of_kind kind Null) slots o → operand_word slots o ≡ 0
+null_is kind slots (operands.Slot n) is = null_at kind slots n is
+null_is kind slots (operands.Word w) is = null_at kind (λ (i : ℕ). w) 0 is
+
+-- the first word of a value
+pub first_word : (v : Kinded) (slots : Words) (o : Operand) → IsIn v slots o → Is v.kind v.value (λ (i : ℕ). operand_word slots o) 0
+first_word v slots (operands.Slot n) is = Is-first v.kind v.value slots (λ (i : ℕ). slots n) n 0 refl is
+first_word v slots (operands.Word w) is = is
+
+-- a value that is converted without a change keeps its words
+kept_at : (from to : Kind) (v : Value) (words : Words) (p : ℕ) → conversion to v ≡ Gives v → Is from v words p → Is to v words p
+kept_at kinds.Int kinds.Int (Int a) words p gives is = is
+kept_at kinds.Nullable kinds.Nullable Null words p gives is = is
+kept_at kinds.Nullable kinds.Fat Null words p gives is = is
+kept_at kinds.Fat kinds.Nullable Null words p gives is = is
+kept_at kinds.Fat kinds.Fat Null words p gives is = is
+kept_at kinds.Nullable kinds.NonNull Null words p gives is = absurd (let f : Raises 1 ≡ Gives Null = gives in cc)
+kept_at kinds.Fat kinds.NonNull Null words p gives is = absurd (let f : Raises 1 ≡ Gives Null = gives in cc)
+kept_at kinds.Int to (Int a) words p gives is = absurd (let f : Misfits ≡ Gives (Int a) = gives in cc)
+kept_at kinds.Nullable to Null words p gives is = absurd (let f : Misfits ≡ Gives Null = gives in cc)
+kept_at kinds.Fat to Null words p gives is = absurd (let f : Misfits ≡ Gives Null = gives in cc)
+kept_at from to v words p gives is = absurd is
+
+kept_in : (from to : Kind) (v : Value) (slots : Words) (o : Operand) → conversion to v ≡ Gives v → IsIn (of_kind from v) slots o → IsIn (of_kind to v) slots o
+kept_in from to v slots (operands.Slot n) gives is = kept_at from to v slots n gives is
+kept_in from to v slots (operands.Word w) gives is = kept_at from to v (λ (i : ℕ). w) 0 gives is
+
+-- a value that is converted where it is to be has as many words before
+pub as_wide : (from to : Kind) → converts_there from to ≡ true → words_of_kind from ≡ words_of_kind to
+as_wide from kinds.NonNull quiet = absurd (let f : false ≡ true = quiet in cc)
+as_wide from kinds.Int quiet = eqb-true _ _ quiet
+as_wide from kinds.Nullable quiet = eqb-true _ _ quiet
+as_wide from kinds.Fat quiet = eqb-true _ _ quiet
+as_wide from kinds.Handle quiet = eqb-true _ _ quiet
+as_wide from kinds.Key quiet = eqb-true _ _ quiet
+
+no_pointer_at : (kind : Kind) (object offset : ℕ) (words : Words) (p : ℕ) → Is kind (Thin object offset) words p → ⊥
+no_pointer_at kinds.Int object offset words p is = is
+no_pointer_at kinds.Nullable object offset words p is = is
+no_pointer_at kinds.NonNull object offset words p is = is
+no_pointer_at kinds.Fat object offset words p is = is
+no_pointer_at kinds.Handle object offset words p is = is
+no_pointer_at kinds.Key object offset words p is = is
+
+no_part_at : (kind : Kind) (object start many index : ℕ) (words : Words) (p : ℕ) → Is kind (Fat object start many index) words p → ⊥
+no_part_at kinds.Int object start many index words p is = is
+no_part_at kinds.Nullable object start many index words p is = is
+no_part_at kinds.NonNull object start many index words p is = is
+no_part_at kinds.Fat object start many index words p is = is
+no_part_at kinds.Handle object start many index words p is = is
+no_part_at kinds.Key object start many index words p is = is
+
+no_handle_at : (kind : Kind) (region : ℕ) (words : Words) (p : ℕ) → Is kind (Handle region) words p → ⊥
+no_handle_at kinds.Int region words p is = is
+no_handle_at kinds.Nullable region words p is = is
+no_handle_at kinds.NonNull region words p is = is
+no_handle_at kinds.Fat region words p is = is
+no_handle_at kinds.Handle region words p is = is
+no_handle_at kinds.Key region words p is = is
+
+no_key_at : (kind : Kind) (region : ℕ) (words : Words) (p : ℕ) → Is kind (Key region) words p → ⊥
+no_key_at kinds.Int region words p is = is
+no_key_at kinds.Nullable region words p is = is
+no_key_at kinds.NonNull region words p is = is
+no_key_at kinds.Fat region words p is = is
+no_key_at kinds.Handle region words p is = is
+no_key_at kinds.Key region words p is = is
+
+-- no pointer but null is there yet
+no_pointer : (kind : Kind) (object offset : ℕ) (slots : Words) (o : Operand) → IsIn (of_kind kind (Thin object offset)) slots o → ⊥
+no_pointer kind object offset slots (operands.Slot n) is = no_pointer_at kind object offset slots n is
+no_pointer kind object offset slots (operands.Word w) is = no_pointer_at kind object offset (λ (i : ℕ). w) 0 is
+
+no_part : (kind : Kind) (object start many index : ℕ) (slots : Words) (o : Operand) → IsIn (of_kind kind (Fat object start many index)) slots o → ⊥
+no_part kind object start many index slots (operands.Slot n) is = no_part_at kind object start many index slots n is
+no_part kind object start many index slots (operands.Word w) is = no_part_at kind object start many index (λ (i : ℕ). w) 0 is
+
+no_handle : (kind : Kind) (region : ℕ) (slots : Words) (o : Operand) → IsIn (of_kind kind (Handle region)) slots o → ⊥
+no_handle kind region slots (operands.Slot n) is = no_handle_at kind region slots n is
+no_handle kind region slots (operands.Word w) is = no_handle_at kind region (λ (i : ℕ). w) 0 is
+
+no_key : (kind : Kind) (region : ℕ) (slots : Words) (o : Operand) → IsIn (of_kind kind (Key region)) slots o → ⊥
+no_key kind region slots (operands.Slot n) is = no_key_at kind region slots n is
+no_key kind region slots (operands.Word w) is = no_key_at kind region (λ (i : ℕ). w) 0 is
 
 -- ---- comparisons
 
@@ -117,7 +221,7 @@ module _ (source : Program) (pages calls : ℕ) where
 
   -- what is known of a value that stands in an operand
   abbrev pub Stands : Kinded → Operand → List Entry → Environment → World → Configuration → Type 0
-  Stands v o k e w c = SharedAt source pages calls w c × DataIn source c.active.slots k e w c × Is v.value (operand_word c.active.slots o)
+  Stands v o k e w c = SharedAt source pages calls w c × DataIn source c.active.slots k e w c × IsIn v c.active.slots o
       × Holds c.active.slots (base_of source c.active.function) (held k)
 
   abbrev pub GoesBehind : Kinded → List Entry → Environment → World → Configuration → Type 0
@@ -127,11 +231,12 @@ module _ (source : Program) (pages calls : ℕ) where
 
   -- the same value goes on, and nothing is executed
   kept_value : (from to : Kind) (target : Option Kind) (i : Kind) (v : Value) (o : Operand) (k : List Entry) (e : Environment) (w : World) (c : Configuration) (q : ℕ)
+      → conversion to v ≡ Gives v
       → step source (Running (Given (of_kind i v)) (Needs (ConvertTo from to target) ∷ k) e w) ≡ Running (Given (of_kind to v)) k e w → Stands (of_kind i v) o k e w c
-      → c.active.next ≡ q → ValueStack source c.active.function e.locals o q c.frames k → GoesBehind (of_kind i v) (Needs (ConvertTo from to target) ∷ k) e w c
-  kept_value from to target i v o k e w c q does (shared, facts, is, holds) end stack =
+      → c.active.next ≡ q → ValueStack source c.active.function e.locals to o q c.frames k → GoesBehind (of_kind i v) (Needs (ConvertTo from to target) ∷ k) e w c
+  kept_value from to target i v o k e w c q gives does (shared, facts, is, holds) end stack =
       silently source pages calls (Running (Given (of_kind i v)) (Needs (ConvertTo from to target) ∷ k) e w) (Running (Given (of_kind to v)) k e w) (plain.Running c) does
-      (shared, in_operand o facts is holds (subst (λ r. ValueStack source c.active.function e.locals o r c.frames k) (sym end) stack))
+      (shared, in_operand o facts (kept_in i to v c.active.slots o gives is) holds (subst (λ r. ValueStack source c.active.function e.locals to o r c.frames k) (sym end) stack))
       (omega arith)
 
   -- a value is converted from its own kind
@@ -142,62 +247,65 @@ module _ (source : Program) (pages calls : ℕ) where
 
   converted : (from to : Kind) (target : Option Kind) (i : Kind) (v : Value) (o : Operand) (k : List Entry) (e : Environment) (w : World) (c : Configuration) → IsWell (computed to (conversion to v) k e w)
       → step source (Running (Given (of_kind i v)) (Needs (ConvertTo from to target) ∷ k) e w) ≡ computed to (conversion to v) k e w → Stands (of_kind i v) o k e w c
-      → ValueStack source c.active.function e.locals o c.active.next c.frames (Needs (ConvertTo from to target) ∷ k) → GoesBehind (of_kind i v) (Needs (ConvertTo from to target) ∷ k) e w c
-  converted from to target i (Thin object offset) o k e w c well does (shared, facts, is, holds) stack = absurd is
-  converted from to target i (Fat object start many index) o k e w c well does (shared, facts, is, holds) stack = absurd is
-  converted from to target i (Handle region) o k e w c well does (shared, facts, is, holds) stack = absurd is
-  converted from to target i (Key region) o k e w c well does (shared, facts, is, holds) stack = absurd is
-  converted from kinds.Int target i (Int a) o k e w c well does stands (q, end, stack) = kept_value from kinds.Int target i (Int a) o k e w c q does stands end stack
-  converted from kinds.Nullable target i Null o k e w c well does stands (q, end, stack) = kept_value from kinds.Nullable target i Null o k e w c q does stands end stack
-  converted from kinds.Fat target i Null o k e w c well does stands (q, end, stack) = kept_value from kinds.Fat target i Null o k e w c q does stands end stack
+      → ValueStack source c.active.function e.locals i o c.active.next c.frames (Needs (ConvertTo from to target) ∷ k) → GoesBehind (of_kind i v) (Needs (ConvertTo from to target) ∷ k) e w c
+  converted from kinds.Int target i (Int a) o k e w c well does stands (q, end, stack) = kept_value from kinds.Int target i (Int a) o k e w c q refl does stands end stack
+  converted from kinds.Nullable target i Null o k e w c well does stands (q, end, stack) = kept_value from kinds.Nullable target i Null o k e w c q refl does stands end stack
+  converted from kinds.Fat target i Null o k e w c well does stands (q, end, stack) = kept_value from kinds.Fat target i Null o k e w c q refl does stands end stack
   converted from kinds.NonNull target i Null o k e w c well does (shared, facts, is, holds) (q, (jump, uncaught, end), stack) =
+      let zero_word = null_is i c.active.slots o is in
       by_one source pages calls does shared jump
-      (λ choice. not_taken (Running (Throwing 1 0) k e w) c (not (operand_word c.active.slots o == 0)) q (ap (λ x. not (x == 0)) is) (
+      (λ choice. not_taken (Running (Throwing 1 0) k e w) c (not (operand_word c.active.slots o == 0)) q (ap (λ x. not (x == 0)) zero_word) (
         shared,
-        omega (arith, value_depth source c.active.function e.locals o q c.frames k stack, shared.fits),
-        value_plain source c.active.function e.locals o q c.frames k stack,
+        omega (arith, value_depth source c.active.function e.locals kinds.NonNull o q c.frames k stack, shared.fits),
+        value_plain source c.active.function e.locals kinds.NonNull o q c.frames k stack,
         o,
         uncaught,
-        is,
+        zero_word,
       ))
+  converted from to target i (Thin object offset) o k e w c well does (shared, facts, is, holds) stack = absurd (no_pointer i object offset c.active.slots o is)
+  converted from to target i (Fat object start many index) o k e w c well does (shared, facts, is, holds) stack = absurd (no_part i object start many index c.active.slots o is)
+  converted from to target i (Handle region) o k e w c well does (shared, facts, is, holds) stack = absurd (no_handle i region c.active.slots o is)
+  converted from to target i (Key region) o k e w c well does (shared, facts, is, holds) stack = absurd (no_key i region c.active.slots o is)
   converted from to target i v o k e w c well does stands stack = absurd (well refl)
 
   converts : (from to : Kind) (target : Option Kind) (v : Kinded) (o : Operand) (k : List Entry) (e : Environment) (w : World) (c : Configuration)
       → IsWell (step source (Running (Given v) (Needs (ConvertTo from to target) ∷ k) e w)) → Stands v o k e w c
-      → ValueStack source c.active.function e.locals o c.active.next c.frames (Needs (ConvertTo from to target) ∷ k) → GoesBehind v (Needs (ConvertTo from to target) ∷ k) e w c
+      → ValueStack source c.active.function e.locals v.kind o c.active.next c.frames (Needs (ConvertTo from to target) ∷ k) → GoesBehind v (Needs (ConvertTo from to target) ∷ k) e w c
   converts from to target v o k e w c well stands stack =
       let does = converts_kind from to target v k e w well in
       converted from to target v.kind v.value o k e w c (subst IsWell does well) does stands stack
 
-  -- a conversion that raises nothing, of a value in the slot of a local that is about to get it
-  converted_ahead : (from to : Kind) (target : Option Kind) (i : Kind) (v : Value) (n : ℕ) (k : List Entry) (e : Environment) (w : World) (c : Configuration)
-      → IsWell (computed to (conversion to v) k e w) → IsQuiet source to → Is v (c.active.slots n)
-      → (computed to (conversion to v) k e w ≡ Running (Given (of_kind to v)) k e w → GoesBehind (of_kind i v) (Needs (ConvertTo from to target) ∷ k) e w c)
-      → GoesBehind (of_kind i v) (Needs (ConvertTo from to target) ∷ k) e w c
-  converted_ahead from to target i (Thin object offset) n k e w c well quiet is goes = absurd is
-  converted_ahead from to target i (Fat object start many index) n k e w c well quiet is goes = absurd is
-  converted_ahead from to target i (Handle region) n k e w c well quiet is goes = absurd is
-  converted_ahead from to target i (Key region) n k e w c well quiet is goes = absurd is
-  converted_ahead from kinds.Int target i (Int a) n k e w c well quiet is goes = goes refl
-  converted_ahead from kinds.Nullable target i Null n k e w c well quiet is goes = goes refl
-  converted_ahead from kinds.Fat target i Null n k e w c well quiet is goes = goes refl
-  converted_ahead from kinds.NonNull target i Null n k e w c well quiet is goes = absurd quiet
-  converted_ahead from to target i v n k e w c well quiet is goes = absurd (well refl)
+  -- a conversion that raises nothing, of a value in the slots of a local that is about to get it
+  converted_ahead : (from to : Kind) (target : Option Kind) (i : Kind) (v : Value) (words : Words) (n : ℕ) (k : List Entry) (e : Environment) (w : World)
+      → IsWell (computed to (conversion to v) k e w) → converts_there from to ≡ true → Is i v words n
+      → (computed to (conversion to v) k e w ≡ Running (Given (of_kind to v)) k e w) × Is to v words n
+  converted_ahead from kinds.Int target i (Int a) words n k e w well quiet is = (refl, kept_at i kinds.Int (Int a) words n refl is)
+  converted_ahead from kinds.Nullable target i Null words n k e w well quiet is = (refl, kept_at i kinds.Nullable Null words n refl is)
+  converted_ahead from kinds.Fat target i Null words n k e w well quiet is = (refl, kept_at i kinds.Fat Null words n refl is)
+  converted_ahead from kinds.NonNull target i Null words n k e w well quiet is = absurd (let f : false ≡ true = quiet in cc)
+  converted_ahead from to target i (Thin object offset) words n k e w well quiet is = absurd (no_pointer i object offset words (operands.Slot n) is)
+  converted_ahead from to target i (Fat object start many index) words n k e w well quiet is = absurd (no_part i object start many index words (operands.Slot n) is)
+  converted_ahead from to target i (Handle region) words n k e w well quiet is = absurd (no_handle i region words (operands.Slot n) is)
+  converted_ahead from to target i (Key region) words n k e w well quiet is = absurd (no_key i region words (operands.Slot n) is)
+  converted_ahead from to target i v words n k e w well quiet is = absurd (well refl)
 
+  -- its kind is the one that it is converted from, and it has as many words behind
   converts_ahead : (from to : Kind) (target : Option Kind) (v : Kinded) (n : ℕ) (k : List Entry) (e : Environment) (w : World) (c : Configuration)
-      → IsWell (step source (Running (Given v) (Needs (ConvertTo from to target) ∷ k) e w)) → IsQuiet source to → Is v.value (c.active.slots n)
-      → (step source (Running (Given v) (Needs (ConvertTo from to target) ∷ k) e w) ≡ Running (Given (of_kind to v.value)) k e w → GoesBehind v (Needs (ConvertTo from to target) ∷ k) e w c)
-      → GoesBehind v (Needs (ConvertTo from to target) ∷ k) e w c
-  converts_ahead from to target v n k e w c well quiet is goes =
+      → IsWell (step source (Running (Given v) (Needs (ConvertTo from to target) ∷ k) e w)) → converts_there from to ≡ true → Is v.kind v.value c.active.slots n
+      → (step source (Running (Given v) (Needs (ConvertTo from to target) ∷ k) e w) ≡ Running (Given (of_kind to v.value)) k e w) × Is to v.value c.active.slots n
+      × (words_of_kind v.kind ≡ words_of_kind to)
+  converts_ahead from to target v n k e w c well quiet is =
       let does = converts_kind from to target v k e w well in
-      converted_ahead from to target v.kind v.value n k e w c (subst IsWell does well) quiet is (λ same. goes (does ∙ same))
+      let (goes, now) = converted_ahead from to target v.kind v.value c.active.slots n k e w (subst IsWell does well) quiet is in
+      let fits = is_fitting (is_kind v.kind from && leads_to w target (followed v.value)) (computed to (conversion to v.value) k e w) w well in
+      (does ∙ goes, now, ap words_of_kind (same_kind v.kind from (and_parts _ _ fits).0) ∙ as_wide from to quiet)
 
   -- ---- operators
 
   -- the operator stands here, and what it gives comes to a slot
   abbrev OperatesAt : UnaryOperator → Operand → List Entry → Environment → Configuration → Type 0
   OperatesAt u o k e c = (d : ℕ) × At (code_of source c.active.function) c.active.next (instructions.Unary (unary_operator u) d o)
-      × LandsStack source c.active.function e.locals d (c.active.next + 1) c.frames k
+      × LandsStack source c.active.function e.locals kinds.Int d (c.active.next + 1) c.frames k
 
   operates_word : (u : UnaryOperator) (i : Kind) (a : ℕ) (o : Operand) (k : List Entry) (e : Environment) (w : World) (c : Configuration)
       → unary_result u (Int a) ≡ Gives (Int (plain_operators.unary_result (unary_operator u) a)) → Stands (of_kind i (Int a)) o k e w c
@@ -205,20 +313,21 @@ module _ (source : Program) (pages calls : ℕ) where
   operates_word u i a o k e w c result (shared, facts, is, holds) (d, here, lands) =
       let x = operand_word c.active.slots o in
       by_one source pages calls (ap (λ r. computed kinds.Int r k e w) result) shared here
-      (λ choice. landed source pages calls (int_of (plain_operators.unary_result (unary_operator u) a)) (plain_operators.unary_result (unary_operator u) x) d k e w c (c.active.next + 1) (ap (plain_operators.unary_result (unary_operator u)) is) shared facts holds refl lands)
+      (λ choice. landed_word source pages calls (plain_operators.unary_result (unary_operator u) a) (plain_operators.unary_result (unary_operator u) x) d k e w c (c.active.next + 1)
+      (ap (plain_operators.unary_result (unary_operator u)) (int_is i a c.active.slots o is)) shared facts holds refl lands)
 
   operates_value : (u : UnaryOperator) (i : Kind) (v : Value) (o : Operand) (k : List Entry) (e : Environment) (w : World) (c : Configuration)
       → IsWell (step source (Running (Given (of_kind i v)) (Needs (Operate u) ∷ k) e w)) → Stands (of_kind i v) o k e w c
       → OperatesAt u o k e c → GoesBehind (of_kind i v) (Needs (Operate u) ∷ k) e w c
-  operates_value u i (Thin object offset) o k e w c well (shared, facts, is, holds) stack = absurd is
-  operates_value u i (Fat object start many index) o k e w c well (shared, facts, is, holds) stack = absurd is
-  operates_value u i (Handle region) o k e w c well (shared, facts, is, holds) stack = absurd is
-  operates_value u i (Key region) o k e w c well (shared, facts, is, holds) stack = absurd is
+  operates_value u i (Thin object offset) o k e w c well (shared, facts, is, holds) stack = absurd (no_pointer i object offset c.active.slots o is)
+  operates_value u i (Fat object start many index) o k e w c well (shared, facts, is, holds) stack = absurd (no_part i object start many index c.active.slots o is)
+  operates_value u i (Handle region) o k e w c well (shared, facts, is, holds) stack = absurd (no_handle i region c.active.slots o is)
+  operates_value u i (Key region) o k e w c well (shared, facts, is, holds) stack = absurd (no_key i region c.active.slots o is)
   operates_value unary.Negate i Null o k e w c well stands stack = absurd (well refl)
   operates_value unary.Complement i Null o k e w c well stands stack = absurd (well refl)
   operates_value unary.Not i Null o k e w c well (shared, facts, is, holds) (d, here, lands) =
       by_one source pages calls refl shared here
-      (λ choice. landed source pages calls (int_of 1) (truth (operand_word c.active.slots o == 0)) d k e w c (c.active.next + 1) (ap (λ x. truth (x == 0)) is) shared facts holds refl lands)
+      (λ choice. landed_word source pages calls 1 (truth (operand_word c.active.slots o == 0)) d k e w c (c.active.next + 1) (ap (λ x. truth (x == 0)) (null_is i c.active.slots o is)) shared facts holds refl lands)
   operates_value unary.Negate i (Int a) o k e w c well stands stack = operates_word unary.Negate i a o k e w c refl stands stack
   operates_value unary.Complement i (Int a) o k e w c well stands stack = operates_word unary.Complement i a o k e w c refl stands stack
   operates_value unary.Not i (Int a) o k e w c well stands stack = operates_word unary.Not i a o k e w c refl stands stack
@@ -229,13 +338,13 @@ module _ (source : Program) (pages calls : ℕ) where
   negates v o k e w c (shared, facts, is, holds) stack =
       let x = operand_word c.active.slots o in
       silently source pages calls (Running (Given v) (Needs (Operate unary.Not) ∷ k) e w) (Running (Given (int_of (truth (x == 0)))) k e w) (plain.Running c)
-      (ap (λ z. computed kinds.Int (truth_result z) k e w) (zero_is v.value x is))
+      (ap (λ z. computed kinds.Int (truth_result z) k e w) (zero_is v c.active.slots o is))
       (shared, compared comparisons.NotEqual o (operands.Word 0) facts (ap Some (untrue (x == 0))) stack)
       (omega arith)
 
   operates : (u : UnaryOperator) (v : Kinded) (o : Operand) (k : List Entry) (e : Environment) (w : World) (c : Configuration)
       → IsWell (step source (Running (Given v) (Needs (Operate u) ∷ k) e w)) → Stands v o k e w c
-      → ValueStack source c.active.function e.locals o c.active.next c.frames (Needs (Operate u) ∷ k) → GoesBehind v (Needs (Operate u) ∷ k) e w c
+      → ValueStack source c.active.function e.locals v.kind o c.active.next c.frames (Needs (Operate u) ∷ k) → GoesBehind v (Needs (Operate u) ∷ k) e w c
   operates u v o k e w c well stands (to_slot here) = operates_value u v.kind v.value o k e w c well stands here
   operates u v o k e w c well stands (to_jump (is, stack)) = subst (λ x. GoesBehind v (Needs (Operate x) ∷ k) e w c) (sym is) (negates v o k e w c stands stack)
 
@@ -246,14 +355,14 @@ module _ (source : Program) (pages calls : ℕ) where
       → ((x : ℕ) → plain_operators.has_no_result (binary_operator u) x ≡ (x == 0)) → ((x y : ℕ) → plain_operators.binary_result (binary_operator u) x y ≡ binary_word u x y)
       → (b == 0) ≡ false → SharedAt source pages calls w c → DataIn source c.active.slots k e w c
       → operand_word c.active.slots l ≡ a → operand_word c.active.slots r ≡ b → Holds c.active.slots (base_of source c.active.function) (held k)
-      → c.active.next + 1 ≡ q → LandsStack source c.active.function e.locals d q c.frames k
+      → c.active.next + 1 ≡ q → LandsStack source c.active.function e.locals kinds.Int d q c.frames k
       → (choice : Choice) → Matches source pages calls (Running (Given (int_of (binary_word u a b))) k e w) (performed (lower_program source) choice c (instructions.Binary (binary_operator u) d l r))
   quotient u a b l r d k e w c q plain_test same nonzero shared facts is_left is holds end lands choice =
       let x = operand_word c.active.slots l in
       let y = operand_word c.active.slots r in
       let result = plain_operators.binary_result (binary_operator u) x y in
       subst (λ (z : Bool). Matches source pages calls (Running (Given (int_of (binary_word u a b))) k e w) (if z then plain.Stuck c.output c.input else gives c d result)) (sym (plain_test y ∙ ap (λ z. z == 0) is ∙ nonzero))
-      (landed source pages calls (int_of (binary_word u a b)) result d k e w c q
+      (landed_word source pages calls (binary_word u a b) result d k e w c q
       (same x y ∙ ap (λ z. binary_word u z y) is_left ∙ ap (binary_word u a) is)
       shared facts holds end lands)
 
@@ -263,14 +372,14 @@ module _ (source : Program) (pages calls : ℕ) where
       → ((x y : ℕ) → plain_operators.binary_result (binary_operator u) x y ≡ binary_word u x y) → (b == 0) ≡ f
       → SharedAt source pages calls w c → DataIn source c.active.slots k e w c
       → operand_word c.active.slots l ≡ a → operand_word c.active.slots r ≡ b → Holds c.active.slots (base_of source c.active.function) (held k)
-      → CheckAt (code_of source c.active.function) (bounds_at source c.active.function) (starts_at source c.active.function) division_by_zero r c.active.next m
+      → CheckAt (code_of source c.active.function) (bounds_at source c.active.function) (types_at source c.active.function) division_by_zero r c.active.next m
       → At (code_of source c.active.function) m (instructions.Binary (binary_operator u) d l r) → m + 1 ≡ q
-      → LandsStack source c.active.function e.locals d q c.frames k → GoesBehind (of_kind j (Int b)) (Needs (Apply u (of_kind i (Int a))) ∷ k) e w c
+      → LandsStack source c.active.function e.locals kinds.Int d q c.frames k → GoesBehind (of_kind j (Int b)) (Needs (Apply u (of_kind i (Int a))) ∷ k) e w c
   tested_divides u i j a b true l r d k e w c m q plain_test test same zero_b shared facts is_left is holds (jump, uncaught, behind) here end lands =
       let b_is : b ≡ 0 = eqb-true b 0 zero_b in
       by_one source pages calls (ap (λ x. computed kinds.Int (if x then Raises 4 else Gives (Int (binary_word u a b))) k e w) (test b ∙ zero_b)) shared jump
       (λ choice. not_taken (Running (Throwing 4 0) k e w) c (not (operand_word c.active.slots r == 0)) m (ap (λ x. not (x == 0)) (is ∙ b_is))
-      (shared, omega (arith, lands_depth source c.active.function e.locals d q c.frames k lands, shared.fits), lands_plain source c.active.function e.locals d q c.frames k lands, r, uncaught, is ∙ b_is))
+      (shared, omega (arith, lands_depth source c.active.function e.locals kinds.Int d q c.frames k lands, shared.fits), lands_plain source c.active.function e.locals kinds.Int d q c.frames k lands, r, uncaught, is ∙ b_is))
   tested_divides u i j a b false l r d k e w c m q plain_test test same zero_b shared facts is_left is holds (jump, uncaught, behind) here end lands =
       let nonzero : (operand_word c.active.slots r == 0) ≡ false = ap (λ x. x == 0) is ∙ zero_b in
       by_two source pages calls (at c m)
@@ -285,8 +394,8 @@ module _ (source : Program) (pages calls : ℕ) where
       → ((x y : ℕ) → plain_operators.binary_result (binary_operator u) x y ≡ binary_word u x y)
       → SharedAt source pages calls w c → DataIn source c.active.slots k e w c
       → operand_word c.active.slots l ≡ a → operand_word c.active.slots r ≡ b → Holds c.active.slots (base_of source c.active.function) (held k)
-      → CheckedAt (code_of source c.active.function) (bounds_at source c.active.function) (starts_at source c.active.function) u d l r c.active.next q
-      → LandsStack source c.active.function e.locals d q c.frames k → GoesBehind (of_kind j (Int b)) (Needs (Apply u (of_kind i (Int a))) ∷ k) e w c
+      → CheckedAt (code_of source c.active.function) (bounds_at source c.active.function) (types_at source c.active.function) u d l r c.active.next q
+      → LandsStack source c.active.function e.locals kinds.Int d q c.frames k → GoesBehind (of_kind j (Int b)) (Needs (Apply u (of_kind i (Int a))) ∷ k) e w c
   divides u i j a b l (operands.Word (suc n)) d k e w c q plain_test test same shared facts is_left is holds (m, begin, here, end) lands =
       let nonzero : (b == 0) ≡ false = ap (λ x. x == 0) (sym is) ∙ false_from_ne_true (suc n == 0) (λ h. absurd (let z : suc n ≡ 0 = eqb-true (suc n) 0 h in omega (arith, z))) in
       by_one source pages calls (ap (λ x. computed kinds.Int (if x then Raises 4 else Gives (Int (binary_word u a b))) k e w) (test b ∙ nonzero)) shared
@@ -300,8 +409,8 @@ module _ (source : Program) (pages calls : ℕ) where
   computes : (u : Operator) (i j : Kind) (a b : ℕ) (l r : Operand) (d : ℕ) (k : List Entry) (e : Environment) (w : World) (c : Configuration) (q : ℕ)
       → SharedAt source pages calls w c → DataIn source c.active.slots k e w c
       → operand_word c.active.slots l ≡ a → operand_word c.active.slots r ≡ b → Holds c.active.slots (base_of source c.active.function) (held k)
-      → OperatorAt (code_of source c.active.function) (bounds_at source c.active.function) (starts_at source c.active.function) u d l r c.active.next q
-      → LandsStack source c.active.function e.locals d q c.frames k → GoesBehind (of_kind j (Int b)) (Needs (Apply u (of_kind i (Int a))) ∷ k) e w c
+      → OperatorAt (code_of source c.active.function) (bounds_at source c.active.function) (types_at source c.active.function) u d l r c.active.next q
+      → LandsStack source c.active.function e.locals kinds.Int d q c.frames k → GoesBehind (of_kind j (Int b)) (Needs (Apply u (of_kind i (Int a))) ∷ k) e w c
   computes operators.Divide i j a b l r d k e w c q shared facts is_left is holds here lands =
       divides operators.Divide i j a b l r d k e w c q (λ x. refl) (λ x. refl) (λ x y. refl) shared facts is_left is holds here lands
   computes operators.Remainder i j a b l r d k e w c q shared facts is_left is holds here lands =
@@ -310,7 +419,7 @@ module _ (source : Program) (pages calls : ℕ) where
       let x = operand_word c.active.slots l in
       let y = operand_word c.active.slots r in
       by_one source pages calls refl shared here
-      (λ choice. landed source pages calls (int_of (binary_word u a b)) (binary_word u x y) d k e w c q
+      (λ choice. landed_word source pages calls (binary_word u a b) (binary_word u x y) d k e w c q
       (ap (λ z. binary_word u z y) is_left ∙ ap (binary_word u a) is) shared facts holds end lands)
 
   -- a condition that is a comparison is not computed
@@ -337,8 +446,8 @@ module _ (source : Program) (pages calls : ℕ) where
       → IsWell (step source (Running (Given (of_kind j v)) (Needs (Apply u (of_kind i left)) ∷ k) e w)) → SharedAt source pages calls w c → DataIn source c.active.slots k e w c
       → ReadyAt source (of_kind j v) e.locals c.active.function c.active.next c.active.slots c.frames (Needs (Apply u (of_kind i left)) ∷ k)
       → GoesBehind (of_kind j v) (Needs (Apply u (of_kind i left)) ∷ k) e w c
-  applies_values u i j (Int a) (Int b) k e w c well shared facts (l, r, is_left, is, holds, to_slot (d, q, here, lands)) = computes u i j a b l r d k e w c q shared facts is_left is holds here lands
-  applies_values u i j (Int a) (Int b) k e w c well shared facts (l, r, is_left, is, holds, to_jump (failing, fails, stack)) = compares_both u i j failing a b l r k e w c fails shared facts is_left is stack
+  applies_values u i j (Int a) (Int b) k e w c well shared facts (l, r, is_left, is, holds, to_slot (d, q, here, lands)) = computes u i j a b l r d k e w c q shared facts (int_is i a c.active.slots l is_left) (int_is j b c.active.slots r is) holds here lands
+  applies_values u i j (Int a) (Int b) k e w c well shared facts (l, r, is_left, is, holds, to_jump (failing, fails, stack)) = compares_both u i j failing a b l r k e w c fails shared facts (int_is i a c.active.slots l is_left) (int_is j b c.active.slots r is) stack
   applies_values u i j left v k e w c well shared facts ready = absurd (well refl)
 
   applies : (u : Operator) (left v : Kinded) (k : List Entry) (e : Environment) (w : World) (c : Configuration)
@@ -358,7 +467,7 @@ module _ (source : Program) (pages calls : ℕ) where
   -- where a word was negated once, a second time gives 0 or 1
   negated_twice : (t d : ℕ) (k : List Entry) (e : Environment) (w : World) (c : Configuration) (q : ℕ) → t ≡ truth (not (c.active.slots (top source c.active.function k) == 0))
       → SharedAt source pages calls w c → DataIn source c.active.slots k e w c
-      → Holds c.active.slots (base_of source c.active.function) (held k) → c.active.next + 1 + 1 ≡ q → LandsStack source c.active.function e.locals d q c.frames k
+      → Holds c.active.slots (base_of source c.active.function) (held k) → c.active.next + 1 + 1 ≡ q → LandsStack source c.active.function e.locals kinds.Int d q c.frames k
       → Related source pages calls (Given (int_of t)) k e w
       (advanced (with_slots (negated c k) (put (negated c k).active.slots d (truth ((negated c k).active.slots (top source c.active.function k) == 0)))))
   negated_twice t d k e w c q t_is shared facts holds end lands =
@@ -366,27 +475,27 @@ module _ (source : Program) (pages calls : ℕ) where
       let base = base_of source c.active.function in
       let x = truth (c.active.slots free == 0) in
       let slots = put c.active.slots free x in
-      landed source pages calls (int_of t) (truth (slots free == 0)) d k e w (negated c k) q
+      landed_word source pages calls t (truth (slots free == 0)) d k e w (negated c k) q
       (ap (λ y. truth (y == 0)) (put-same c.active.slots free x) ∙ truth_twice (c.active.slots free == 0) ∙ sym t_is)
-      shared (data_put source c.active.function w.objects e.locals (callers k) c.active.slots c.globals c.frames free x (height-least base (held k)) facts)
-      (Holds-put c.active.slots base (held k) free x (omega arith) holds) end lands
+      shared (data_above source c.active.function w.objects e.locals (callers k) c.active.slots slots c.globals c.frames free 1 (height-least base (held k)) (λ m out. put_elsewhere c.active.slots free x 1 m (omega arith) out) facts)
+      (Holds-same c.active.slots slots base (held k) (λ m below. put_elsewhere c.active.slots free x 1 m (omega arith) (inl below)) holds) end lands
 
   decides_truth : (v : Kinded) (o : Operand) (k : List Entry) (e : Environment) (w : World) (c : Configuration) → Stands v o k e w c
-      → ValueStack source c.active.function e.locals o c.active.next c.frames (Needs Decide ∷ k) → GoesBehind v (Needs Decide ∷ k) e w c
+      → ValueStack source c.active.function e.locals v.kind o c.active.next c.frames (Needs Decide ∷ k) → GoesBehind v (Needs Decide ∷ k) e w c
   decides_truth v o k e w c (shared, facts, is, holds) (d, q, there, (first, second, end), lands) =
       let x = c.active.slots (top source c.active.function k) in
-      let is_x : Is v.value x = subst (λ z. Is v.value (operand_word c.active.slots z)) there is in
+      let is_x : IsIn v c.active.slots (operands.Slot (top source c.active.function k)) = subst (IsIn v c.active.slots) there is in
       by_two source pages calls (negated c k)
-      (ap (λ z. computed kinds.Int (truth_of z) k e w) (zero_is v.value x is_x)) shared shared first (λ choice. refl) second (λ equal. omega (arith, equal))
+      (ap (λ z. computed kinds.Int (truth_of z) k e w) (zero_is v c.active.slots (operands.Slot (top source c.active.function k)) is_x)) shared shared first (λ choice. refl) second (λ equal. omega (arith, equal))
       (λ choice. negated_twice (truth (not (x == 0))) d k e w c q refl shared facts holds end lands)
 
   -- ---- chains
 
   -- the value of all before goes to what is left of a chain
   chain_lands : (os : Operations) (g : ℕ) (locals : ℕ → Option ℕ) (d p q : ℕ) (frames : List Frame) (k : List Entry)
-      → OperationsAt (code_of source g) (bounds_at source g) (starts_at source g) os (operands.Slot (next_slot os d (top source g k))) d (top source g k) p q
-      → LandsStack source g locals d q frames k → LandsStack source g locals (next_slot os d (top source g k)) p frames (Needs (Chain os) ∷ k)
-  chain_lands NoOperations g locals d p q frames k (is, end) lands = lands_at source pages calls g locals d p q frames k end lands
+      → OperationsAt (code_of source g) (bounds_at source g) (types_at source g) os (operands.Slot (next_slot os d (top source g k))) d (top source g k) p q
+      → LandsStack source g locals kinds.Int d q frames k → LandsStack source g locals kinds.Int (next_slot os d (top source g k)) p frames (Needs (Chain os) ∷ k)
+  chain_lands NoOperations g locals d p q frames k (is, end) lands = lands_at source pages calls g locals kinds.Int d p q frames k end lands
   chain_lands (ThenCompute u b os) g locals d p q frames k ops lands = in_temporary (omega arith) (to_slot (d, q, ops, lands))
   chain_lands (ThenTest u b os) g locals d p q frames k ops lands = in_temporary (omega arith) (to_slot (d, q, ops, lands))
   chain_lands os g locals d p q frames k ops lands = absurd ops
@@ -399,8 +508,8 @@ module _ (source : Program) (pages calls : ℕ) where
       → (c.active.slots (top source c.active.function k) == 0) ≡ f
       → SharedAt source pages calls w c → DataIn source c.active.slots k e w c
       → Holds c.active.slots (base_of source c.active.function) (held k)
-      → TruthAt (code_of source c.active.function) (bounds_at source c.active.function) (starts_at source c.active.function) (top source c.active.function k) d m r
-      → LandsStack source c.active.function e.locals d r c.frames (Needs (Chain os) ∷ k)
+      → TruthAt (code_of source c.active.function) (bounds_at source c.active.function) (types_at source c.active.function) (top source c.active.function k) d m r
+      → LandsStack source c.active.function e.locals kinds.Int d r c.frames (Needs (Chain os) ∷ k)
       → GoesBehind v (Needs (Chain (ThenTest u b os)) ∷ k) e w c
   decided_at_once u b os v f k e w c i d m r does here jumps other told shared facts holds (first, second, end) lands =
       let code = code_of source c.active.function in
@@ -421,27 +530,27 @@ module _ (source : Program) (pages calls : ℕ) where
   -- in a place with a test, both ways
   tests : (u : LogicalOperator) (b : Expression) (os : Operations) (v : Kinded) (f : Bool) (k : List Entry) (e : Environment) (w : World) (c : Configuration) (d q : ℕ)
       → (c.active.slots (top source c.active.function k) == 0) ≡ f → Stands v (operands.Slot (top source c.active.function k)) k e w c
-      → OperationsAt (code_of source c.active.function) (bounds_at source c.active.function) (starts_at source c.active.function) (ThenTest u b os) (operands.Slot (top source c.active.function k)) d (top source c.active.function k) c.active.next q
-      → LandsStack source c.active.function e.locals d q c.frames k → GoesBehind v (Needs (Chain (ThenTest u b os)) ∷ k) e w c
+      → OperationsAt (code_of source c.active.function) (bounds_at source c.active.function) (types_at source c.active.function) (ThenTest u b os) (operands.Slot (top source c.active.function k)) d (top source c.active.function k) c.active.next q
+      → LandsStack source c.active.function e.locals kinds.Int d q c.frames k → GoesBehind v (Needs (Chain (ThenTest u b os)) ∷ k) e w c
   tests logical.AndThen b os v true k e w c d q told (shared, facts, is, holds) (m, r, there, jump, at_b, truths, ops) lands =
-      let does = ap (λ (x : Option Bool). tested x logical.AndThen b os k e w) (zero_is v.value _ is ∙ ap Some told) in
+      let does = ap (λ (x : Option Bool). tested x logical.AndThen b os k e w) (zero_is v c.active.slots (operands.Slot (top source c.active.function k)) is ∙ ap Some told) in
       decided_at_once logical.AndThen b os v true k e w c _ (next_slot os d (top source c.active.function k)) m r does jump (λ choice. ap (λ x. plain_step.branches c x m) told)
       (λ x same. let f : jump_if_zero _ m ≡ instructions.Unary plain_unary.Not x _ = same in cc) told shared facts holds truths
       (chain_lands os c.active.function e.locals d r q c.frames k ops lands)
   tests logical.AndThen b os v false k e w c d q told (shared, facts, is, holds) (m, r, there, jump, at_b, truths, ops) lands =
       let free = top source c.active.function k in
-      let does = ap (λ (x : Option Bool). tested x logical.AndThen b os k e w) (zero_is v.value _ is ∙ ap Some told) in
+      let does = ap (λ (x : Option Bool). tested x logical.AndThen b os k e w) (zero_is v c.active.slots (operands.Slot (top source c.active.function k)) is ∙ ap Some told) in
       by_one source pages calls does shared jump
       (λ choice. not_taken (Running (Evaluating b) (Needs Decide ∷ Needs (Chain os) ∷ k) e w) c _ m told
       (shared, facts, into_slot free m at_b holds (in_temporary (omega arith) (next_slot os d free, r, refl, truths, chain_lands os c.active.function e.locals d r q c.frames k ops lands))))
   tests logical.OrElse b os v true k e w c d q told (shared, facts, is, holds) (m, r, there, jump, at_b, truths, ops) lands =
       let free = top source c.active.function k in
-      let does = ap (λ (x : Option Bool). tested x logical.OrElse b os k e w) (zero_is v.value _ is ∙ ap Some told) in
+      let does = ap (λ (x : Option Bool). tested x logical.OrElse b os k e w) (zero_is v c.active.slots (operands.Slot (top source c.active.function k)) is ∙ ap Some told) in
       by_one source pages calls does shared jump
       (λ choice. not_taken (Running (Evaluating b) (Needs Decide ∷ Needs (Chain os) ∷ k) e w) c _ m (ap not told)
       (shared, facts, into_slot free m at_b holds (in_temporary (omega arith) (next_slot os d free, r, refl, truths, chain_lands os c.active.function e.locals d r q c.frames k ops lands))))
   tests logical.OrElse b os v false k e w c d q told (shared, facts, is, holds) (m, r, there, jump, at_b, truths, ops) lands =
-      let does = ap (λ (x : Option Bool). tested x logical.OrElse b os k e w) (zero_is v.value _ is ∙ ap Some told) in
+      let does = ap (λ (x : Option Bool). tested x logical.OrElse b os k e w) (zero_is v c.active.slots (operands.Slot (top source c.active.function k)) is ∙ ap Some told) in
       decided_at_once logical.OrElse b os v false k e w c _ (next_slot os d (top source c.active.function k)) m r does jump (λ choice. ap (λ x. plain_step.branches c (not x) m) told)
       (λ x same. let f : jump_if_nonzero _ m ≡ instructions.Unary plain_unary.Not x _ = same in cc) told shared facts holds truths
       (chain_lands os c.active.function e.locals d r q c.frames k ops lands)
@@ -452,12 +561,16 @@ module _ (source : Program) (pages calls : ℕ) where
   awaited true waiting b os k e w well = refl
   awaited false waiting b os k e w well = absurd (well refl)
 
+  awaited_fits : (fits : Bool) (waiting : Awaiting) (b : Expression) (os : Operations) (k : List Entry) (e : Environment) (w : World) → IsWell (awaits_right fits waiting b os k e w) → fits ≡ true
+  awaited_fits true waiting b os k e w well = refl
+  awaited_fits false waiting b os k e w well = absurd (well refl)
+
   -- an operator: its right operand has no code, or comes behind the left one
   chain_goes_on : (known : Option Operand) (u : Operator) (b : Expression) (os : Operations) (v : Kinded) (l : Operand) (k : List Entry) (e : Environment) (w : World) (c : Configuration) (r : Operand) (m : ℕ)
       → IsWell (step source (Running (Given v) (Needs (Chain (ThenCompute u b os)) ∷ k) e w)) → operand_of (starts_at source c.active.function) b ≡ known → Stands v l k e w c
-      → OperandBy (code_of source c.active.function) (bounds_at source c.active.function) (starts_at source c.active.function) known
+      → OperandBy (code_of source c.active.function) (bounds_at source c.active.function) (types_at source c.active.function) known
       ((l ≡ operands.Slot (top source c.active.function k))
-      × ExpressionAt (code_of source c.active.function) (bounds_at source c.active.function) (starts_at source c.active.function) b (value_slot (starts_at source c.active.function) b (suc (top source c.active.function k))) (suc (top source c.active.function k)) c.active.next m)
+      × ExpressionAt (code_of source c.active.function) (bounds_at source c.active.function) (types_at source c.active.function) b (value_slot (starts_at source c.active.function) b (suc (top source c.active.function k))) (suc (top source c.active.function k)) c.active.next m)
       (value_slot (starts_at source c.active.function) b (suc (top source c.active.function k))) r c.active.next m
       → AppliedStack source c.active.function e.locals u l r m c.frames (Needs (Chain os) ∷ k)
       → GoesBehind v (Needs (Chain (ThenCompute u b os)) ∷ k) e w c
@@ -468,20 +581,28 @@ module _ (source : Program) (pages calls : ℕ) where
       (omega arith)
   chain_goes_on None u b os v l k e w c r m well is_known (shared, facts, is, holds) (r_is, (there, at_b)) applied =
       let g = c.active.function in
-      let free = suc (top source g k) in
+      let t = top source g k in
+      let starts = starts_at source g in
+      let int = same_kind v.kind kinds.Int (awaited_fits (is_kind v.kind kinds.Int) (Apply u v) b os k e w well) in
+      let next : suc t ≡ top source g (Needs (Apply u v) ∷ Needs (Chain os) ∷ k) = omega (arith, ap words_of_kind int) in
+      let at_right : OperandBy (code_of source g) (bounds_at source g) (types_at source g) (operand_of starts b)
+      (ExpressionAt (code_of source g) (bounds_at source g) (types_at source g) b (value_slot starts b (suc t)) (suc t) c.active.next m) (value_slot starts b (suc t)) r c.active.next m =
+      subst (λ x. OperandBy (code_of source g) (bounds_at source g) (types_at source g) x (ExpressionAt (code_of source g) (bounds_at source g) (types_at source g) b (value_slot starts b (suc t)) (suc t) c.active.next m) (value_slot starts b (suc t)) r c.active.next m)
+      (sym is_known) (r_is, at_b) in
       silently source pages calls (Running (Given v) (Needs (Chain (ThenCompute u b os)) ∷ k) e w) (Running (Evaluating b) (Needs (Apply u v) ∷ Needs (Chain os) ∷ k) e w) (plain.Running c) (awaited (is_kind v.kind kinds.Int) (Apply u v) b os k e w well) (
         shared,
         facts,
         as_operand r m
-            (subst (λ x. OperandBy (code_of source g) (bounds_at source g) (starts_at source g) x (ExpressionAt (code_of source g) (bounds_at source g) (starts_at source g) b (value_slot (starts_at source c.active.function) b free) free c.active.next m) (value_slot (starts_at source c.active.function) b free) r c.active.next m) (sym is_known) (r_is, at_b))
-            (subst (λ x. Is v.value (operand_word c.active.slots x)) there is, holds)
+            (subst (λ n. OperandBy (code_of source g) (bounds_at source g) (types_at source g) (operand_of starts b) (ExpressionAt (code_of source g) (bounds_at source g) (types_at source g) b (value_slot starts b n) n c.active.next m) (value_slot starts b n) r c.active.next m)
+            next at_right)
+            (subst (IsIn v c.active.slots) there is, holds)
             (subst (λ x. AppliedStack source g e.locals u x r m c.frames (Needs (Chain os) ∷ k)) there applied),
       )
       (omega arith)
 
   chains : (os : Operations) (v : Kinded) (o : Operand) (k : List Entry) (e : Environment) (w : World) (c : Configuration)
       → IsWell (step source (Running (Given v) (Needs (Chain os) ∷ k) e w)) → Stands v o k e w c
-      → ValueStack source c.active.function e.locals o c.active.next c.frames (Needs (Chain os) ∷ k) → GoesBehind v (Needs (Chain os) ∷ k) e w c
+      → ValueStack source c.active.function e.locals v.kind o c.active.next c.frames (Needs (Chain os) ∷ k) → GoesBehind v (Needs (Chain os) ∷ k) e w c
   chains NoOperations v o k e w c well (shared, facts, is, holds) stack =
       silently source pages calls (Running (Given v) (Needs (Chain NoOperations) ∷ k) e w) (Running (Given v) k e w) (plain.Running c) refl
       (shared, in_operand o facts is holds stack)
@@ -493,7 +614,7 @@ module _ (source : Program) (pages calls : ℕ) where
       chain_goes_on (operand_of (starts_at source c.active.function) b) u b NoOperations v o k e w c r q well refl stands at_b (to_jump (failing, is, stack))
   chains (ThenTest u b os) v o k e w c well (shared, facts, is, holds) (to_slot (d, q, (m, r, there, jump, at_b, truths, ops), lands)) =
       tests u b os v (c.active.slots (top source c.active.function k) == 0) k e w c d q refl
-      (shared, facts, subst (λ x. Is v.value (operand_word c.active.slots x)) there is, holds) (m, r, refl, jump, at_b, truths, ops) lands
+      (shared, facts, subst (IsIn v c.active.slots) there is, holds) (m, r, refl, jump, at_b, truths, ops) lands
   chains os v o k e w c well stands (to_slot (d, q, at, lands)) = absurd at
   chains os v o k e w c well stands (to_jump (failing, r, q, at, stack)) = absurd at
 
@@ -507,39 +628,30 @@ module _ (source : Program) (pages calls : ℕ) where
 
   -- a value that is in a slot already has landed there
   landed_there : (v : Kinded) (d : ℕ) (k : List Entry) (e : Environment) (w : World) (c : Configuration) (q : ℕ) → Stands v (operands.Slot d) k e w c → c.active.next ≡ q
-      → LandsStack source c.active.function e.locals d q c.frames k → Related source pages calls (Given v) k e w c
+      → LandsStack source c.active.function e.locals v.kind d q c.frames k → Related source pages calls (Given v) k e w c
   landed_there v d k e w c q (shared, facts, is, holds) end (in_temporary least stack) =
-      (shared, in_operand (operands.Slot d) facts is holds (subst (λ r. ValueStack source c.active.function e.locals (operands.Slot d) r c.frames k) (sym end) stack))
-  landed_there v d k e w c q (shared, facts, is, holds) end (in_local below stack) =
-      let slots = c.active.slots in (
-        shared,
-        ahead d
-            (slots d, data_same source c.active.function w.objects e.locals (callers k) slots (put slots d (slots d)) c.globals c.frames (λ m less. put_again slots d m) facts)
-            below is holds (subst (λ r. AheadStack source c.active.function e.locals d r c.frames k) (sym end) stack),
-      )
-    where
-      put_again : (slots : ℕ → ℕ) (n m : ℕ) → put slots n (slots n) m ≡ slots m
-      put_again slots n m = elim (cases_eq m n) [
-        | inl equal ↦ ap (put slots n (slots n)) equal ∙ put-same slots n (slots n) ∙ sym (ap slots equal)
-        | inr apart ↦ put-other slots n m (slots n) apart
-      ]
+      (shared, in_operand (operands.Slot d) facts is holds (subst (λ r. ValueStack source c.active.function e.locals v.kind (operands.Slot d) r c.frames k) (sym end) stack))
+  landed_there v d k e w c q (shared, facts, is, holds) end (in_local below stack) = (
+    shared,
+    ahead d (c.active.slots, λ m out. refl, facts) is holds (subst (λ r. AheadStack source c.active.function e.locals v.kind d r c.frames k) (sym end) stack),
+  )
 
   copied : (b : Bool) (v : Kinded) (o : Operand) (d : ℕ) (k : List Entry) (e : Environment) (w : World) (c : Configuration) (q : ℕ) → is_in o d ≡ b → Stands v o k e w c
-      → CopyBy (code_of source c.active.function) b o d c.active.next q → LandsStack source c.active.function e.locals d q c.frames k → Handed v k e w c
+      → CopyBy (code_of source c.active.function) b (words_of_kind v.kind) o d c.active.next q → LandsStack source c.active.function e.locals v.kind d q c.frames k → Handed v k e w c
   copied true v (operands.Slot n) d k e w c q same stands end lands =
       at_once (landed_there v d k e w c q (subst (λ x. Stands v (operands.Slot x) k e w c) (eqb-true n d same) stands) end lands)
   copied true v (operands.Word n) d k e w c q same stands end lands = absurd (let f : false ≡ true = same in cc)
   copied false v o d k e w c q same (shared, facts, is, holds) (here, end) lands =
-      by_copy (instructions.Move d o) here (λ choice. landed source pages calls v (operand_word c.active.slots o) d k e w c q is shared facts holds end lands)
+      by_copy (move_of (words_of_kind v.kind) d o) here (λ choice. landed_moved source pages calls v o d k e w c q choice is shared facts holds end lands)
 
   handed : (v : Kinded) (o : Operand) (k : List Entry) (e : Environment) (w : World) (c : Configuration) (q : ℕ) → c.active.next ≡ q → Stands v o k e w c
-      → HandsOnStack source c.active.function e.locals o q c.frames k → Handed v k e w c
+      → HandsOnStack source c.active.function e.locals v.kind o q c.frames k → Handed v k e w c
   handed v o k e w c q here (shared, facts, is, holds) (drops stack) =
       at_once (shared, nowhere facts (subst (λ r. DroppedStack source c.active.function r c.frames k) (sym here) stack))
   handed v o k e w c q here (shared, facts, is, holds) (leaves stack) =
-      at_once (shared, in_operand o facts is holds (subst (λ r. ValueStack source c.active.function e.locals o r c.frames k) (sym here) stack))
+      at_once (shared, in_operand o facts is holds (subst (λ r. ValueStack source c.active.function e.locals v.kind o r c.frames k) (sym here) stack))
   handed v o k e w c q here stands (copies d r copy lands) =
-      copied (is_in o d) v o d k e w c r refl stands (subst (λ x. CopyAt (code_of source c.active.function) o d x r) (sym here) copy) lands
+      copied (is_in o d) v o d k e w c r refl stands (subst (λ x. CopyAt (code_of source c.active.function) (words_of_kind v.kind) o d x r) (sym here) copy) lands
 
   -- a step that ends so, behind one instruction or behind none
   hands_behind : {focus : Focus} {before : List Entry} {w0 : World} {i : Instruction} (v : Kinded) (k : List Entry) (e : Environment) (w : World) (c d : Configuration)
@@ -559,24 +671,27 @@ module _ (source : Program) (pages calls : ℕ) where
 
   stores : (object : ℕ) (v : Kinded) (l : Lvalue) (o to : Operand) (k : List Entry) (e : Environment) (w : World) (c : Configuration) (q : ℕ)
       → object_of e l ≡ Some object → IsWell (stored_at (Thin object 0) v (Given v) k e w) → Stands v o k e w c
-      → StoreAt source c.active.function l o to c.active.next q → HandsOnStack source c.active.function e.locals to q c.frames k
+      → StoreAt source c.active.function v.kind l o to c.active.next q → HandsOnStack source c.active.function e.locals v.kind to q c.frames k
       → GoesBehind v (Needs (Store (Thin object 0)) ∷ k) e w c
-  stores object v (Local p n) o to k e w c q found well (shared, facts, is, holds) (here, end, there) hands =
+  stores object v (Local p n) o to k e w c q found well (shared, facts, is, holds) (here, end, there, room) hands =
       let g = c.active.function in
-      let x = operand_word c.active.slots o in
+      let words = words_of_kind v.kind in
       let stored = is_stored object v (Given v) k e w well in
       let slot = slot_of (starts_at source g) n in
-      let few = slot-inside (types_at source g) n (facts.2.within n object found).0 in
-      let after : Configuration = advanced (with_slots c (put c.active.slots slot x)) in
+      let inside = slot-room (types_at source g) n (facts.2.within n object found).0 in
+      let slots = moved_slots c.active.slots words slot o in
+      let elsewhere : (m : ℕ) → Outside slot words m → slots m ≡ c.active.slots m = λ m out. moved_elsewhere c.active.slots words slot o m (kind_positive v.kind) out in
+      let moved = moved_is v c.active.slots slot o is in
+      let after : Configuration = advanced (with_slots c slots) in
       let next = written w object 0 stored.at v.value in
-      hands_behind v k e next c after stored.gives shared shared here (λ choice. refl) (λ same. omega (arith, same))
+      hands_behind v k e next c after stored.gives shared shared here (λ choice. moves (lower_program source) choice c words slot o) (λ same. omega (arith, same))
       (handed v to k e next after q end (
         shared,
-        data_assigned source g w.objects next.objects e.locals (callers k) c.active.slots c.globals c.frames n object v.value x found
-            (written_here w object stored.at v.value stored.object_there stored.cell_there) (written_elsewhere w object stored.at v.value stored.object_there stored.cell_there)
-            (written_length w object stored.at v.value stored.object_there stored.cell_there) is facts,
-        subst (λ z. Is v.value (operand_word after.active.slots z)) (sym there) (subst (Is v.value) (sym (put-same c.active.slots slot x)) is),
-        Holds-local c.active.slots (base_of source g) (held k) slot x few holds,
+        data_assigned source g w.objects next.objects e.locals (callers k) c.active.slots slots c.globals c.frames n object v found
+            (written_here w object stored.at v.value stored.object_there stored.cell_there v.kind stored.same) (written_elsewhere w object stored.at v.value stored.object_there stored.cell_there)
+            (written_length w object stored.at v.value stored.object_there stored.cell_there) room moved elsewhere facts,
+        subst (IsIn v slots) (sym there) moved,
+        Holds-above c.active.slots slots (base_of source g) (held k) (λ m above. elsewhere m (inr (omega (arith, inside, room, above)))) holds,
       ) hands)
   stores object v (Global n) o to k e w c q found well (shared, facts, is, holds) (here, end, there, few) hands =
       let g = c.active.function in
@@ -588,38 +703,39 @@ module _ (source : Program) (pages calls : ℕ) where
       hands_behind v k e next c after stored.gives shared shared here (λ choice. refl) (λ equal. omega (arith, equal))
       (handed v to k e next after q end (
         shared,
-        data_assigned_global source g w.objects next.objects e.locals (callers k) c.active.slots c.globals c.frames n v.value x
+        data_assigned_global source g w.objects next.objects e.locals (callers k) c.active.slots c.globals c.frames n v x
             (global_there source pages calls g n few)
-            (ap (contents next.objects) same ∙ written_here w object stored.at v.value stored.object_there stored.cell_there)
+            (ap (contents next.objects) same ∙ written_here w object stored.at v.value stored.object_there stored.cell_there v.kind stored.same)
             (λ i other. written_elsewhere w object stored.at v.value stored.object_there stored.cell_there i (λ equal. other (equal ∙ sym same)))
-            (written_length w object stored.at v.value stored.object_there stored.cell_there) is facts,
-        subst (λ z. Is v.value (operand_word c.active.slots z)) (sym there) is,
+            (written_length w object stored.at v.value stored.object_there stored.cell_there) (first_word v c.active.slots o is) facts,
+        subst (IsIn v c.active.slots) (sym there) is,
         holds,
       ) hands)
 
   stores_at : (place : Value) (v : Kinded) (o : Operand) (k : List Entry) (e : Environment) (w : World) (c : Configuration)
       → IsWell (step source (Running (Given v) (Needs (Store place) ∷ k) e w)) → Stands v o k e w c
-      → ValueStack source c.active.function e.locals o c.active.next c.frames (Needs (Store place) ∷ k) → GoesBehind v (Needs (Store place) ∷ k) e w c
+      → ValueStack source c.active.function e.locals v.kind o c.active.next c.frames (Needs (Store place) ∷ k) → GoesBehind v (Needs (Store place) ∷ k) e w c
   stores_at place v o k e w c well stands (l, to, q, here, (object, place_is, found), hands) =
       subst (λ p. GoesBehind v (Needs (Store p) ∷ k) e w c) (sym place_is)
       (stores object v l o to k e w c q (sym (object_of_same l e) ∙ found) (subst (λ p. IsWell (stored_at p v (Given v) k e w)) place_is well) stands here hands)
 
   -- the local has the value already
-  catches_up : (object n old : ℕ) (v : Kinded) (k : List Entry) (e : Environment) (w : World) (c : Configuration)
+  catches_up : (object n : ℕ) (old : Words) (v : Kinded) (k : List Entry) (e : Environment) (w : World) (c : Configuration)
       → e.locals n ≡ Some object → IsWell (stored_at (Thin object 0) v (Given v) k e w) → SharedAt source pages calls w c
-      → DataIn source (put c.active.slots (slot_of (starts_at source c.active.function) n) old) k e w c
-      → Is v.value (c.active.slots (slot_of (starts_at source c.active.function) n)) → Holds c.active.slots (base_of source c.active.function) (held k)
-      → HandsOnStack source c.active.function e.locals (operands.Slot (slot_of (starts_at source c.active.function) n)) c.active.next c.frames k → GoesBehind v (Needs (Store (Thin object 0)) ∷ k) e w c
-  catches_up object n old v k e w c found well shared facts is holds hands =
+      → ((m : ℕ) → Outside (slot_of (starts_at source c.active.function) n) (words_of_kind v.kind) m → old m ≡ c.active.slots m) → DataIn source old k e w c
+      → HasRoom (types_at source c.active.function) n v.kind
+      → Is v.kind v.value c.active.slots (slot_of (starts_at source c.active.function) n) → Holds c.active.slots (base_of source c.active.function) (held k)
+      → HandsOnStack source c.active.function e.locals v.kind (operands.Slot (slot_of (starts_at source c.active.function) n)) c.active.next c.frames k → GoesBehind v (Needs (Store (Thin object 0)) ∷ k) e w c
+  catches_up object n old v k e w c found well shared same facts room is holds hands =
       let g = c.active.function in
       let stored = is_stored object v (Given v) k e w well in
       let next = written w object 0 stored.at v.value in
       hands_at_once v (Needs (Store (Thin object 0)) ∷ k) k e w next c stored.gives shared (omega arith)
       (handed v (operands.Slot (slot_of (starts_at source g) n)) k e next c c.active.next refl (
         shared,
-        data_caught_up source g w.objects next.objects e.locals (callers k) c.active.slots c.globals c.frames n object v.value old found
-            (written_here w object stored.at v.value stored.object_there stored.cell_there) (written_elsewhere w object stored.at v.value stored.object_there stored.cell_there)
-            (written_length w object stored.at v.value stored.object_there stored.cell_there) is facts,
+        data_assigned source g w.objects next.objects e.locals (callers k) old c.active.slots c.globals c.frames n object v found
+            (written_here w object stored.at v.value stored.object_there stored.cell_there v.kind stored.same) (written_elsewhere w object stored.at v.value stored.object_there stored.cell_there)
+            (written_length w object stored.at v.value stored.object_there stored.cell_there) room is (λ m out. sym (same m out)) facts,
         is,
         holds,
       ) hands)
@@ -627,7 +743,7 @@ module _ (source : Program) (pages calls : ℕ) where
   -- ---- arguments
 
   hands_on : (f : Callee) (before : List Kinded) (cs : Arguments) (v : Kinded) (o : Operand) (k : List Entry) (e : Environment) (w : World) (c : Configuration) → Stands v o (Needs (Pass f before cs) ∷ k) e w c
-      → ValueStack source c.active.function e.locals o c.active.next c.frames (Needs (Pass f before cs) ∷ k) → GoesBehind v (Needs (Pass f before cs) ∷ k) e w c
+      → ValueStack source c.active.function e.locals v.kind o c.active.next c.frames (Needs (Pass f before cs) ∷ k) → GoesBehind v (Needs (Pass f before cs) ∷ k) e w c
   hands_on callees.Putchar [] NoArguments v o k e w c (shared, facts, is, holds) (none, single, write, prints) =
       silently source pages calls (Running (Given v) (Needs (Pass callees.Putchar [] NoArguments) ∷ k) e w) (Running (Calling callees.Putchar (v ∷ [])) k e w) (plain.Running c) refl
       (shared, facts, (v, o, refl, is, holds, (write, prints)))
@@ -637,12 +753,12 @@ module _ (source : Program) (pages calls : ℕ) where
   hands_on callees.Getchar before cs v o k e w c (shared, facts, is, holds) (d, m, q, all, there, here, call, long, lands) =
       silently source pages calls (Running (Given v) (Needs (Pass callees.Getchar before cs) ∷ k) e w) (passes callees.Getchar (v ∷ before) cs k e w) (plain.Running c) refl
       (passes_related source pages calls callees.Getchar (v ∷ before) cs k e w c d m q all shared facts here call (omega (arith, long))
-      (subst (λ x. Is v.value (operand_word c.active.slots x)) there is, holds) lands)
+      (subst (IsIn v c.active.slots) there is, holds) lands)
       (omega (arith, passes_weight source pages calls callees.Getchar (v ∷ before) cs k e w))
   hands_on (callees.Function n) before cs v o k e w c (shared, facts, is, holds) (d, m, q, all, there, here, call, long, lands) =
       silently source pages calls (Running (Given v) (Needs (Pass (callees.Function n) before cs) ∷ k) e w) (passes (callees.Function n) (v ∷ before) cs k e w) (plain.Running c) refl
       (passes_related source pages calls (callees.Function n) (v ∷ before) cs k e w c d m q all shared facts here call (omega (arith, long))
-      (subst (λ x. Is v.value (operand_word c.active.slots x)) there is, holds) lands)
+      (subst (IsIn v c.active.slots) there is, holds) lands)
       (omega (arith, passes_weight source pages calls (callees.Function n) (v ∷ before) cs k e w))
 
   -- ---- what is done with the value of a whole expression
@@ -656,39 +772,50 @@ module _ (source : Program) (pages calls : ℕ) where
       ap (λ (b : Bool). if b then made_it else wrong w) (is_fitting (is_kind v.kind kind) made_it w well) in
       does ∙ is_declared (region_at w e.home) Proceeding n kind (Some v.value) (Rest js ∷ k) e w (subst IsWell does well)
 
+  -- and holds just that
+  made_value : (n : ℕ) (kind : Kind) (js : Items) (v : Kinded) (k : List Entry) (e : Environment) (w : World) (slots : Words) (slot : ℕ) (types : List Ty)
+      → IsWell (step source (Running (Given v) (Needs (Initialise n kind js) ∷ k) e w)) → HasRoom types n v.kind → Is v.kind v.value slots slot
+      → (u : Kinded) → with_kind kind (Some v.value) ≡ Some u → Is u.kind u.value slots slot × HasRoom types n u.kind
+  made_value n kind js v k e w slots slot types well room is u has =
+      let made_it = declared (region_at w e.home) Proceeding n kind (Some v.value) (Rest js ∷ k) e w in
+      let fits = is_fitting (is_kind v.kind kind) made_it w well in
+      let u_is : v ≡ u = ap (λ i. of_kind i v.value) (same_kind v.kind kind fits) ∙ same_Some (of_kind kind v.value) u has in
+      subst (λ (x : Kinded). Is x.kind x.value slots slot × HasRoom types n x.kind) u_is (is, room)
+
   initialises : (n : ℕ) (kind : Kind) (js : Items) (v : Kinded) (o : Operand) (k : List Entry) (e : Environment) (w : World) (c : Configuration)
       → IsWell (step source (Running (Given v) (Needs (Initialise n kind js) ∷ k) e w)) → Stands v o (Needs (Initialise n kind js) ∷ k) e w c
-      → ValueStack source c.active.function e.locals o c.active.next c.frames (Needs (Initialise n kind js) ∷ k) → GoesBehind v (Needs (Initialise n kind js) ∷ k) e w c
-  initialises n kind js v o k e w c well (shared, facts, is, holds) (loop, q, here, few, items, stack) =
+      → ValueStack source c.active.function e.locals v.kind o c.active.next c.frames (Needs (Initialise n kind js) ∷ k) → GoesBehind v (Needs (Initialise n kind js) ∷ k) e w c
+  initialises n kind js v o k e w c well (shared, facts, is, holds) (loop, q, here, room, items, stack) =
       let g = c.active.function in
+      let words = words_of_kind v.kind in
       let slot = slot_of (starts_at source g) n in
-      let x = operand_word c.active.slots o in
+      let slots = moved_slots c.active.slots words slot o in
       by_one source pages calls (makes_local n kind js v k e w well) shared here
-      (λ choice. (
+      (λ choice. subst (Matches source pages calls (Running Proceeding (Rest js ∷ k) (with_local e n (length w.objects)) (made w (variable e.home kind (Some v.value))))) (sym (moves (lower_program source) choice c words slot o)) (
         shared,
         behind_statement loop
-            (data_declared source g w.objects e (callers k) c.active.slots (put c.active.slots slot x) c.globals c.frames n (variable e.home kind (Some v.value)) few
-            (λ m less other. put-other c.active.slots slot m x other)
-            (λ u has. subst (λ y. Is u y) (sym (put-same c.active.slots slot x)) (subst (λ y. Is y x) (same_Some v.value u has) is)) facts)
+            (data_declared source g w.objects e (callers k) c.active.slots slots c.globals c.frames n words (variable e.home kind (Some v.value)) (room-inside (types_at source g) n v.kind room) room
+            (λ m out. moved_elsewhere c.active.slots words slot o m (kind_positive v.kind) out)
+            (made_value n kind js v k e w slots slot (types_at source g) well room (moved_is v c.active.slots slot o is)) facts)
             (q, items, stack),
       ))
 
-  initialises_ahead : (n old : ℕ) (kind : Kind) (js : Items) (v : Kinded) (k : List Entry) (e : Environment) (w : World) (c : Configuration) (loop : ℕ)
+  initialises_ahead : (n : ℕ) (old : Words) (kind : Kind) (js : Items) (v : Kinded) (k : List Entry) (e : Environment) (w : World) (c : Configuration) (loop : ℕ)
       → IsWell (step source (Running (Given v) (Needs (Initialise n kind js) ∷ k) e w)) → SharedAt source pages calls w c
-      → DataIn source (put c.active.slots (slot_of (starts_at source c.active.function) n) old) (Needs (Initialise n kind js) ∷ k) e w c
-      → n < length (types_at source c.active.function) → Is v.value (c.active.slots (slot_of (starts_at source c.active.function) n))
+      → ((m : ℕ) → Outside (slot_of (starts_at source c.active.function) n) (words_of_kind v.kind) m → old m ≡ c.active.slots m)
+      → DataIn source old (Needs (Initialise n kind js) ∷ k) e w c
+      → HasRoom (types_at source c.active.function) n v.kind → Is v.kind v.value c.active.slots (slot_of (starts_at source c.active.function) n)
       → StatementStack source c.active.function loop c.active.next c.frames (Rest js ∷ k) → GoesBehind v (Needs (Initialise n kind js) ∷ k) e w c
-  initialises_ahead n old kind js v k e w c loop well shared facts few is stack =
+  initialises_ahead n old kind js v k e w c loop well shared same facts room is stack =
       let g = c.active.function in
       let slot = slot_of (starts_at source g) n in
-      let slots = c.active.slots in
       silently source pages calls (Running (Given v) (Needs (Initialise n kind js) ∷ k) e w)
       (Running Proceeding (Rest js ∷ k) (with_local e n (length w.objects)) (made w (variable e.home kind (Some v.value)))) (plain.Running c)
       (makes_local n kind js v k e w well) (
         shared,
         behind_statement loop
-            (data_declared source g w.objects e (callers k) (put slots slot old) slots c.globals c.frames n (variable e.home kind (Some v.value)) few
-            (λ m less other. sym (put-other slots slot m old other)) (λ u has. subst (λ y. Is y (slots slot)) (same_Some v.value u has) is) facts)
+            (data_declared source g w.objects e (callers k) old c.active.slots c.globals c.frames n (words_of_kind v.kind) (variable e.home kind (Some v.value)) (room-inside (types_at source g) n v.kind room) room
+            (λ m out. sym (same m out)) (made_value n kind js v k e w c.active.slots slot (types_at source g) well room is) facts)
             stack,
       )
       (omega arith)
@@ -724,7 +851,7 @@ module _ (source : Program) (pages calls : ℕ) where
 
   -- where the value stands in an operand
   stands_given : (v : Kinded) (o : Operand) (k : List Entry) (e : Environment) (w : World) (c : Configuration) → IsWell (step source (Running (Given v) k e w)) → Stands v o k e w c
-      → ValueStack source c.active.function e.locals o c.active.next c.frames k → GoesBehind v k e w c
+      → ValueStack source c.active.function e.locals v.kind o c.active.next c.frames k → GoesBehind v k e w c
   stands_given v o [] e w c well stands stack = absurd stack
   stands_given v o (Needs (ConvertTo from to target) ∷ k) e w c well stands stack = converts from to target v o k e w c well stands stack
   stands_given v o (Needs (Operate u) ∷ k) e w c well stands stack = operates u v o k e w c well stands stack
@@ -736,12 +863,12 @@ module _ (source : Program) (pages calls : ℕ) where
   stands_given v o (Needs (Pass f before cs) ∷ k) e w c well stands stack = hands_on f before cs v o k e w c stands stack
   stands_given v o (Needs (Initialise n kind js) ∷ k) e w c well stands stack = initialises n kind js v o k e w c well stands stack
   stands_given v o (Needs (Choose s t) ∷ k) e w c well (shared, facts, is, holds) stack =
-      chooses s t v (operand_word c.active.slots o == 0) comparisons.Equal o (operands.Word 0) k e w c (zero_is v.value _ is) refl shared facts stack
+      chooses s t v (operand_word c.active.slots o == 0) comparisons.Equal o (operands.Word 0) k e w c (zero_is v c.active.slots o is) refl shared facts stack
   stands_given v o (Needs (Test a s) ∷ k) e w c well (shared, facts, is, holds) stack =
-      loops a s v (operand_word c.active.slots o == 0) comparisons.Equal o (operands.Word 0) k e w c (zero_is v.value _ is) refl shared facts stack
+      loops a s v (operand_word c.active.slots o == 0) comparisons.Equal o (operands.Word 0) k e w c (zero_is v c.active.slots o is) refl shared facts stack
   stands_given v o (Needs Return ∷ k) e w c well (shared, facts, is, holds) (loop, q, s, there, here, single, stack) =
       silently source pages calls (Running (Given v) (Needs Return ∷ k) e w) (Running (Returning (Some v)) k e w) (plain.Running c) refl
-      (shared, facts, (loop, q, s, here, subst (λ x. Is v.value (operand_word c.active.slots x)) there is, single, stack))
+      (shared, facts, (loop, q, s, here, subst (IsIn v c.active.slots) there is, single, stack))
       (omega arith)
   stands_given v o (Discard ∷ k) e w c well (shared, facts, is, holds) (loop, stack) =
       silently source pages calls (Running (Given v) (Discard ∷ k) e w) (Running Proceeding k e w) (plain.Running c) refl
@@ -758,29 +885,30 @@ module _ (source : Program) (pages calls : ℕ) where
       (omega arith)
   dropped_given v k e w c shared facts stack = absurd stack
 
-  ahead_given : (v : Kinded) (n old : ℕ) (k : List Entry) (e : Environment) (w : World) (c : Configuration) → IsWell (step source (Running (Given v) k e w)) → SharedAt source pages calls w c
-      → DataIn source (put c.active.slots n old) k e w c → n < base_of source c.active.function → Is v.value (c.active.slots n) → Holds c.active.slots (base_of source c.active.function) (held k)
-      → AheadStack source c.active.function e.locals n c.active.next c.frames k → GoesBehind v k e w c
-  ahead_given v n old (Needs (ConvertTo from to target) ∷ k) e w c well shared facts below is holds (quiet, stack) =
-      converts_ahead from to target v n k e w c well quiet is
-      (λ does.
+  ahead_given : (v : Kinded) (n : ℕ) (old : Words) (k : List Entry) (e : Environment) (w : World) (c : Configuration) → IsWell (step source (Running (Given v) k e w)) → SharedAt source pages calls w c
+      → ((m : ℕ) → Outside n (words_of_kind v.kind) m → old m ≡ c.active.slots m) → DataIn source old k e w c
+      → Is v.kind v.value c.active.slots n → Holds c.active.slots (base_of source c.active.function) (held k)
+      → AheadStack source c.active.function e.locals v.kind n c.active.next c.frames k → GoesBehind v k e w c
+  ahead_given v n old (Needs (ConvertTo from to target) ∷ k) e w c well shared same facts is holds (quiet, stack) =
+      let (does, now, wide) = converts_ahead from to target v n k e w c well quiet is in
       silently source pages calls (Running (Given v) (Needs (ConvertTo from to target) ∷ k) e w) (Running (Given (of_kind to v.value)) k e w) (plain.Running c) does
-      (shared, ahead n (old, facts) below is holds stack)
-      (omega arith))
-  ahead_given v n old (Needs (Chain NoOperations) ∷ k) e w c well shared facts below is holds stack =
-      silently source pages calls (Running (Given v) (Needs (Chain NoOperations) ∷ k) e w) (Running (Given v) k e w) (plain.Running c) refl
-      (shared, ahead n (old, facts) below is holds stack)
+      (shared, ahead n (old, subst (λ many. (m : ℕ) → Outside n many m → old m ≡ c.active.slots m) wide same, facts) now holds stack)
       (omega arith)
-  ahead_given v n old (Needs (Store place) ∷ k) e w c well shared facts below is holds (number, object, place_is, found, same, hands) =
+  ahead_given v n old (Needs (Chain NoOperations) ∷ k) e w c well shared same facts is holds stack =
+      silently source pages calls (Running (Given v) (Needs (Chain NoOperations) ∷ k) e w) (Running (Given v) k e w) (plain.Running c) refl
+      (shared, ahead n (old, same, facts) is holds stack)
+      (omega arith)
+  ahead_given v n old (Needs (Store place) ∷ k) e w c well shared same facts is holds (number, object, place_is, found, there, room, hands) =
       subst (λ p. GoesBehind v (Needs (Store p) ∷ k) e w c) (sym place_is)
       (catches_up object number old v k e w c found (subst (λ p. IsWell (stored_at p v (Given v) k e w)) place_is well) shared
-      (subst (λ x. DataIn source (put c.active.slots x old) k e w c) (sym same) facts) (subst (λ x. Is v.value (c.active.slots x)) (sym same) is) holds
-      (subst (λ x. HandsOnStack source c.active.function e.locals (operands.Slot x) c.active.next c.frames k) (sym same) hands))
-  ahead_given v n old (Needs (Initialise number kind js) ∷ k) e w c well shared facts below is holds (loop, q, same, few, items, stack) =
+      (subst (λ x. (m : ℕ) → Outside x (words_of_kind v.kind) m → old m ≡ c.active.slots m) (sym there) same) facts room
+      (subst (Is v.kind v.value c.active.slots) (sym there) is) holds
+      (subst (λ x. HandsOnStack source c.active.function e.locals v.kind (operands.Slot x) c.active.next c.frames k) (sym there) hands))
+  ahead_given v n old (Needs (Initialise number kind js) ∷ k) e w c well shared same facts is holds (loop, q, there, room, items, stack) =
       initialises_ahead number old kind js v k e w c loop well shared
-      (subst (λ x. DataIn source (put c.active.slots x old) (Needs (Initialise number kind js) ∷ k) e w c) (sym same) facts)
-      few (subst (λ x. Is v.value (c.active.slots x)) (sym same) is) (q, items, stack)
-  ahead_given v n old k e w c well shared facts below is holds stack = absurd stack
+      (subst (λ x. (m : ℕ) → Outside x (words_of_kind v.kind) m → old m ≡ c.active.slots m) (sym there) same) facts
+      room (subst (Is v.kind v.value c.active.slots) (sym there) is) (q, items, stack)
+  ahead_given v n old k e w c well shared same facts is holds stack = absurd stack
 
   compared_given : (v : Kinded) (failing : Comparison) (l r : Operand) (k : List Entry) (e : Environment) (w : World) (c : Configuration) → SharedAt source pages calls w c → DataIn source c.active.slots k e w c
       → is_zero v.value ≡ Some (compares failing (operand_word c.active.slots l) (operand_word c.active.slots r))
@@ -801,6 +929,6 @@ module _ (source : Program) (pages calls : ℕ) where
   pub given : (v : Kinded) (k : List Entry) (e : Environment) (w : World) (c : Configuration) → IsStep source pages calls (Given v) k e w c
   given v k e w c well (shared, in_operand o facts is holds stack) = stands_given v o k e w c well (shared, facts, is, holds) stack
   given v k e w c well (shared, nowhere facts stack) = dropped_given v k e w c shared facts stack
-  given v k e w c well (shared, ahead n (old, facts) below is holds stack) = ahead_given v n old k e w c well shared facts below is holds stack
+  given v k e w c well (shared, ahead n (old, same, facts) is holds stack) = ahead_given v n old k e w c well shared same facts is holds stack
   given v k e w c well (shared, compared failing l r facts fails stack) = compared_given v failing l r k e w c shared facts fails stack
   given v k e w c well (shared, with_left facts ready) = left_given v k e w c well shared facts ready

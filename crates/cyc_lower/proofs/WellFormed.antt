@@ -13,7 +13,7 @@ use Rattle.cyc_types.specs.declared.typed.LogicalOperator.TheVariants as logical
 use Rattle.cyc_types.specs.Types.{Ty, words_of, ValueType, Void, Null, Value, result_type}
 use Rattle.cyc_types.specs.TypedTrees.{Lvalue, Local, Global, Expression, Number, Copy, Call, Unary, Binary, Assign, Converted, Convert, Arguments, NoArguments, MoreArguments, Operations, NoOperations, ThenCompute, ThenTest, type_of, Statement, Block, Empty, Evaluate, If, While, Return, Break, Continue, Items, NoItems, MoreItems, Execute, Declare, GlobalVariable, Signature, Function, Program}
 use Rattle.cyc_types.specs.typing.WellTyped.{signature_of}
-use Rattle.cyc_types.specs.Numbered.{Numbering, signatures_of, argument_count, IsWithin, IsNumbered, IsNumberedConverted, AreNumberedArguments, AreNumberedOperations, IsNumberedReturn, IsNumberedInitial, IsNumberedStatement, AreNumberedItems, numbering_of, AreNumberedFunctions, IsNumberedProgram}
+use Rattle.cyc_types.specs.Numbered.{Numbering, signatures_of, numbering_of}
 use Rattle.cyc_plain.specs.declared.instruction.Comparison.{Comparison}
 use Rattle.cyc_plain.specs.declared.instruction.Operand.{Operand}
 use Rattle.cyc_plain.specs.declared.instruction.Operand.TheVariants as operands
@@ -22,13 +22,17 @@ use Rattle.cyc_plain.specs.declared.instruction.Instruction.TheVariants as instr
 use Rattle.cyc_plain.specs.Program.{Routine, Program as PlainProgram, no_routine, routine_at}
 use Rattle.cyc_plain.specs.declared.limits.TheConstants.{MOST_GLOBALS}
 use Rattle.cyc_plain.specs.WellFormed.{IsOperand, IsInRange, IsRoutine, IsWellFormed, leaves}
-use Rattle.std.specs.Prelude.{if◌then◌else◌}
+use Rattle.std.specs.Prelude.{◌==◌, max, if◌then◌else◌}
+use Rattle.std.proofs.lemmas.Bool.{eqb-true}
 use Rattle.cyc_meaning.specs.Operators.{null_exception, division_by_zero}
-use Rattle.cyc_meaning.specs.Values.{words_of_kind}
+use Rattle.cyc_meaning.specs.Values.{kind_of, words_of_kind}
 use Rattle.cyc_meaning.specs.FrameCount.{result_words, operand_words, converted_words, argument_words, expression_need, converted_need, arguments_need, operations_need, initial_need, statement_need, items_need, words_of_all}
 use Rattle.cyc_lower.specs.Slots.{starts_of, slot_of}
-use Rattle.cyc_lower.specs.Lowering.{slot_types, unary_operator, binary_operator, operand_of, operand_or, code_unless, slot_or, code_unless_slot, left_with, left_of, value_slot, next_slot, slot_with, left_slot, value_operand, converted_operand, printed_operand, check_code, conversion_code, divisor_code, checked_code, operator_code, truth_code, load_code, low_byte, test_code, is_in, copy_code, expression_code, arguments_code, converted_code, converted_operand_code, printed_code, initial_code, assignment_code, operations_code, discarded_code, failing_comparison, compared_or, first_operand, first_code, second_code, pair_code, condition_code, condition_of, failing_jump, break_target, continue_target, return_code, declaration_code, statement_code, items_code, first_temporary, results_of, lower_function, lower_global, lower_program}
-use Rattle.cyc_lower.proofs.Slots.{words_positive, slot-inside, slot_types-many, slots-few}
+use Rattle.cyc_lower.specs.Lowering.{slot_types, spare_slots, are_as_wide, converts_there, passed_words, all_passed, source_of, source_slot, moved_by, move_of, unary_operator, binary_operator, operand_of, operand_or, code_unless, slot_or, code_unless_slot, left_with, left_of, value_slot, next_slot, slot_with, left_slot, value_operand, converted_operand, printed_operand, check_code, conversion_code, divisor_code, checked_code, operator_code, truth_code, load_code, low_byte, test_code, is_in, copy_code, expression_code, arguments_code, converted_code, converted_operand_code, printed_code, initial_code, assignment_code, operations_code, discarded_code, failing_comparison, compared_or, first_operand, first_code, second_code, pair_code, condition_code, condition_of, failing_jump, break_target, continue_target, return_code, declaration_code, statement_code, items_code, first_temporary, results_of, lower_function, lower_global, lower_program}
+use Rattle.cyc_lower.proofs.Widths.{kind_positive, kind_few, type_words, kind_of_result, result_kind, given, passed_kind, words_in}
+use Rattle.cyc_lower.proofs.Fitting.{FitsPlace, Fits, FitsConverted, FitArguments, FitOperations, FitsReturn, FitsInitial, FitsStatement, FitItems, AreFitting, IsFitting}
+use Rattle.cyc_lower.proofs.Values.{as_wide}
+use Rattle.cyc_lower.proofs.Slots.{words_positive, slot-room, slot_types-many, slots-few}
 
 -- ---- lists
 
@@ -51,14 +55,6 @@ last_of xs x =
 
 -- ---- words
 
-kind_positive : (k : Kind) → 1 ≤ words_of_kind k
-kind_positive kinds.Int = omega arith
-kind_positive kinds.Nullable = omega arith
-kind_positive kinds.NonNull = omega arith
-kind_positive kinds.Fat = omega arith
-kind_positive kinds.Handle = omega arith
-kind_positive kinds.Key = omega arith
-
 operand_positive : (t : ValueType) → 1 ≤ operand_words t
 operand_positive Void = omega arith
 operand_positive Null = omega arith
@@ -67,27 +63,37 @@ operand_positive (Value t) = words_positive t
 converted_positive : (c : Converted) → 1 ≤ converted_words c
 converted_positive (Convert from to a) = omega (arith, kind_positive from)
 
-arguments_words : (cs : Arguments) → argument_count cs ≤ argument_words cs
+converted_least : (c : Converted) → words_of_kind (passed_kind c) ≤ converted_words c
+converted_least (Convert from to a) = omega arith
+
+passed_is : (c : Converted) → passed_words c ≡ words_of_kind (passed_kind c)
+passed_is (Convert from to a) = refl
+
+arguments_words : (cs : Arguments) → all_passed cs ≤ argument_words cs
 arguments_words NoArguments = omega arith
-arguments_words (MoreArguments c cs) = omega (arith, converted_positive c, arguments_words cs)
+arguments_words (MoreArguments c cs) = omega (arith, passed_is c, converted_least c, arguments_words cs)
 
-results_few : (t : Option Ty) → results_of t ≤ 1
+converted_few : (c : Converted) → converted_words c ≤ spare_slots
+converted_few (Convert from to a) = let f = kind_few from in let t = kind_few to in omega (arith, f, t)
+
+results_few : (t : Option Ty) → results_of t ≤ spare_slots
 results_few None = omega arith
-results_few (Some t) = omega arith
+results_few (Some t) = omega (arith, type_words t, kind_few (kind_of t))
 
-types_words : (ts : List Ty) → length ts ≤ words_of_all ts
-types_words [] = omega arith
-types_words (t ∷ ts) = omega (arith, words_positive t, types_words ts)
+-- what is given has at most the words of what is returned, or one
+result_least : (t : Option Ty) → (results_of t ≤ words_of_kind (kind_of_result t)) × (words_of_kind (kind_of_result t) ≤ max 1 (results_of t))
+result_least None = (omega arith, omega arith)
+result_least (Some t) = (omega (arith, type_words t), omega (arith, type_words t))
 
 -- ---- instructions
 
 -- what the functions of a program have, which the bounds of a function name
 record IsKnown (program : PlainProgram) (n : ℕ) (s : Signature) : Type 0 where
   pub there : n < length program.functions
-  pub parameters : (routine_at program n).parameters ≡ length s.parameters
+  pub parameters : (routine_at program n).parameters ≡ words_of_all s.parameters
   pub results : (routine_at program n).results ≡ results_of s.result
 
-module _ (program : PlainProgram) (r : Routine) (b : Numbering) (starts : List ℕ) (locals : (n : ℕ) → n < b.locals → slot_of starts n < r.slots) (globals : b.globals ≡ length program.globals) (known : (n : ℕ) (s : Signature) → slice_get b.functions n ≡ Some s → IsKnown program n s) (results : r.results ≤ 1) where
+module _ (program : PlainProgram) (r : Routine) (b : Numbering) (types : List Ty) (locals : (n : ℕ) → n < b.locals → slot_of (starts_of types) n + words_in types n ≤ r.slots) (globals : b.globals ≡ length program.globals) (known : (n : ℕ) (s : Signature) → slice_get b.functions n ≡ Some s → IsKnown program n s) (results : r.results ≡ results_of b.result) where
   abbrev AreIn : List Instruction → Type 0
   AreIn code = AllByRecursion (IsInRange program r) code
 
@@ -104,26 +110,86 @@ module _ (program : PlainProgram) (r : Routine) (b : Numbering) (starts : List �
   unless_slot_in (Some (operands.Word n)) x p short inside = inside short
   unless_slot_in None x p short inside = inside short
 
-  slot_fits : (a : Expression) (t : ℕ) → IsNumbered b a → t < r.slots → value_slot starts a t < r.slots
-  slot_fits (Assign (Local w n) c ty) t (within, numbered) few = locals n within
+  -- the kind of what an expression gives
+  abbrev kind_at : Expression → Kind
+  kind_at a = given b.functions a
+
+  -- a value of so many words stands in slots of the function, where it does not stand in one word
+  abbrev HasOperand : Operand → (words : ℕ) → Type 0
+  HasOperand (operands.Slot n) words = n + words ≤ r.slots
+  HasOperand (operands.Word w) words = Unit {0}
+
+  operand_in : (o : Operand) (kind : Kind) → HasOperand o (words_of_kind kind) → IsOperand r o
+  operand_in (operands.Slot n) kind inside = omega (arith, inside, kind_positive kind)
+  operand_in (operands.Word w) kind inside = tt
+
+  assigned_kind : (l : Lvalue) (c : Converted) (ty : ValueType) → kind_at (Assign l c ty) ≡ passed_kind c
+  assigned_kind l (Convert from to a) ty = refl
+
+  -- what is given has as many words as are needed for it, or one
+  given_needs : (a : Expression) → Fits b types a → words_of_kind (kind_at a) ≤ max 1 (expression_need a)
+  given_needs (Number n) numbered = omega arith
+  given_needs (Copy l t) numbered = omega (arith, type_words t)
+  given_needs (Call callees.Putchar cs t) numbered = omega arith
+  given_needs (Call callees.Getchar cs t) numbered = omega arith
+  given_needs (Call (callees.Function n) cs t) (s, signature, many, passed, result, numbered) =
+      omega (arith, ap (λ (o : Option Signature). words_of_kind (result_kind o)) signature, (result_least s.result).1, result)
+  given_needs (Unary o a) numbered = omega arith
+  given_needs (Binary a NoOperations t) (numbered, none) = omega (arith, given_needs a numbered)
+  given_needs (Binary a (ThenCompute o c os) t) numbered = omega arith
+  given_needs (Binary a (ThenTest o c os) t) numbered = omega arith
+  given_needs (Binary a os t) (numbered, all) = absurd all
+  given_needs (Assign l (Convert from to a) t) numbered = omega arith
+  given_needs a numbered = absurd numbered
+
+  slot_fits : (a : Expression) (t : ℕ) → Fits b types a → t + words_of_kind (kind_at a) ≤ r.slots → value_slot (starts_of types) a t + words_of_kind (kind_at a) ≤ r.slots
+  slot_fits (Assign (Local w n) (Convert from to a) ty) t ((within, room), numbered) few = omega (arith, locals n within, room)
   slot_fits a t numbered few = few
 
-  value_in : (a : Expression) (t : ℕ) → IsNumbered b a → t < r.slots → IsOperand r (value_operand starts a t)
-  value_in (Number n) t numbered few = tt
-  value_in (Copy (Local w n) ty) t within few = locals n within
-  value_in (Assign (Local w n) c ty) t (within, numbered) few = locals n within
-  value_in a t numbered few = few
+  value_room : (a : Expression) (t : ℕ) → Fits b types a → t + words_of_kind (kind_at a) ≤ r.slots → HasOperand (value_operand (starts_of types) a t) (words_of_kind (kind_at a))
+  value_room (Number n) t numbered few = tt
+  value_room (Copy (Local w n) ty) t (within, room) few = omega (arith, locals n within, room)
+  value_room (Assign (Local w n) (Convert from to a) ty) t ((within, room), numbered) few = omega (arith, locals n within, room)
+  value_room a t numbered few = few
 
-  returned_in : (a : Expression) (t : ℕ) → IsNumbered b a → t < r.slots → slot_or (operand_of starts a) t < r.slots
-  returned_in (Copy (Local w n) ty) t within few = locals n within
-  returned_in a t numbered few = few
+  value_in : (a : Expression) (t : ℕ) → Fits b types a → t + words_of_kind (kind_at a) ≤ r.slots → IsOperand r (value_operand (starts_of types) a t)
+  value_in a t numbered few = operand_in (value_operand (starts_of types) a t) (kind_at a) (value_room a t numbered few)
 
-  converted_value_in : (c : Converted) (t : ℕ) → IsNumberedConverted b c → t < r.slots → IsOperand r (converted_operand starts c t)
-  converted_value_in (Convert from to a) t numbered few = value_in a t numbered few
+  -- a value that is converted has room before and after
+  source_fits : (from to : Kind) (a : Expression) (t : ℕ) → FitsConverted b types (Convert from to a) → t + converted_words (Convert from to a) ≤ r.slots
+      → source_slot (starts_of types) (Convert from to a) t + words_of_kind (kind_at a) ≤ r.slots
+  source_fits from to a t (kind, numbered) few = by (are_as_wide from to)
+    where
+      by : (same : Bool) → (if same then value_slot (starts_of types) a t else t) + words_of_kind (kind_at a) ≤ r.slots
+      by true = slot_fits a t numbered (omega (arith, few, ap words_of_kind kind))
+      by false = omega (arith, few, ap words_of_kind kind)
 
-  printed_value_in : (cs : Arguments) (o : Operand) (t : ℕ) → AreNumberedArguments b cs → IsOperand r o → t < r.slots → IsOperand r (printed_operand starts cs o t)
+  converted_room : (c : Converted) (t : ℕ) → FitsConverted b types c → t + converted_words c ≤ r.slots → HasOperand (converted_operand (starts_of types) c t) (words_of_kind (passed_kind c))
+  converted_room (Convert from to a) t (kind, numbered) few = by (are_as_wide from to) refl
+    where
+      by : (same : Bool) → are_as_wide from to ≡ same
+          → HasOperand (operand_or (if same then operand_of (starts_of types) a else None) (if same then value_slot (starts_of types) a t else t)) (words_of_kind to)
+      by true wide =
+          subst (HasOperand (value_operand (starts_of types) a t)) (ap words_of_kind (sym kind) ∙ eqb-true (words_of_kind from) (words_of_kind to) wide)
+          (value_room a t numbered (omega (arith, few, ap words_of_kind kind)))
+      by false wide = omega (arith, few)
+
+  converted_value_in : (c : Converted) (t : ℕ) → FitsConverted b types c → t + converted_words c ≤ r.slots → IsOperand r (converted_operand (starts_of types) c t)
+  converted_value_in c t numbered few = operand_in (converted_operand (starts_of types) c t) (passed_kind c) (converted_room c t numbered few)
+
+  printed_value_in : (cs : Arguments) (o : Operand) (t : ℕ) → FitArguments b types cs → IsOperand r o → t + argument_words cs ≤ r.slots → IsOperand r (printed_operand (starts_of types) cs o t)
   printed_value_in NoArguments o t numbered inside few = inside
-  printed_value_in (MoreArguments c cs) o t (first, rest) inside few = printed_value_in cs (converted_operand starts c t) t rest (converted_value_in c t first few) few
+  printed_value_in (MoreArguments c cs) o t (first, rest) inside few =
+      printed_value_in cs (converted_operand (starts_of types) c t) t rest (converted_value_in c t first (omega (arith, few))) (omega (arith, few))
+
+  -- a value is moved
+  move_in : (kind : Kind) (d : ℕ) (o : Operand) → d + words_of_kind kind ≤ r.slots → HasOperand o (words_of_kind kind) → IsInRange program r (move_of (words_of_kind kind) d o)
+  move_in kind d (operands.Word w) room inside = (omega (arith, room, kind_positive kind), tt)
+  move_in kind d (operands.Slot n) room inside = by (words_of_kind kind == 1)
+    where
+      by : (one : Bool) → IsInRange program r (if one then instructions.Move d (operands.Slot n) else instructions.MoveWords d n (words_of_kind kind))
+      by true = (omega (arith, room, kind_positive kind), omega (arith, inside, kind_positive kind))
+      by false = record { some = kind_positive kind; few = kind_few kind; destination_in_range = room; source_in_range = inside }
 
   next_in : (os : Operations) (d t : ℕ) → d < r.slots → t < r.slots → next_slot os d t < r.slots
   next_in NoOperations d t few room = few
@@ -134,29 +200,40 @@ module _ (program : PlainProgram) (r : Routine) (b : Numbering) (starts : List �
   HasRoom NoOperations t = Unit {0}
   HasRoom os t = t < r.slots
 
-  has_room : (os : Operations) (ty : Ty) (t left : ℕ) → AreNumberedOperations b os → 1 ≤ left → t + operations_need os ty left ≤ r.slots → HasRoom os t
+  has_room : (os : Operations) (ty : Ty) (t left : ℕ) → FitOperations b types os → 1 ≤ left → t + operations_need os ty left ≤ r.slots → HasRoom os t
   has_room NoOperations ty t left numbered some few = tt
   has_room (ThenCompute o a os) ty t left numbered some few = omega (arith, few, some)
   has_room (ThenTest o a os) ty t left numbered some few = omega (arith, few, some)
   has_room os ty t left numbered some few = absurd numbered
 
-  slot_with_in : (known : Option Operand) (a : Expression) (t : ℕ) → IsNumbered b a → t < r.slots → slot_with starts known a t < r.slots
+  slot_with_in : (known : Option Operand) (a : Expression) (t : ℕ) → Fits b types a → t + words_of_kind (kind_at a) ≤ r.slots → slot_with (starts_of types) known a t + words_of_kind (kind_at a) ≤ r.slots
   slot_with_in (Some o) a t numbered few = slot_fits a t numbered few
   slot_with_in None a t numbered few = few
 
-  left_with_in : (known : Option Operand) (a : Expression) (t : ℕ) → IsNumbered b a → t < r.slots → IsOperand r (operand_or (left_with known (operand_of starts a)) (slot_with starts known a t))
+  left_with_in : (known : Option Operand) (a : Expression) (t : ℕ) → Fits b types a → t + words_of_kind (kind_at a) ≤ r.slots → IsOperand r (operand_or (left_with known (operand_of (starts_of types) a)) (slot_with (starts_of types) known a t))
   left_with_in (Some o) a t numbered few = value_in a t numbered few
-  left_with_in None a t numbered few = few
+  left_with_in None a t numbered few = omega (arith, few, kind_positive (kind_at a))
 
-  left_slot_in : (a : Expression) (os : Operations) (d t : ℕ) → IsNumbered b a → d < r.slots → HasRoom os t → left_slot starts a os d t < r.slots
-  left_slot_in a NoOperations d t numbered few room = few
-  left_slot_in a (ThenCompute o c os) d t numbered few room = slot_with_in (operand_of starts c) a t numbered room
-  left_slot_in a os d t numbered few room = room
+  -- and for what they begin with
+  abbrev LeftRoom : Operations → Expression → ℕ → Type 0
+  LeftRoom NoOperations a t = Unit {0}
+  LeftRoom os a t = t + words_of_kind (kind_at a) ≤ r.slots
 
-  left_in : (a : Expression) (os : Operations) (d t : ℕ) → IsNumbered b a → d < r.slots → HasRoom os t → IsOperand r (operand_or (left_of starts a os) (left_slot starts a os d t))
-  left_in a NoOperations d t numbered few room = few
-  left_in a (ThenCompute o c os) d t numbered few room = left_with_in (operand_of starts c) a t numbered room
-  left_in a os d t numbered few room = room
+  left_room : (os : Operations) (a : Expression) (t : ℕ) → Fits b types a → t + expression_need a ≤ r.slots → HasRoom os t → LeftRoom os a t
+  left_room NoOperations a t numbered few room = tt
+  left_room os a t numbered few room = omega (arith, few, room, given_needs a numbered)
+
+  left_slot_in : (a : Expression) (os : Operations) (ty : Ty) (d t : ℕ) → Fits b types a → d + words_of_kind (kind_at (Binary a os ty)) ≤ r.slots → LeftRoom os a t
+      → left_slot (starts_of types) a os d t + words_of_kind (kind_at a) ≤ r.slots
+  left_slot_in a NoOperations ty d t numbered few room = few
+  left_slot_in a (ThenCompute o c os) ty d t numbered few room = slot_with_in (operand_of (starts_of types) c) a t numbered room
+  left_slot_in a os ty d t numbered few room = room
+
+  left_in : (a : Expression) (os : Operations) (ty : Ty) (d t : ℕ) → Fits b types a → d + words_of_kind (kind_at (Binary a os ty)) ≤ r.slots → LeftRoom os a t
+      → IsOperand r (operand_or (left_of (starts_of types) a os) (left_slot (starts_of types) a os d t))
+  left_in a NoOperations ty d t numbered few room = omega (arith, few, kind_positive (kind_at a))
+  left_in a (ThenCompute o c os) ty d t numbered few room = left_with_in (operand_of (starts_of types) c) a t numbered room
+  left_in a os ty d t numbered few room = omega (arith, room, kind_positive (kind_at a))
 
   check_in : (tag : ℕ) (o : Operand) (p : ℕ) → IsOperand r o → p + 2 < length r.code → AreIn (check_code tag o p)
   check_in tag o p inside short = ((inside, tt, short), (inside, tt))
@@ -181,13 +258,14 @@ module _ (program : PlainProgram) (r : Routine) (b : Numbering) (starts : List �
   operator_in operators.Remainder l m p d few left right short = checked_in operators.Remainder l m p d few left right short
   operator_in o l m p d few left right short = ((few, left, right), tt)
 
-  load_in : (l : Lvalue) (d : ℕ) → IsWithin b l → d < r.slots → AreIn (load_code starts l d)
-  load_in (Local w n) d within few = ((few, locals n within), tt)
-  load_in (Global n) d within few = ((few, omega (arith, within, globals)), tt)
+  load_in : (l : Lvalue) (t : Ty) (d : ℕ) → FitsPlace b types l (kind_of t) → d + words_of_kind (kind_of t) ≤ r.slots → AreIn (load_code (starts_of types) (words_of t) l d)
+  load_in (Local w n) t d (within, room) few =
+      (subst (λ words. IsInRange program r (move_of words d (operands.Slot (slot_of (starts_of types) n)))) (type_words t) (move_in (kind_of t) d (operands.Slot (slot_of (starts_of types) n)) few (omega (arith, locals n within, room))), tt)
+  load_in (Global n) t d within few = ((omega (arith, few, kind_positive (kind_of t)), omega (arith, within, globals)), tt)
 
-  copy_in : (is : Bool) (o : Operand) (d : ℕ) → IsOperand r o → d < r.slots → AreIn (if is then [] else instructions.Move d o ∷ [])
-  copy_in true o d inside few = tt
-  copy_in false o d inside few = ((few, inside), tt)
+  copy_in : (is : Bool) (c : Converted) (o : Operand) (d : ℕ) → HasOperand o (words_of_kind (passed_kind c)) → d + words_of_kind (passed_kind c) ≤ r.slots → AreIn (if is then [] else move_of (passed_words c) d o ∷ [])
+  copy_in true c o d inside few = tt
+  copy_in false c o d inside few = (subst (λ words. IsInRange program r (move_of words d o)) (sym (passed_is c)) (move_in (passed_kind c) d o few inside), tt)
 
   test_in : (o : LogicalOperator) (operand : List Instruction) (p d t : ℕ) → d < r.slots → t < r.slots → p + length (test_code o operand p d t) < length r.code → AreIn operand → AreIn (test_code o operand p d t)
   test_in logical.AndThen operand p d t few room short inside =
@@ -199,246 +277,279 @@ module _ (program : PlainProgram) (r : Routine) (b : Numbering) (starts : List �
 
   -- ---- expressions
 
+  initial_by : (there : Bool) (from to : Kind) (a : Expression) (p d t : ℕ) → from ≡ kind_at a → Fits b types a → d + words_of_kind to ≤ r.slots → t + converted_words (Convert from to a) ≤ r.slots → converts_there from to ≡ there
+      → ((slot : ℕ) → slot + words_of_kind (kind_at a) ≤ r.slots → p + length (expression_code (starts_of types) a p slot t) < length r.code → AreIn (expression_code (starts_of types) a p slot t))
+      → p + length (if there then expression_code (starts_of types) a p d t else moved_by (source_of (starts_of types) (Convert from to a)) (expression_code (starts_of types) a p (source_slot (starts_of types) (Convert from to a) t) t) to (converted_operand (starts_of types) (Convert from to a) t) p d) < length r.code
+      → AreIn (if there then expression_code (starts_of types) a p d t else moved_by (source_of (starts_of types) (Convert from to a)) (expression_code (starts_of types) a p (source_slot (starts_of types) (Convert from to a) t) t) to (converted_operand (starts_of types) (Convert from to a) t) p d)
+  initial_by true from to a p d t kind numbered room free lands inside short = inside d (omega (arith, room, ap words_of_kind kind, as_wide from to lands)) short
+  initial_by false from to a p d t kind numbered room free lands inside short =
+      let c = Convert from to a in
+      let known = source_of (starts_of types) c in
+      let slot = source_slot (starts_of types) c t in
+      let inner = expression_code (starts_of types) a p slot t in
+      let o = converted_operand (starts_of types) c t in
+      let front = code_unless known inner in
+      let conversion = conversion_code to o (p + length front) in
+      let move = move_of (words_of_kind to) d o ∷ [] in
+      let long = length-append (front ++ conversion) move in
+      let long_front = length-append front conversion in
+      append (front ++ conversion) move
+      (append front conversion (unless_in known inner p (omega (arith, short, long, long_front)) (λ less. inside slot (source_fits from to a t (kind, numbered) free) less))
+      (conversion_in to o (p + length front) (converted_value_in c t (kind, numbered) free) (omega (arith, short, long, long_front)))) (move_in to d o room (converted_room c t (kind, numbered) free), tt)
+
   mutual
-    expression_in : (a : Expression) (p d t : ℕ) → IsNumbered b a → d < r.slots → t + expression_need a ≤ r.slots → p + length (expression_code starts a p d t) < length r.code → AreIn (expression_code starts a p d t)
-    expression_in (Number n) p d t numbered room few short = ((room, tt), tt)
-    expression_in (Copy l ty) p d t numbered room few short = load_in l d numbered room
-    expression_in (Call callees.Putchar cs ty) p d t (s, signature, many, same, numbered) room few short =
-        let o = printed_operand starts cs (operands.Slot t) t in
-        let front = printed_code starts cs p t in
+    expression_in : (a : Expression) (p d t : ℕ) → Fits b types a → d + words_of_kind (kind_at a) ≤ r.slots → t + expression_need a ≤ r.slots → p + length (expression_code (starts_of types) a p d t) < length r.code → AreIn (expression_code (starts_of types) a p d t)
+    expression_in (Number n) p d t numbered room few short = ((omega (arith, room), tt), tt)
+    expression_in (Copy l ty) p d t numbered room few short = load_in l ty d numbered room
+    expression_in (Call callees.Putchar cs ty) p d t (s, signature, many, passed, result, numbered) room few short =
+        let o = printed_operand (starts_of types) cs (operands.Slot t) t in
+        let front = printed_code (starts_of types) cs p t in
         let back = instructions.WriteByte o ∷ low_byte o d ∷ [] in
-        let gives : result_words ty ≡ 1 = ap result_words (same ∙ ap (λ (x : Signature). result_type x.result) signature) in
-        let inside = printed_value_in cs (operands.Slot t) t numbered (omega (arith, few, gives)) (omega (arith, few, gives)) in
-        append front back (printed_in cs p t t 0 numbered (omega (arith, few, gives)) (omega arith) (omega (arith, few)) (omega (arith, short, length-append front back)))
-        (inside, ((room, inside, tt), tt))
-    expression_in (Call callees.Getchar cs ty) p d t (s, signature, many, same, numbered) room few short =
-        let front = arguments_code starts cs p t in
+        let gives : 1 ≤ result_words ty = omega (arith, result, ap (λ (x : Signature). results_of x.result) signature) in
+        let inside = printed_value_in cs (operands.Slot t) t numbered (omega (arith, few, gives)) (omega (arith, few)) in
+        append front back (printed_in cs p t t 0 numbered (omega (arith, few)) (omega arith) (omega (arith, few)) (omega (arith, short, length-append front back)))
+        (inside, ((omega (arith, room), inside, tt), tt))
+    expression_in (Call callees.Getchar cs ty) p d t (s, signature, many, passed, result, numbered) room few short =
+        let front = arguments_code (starts_of types) cs p t in
         let back = instructions.ReadByte d ∷ [] in
-        append front back (arguments_in cs p t t 0 numbered (omega arith) (omega (arith, few)) (omega (arith, few)) (omega (arith, short, length-append front back))) (room, tt)
-    expression_in (Call (callees.Function g) cs ty) p d t (s, signature, many, same, numbered) room few short =
-        let front = arguments_code starts cs p t in
-        let back = instructions.Call g t (argument_count cs) d ∷ [] in
+        append front back (arguments_in cs p t t 0 numbered (omega arith) (omega (arith, few)) (omega (arith, few)) (omega (arith, short, length-append front back))) (omega (arith, room), tt)
+    expression_in (Call (callees.Function g) cs ty) p d t (s, signature, many, passed, result, numbered) room few short =
+        let front = arguments_code (starts_of types) cs p t in
+        let back = instructions.Call g t (all_passed cs) d ∷ [] in
         let f = known g s signature in
         append front back (arguments_in cs p t t 0 numbered (omega arith) (omega (arith, few)) (omega (arith, few)) (omega (arith, short, length-append front back))) (
           record {
             function_in_range = f.there;
-            takes = many ∙ sym f.parameters;
+            takes = passed ∙ sym f.parameters;
             arguments_in_range = omega (arith, few, arguments_words cs);
-            result_in_range = omega (arith, room, f.results, results_few s.result);
+            result_in_range = omega (arith, room, f.results, (result_least s.result).0, ap (λ (o : Option Signature). words_of_kind (result_kind o)) signature);
           },
           tt,
         )
     expression_in (Unary o a) p d t numbered room few short =
-        let inner = expression_code starts a p (value_slot starts a t) t in
-        let front = code_unless (operand_of starts a) inner in
-        let back = instructions.Unary (unary_operator o) d (value_operand starts a t) ∷ [] in
-        let free : t < r.slots = omega (arith, few) in
+        let inner = expression_code (starts_of types) a p (value_slot (starts_of types) a t) t in
+        let front = code_unless (operand_of (starts_of types) a) inner in
+        let back = instructions.Unary (unary_operator o) d (value_operand (starts_of types) a t) ∷ [] in
+        let free : t + words_of_kind (kind_at a) ≤ r.slots = omega (arith, few, given_needs a numbered) in
         append front back
-        (unless_in (operand_of starts a) inner p (omega (arith, short, length-append front back)) (λ less. expression_in a p (value_slot starts a t) t numbered (slot_fits a t numbered free) (omega (arith, few)) less))
-        ((room, value_in a t numbered free), tt)
+        (unless_in (operand_of (starts_of types) a) inner p (omega (arith, short, length-append front back)) (λ less. expression_in a p (value_slot (starts_of types) a t) t numbered (slot_fits a t numbered free) (omega (arith, few)) less))
+        ((omega (arith, room), value_in a t numbered free), tt)
     expression_in (Binary a os ty) p d t (numbered, rest) room few short =
-        let inner = expression_code starts a p (left_slot starts a os d t) t in
-        let front = code_unless (left_of starts a os) inner in
-        let back = operations_code starts os (p + length front) (operand_or (left_of starts a os) (left_slot starts a os d t)) d t in
+        let inner = expression_code (starts_of types) a p (left_slot (starts_of types) a os d t) t in
+        let front = code_unless (left_of (starts_of types) a os) inner in
+        let back = operations_code (starts_of types) os (p + length front) (operand_or (left_of (starts_of types) a os) (left_slot (starts_of types) a os d t)) d t in
         let some = operand_positive (type_of a) in
         let free = has_room os ty t (operand_words (type_of a)) rest some (omega (arith, few)) in
+        let first = left_room os a t numbered (omega (arith, few)) free in
         append front back
-        (unless_in (left_of starts a os) inner p (omega (arith, short, length-append front back)) (λ less. expression_in a p (left_slot starts a os d t) t numbered (left_slot_in a os d t numbered room free) (omega (arith, few)) less))
-        (operations_in os ty (p + length front) (operand_or (left_of starts a os) (left_slot starts a os d t)) d t (operand_words (type_of a)) rest room (left_in a os d t numbered room free) some (omega (arith, few)) (omega (arith, short, length-append front back)))
-    expression_in (Assign (Local w n) c ty) p d t (within, numbered) room few short =
-        let o = operands.Slot (slot_of starts n) in
-        let front = initial_code starts c p (slot_of starts n) t in
-        let back = copy_code o d in
-        let there : slot_of starts n < r.slots = locals n within in
-        append front back (initial_in c p (slot_of starts n) t numbered there (omega (arith, few)) (omega (arith, few)) (omega (arith, short, length-append front back))) (copy_in (is_in o d) o d there room)
+        (unless_in (left_of (starts_of types) a os) inner p (omega (arith, short, length-append front back)) (λ less. expression_in a p (left_slot (starts_of types) a os d t) t numbered (left_slot_in a os ty d t numbered room first) (omega (arith, few)) less))
+        (operations_in os ty (p + length front) (operand_or (left_of (starts_of types) a os) (left_slot (starts_of types) a os d t)) d t (operand_words (type_of a)) rest (omega (arith, room, kind_positive (kind_at (Binary a os ty)))) (left_in a os ty d t numbered room first) some (omega (arith, few)) (omega (arith, short, length-append front back)))
+    expression_in (Assign (Local w n) c ty) p d t ((within, own), numbered) room few short =
+        let o = operands.Slot (slot_of (starts_of types) n) in
+        let front = initial_code (starts_of types) c p (slot_of (starts_of types) n) t in
+        let back = copy_code (passed_words c) o d in
+        let there : slot_of (starts_of types) n + words_of_kind (passed_kind c) ≤ r.slots = omega (arith, locals n within, own) in
+        append front back (initial_in c p (slot_of (starts_of types) n) t numbered there (omega (arith, few)) (omega (arith, few)) (omega (arith, short, length-append front back)))
+        (copy_in (is_in o d) c o d there (omega (arith, room, ap words_of_kind (assigned_kind (Local w n) c ty))))
     expression_in (Assign (Global n) c ty) p d t (within, numbered) room few short =
-        let o = converted_operand starts c t in
-        let front = converted_operand_code starts c p t in
+        let o = converted_operand (starts_of types) c t in
+        let front = converted_operand_code (starts_of types) c p t in
         let store = instructions.StoreGlobal n o ∷ [] in
-        let back = copy_code o d in
-        let inside = converted_value_in c t numbered (omega (arith, few)) in
+        let back = copy_code (passed_words c) o d in
         append (front ++ store) back
-        (append front store (converted_operand_in c p t numbered (omega (arith, few)) (omega (arith, few)) (omega (arith, short, length-append (front ++ store) back, length-append front store))) ((omega (arith, within, globals), inside), tt))
-        (copy_in (is_in o d) o d inside room)
+        (append front store (converted_operand_in c p t numbered (omega (arith, few)) (omega (arith, few)) (omega (arith, short, length-append (front ++ store) back, length-append front store))) ((omega (arith, within, globals), converted_value_in c t numbered (omega (arith, few))), tt))
+        (copy_in (is_in o d) c o d (converted_room c t numbered (omega (arith, few))) (omega (arith, room, ap words_of_kind (assigned_kind (Global n) c ty))))
     expression_in a p d t numbered room few short = absurd numbered
 
-    initial_in : (c : Converted) (p d t : ℕ) → IsNumberedConverted b c → d < r.slots → t < r.slots → t + converted_need c ≤ r.slots → p + length (initial_code starts c p d t) < length r.code → AreIn (initial_code starts c p d t)
-    initial_in (Convert from kinds.NonNull a) p d t numbered room free few short =
-        let inner = expression_code starts a p (value_slot starts a t) t in
-        let o = value_operand starts a t in
-        let front = code_unless (operand_of starts a) inner in
-        let check = check_code null_exception o (p + length front) in
-        let move = instructions.Move d o ∷ [] in
-        let inside = value_in a t numbered free in
-        let long = length-append (front ++ check) move in
-        let long_front = length-append front check in
-        append (front ++ check) move
-        (append front check (unless_in (operand_of starts a) inner p (omega (arith, short, long, long_front)) (λ less. expression_in a p (value_slot starts a t) t numbered (slot_fits a t numbered free) few less))
-        (check_in null_exception o (p + length front) inside (omega (arith, short, long, long_front)))) ((room, inside), tt)
-    initial_in (Convert from to a) p d t numbered room free few short = expression_in a p d t numbered room few short
+    initial_in : (c : Converted) (p d t : ℕ) → FitsConverted b types c → d + words_of_kind (passed_kind c) ≤ r.slots → t + converted_words c ≤ r.slots → t + converted_need c ≤ r.slots → p + length (initial_code (starts_of types) c p d t) < length r.code → AreIn (initial_code (starts_of types) c p d t)
+    initial_in (Convert from to a) p d t (kind, numbered) room free few short =
+        initial_by (converts_there from to) from to a p d t kind numbered room free refl (λ slot fits less. expression_in a p slot t numbered fits few less) short
 
-    converted_in : (c : Converted) (p t : ℕ) → IsNumberedConverted b c → t < r.slots → t + converted_need c ≤ r.slots → p + length (converted_code starts c p t) < length r.code → AreIn (converted_code starts c p t)
-    converted_in (Convert from to a) p t numbered room few short =
-        let front = expression_code starts a p t t in
+    converted_in : (c : Converted) (p t : ℕ) → FitsConverted b types c → t + converted_words c ≤ r.slots → t + converted_need c ≤ r.slots → p + length (converted_code (starts_of types) c p t) < length r.code → AreIn (converted_code (starts_of types) c p t)
+    converted_in (Convert from to a) p t (kind, numbered) room few short =
+        let front = expression_code (starts_of types) a p t t in
         let back = conversion_code to (operands.Slot t) (p + length front) in
-        append front back (expression_in a p t t numbered room few (omega (arith, short, length-append front back)))
-        (conversion_in to (operands.Slot t) (p + length front) room (omega (arith, short, length-append front back)))
+        append front back (expression_in a p t t numbered (omega (arith, room, ap words_of_kind kind)) few (omega (arith, short, length-append front back)))
+        (conversion_in to (operands.Slot t) (p + length front) (omega (arith, room, kind_positive to)) (omega (arith, short, length-append front back)))
 
-    converted_operand_in : (c : Converted) (p t : ℕ) → IsNumberedConverted b c → t < r.slots → t + converted_need c ≤ r.slots → p + length (converted_operand_code starts c p t) < length r.code → AreIn (converted_operand_code starts c p t)
-    converted_operand_in (Convert from to a) p t numbered room few short =
-        let inner = expression_code starts a p (value_slot starts a t) t in
-        let front = code_unless (operand_of starts a) inner in
-        let back = conversion_code to (value_operand starts a t) (p + length front) in
+    converted_operand_in : (c : Converted) (p t : ℕ) → FitsConverted b types c → t + converted_words c ≤ r.slots → t + converted_need c ≤ r.slots → p + length (converted_operand_code (starts_of types) c p t) < length r.code → AreIn (converted_operand_code (starts_of types) c p t)
+    converted_operand_in (Convert from to a) p t (kind, numbered) room few short =
+        let known = source_of (starts_of types) (Convert from to a) in
+        let slot = source_slot (starts_of types) (Convert from to a) t in
+        let o = converted_operand (starts_of types) (Convert from to a) t in
+        let inner = expression_code (starts_of types) a p slot t in
+        let front = code_unless known inner in
+        let back = conversion_code to o (p + length front) in
         append front back
-        (unless_in (operand_of starts a) inner p (omega (arith, short, length-append front back)) (λ less. expression_in a p (value_slot starts a t) t numbered (slot_fits a t numbered room) few less))
-        (conversion_in to (value_operand starts a t) (p + length front) (value_in a t numbered room) (omega (arith, short, length-append front back)))
+        (unless_in known inner p (omega (arith, short, length-append front back)) (λ less. expression_in a p slot t numbered (source_fits from to a t (kind, numbered) room) few less))
+        (conversion_in to o (p + length front) (converted_value_in (Convert from to a) t (kind, numbered) room) (omega (arith, short, length-append front back)))
 
     -- the arguments of `putchar`, which all are evaluated with the same temporaries
-    printed_in : (cs : Arguments) (p t first before : ℕ) → AreNumberedArguments b cs → t < r.slots → t ≤ first + before → first + arguments_need cs before ≤ r.slots → p + length (printed_code starts cs p t) < length r.code → AreIn (printed_code starts cs p t)
+    printed_in : (cs : Arguments) (p t first before : ℕ) → FitArguments b types cs → t + argument_words cs ≤ r.slots → t ≤ first + before → first + arguments_need cs before ≤ r.slots → p + length (printed_code (starts_of types) cs p t) < length r.code → AreIn (printed_code (starts_of types) cs p t)
     printed_in NoArguments p t first before numbered room place few short = tt
     printed_in (MoreArguments c cs) p t first before (numbered, rest) room place few short =
-        let front = converted_operand_code starts c p t in
-        let back = printed_code starts cs (p + length front) t in
-        append front back (converted_operand_in c p t numbered room (omega (arith, few, place)) (omega (arith, short, length-append front back)))
-        (printed_in cs (p + length front) t first (before + converted_words c) rest room (omega (arith, place)) (omega (arith, few)) (omega (arith, short, length-append front back)))
+        let front = converted_operand_code (starts_of types) c p t in
+        let back = printed_code (starts_of types) cs (p + length front) t in
+        append front back (converted_operand_in c p t numbered (omega (arith, room)) (omega (arith, few, place)) (omega (arith, short, length-append front back)))
+        (printed_in cs (p + length front) t first (before + converted_words c) rest (omega (arith, room)) (omega (arith, place)) (omega (arith, few)) (omega (arith, short, length-append front back)))
 
     -- the arguments begin at `first`, and those before have so many words
-    arguments_in : (cs : Arguments) (p t first before : ℕ) → AreNumberedArguments b cs → t ≤ first + before → first + (before + argument_words cs) ≤ r.slots → first + arguments_need cs before ≤ r.slots → p + length (arguments_code starts cs p t) < length r.code → AreIn (arguments_code starts cs p t)
+    arguments_in : (cs : Arguments) (p t first before : ℕ) → FitArguments b types cs → t ≤ first + before → first + (before + argument_words cs) ≤ r.slots → first + arguments_need cs before ≤ r.slots → p + length (arguments_code (starts_of types) cs p t) < length r.code → AreIn (arguments_code (starts_of types) cs p t)
     arguments_in NoArguments p t first before numbered place few needs short = tt
     arguments_in (MoreArguments c cs) p t first before (numbered, rest) place few needs short =
-        let front = converted_code starts c p t in
-        let back = arguments_code starts cs (p + length front) (suc t) in
+        let front = converted_code (starts_of types) c p t in
+        let back = arguments_code (starts_of types) cs (p + length front) (t + passed_words c) in
         append front back
-        (converted_in c p t numbered (omega (arith, few, place, converted_positive c)) (omega (arith, needs, place)) (omega (arith, short, length-append front back)))
-        (arguments_in cs (p + length front) (suc t) first (before + converted_words c) rest (omega (arith, place, converted_positive c)) (omega (arith, few)) (omega (arith, needs)) (omega (arith, short, length-append front back)))
+        (converted_in c p t numbered (omega (arith, few, place)) (omega (arith, needs, place)) (omega (arith, short, length-append front back)))
+        (arguments_in cs (p + length front) (t + passed_words c) first (before + converted_words c) rest (omega (arith, place, passed_is c, converted_least c)) (omega (arith, few)) (omega (arith, needs)) (omega (arith, short, length-append front back)))
 
-    operations_in : (os : Operations) (ty : Ty) (p : ℕ) (l : Operand) (d t left : ℕ) → AreNumberedOperations b os → d < r.slots → IsOperand r l → 1 ≤ left → t + operations_need os ty left ≤ r.slots → p + length (operations_code starts os p l d t) < length r.code → AreIn (operations_code starts os p l d t)
+    operations_in : (os : Operations) (ty : Ty) (p : ℕ) (l : Operand) (d t left : ℕ) → FitOperations b types os → d < r.slots → IsOperand r l → 1 ≤ left → t + operations_need os ty left ≤ r.slots → p + length (operations_code (starts_of types) os p l d t) < length r.code → AreIn (operations_code (starts_of types) os p l d t)
     operations_in NoOperations ty p l d t left numbered room inside some few short = tt
     operations_in (ThenCompute o a os) ty p l d t left (numbered, rest) room inside some few short =
-        let inner = expression_code starts a p (value_slot starts a (suc t)) (suc t) in
-        let operand = code_unless (operand_of starts a) inner in
+        let inner = expression_code (starts_of types) a p (value_slot (starts_of types) a (suc t)) (suc t) in
+        let operand = code_unless (operand_of (starts_of types) a) inner in
         let next = next_slot os d t in
-        let m = value_operand starts a (suc t) in
+        let m = value_operand (starts_of types) a (suc t) in
         let operator = operator_code o l m (p + length operand) next in
         let front = operand ++ operator in
-        let back = operations_code starts os (p + length front) (operands.Slot next) d t in
+        let back = operations_code (starts_of types) os (p + length front) (operands.Slot next) d t in
         let long = length-append front back in
         let long_front = length-append operand operator in
-        let free : suc t < r.slots = omega (arith, few, some, operand_positive (type_of a), words_positive ty) in
+        let free : suc t + words_of_kind (kind_at a) ≤ r.slots = omega (arith, few, some, operand_positive (type_of a), words_positive ty, given_needs a numbered) in
         let next_few = next_in os d t room (omega (arith, free)) in
         append front back
         (append operand operator
-        (unless_in (operand_of starts a) inner p (omega (arith, short, long, long_front)) (λ less. expression_in a p (value_slot starts a (suc t)) (suc t) numbered (slot_fits a (suc t) numbered free) (omega (arith, few, some)) less))
+        (unless_in (operand_of (starts_of types) a) inner p (omega (arith, short, long, long_front)) (λ less. expression_in a p (value_slot (starts_of types) a (suc t)) (suc t) numbered (slot_fits a (suc t) numbered free) (omega (arith, few, some)) less))
         (operator_in o l m (p + length operand) next next_few inside (value_in a (suc t) numbered free) (omega (arith, short, long, long_front))))
         (operations_in os ty (p + length front) (operands.Slot next) d t (words_of ty) rest room next_few (words_positive ty) (omega (arith, few)) (omega (arith, short, long)))
     operations_in (ThenTest o a os) ty p l d t left (numbered, rest) room inside some few short =
-        let operand = expression_code starts a (p + 1) t t in
+        let operand = expression_code (starts_of types) a (p + 1) t t in
         let next = next_slot os d t in
         let front = test_code o operand p next t in
-        let back = operations_code starts os (p + length front) (operands.Slot next) d t in
+        let back = operations_code (starts_of types) os (p + length front) (operands.Slot next) d t in
         let long = length-append front back in
         let long_front = length-append operand (truth_code t next) in
         let free : t < r.slots = omega (arith, few, some) in
         let next_few = next_in os d t room free in
         append front back
-        (test_in o operand p next t next_few free (omega (arith, short, long)) (expression_in a (p + 1) t t numbered free (omega (arith, few)) (omega (arith, short, long, long_front))))
+        (test_in o operand p next t next_few free (omega (arith, short, long)) (expression_in a (p + 1) t t numbered (omega (arith, few, free, given_needs a numbered)) (omega (arith, few)) (omega (arith, short, long, long_front))))
         (operations_in os ty (p + length front) (operands.Slot next) d t (words_of ty) rest room next_few (words_positive ty) (omega (arith, few)) (omega (arith, short, long)))
     operations_in os ty p l d t left numbered room inside some few short = absurd numbered
 
-  assignment_in : (l : Lvalue) (c : Converted) (p t : ℕ) → IsWithin b l → IsNumberedConverted b c → t < r.slots → t + converted_need c ≤ r.slots → p + length (assignment_code starts l c p t) < length r.code → AreIn (assignment_code starts l c p t)
-  assignment_in (Local w n) c p t within numbered free few short = initial_in c p (slot_of starts n) t numbered (locals n within) free few short
+  assignment_in : (l : Lvalue) (c : Converted) (p t : ℕ) → FitsPlace b types l (passed_kind c) → FitsConverted b types c → t + converted_words c ≤ r.slots → t + converted_need c ≤ r.slots → p + length (assignment_code (starts_of types) l c p t) < length r.code → AreIn (assignment_code (starts_of types) l c p t)
+  assignment_in (Local w n) c p t (within, own) numbered free few short = initial_in c p (slot_of (starts_of types) n) t numbered (omega (arith, locals n within, own)) free few short
   assignment_in (Global n) c p t within numbered free few short =
-      let front = converted_operand_code starts c p t in
-      let store = instructions.StoreGlobal n (converted_operand starts c t) ∷ [] in
+      let front = converted_operand_code (starts_of types) c p t in
+      let store = instructions.StoreGlobal n (converted_operand (starts_of types) c t) ∷ [] in
       append front store (converted_operand_in c p t numbered free few (omega (arith, short, length-append front store))) ((omega (arith, within, globals), converted_value_in c t numbered free), tt)
 
-  discarded_in : (a : Expression) (p t : ℕ) → IsNumbered b a → t + expression_need a < r.slots → p + length (discarded_code starts a p t) < length r.code → AreIn (discarded_code starts a p t)
-  discarded_in (Call callees.Putchar cs ty) p t (s, signature, many, same, numbered) few short =
-      let front = printed_code starts cs p t in
-      let back = instructions.WriteByte (printed_operand starts cs (operands.Slot t) t) ∷ [] in
+  discarded_in : (a : Expression) (p t : ℕ) → Fits b types a → t + expression_need a + spare_slots ≤ r.slots → p + length (discarded_code (starts_of types) a p t) < length r.code → AreIn (discarded_code (starts_of types) a p t)
+  discarded_in (Call callees.Putchar cs ty) p t (s, signature, many, passed, result, numbered) few short =
+      let front = printed_code (starts_of types) cs p t in
+      let back = instructions.WriteByte (printed_operand (starts_of types) cs (operands.Slot t) t) ∷ [] in
       append front back (printed_in cs p t t 0 numbered (omega (arith, few)) (omega arith) (omega (arith, few)) (omega (arith, short, length-append front back)))
       (printed_value_in cs (operands.Slot t) t numbered (omega (arith, few)) (omega (arith, few)), tt)
   discarded_in (Assign l c ty) p t (within, numbered) few short = assignment_in l c p t within numbered (omega (arith, few)) (omega (arith, few)) short
-  discarded_in a p t numbered few short = unless_in (operand_of starts a) (expression_code starts a p t t) p short (λ less. expression_in a p t t numbered (omega (arith, few)) (omega (arith, few)) less)
+  discarded_in a p t numbered few short =
+      unless_in (operand_of (starts_of types) a) (expression_code (starts_of types) a p t t) p short (λ less. expression_in a p t t numbered (omega (arith, few, kind_few (kind_at a))) (omega (arith, few)) less)
 
   -- ---- statements
 
   -- two operands that are compared, by the code of the second
-  pair_in : (a c : Expression) (p t : ℕ) → IsNumbered b a → t + expression_need a < r.slots → p + length (pair_code starts a c p t) < length r.code
-      → (p + length (first_code starts a c p t) + length (second_code starts c (p + length (first_code starts a c p t)) t) < length r.code → AreIn (second_code starts c (p + length (first_code starts a c p t)) t)) → AreIn (pair_code starts a c p t)
+  pair_in : (a c : Expression) (p t : ℕ) → Fits b types a → t + expression_need a + spare_slots ≤ r.slots → p + length (pair_code (starts_of types) a c p t) < length r.code
+      → (p + length (first_code (starts_of types) a c p t) + length (second_code (starts_of types) c (p + length (first_code (starts_of types) a c p t)) t) < length r.code → AreIn (second_code (starts_of types) c (p + length (first_code (starts_of types) a c p t)) t)) → AreIn (pair_code (starts_of types) a c p t)
   pair_in a c p t numbered few short second =
-      let slot = slot_with starts (operand_of starts c) a t in
-      let front = first_code starts a c p t in
-      let back = second_code starts c (p + length front) t in
+      let slot = slot_with (starts_of types) (operand_of (starts_of types) c) a t in
+      let front = first_code (starts_of types) a c p t in
+      let back = second_code (starts_of types) c (p + length front) t in
       let long = length-append front back in
       append front back
-      (unless_in (left_with (operand_of starts c) (operand_of starts a)) (expression_code starts a p slot t) p (omega (arith, short, long))
-      (λ less. expression_in a p slot t numbered (slot_with_in (operand_of starts c) a t numbered (omega (arith, few))) (omega (arith, few)) less))
+      (unless_in (left_with (operand_of (starts_of types) c) (operand_of (starts_of types) a)) (expression_code (starts_of types) a p slot t) p (omega (arith, short, long))
+      (λ less. expression_in a p slot t numbered (slot_with_in (operand_of (starts_of types) c) a t numbered (omega (arith, few, kind_few (kind_at a)))) (omega (arith, few)) less))
       (second (omega (arith, short, long)))
 
-  condition_in : (a : Expression) (p t : ℕ) → IsNumbered b a → t + expression_need a < r.slots → p + length (condition_code starts a p t) < length r.code → AreIn (condition_code starts a p t)
+  condition_in : (a : Expression) (p t : ℕ) → Fits b types a → t + expression_need a + spare_slots ≤ r.slots → p + length (condition_code (starts_of types) a p t) < length r.code → AreIn (condition_code (starts_of types) a p t)
   condition_in (Unary unary.Not a) p t numbered few short = pair_in a (Number 0) p t numbered (omega (arith, few)) short (λ less. tt)
   condition_in (Binary a (ThenCompute o c NoOperations) ty) p t (first, (second, none)) few short = by (failing_comparison o) short
     where
-      by : (f : Option Comparison) → p + length (pair_code starts (compared_or f a c (Binary a (ThenCompute o c NoOperations) ty)).left (compared_or f a c (Binary a (ThenCompute o c NoOperations) ty)).right p t) < length r.code
-          → AreIn (pair_code starts (compared_or f a c (Binary a (ThenCompute o c NoOperations) ty)).left (compared_or f a c (Binary a (ThenCompute o c NoOperations) ty)).right p t)
+      by : (f : Option Comparison) → p + length (pair_code (starts_of types) (compared_or f a c (Binary a (ThenCompute o c NoOperations) ty)).left (compared_or f a c (Binary a (ThenCompute o c NoOperations) ty)).right p t) < length r.code
+          → AreIn (pair_code (starts_of types) (compared_or f a c (Binary a (ThenCompute o c NoOperations) ty)).left (compared_or f a c (Binary a (ThenCompute o c NoOperations) ty)).right p t)
       by (Some failing) short =
-          let next = p + length (first_code starts a c p t) in
+          let next = p + length (first_code (starts_of types) a c p t) in
           let some = operand_positive (type_of a) in
-          let free : suc t < r.slots = omega (arith, few, some, operand_positive (type_of c), words_positive ty) in
+          let free : suc t + words_of_kind (kind_at c) ≤ r.slots = omega (arith, few, some, operand_positive (type_of c), words_positive ty, kind_few (kind_at c)) in
           pair_in a c p t first (omega (arith, few)) short
-          (λ less. unless_in (operand_of starts c) (expression_code starts c next (value_slot starts c (suc t)) (suc t)) next less
-          (λ fits. expression_in c next (value_slot starts c (suc t)) (suc t) second (slot_fits c (suc t) second free) (omega (arith, few, some)) fits))
+          (λ less. unless_in (operand_of (starts_of types) c) (expression_code (starts_of types) c next (value_slot (starts_of types) c (suc t)) (suc t)) next less
+          (λ fits. expression_in c next (value_slot (starts_of types) c (suc t)) (suc t) second (slot_fits c (suc t) second free) (omega (arith, few, some)) fits))
       by None short = pair_in (Binary a (ThenCompute o c NoOperations) ty) (Number 0) p t (first, (second, none)) few short (λ less. tt)
   condition_in a p t numbered few short = pair_in a (Number 0) p t numbered few short (λ less. tt)
 
-  compared_in : (a : Expression) (t : ℕ) → IsNumbered b a → t + expression_need a < r.slots → IsOperand r (condition_of starts a t).left × IsOperand r (condition_of starts a t).right
-  compared_in (Unary unary.Not a) t numbered few = (value_in a t numbered (omega (arith, few)), tt)
+  compared_in : (a : Expression) (t : ℕ) → Fits b types a → t + expression_need a + spare_slots ≤ r.slots → IsOperand r (condition_of (starts_of types) a t).left × IsOperand r (condition_of (starts_of types) a t).right
+  compared_in (Unary unary.Not a) t numbered few = (value_in a t numbered (omega (arith, few, kind_few (kind_at a))), tt)
   compared_in (Binary a (ThenCompute o c NoOperations) ty) t (first, (second, none)) few = by (failing_comparison o)
     where
-      by : (f : Option Comparison) → IsOperand r (first_operand starts (compared_or f a c (Binary a (ThenCompute o c NoOperations) ty)).left (compared_or f a c (Binary a (ThenCompute o c NoOperations) ty)).right t) × IsOperand r (value_operand starts (compared_or f a c (Binary a (ThenCompute o c NoOperations) ty)).right (suc t))
+      by : (f : Option Comparison) → IsOperand r (first_operand (starts_of types) (compared_or f a c (Binary a (ThenCompute o c NoOperations) ty)).left (compared_or f a c (Binary a (ThenCompute o c NoOperations) ty)).right t) × IsOperand r (value_operand (starts_of types) (compared_or f a c (Binary a (ThenCompute o c NoOperations) ty)).right (suc t))
       by (Some failing) =
-          let free : suc t < r.slots = omega (arith, few, operand_positive (type_of a), operand_positive (type_of c), words_positive ty) in
-          (left_with_in (operand_of starts c) a t first (omega (arith, free)), value_in c (suc t) second free)
+          let free : suc t + words_of_kind (kind_at c) ≤ r.slots = omega (arith, few, operand_positive (type_of a), operand_positive (type_of c), words_positive ty, kind_few (kind_at c)) in
+          (left_with_in (operand_of (starts_of types) c) a t first (omega (arith, few, kind_few (kind_at a))), value_in c (suc t) second free)
       by None = (value_in (Binary a (ThenCompute o c NoOperations) ty) t (first, (second, none)) (omega (arith, few)), tt)
-  compared_in a t numbered few = (value_in a t numbered (omega (arith, few)), tt)
+  compared_in a t numbered few = (value_in a t numbered (omega (arith, few, kind_few (kind_at a))), tt)
 
-  return_in : (v : Option Converted) (p t : ℕ) → IsNumberedReturn b b.result v → t + initial_need v < r.slots → p + length (return_code starts v p t) < length r.code → AreIn (return_code starts v p t)
-  return_in None p t numbered few short = (omega (arith, few, results), tt)
+  return_in : (v : Option Converted) (p t : ℕ) → FitsReturn b types b.result v → t + initial_need v + spare_slots ≤ r.slots → p + length (return_code (starts_of types) v p t) < length r.code → AreIn (return_code (starts_of types) v p t)
+  return_in None p t numbered few short = (omega (arith, few, results, results_few b.result), tt)
   return_in (Some (Convert from to a)) p t numbered few short =
-      let s = slot_or (operand_of starts a) t in
-      let inner = expression_code starts a p t t in
-      let front = code_unless_slot (operand_of starts a) inner in
+      let c = Convert from to a in
+      let known = source_of (starts_of types) c in
+      let s = slot_or known t in
+      let inner = expression_code (starts_of types) a p t t in
+      let front = code_unless_slot known inner in
       let conversion = conversion_code to (operands.Slot s) (p + length front) in
       let back = instructions.Return s ∷ [] in
       let long = length-append (front ++ conversion) back in
       let long_front = length-append front conversion in
-      let is = value_of b.result numbered in
-      let there = returned_in a t is (omega (arith, few)) in
+      let (words, kind, is) = value_of b.result numbered in
+      let there : s + words_of_kind to ≤ r.slots = returned_in (are_as_wide from to) kind is refl in
       append (front ++ conversion) back
-      (append front conversion (unless_slot_in (operand_of starts a) inner p (omega (arith, short, long, long_front)) (λ less. expression_in a p t t is (omega (arith, few)) (omega (arith, few)) less))
-      (conversion_in to (operands.Slot s) (p + length front) there (omega (arith, short, long, long_front)))) (omega (arith, there, results), tt)
+      (append front conversion (unless_slot_in known inner p (omega (arith, short, long, long_front)) (λ less. expression_in a p t t is (omega (arith, few, kind_few (kind_at a))) (omega (arith, few)) less))
+      (conversion_in to (operands.Slot s) (p + length front) (omega (arith, there, kind_positive to)) (omega (arith, short, long, long_front)))) (omega (arith, there, results, words), tt)
     where
-      value_of : (result : Option Ty) → IsNumberedReturn b result (Some (Convert from to a)) → IsNumbered b a
+      value_of : (result : Option Ty) → FitsReturn b types result (Some (Convert from to a)) → (results_of result ≡ words_of_kind to) × (from ≡ kind_at a) × Fits b types a
       value_of None numbered = absurd numbered
-      value_of (Some ty) numbered = numbered
+      value_of (Some ty) (same, (kind, numbered)) = (sym (type_words ty) ∙ ap words_of_kind (sym same), kind, numbered)
 
-  declaration_in : (n : ℕ) (v : Option Converted) (p t : ℕ) → n < b.locals → IsNumberedInitial b v → t + initial_need v < r.slots → p + length (declaration_code starts n v p t) < length r.code → AreIn (declaration_code starts n v p t)
+      slot_there : (known : Option Operand) → HasOperand (operand_or known t) (words_of_kind to) → slot_or known t + words_of_kind to ≤ r.slots
+      slot_there (Some (operands.Slot n)) inside = inside
+      slot_there (Some (operands.Word w)) inside = omega (arith, few, kind_few to)
+      slot_there None inside = inside
+
+      wide_room : from ≡ kind_at a → Fits b types a → (words_of_kind from ≡ words_of_kind to) → (known : Option Operand) → operand_of (starts_of types) a ≡ known → slot_or known t + words_of_kind to ≤ r.slots
+      wide_room kind is wide (Some o) there =
+          slot_there (Some o)
+          (subst (HasOperand o) (ap words_of_kind (sym kind) ∙ wide)
+          (subst (λ (x : Option Operand). HasOperand (operand_or x (value_slot (starts_of types) a t)) (words_of_kind (kind_at a))) there (value_room a t is (omega (arith, few, kind_few (kind_at a))))))
+      wide_room kind is wide None there = omega (arith, few, kind_few to)
+
+      returned_in : (same : Bool) → from ≡ kind_at a → Fits b types a → are_as_wide from to ≡ same → slot_or (if same then operand_of (starts_of types) a else None) t + words_of_kind to ≤ r.slots
+      returned_in true kind is wide = wide_room kind is (eqb-true (words_of_kind from) (words_of_kind to) wide) (operand_of (starts_of types) a) refl
+      returned_in false kind is wide = omega (arith, few, kind_few to)
+
+  declaration_in : (n : ℕ) (v : Option Converted) (p t : ℕ) → n < b.locals → FitsInitial b types n v → t + initial_need v + spare_slots ≤ r.slots → p + length (declaration_code (starts_of types) n v p t) < length r.code → AreIn (declaration_code (starts_of types) n v p t)
   declaration_in n None p t within numbered few short = tt
-  declaration_in n (Some c) p t within numbered few short = initial_in c p (slot_of starts n) t numbered (locals n within) (omega (arith, few)) (omega (arith, few)) short
+  declaration_in n (Some c) p t within (own, numbered) few short =
+      initial_in c p (slot_of (starts_of types) n) t numbered (omega (arith, locals n within, own)) (omega (arith, few, converted_few c)) (omega (arith, few)) short
 
   mutual
-    statement_in : (s : Statement) (in_loop : Bool) (p loop t : ℕ) → IsNumberedStatement b in_loop s → (in_loop ≡ true → loop + 2 < length r.code) → t + statement_need s < r.slots → p + length (statement_code starts s p loop t) < length r.code → AreIn (statement_code starts s p loop t)
-    statement_in (Block n js) in_loop p loop t (few_regions, numbered) around few short = items_in js in_loop p loop t numbered around few short
+    statement_in : (s : Statement) (in_loop : Bool) (p loop t : ℕ) → FitsStatement b types in_loop s → (in_loop ≡ true → loop + 2 < length r.code) → t + statement_need s + spare_slots ≤ r.slots → p + length (statement_code (starts_of types) s p loop t) < length r.code → AreIn (statement_code (starts_of types) s p loop t)
+    statement_in (Block n js) in_loop p loop t numbered around few short = items_in js in_loop p loop t numbered around few short
     statement_in Empty in_loop p loop t numbered around few short = tt
     statement_in (Evaluate a) in_loop p loop t numbered around few short = discarded_in a p t numbered few short
     statement_in (If a s u) in_loop p loop t (numbered_a, numbered_s, numbered_u) around few short =
-        let condition = condition_code starts a p t in
+        let condition = condition_code (starts_of types) a p t in
         let m = p + length condition in
-        let first = statement_code starts s (m + 1) loop t in
+        let first = statement_code (starts_of types) s (m + 1) loop t in
         let q = m + 1 + length first in
-        let second = statement_code starts u (q + 1) loop t in
-        let jump_first = failing_jump (condition_of starts a t) (q + 1) ∷ first in
+        let second = statement_code (starts_of types) u (q + 1) loop t in
+        let jump_first = failing_jump (condition_of (starts_of types) a t) (q + 1) ∷ first in
         let jump_second = instructions.Jump (q + 1 + length second) ∷ second in
         let long = length-append (condition ++ jump_first) jump_second in
         let long_front = length-append condition jump_first in
@@ -448,10 +559,10 @@ module _ (program : PlainProgram) (r : Routine) (b : Numbering) (starts : List �
         ((left, right, omega (arith, short, long, long_front)), statement_in s in_loop (m + 1) loop t numbered_s around (omega (arith, few)) (omega (arith, short, long, long_front))))
         (omega (arith, short, long, long_front), statement_in u in_loop (q + 1) loop t numbered_u around (omega (arith, few)) (omega (arith, short, long, long_front)))
     statement_in (While w a s) in_loop p loop t (numbered_a, numbered_s) around few short =
-        let condition = condition_code starts a (p + 2) t in
+        let condition = condition_code (starts_of types) a (p + 2) t in
         let m = p + 2 + length condition in
-        let body = statement_code starts s (m + 1) p t in
-        let test = failing_jump (condition_of starts a t) (break_target p) ∷ body in
+        let body = statement_code (starts_of types) s (m + 1) p t in
+        let test = failing_jump (condition_of (starts_of types) a t) (break_target p) ∷ body in
         let again = instructions.Jump (continue_target p) ∷ [] in
         let long = length-append (condition ++ test) again in
         let long_front = length-append condition test in
@@ -470,17 +581,17 @@ module _ (program : PlainProgram) (r : Routine) (b : Numbering) (starts : List �
     statement_in Continue in_loop p loop t numbered around few short = (omega (arith, around numbered), tt)
     statement_in s in_loop p loop t numbered around few short = absurd numbered
 
-    items_in : (js : Items) (in_loop : Bool) (p loop t : ℕ) → AreNumberedItems b in_loop js → (in_loop ≡ true → loop + 2 < length r.code) → t + items_need js < r.slots → p + length (items_code starts js p loop t) < length r.code → AreIn (items_code starts js p loop t)
+    items_in : (js : Items) (in_loop : Bool) (p loop t : ℕ) → FitItems b types in_loop js → (in_loop ≡ true → loop + 2 < length r.code) → t + items_need js + spare_slots ≤ r.slots → p + length (items_code (starts_of types) js p loop t) < length r.code → AreIn (items_code (starts_of types) js p loop t)
     items_in NoItems in_loop p loop t numbered around few short = tt
     items_in (MoreItems (Execute s) js) in_loop p loop t (numbered, rest) around few short =
-        let front = statement_code starts s p loop t in
-        let back = items_code starts js (p + length front) loop t in
+        let front = statement_code (starts_of types) s p loop t in
+        let back = items_code (starts_of types) js (p + length front) loop t in
         let long = length-append front back in
         append front back (statement_in s in_loop p loop t numbered around (omega (arith, few)) (omega (arith, short, long)))
         (items_in js in_loop (p + length front) loop t rest around (omega (arith, few)) (omega (arith, short, long)))
     items_in (MoreItems (Declare n ty v) js) in_loop p loop t (within, numbered, rest) around few short =
-        let front = declaration_code starts n v p t in
-        let back = items_code starts js (p + length front) loop t in
+        let front = declaration_code (starts_of types) n v p t in
+        let back = items_code (starts_of types) js (p + length front) loop t in
         let long = length-append front back in
         append front back (declaration_in n v p t within numbered (omega (arith, few)) (omega (arith, short, long)))
         (items_in js in_loop (p + length front) loop t rest around (omega (arith, few)) (omega (arith, short, long)))
@@ -490,12 +601,12 @@ module _ (program : PlainProgram) (r : Routine) (b : Numbering) (starts : List �
 
 signatures_known : (hs : List Function) (n : ℕ) (s : Signature) → slice_get (signatures_of hs) n ≡ Some s
     → (n < length (map lower_function hs))
-    × ((slice_index_or (map lower_function hs) n no_routine).parameters ≡ length s.parameters)
+    × ((slice_index_or (map lower_function hs) n no_routine).parameters ≡ words_of_all s.parameters)
     × ((slice_index_or (map lower_function hs) n no_routine).results ≡ results_of s.result)
 signatures_known [] n s there = absurd (none-some s there)
 signatures_known (h ∷ hs) zero s there =
     let same : signature_of h ≡ s = same_Some (signature_of h) s there in
-    (omega arith, ap (λ (x : Signature). length x.parameters) same, ap (λ (x : Signature). results_of x.result) same)
+    (omega arith, ap (λ (x : Signature). words_of_all x.parameters) same, ap (λ (x : Signature). results_of x.result) same)
 signatures_known (h ∷ hs) (suc n) s there =
     let (few, parameters, results) = signatures_known hs n s there in (omega (arith, few), parameters, results)
 
@@ -503,13 +614,13 @@ pub globals_counted : (gs : List GlobalVariable) → length gs ≡ length (map l
 globals_counted [] = refl
 globals_counted (g ∷ gs) = ap suc (globals_counted gs)
 
-module _ (source : Program) (is_numbered : IsNumberedProgram source) where
+module _ (source : Program) (is_fitting : IsFitting source) where
   known_functions : (n : ℕ) (s : Signature) → slice_get (signatures_of source.functions) n ≡ Some s → IsKnown (lower_program source) n s
   known_functions n s there =
       let (few, parameters, results) = signatures_known source.functions n s there in
       record { there = few; parameters = parameters; results = results }
 
-  function_well : (h : Function) → AreNumberedItems (numbering_of (length source.globals) (signatures_of source.functions) h) false h.body → IsRoutine (lower_program source) (lower_function h)
+  function_well : (h : Function) → FitItems (numbering_of (length source.globals) (signatures_of source.functions) h) (slot_types h) false h.body → IsRoutine (lower_program source) (lower_function h)
   function_well h numbered_body =
       let d = first_temporary h in
       let r = lower_function h in
@@ -520,26 +631,26 @@ module _ (source : Program) (is_numbered : IsNumberedProgram source) where
       let end = instructions.Return d ∷ [] in
       let long = length-append body end in
       record {
-        parameters = omega (arith, types_words types, slot_types-many h);
+        parameters = omega (arith, slots-few h);
         results = omega (arith, results_few h.result);
-        frame = omega (arith, (slots-few h).1);
+        frame = omega (arith, slots-few h);
         instructions = all_of (IsInRange (lower_program source) r) (body ++ end)
             (all_append (IsInRange (lower_program source) r) body end
-            (items_in (lower_program source) r b starts (λ n within. omega (arith, slot-inside types n (omega (arith, within, slot_types-many h)))) (globals_counted source.globals) known_functions (results_few h.result)
+            (items_in (lower_program source) r b types (λ n within. omega (arith, slot-room types n (omega (arith, within, slot_types-many h)))) (globals_counted source.globals) known_functions refl
             h.body false 0 0 d numbered_body (λ inside. absurd (let f : false ≡ true = inside in cc)) (omega arith) (omega (arith, long)))
             (omega (arith, results_few h.result), tt));
         last = subst (λ (o : Option Instruction). IsSomeAnd o (λ i. leaves i ≡ true)) (sym (last_of body (instructions.Return d))) refl;
       }
 
-  functions_well : (hs : List Function) → AreNumberedFunctions (length source.globals) (signatures_of source.functions) hs → AllByRecursion (IsRoutine (lower_program source)) (map lower_function hs)
+  functions_well : (hs : List Function) → AreFitting (length source.globals) (signatures_of source.functions) hs → AllByRecursion (IsRoutine (lower_program source)) (map lower_function hs)
   functions_well [] numbered_all = tt
   functions_well (h ∷ hs) (first, rest) = (function_well h first, functions_well hs rest)
 
   pub well_formed : length source.globals ≤ MOST_GLOBALS → IsWellFormed (lower_program source)
   well_formed few =
-      let main = known_functions source.main _ is_numbered.main in
+      let main = known_functions source.main _ is_fitting.main in
       record {
-        functions = all_of (IsRoutine (lower_program source)) (map lower_function source.functions) (functions_well source.functions is_numbered.functions);
+        functions = all_of (IsRoutine (lower_program source)) (map lower_function source.functions) (functions_well source.functions is_fitting.functions);
         main = main.there;
         main_parameters = main.parameters;
         main_results = main.results;

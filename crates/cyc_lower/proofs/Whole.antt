@@ -1,12 +1,16 @@
 -- Each run of the plain program is one of the source.
-use Rattle.std.proofs.Common.{◌≡◌, ℕ, zero, suc, ◌≤◌, Bool, true, false, List, [], ◌∷◌, length, map, Option, None, Some, slice_get, slice_index, refl, sym, ap, subst, ◌∙◌, arith}
+use Rattle.std.proofs.Common.{◌≡◌, ℕ, zero, suc, ◌≤◌, Bool, true, false, List, [], ◌∷◌, length, map, Option, None, Some, slice_get, slice_index, refl, sym, ap, subst, ◌∙◌, arith, inl, inr}
 use Rattle.std.specs.Prelude.{◌==◌, if◌then◌else◌}
 use Rattle.std.proofs.lemmas.Bool.{le-leb, and_from}
 use Rattle.std.proofs.lemmas.Option.{same_Some, none-some}
 use Rattle.cyc_words.specs.Ending.{Full}
 use Rattle.cyc_types.specs.TypedTrees.{Constant, Word, GlobalVariable, Function, Program}
 use Rattle.cyc_types.specs.TypedTrees as typed
-use Rattle.cyc_types.specs.Numbered.{IsNumberedProgram}
+use Rattle.cyc_syntax.specs.declared.tree.PointerKind.TheVariants as marks
+use Rattle.cyc_types.specs.declared.typed.Kind.TheVariants as kinds
+use Rattle.cyc_types.specs.Types.{Ty}
+use Rattle.cyc_types.specs.Types as types
+use Rattle.cyc_types.specs.typing.WellTyped.{IsWellTypedGlobal, AreWellTypedGlobals}
 use Rattle.cyc_words.specs.Simulation as simulation
 use Rattle.cyc_words.specs.Simulation.{Failed, NeverFails, Follows, Steps}
 use Rattle.cyc_store.specs.State.{StoreState, sizes_in}
@@ -17,7 +21,7 @@ use Rattle.cyc_plain.specs.State.{Configuration}
 use Rattle.cyc_plain.specs.Step as plain_step
 use Rattle.cyc_plain.proofs.RunLaws.{lawful}
 use Rattle.cyc_words.proofs.Simulation.{simulates}
-use Rattle.cyc_meaning.specs.Values.{Value, Int, Null}
+use Rattle.cyc_meaning.specs.Values.{Int, Null, Operand as Kinded, kind_of}
 use Rattle.cyc_meaning.specs.State.{World, Environment, no_locals, constant_value, global_object, first_world, Entry, Main, Focus, Evaluating, Given, Executing, Proceeding, Calling, Entering, Binding, Breaking, Continuing, Returning, Throwing, State, Running, Ended, Dead, Wrong, output_of, input_of, status_of}
 use Rattle.cyc_meaning.specs.Step.{wrong, called, step}
 use Rattle.cyc_meaning.specs.Run.{start, is_within, limited_step}
@@ -25,7 +29,8 @@ use Rattle.cyc_lower.specs.Lowering.{initial_word, lower_global, lower_program}
 use Rattle.cyc_lower.specs.Lowered.{FollowsSource}
 use Rattle.cyc_meaning.specs.SourceMachine.{status_in}
 use Rattle.cyc_lower.proofs.Relation.{Is, contents, Related, Matches}
-use Rattle.cyc_lower.proofs.Data.{no_locals_hold}
+use Rattle.cyc_lower.proofs.Fitting.{IsFitting}
+use Rattle.cyc_lower.proofs.Data.{Is-first, no_locals_hold}
 use Rattle.cyc_lower.proofs.Accesses.{IsWell}
 use Rattle.cyc_lower.proofs.Matched.{IsMatched, above, below, matching}
 use Rattle.cyc_lower.proofs.Evaluations.{evaluating}
@@ -36,20 +41,38 @@ use Rattle.cyc_lower.proofs.Bridge.{functions_stand}
 
 -- ---- the globals at the start
 
-globals_start : (gs : List GlobalVariable) (number : ℕ) (v : Value) → contents (map global_object gs) number ≡ Some v → Is v (slice_index (map lower_global gs) number)
-globals_start [] number v has = absurd (none-some v has)
-globals_start (g ∷ gs) zero v has = first g.value has
+globals_start : (gs : List GlobalVariable) (number : ℕ) (v : Kinded) → AreWellTypedGlobals gs → contents (map global_object gs) number ≡ Some v → Is v.kind v.value (λ i. slice_index (map lower_global gs) i) number
+globals_start [] number v well has = absurd (none-some v has)
+globals_start (g ∷ gs) zero v (well, rest) has = first g.value g.of_type well has
   where
-    first : (constant : Constant) → Some (constant_value constant) ≡ Some v → Is v (initial_word constant)
-    first (Word n) e = subst (λ u. Is u n) (same_Some (Int n) v e) refl
-    first typed.Null e = subst (λ u. Is u 0) (same_Some Null v e) refl
-globals_start (g ∷ gs) (suc number) v has = globals_start gs number v has
+    first : (constant : Constant) (t : Ty) → IsWellTypedGlobal (record { name = g.name; of_type = t; value = constant }) → Some (record { kind = kind_of t; value = constant_value constant }) ≡ Some v
+        → Is v.kind v.value (λ i. slice_index (initial_word constant ∷ map lower_global gs) i) zero
+    first constant t (inl (int, (n, word))) e =
+        let v_is : record { kind = kinds.Int; value = Int n } ≡ v
+        = sym (ap (λ (u : Ty). let x : Kinded = record { kind = kind_of u; value = Int n } in x) int) ∙ sym (ap (λ (c : Constant). let x : Kinded = record { kind = kind_of t; value = constant_value c } in x) word)
+        ∙ same_Some (record { kind = kind_of t; value = constant_value constant }) v e in
+        subst (λ (x : Kinded). Is x.kind x.value (λ i. slice_index (initial_word constant ∷ map lower_global gs) i) zero) v_is (ap initial_word word)
+    first constant (types.Pointer marks.Nullable t r) (inr (k, u, s, is, non_null, null)) e =
+        let v_is : record { kind = kinds.Nullable; value = Null } ≡ v
+        = sym (ap (λ (c : Constant). let x : Kinded = record { kind = kinds.Nullable; value = constant_value c } in x) null) ∙ same_Some (record { kind = kinds.Nullable; value = constant_value constant }) v e in
+        subst (λ (x : Kinded). Is x.kind x.value (λ i. slice_index (initial_word constant ∷ map lower_global gs) i) zero) v_is (ap initial_word null)
+    first constant (types.Pointer marks.Fat t r) (inr (k, u, s, is, non_null, null)) e =
+        let v_is : record { kind = kinds.Fat; value = Null } ≡ v
+        = sym (ap (λ (c : Constant). let x : Kinded = record { kind = kinds.Fat; value = constant_value c } in x) null) ∙ same_Some (record { kind = kinds.Fat; value = constant_value constant }) v e in
+        subst (λ (x : Kinded). Is x.kind x.value (λ i. slice_index (initial_word constant ∷ map lower_global gs) i) zero) v_is (ap initial_word null)
+    first constant (types.Pointer marks.NonNull t r) (inr (k, u, s, is, non_null, null)) e = absurd (let f : true ≡ false = non_null in cc)
+    first constant types.Int (inr (k, u, s, is, non_null, null)) e = absurd (let f : types.Int ≡ types.Pointer k u s = is in cc)
+    first constant (types.Handle r) (inr (k, u, s, is, non_null, null)) e = absurd (let f : types.Handle r ≡ types.Pointer k u s = is in cc)
+    first constant (types.Key r) (inr (k, u, s, is, non_null, null)) e = absurd (let f : types.Key r ≡ types.Pointer k u s = is in cc)
+    first constant (types.Struct n rs) (inr (k, u, s, is, non_null, null)) e = absurd (let f : types.Struct n rs ≡ types.Pointer k u s = is in cc)
+globals_start (g ∷ gs) (suc number) v (well, rest) has =
+    Is-first v.kind v.value (λ i. slice_index (map lower_global gs) i) (λ i. slice_index (map lower_global (g ∷ gs)) i) number (suc number) refl (globals_start gs number v rest has)
 
 globals_many : (gs : List GlobalVariable) → length gs ≤ length (map global_object gs)
 globals_many [] = omega arith
 globals_many (g ∷ gs) = omega (arith, globals_many gs)
 
-module _ (source : Program) (pages calls : ℕ) (stand : FunctionsStand source pages calls) where
+module _ (source : Program) (pages calls : ℕ) (well_typed : AreWellTypedGlobals source.globals) (stand : FunctionsStand source pages calls) where
   -- ---- all steps
 
   stepping : (focus : Focus) (k : List Entry) (e : Environment) (w : World) (c : Configuration) → IsWell (step source (Running focus k e w)) → Related source pages calls focus k e w c
@@ -108,7 +131,7 @@ module _ (source : Program) (pages calls : ℕ) (stand : FunctionsStand source p
         omega arith,
         no_locals_hold _ w.objects (length w.objects) (length w.objects) slots,
         globals_many source.globals,
-        λ number v few has. globals_start source.globals number v has,
+        λ number v few has. globals_start source.globals number v well_typed has,
       )
       tt (λ m end. (_, end, tt))
 
@@ -135,8 +158,8 @@ module _ (source : Program) (pages calls : ℕ) (stand : FunctionsStand source p
       (ap (λ s. status_in (status_of s)) starts)
       (subst (λ s. Matches source pages calls s (plain_step.start (lower_program source) store input)) (sym starts) (start_related h store input there new some_page some_call))
 
--- A program whose numbers are in range does what its source does.
-pub follows : (source : Program) → IsNumberedProgram source → (pages calls : ℕ) (store : StoreState) (input : List ℕ) → IsNew pages store → 1 ≤ pages → 1 ≤ calls
+-- The lowered program of one that fits does what that does.
+pub follows : (source : Program) → IsFitting source → (pages calls : ℕ) (store : StoreState) (input : List ℕ) → IsNew pages store → 1 ≤ pages → 1 ≤ calls
     → FollowsSource source (lower_program source) pages calls store input
-follows source numbered pages calls store input new some_page some_call =
-    follows_source source pages calls (functions_stand source pages calls numbered) store input new some_page some_call
+follows source fitting pages calls store input new some_page some_call =
+    follows_source source pages calls fitting.globals (functions_stand source pages calls fitting) store input new some_page some_call

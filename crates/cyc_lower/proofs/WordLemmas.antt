@@ -1,6 +1,5 @@
 -- A lowered program has words wherever its source has.
 use Rattle.std.proofs.Common.{ℕ, zero, suc, ◌+◌, Bool, true, false, List, [], ◌∷◌, ◌++◌, length, map, Option, None, Some, All, arith}
-use Rattle.std.specs.Prelude.{if◌then◌else◌}
 use Rattle.cyc_meaning.specs.Operators.{null_exception, division_by_zero}
 use Rattle.std.specs.List.{AllByRecursion}
 use Rattle.cyc_words.specs.Word.{IsWord}
@@ -21,7 +20,10 @@ use Rattle.cyc_plain.specs.declared.instruction.Instruction.TheVariants as instr
 use Rattle.cyc_plain.specs.WellFormed.{IsOfWord, HasWord, HasWords}
 use Rattle.cyc_lower.specs.Words.{IsOfWords, IsOfWordsConverted, AreOfWordsArguments, AreOfWordsOperations, IsOfWordsInitial, IsOfWordsStatement, AreOfWordsItems, IsOfWordsConstant, AreOfWordsGlobals, AreOfWordsFunctions, IsOfWordsProgram}
 use Rattle.cyc_lower.specs.Slots.{starts_of, slot_of}
-use Rattle.cyc_lower.specs.Lowering.{slot_types, operand_of, operand_or, code_unless, slot_or, code_unless_slot, left_with, left_of, value_slot, next_slot, left_slot, value_operand, converted_operand, printed_operand, check_code, conversion_code, divisor_code, checked_code, operator_code, truth_code, load_code, test_code, is_in, copy_code, expression_code, arguments_code, converted_code, converted_operand_code, printed_code, initial_code, assignment_code, operations_code, discarded_code, failing_comparison, compared_or, compared_of, slot_with, first_code, second_code, pair_code, condition_code, condition_of, return_code, declaration_code, statement_code, items_code, first_temporary, initial_word, lower_function, lower_global, lower_program}
+use Rattle.std.specs.Prelude.{◌==◌, if◌then◌else◌}
+use Rattle.cyc_types.specs.Types.{words_of}
+use Rattle.cyc_meaning.specs.Values.{words_of_kind}
+use Rattle.cyc_lower.specs.Lowering.{slot_types, are_as_wide, converts_there, passed_words, source_of, source_slot, converted_by, moved_by, move_of, operand_of, operand_or, code_unless, slot_or, code_unless_slot, left_with, left_of, value_slot, next_slot, left_slot, value_operand, converted_operand, printed_operand, check_code, conversion_code, divisor_code, checked_code, operator_code, truth_code, load_code, test_code, is_in, copy_code, expression_code, arguments_code, converted_code, converted_operand_code, printed_code, initial_code, assignment_code, operations_code, discarded_code, failing_comparison, compared_or, compared_of, slot_with, first_code, second_code, pair_code, condition_code, condition_of, return_code, declaration_code, statement_code, items_code, first_temporary, initial_word, lower_function, lower_global, lower_program}
 use Rattle.cyc_lower.proofs.WellFormed.{all_append, all_of}
 
 abbrev HaveWords : List Instruction → Type 0
@@ -63,9 +65,27 @@ operator_words operators.Divide l r p d left right = checked_words operators.Div
 operator_words operators.Remainder l r p d left right = checked_words operators.Remainder l r p d left right
 operator_words o l r p d left right = ((left, right), tt)
 
-copy_words : (is : Bool) (o : Operand) (d : ℕ) → IsOfWord o → HaveWords (if is then [] else instructions.Move d o ∷ [])
-copy_words true o d word = tt
-copy_words false o d word = (word, tt)
+move_words : (words d : ℕ) (o : Operand) → IsOfWord o → HaveWords (move_of words d o ∷ [])
+move_words words d (operands.Word n) word = (word, tt)
+move_words words d (operands.Slot n) word = by (words == 1)
+  where
+    by : (one : Bool) → HaveWords ((if one then instructions.Move d (operands.Slot n) else instructions.MoveWords d n words) ∷ [])
+    by true = (tt, tt)
+    by false = (tt, tt)
+
+copy_words : (is : Bool) (words : ℕ) (o : Operand) (d : ℕ) → IsOfWord o → HaveWords (if is then [] else move_of words d o ∷ [])
+copy_words true words o d word = tt
+copy_words false words o d word = move_words words d o word
+
+converted_by_words : (known : Option Operand) (inner : List Instruction) (to : Kind) (o : Operand) (p : ℕ) → HaveWords inner → IsOfWord o → HaveWords (converted_by known inner to o p)
+converted_by_words known inner to o p all word =
+    let front = code_unless known inner in
+    append front (conversion_code to o (p + length front)) (unless_words known inner all) (conversion_words to o (p + length front) word)
+
+initial_by_words : (there : Bool) (known : Option Operand) (at_once inner : List Instruction) (to : Kind) (o : Operand) (p d : ℕ) → HaveWords at_once → HaveWords inner → IsOfWord o
+    → HaveWords (if there then at_once else moved_by known inner to o p d)
+initial_by_words true known at_once inner to o p d all other word = all
+initial_by_words false known at_once inner to o p d all other word = append (converted_by known inner to o p) _ (converted_by_words known inner to o p other word) (move_words (words_of_kind to) d o word)
 
 test_words : (o : LogicalOperator) (operand : List Instruction) (p d t : ℕ) → HaveWords operand → HaveWords (test_code o operand p d t)
 test_words logical.AndThen operand p d t all = ((tt, omega arith), append operand (truth_code t d) all (tt, (tt, tt)))
@@ -80,7 +100,11 @@ module _ (starts : List ℕ) where
   known_word a slot words = tt
 
   converted_word : (c : Converted) (t : ℕ) → IsOfWordsConverted c → IsOfWord (converted_operand starts c t)
-  converted_word (Convert from to a) t words = known_word a (value_slot starts a t) words
+  converted_word (Convert from to a) t words = by (are_as_wide from to)
+    where
+      by : (same : Bool) → IsOfWord (operand_or (if same then operand_of starts a else None) (if same then value_slot starts a t else t))
+      by true = known_word a (value_slot starts a t) words
+      by false = tt
 
   printed_word : (cs : Arguments) (o : Operand) (t : ℕ) → AreOfWordsArguments cs → IsOfWord o → IsOfWord (printed_operand starts cs o t)
   printed_word NoArguments o t words word = word
@@ -95,14 +119,14 @@ module _ (starts : List ℕ) where
   left_word a (ThenCompute o b os) slot words = left_with_word (operand_of starts b) a slot words
   left_word a os slot words = tt
 
-  load_words : (l : Lvalue) (d : ℕ) → HaveWords (load_code starts l d)
-  load_words (Local w n) d = (tt, tt)
-  load_words (Global n) d = (tt, tt)
+  load_words : (words : ℕ) (l : Lvalue) (d : ℕ) → HaveWords (load_code starts words l d)
+  load_words words (Local w n) d = move_words words d (operands.Slot (slot_of starts n)) tt
+  load_words words (Global n) d = (tt, tt)
 
   mutual
     expression_words : (a : Expression) (p d t : ℕ) → IsOfWords a → HaveWords (expression_code starts a p d t)
     expression_words (Number n) p d t word = (word, tt)
-    expression_words (Copy l ty) p d t words = load_words l d
+    expression_words (Copy l ty) p d t words = load_words (words_of ty) l d
     expression_words (Call callees.Putchar cs ty) p d t words =
         let byte = printed_word cs (operands.Slot t) t words tt in
         append (printed_code starts cs p t) _ (printed_words cs p t words) (byte, ((byte, omega arith), tt))
@@ -119,23 +143,19 @@ module _ (starts : List ℕ) where
         (operations_words os (p + length front) l d t (left_word a os (left_slot starts a os d t) first) rest)
     expression_words (Assign (Local w n) c ty) p d t words =
         let o = operands.Slot (slot_of starts n) in
-        append (initial_code starts c p (slot_of starts n) t) (copy_code o d) (initial_words c p (slot_of starts n) t words) (copy_words (is_in o d) o d tt)
+        append (initial_code starts c p (slot_of starts n) t) (copy_code (passed_words c) o d) (initial_words c p (slot_of starts n) t words) (copy_words (is_in o d) (passed_words c) o d tt)
     expression_words (Assign (Global n) c ty) p d t words =
         let o = converted_operand starts c t in
         let front = converted_operand_code starts c p t in
         let word = converted_word c t words in
-        append (front ++ instructions.StoreGlobal n o ∷ []) (copy_code o d) (append front _ (converted_operand_words c p t words) (word, tt)) (copy_words (is_in o d) o d word)
+        append (front ++ instructions.StoreGlobal n o ∷ []) (copy_code (passed_words c) o d) (append front _ (converted_operand_words c p t words) (word, tt)) (copy_words (is_in o d) (passed_words c) o d word)
     expression_words a p d t words = absurd words
 
     initial_words : (c : Converted) (p d t : ℕ) → IsOfWordsConverted c → HaveWords (initial_code starts c p d t)
-    initial_words (Convert from kinds.NonNull a) p d t words =
-        let inner = expression_code starts a p (value_slot starts a t) t in
-        let front = code_unless (operand_of starts a) inner in
-        let o = value_operand starts a t in
-        let word = known_word a (value_slot starts a t) words in
-        append (front ++ check_code null_exception o (p + length front)) _
-        (append front _ (unless_words (operand_of starts a) inner (expression_words a p (value_slot starts a t) t words)) (check_words null_exception o (p + length front) (omega arith) word)) (word, tt)
-    initial_words (Convert from to a) p d t words = expression_words a p d t words
+    initial_words (Convert from to a) p d t words =
+        let slot = source_slot starts (Convert from to a) t in
+        initial_by_words (converts_there from to) (source_of starts (Convert from to a)) (expression_code starts a p d t) (expression_code starts a p slot t) to (converted_operand starts (Convert from to a) t) p d
+        (expression_words a p d t words) (expression_words a p slot t words) (converted_word (Convert from to a) t words)
 
     converted_words : (c : Converted) (p t : ℕ) → IsOfWordsConverted c → HaveWords (converted_code starts c p t)
     converted_words (Convert from to a) p t words =
@@ -144,11 +164,8 @@ module _ (starts : List ℕ) where
 
     converted_operand_words : (c : Converted) (p t : ℕ) → IsOfWordsConverted c → HaveWords (converted_operand_code starts c p t)
     converted_operand_words (Convert from to a) p t words =
-        let inner = expression_code starts a p (value_slot starts a t) t in
-        let front = code_unless (operand_of starts a) inner in
-        let o = value_operand starts a t in
-        append front (conversion_code to o (p + length front)) (unless_words (operand_of starts a) inner (expression_words a p (value_slot starts a t) t words))
-        (conversion_words to o (p + length front) (known_word a (value_slot starts a t) words))
+        let slot = source_slot starts (Convert from to a) t in
+        converted_by_words (source_of starts (Convert from to a)) (expression_code starts a p slot t) to (converted_operand starts (Convert from to a) t) p (expression_words a p slot t words) (converted_word (Convert from to a) t words)
 
     printed_words : (cs : Arguments) (p t : ℕ) → AreOfWordsArguments cs → HaveWords (printed_code starts cs p t)
     printed_words NoArguments p t words = tt
@@ -160,7 +177,7 @@ module _ (starts : List ℕ) where
     arguments_words NoArguments p t words = tt
     arguments_words (MoreArguments c cs) p t (first, rest) =
         let q = p + length (converted_code starts c p t) in
-        append (converted_code starts c p t) (arguments_code starts cs q (suc t)) (converted_words c p t first) (arguments_words cs q (suc t) rest)
+        append (converted_code starts c p t) (arguments_code starts cs q (t + passed_words c)) (converted_words c p t first) (arguments_words cs q (t + passed_words c) rest)
 
     operations_words : (os : Operations) (p : ℕ) (l : Operand) (d t : ℕ) → IsOfWord l → AreOfWordsOperations os → HaveWords (operations_code starts os p l d t)
     operations_words NoOperations p l d t left words = tt
@@ -226,12 +243,13 @@ module _ (starts : List ℕ) where
   return_words : (v : Option Converted) (p t : ℕ) → IsOfWordsInitial v → HaveWords (return_code starts v p t)
   return_words None p t words = (tt, tt)
   return_words (Some (Convert from to a)) p t words =
+      let known = source_of starts (Convert from to a) in
       let inner = expression_code starts a p t t in
-      let front = code_unless_slot (operand_of starts a) inner in
-      let s = slot_or (operand_of starts a) t in
+      let front = code_unless_slot known inner in
+      let s = slot_or known t in
       let conversion = conversion_code to (operands.Slot s) (p + length front) in
       append (front ++ conversion) _
-      (append front conversion (unless_slot_words (operand_of starts a) inner (expression_words a p t t words)) (conversion_words to (operands.Slot s) (p + length front) tt)) (tt, tt)
+      (append front conversion (unless_slot_words known inner (expression_words a p t t words)) (conversion_words to (operands.Slot s) (p + length front) tt)) (tt, tt)
 
   declaration_words : (n : ℕ) (v : Option Converted) (p t : ℕ) → IsOfWordsInitial v → HaveWords (declaration_code starts n v p t)
   declaration_words n None p t words = tt

@@ -12,7 +12,7 @@ use Rattle.cyc_plain.specs.declared.instruction.Operand.{Operand}
 use Rattle.cyc_plain.specs.declared.instruction.Operand.TheVariants.{Slot, Word}
 use Rattle.cyc_plain.specs.declared.instruction.Instruction.{Instruction}
 use Rattle.cyc_plain.specs.declared.instruction.Instruction.TheVariants.{Move, WriteByte}
-use Rattle.cyc_lower.specs.Lowering.{operand_of, code_unless, slot_or, code_unless_slot, printed_operand, conversion_code, printed_code, left_of, value_slot, left_slot, value_operand, expression_code, compute_code, test_code, condition_code, failing_jump, while_code, statement_code, declaration_code, condition_of}
+use Rattle.cyc_lower.specs.Lowering.{operand_of, source_of, source_slot, code_unless, slot_or, code_unless_slot, printed_operand, conversion_code, printed_code, left_of, value_slot, left_slot, value_operand, expression_code, compute_code, test_code, condition_code, failing_jump, while_code, statement_code, declaration_code, condition_of}
 use Rattle.cyc_meaning.specs.FrameCount.{operand_words, argument_words, arguments_need, expression_need, initial_need, statement_need, kept_by, frame_count}
 use Rattle.cyc_plain.specs.declared.instruction.Comparison.{Comparison}
 use Rattle.cyc_lower.specs.declared.emitter.Emitter.{Emitter}
@@ -49,14 +49,23 @@ module _ (starts : List ℕ) where
   abbrev pub print_code : Arguments → (p t : ℕ) → List Instruction
   print_code cs p t = printed_code starts cs p t ++ WriteByte (printed_operand starts cs (Slot t) t) ∷ []
 
+  -- the code of a value that is to be converted
+  abbrev pub source_code : Converted → (p t : ℕ) → List Instruction
+  source_code (Convert from to a) p t =
+      code_unless (source_of starts (Convert from to a)) (expression_code starts a p (source_slot starts (Convert from to a) t) t)
+
+  -- that of one which only a slot will do for
+  abbrev pub slot_code : Converted → (p t : ℕ) → List Instruction
+  slot_code (Convert from to a) p t = code_unless_slot (source_of starts (Convert from to a)) (expression_code starts a p t t)
+
   -- a value that is returned, converted, and its slot
   abbrev pub converted_slot : Converted → (t : ℕ) → ℕ
-  converted_slot (Convert from to a) t = slot_or (operand_of starts a) t
+  converted_slot c t = slot_or (source_of starts c) t
 
   abbrev pub converted_slot_code : Converted → (p t : ℕ) → List Instruction
   converted_slot_code (Convert from to a) p t =
-      code_unless_slot (operand_of starts a) (expression_code starts a p t t)
-      ++ conversion_code to (Slot (slot_or (operand_of starts a) t)) (p + length (code_unless_slot (operand_of starts a) (expression_code starts a p t t)))
+      code_unless_slot (source_of starts (Convert from to a)) (expression_code starts a p t t)
+      ++ conversion_code to (Slot (slot_or (source_of starts (Convert from to a)) t)) (p + length (code_unless_slot (source_of starts (Convert from to a)) (expression_code starts a p t t)))
 
   -- what brings the left operand of a chain
   abbrev pub left_code : Expression → Operations → (p d t : ℕ) → List Instruction

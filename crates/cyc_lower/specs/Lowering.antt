@@ -2,8 +2,8 @@
 -- for a place p. An expression brings its value to a slot d by its last instruction, so d may be the slot of a local that
 -- is read on the way. Else it writes to the slots from t on alone. Numbers and locals are operands where they are used.
 --
--- A local has as many slots as its type has words, but here each value is one word, its first. It has code for the int language; a
--- form that is not built has a constant in its place, which nothing runs.
+-- A value has as many slots as its kind has words, one behind the other. A global has one word yet, the first of its value. There is
+-- code for the int language; a form that is not built has a constant in its place, which nothing runs.
 use Rattle.std.specs.Prelude.{ℕ, suc, ◌+◌, ◌==◌, Bool, false, if◌then◌else◌, List, [], ◌∷◌, ◌++◌, length, map, Option, None, Some}
 use Rattle.cyc_words.specs.declared.span.Span.{Span}
 use Rattle.cyc_syntax.specs.Symbols.{Place}
@@ -16,9 +16,8 @@ use Rattle.cyc_types.specs.declared.typed.Operator.{Operator}
 use Rattle.cyc_types.specs.declared.typed.Operator.TheVariants as operators
 use Rattle.cyc_types.specs.declared.typed.LogicalOperator.{LogicalOperator}
 use Rattle.cyc_types.specs.declared.typed.LogicalOperator.TheVariants as logical
-use Rattle.cyc_types.specs.Types.{Ty, Int}
+use Rattle.cyc_types.specs.Types.{Ty, words_of}
 use Rattle.cyc_types.specs.TypedTrees.{Lvalue, Local, Global, Expression, Number, Copy, Call, Unary, Binary, Assign, Converted, Convert, Arguments, NoArguments, MoreArguments, Operations, NoOperations, ThenCompute, ThenTest, ThenPointer, ThenPointerPeek, Statement, Block, Empty, Evaluate, If, While, Return, Break, Continue, Items, NoItems, MoreItems, Execute, Declare, Constant, Word, Null, GlobalVariable, Function, Program}
-use Rattle.cyc_types.specs.Numbered.{argument_count}
 use Rattle.cyc_plain.specs.declared.instruction.UnaryOperator.{UnaryOperator as PlainUnary}
 use Rattle.cyc_plain.specs.declared.instruction.UnaryOperator.TheVariants as plain_unary
 use Rattle.cyc_plain.specs.declared.instruction.BinaryOperator.{BinaryOperator as PlainBinary}
@@ -30,6 +29,7 @@ use Rattle.cyc_plain.specs.declared.instruction.Operand.TheVariants as operands
 use Rattle.cyc_plain.specs.declared.instruction.Instruction.{Instruction}
 use Rattle.cyc_plain.specs.declared.instruction.Instruction.TheVariants as instructions
 use Rattle.cyc_plain.specs.Program.{Routine, Program as PlainProgram}
+use Rattle.cyc_meaning.specs.Values.{words_of_kind}
 use Rattle.cyc_meaning.specs.Operators.{null_exception, division_by_zero}
 use Rattle.cyc_meaning.specs.FrameCount.{frame_count, items_need, words_of_all}
 use Rattle.cyc_lower.specs.Slots.{starts_of, slot_of}
@@ -37,13 +37,9 @@ use Rattle.cyc_lower.specs.declared.operands.Condition.{Condition}
 
 -- ---- slots and operators
 
--- A parameter has one slot yet, whatever its type: an argument is passed as one word.
-abbrev pub one_word : Ty → Ty
-one_word t = Int
-
 -- the types by which a function's locals have their slots
 abbrev pub slot_types : Function → List Ty
-slot_types h = map one_word h.parameters ++ h.locals
+slot_types h = h.parameters ++ h.locals
 
 -- the first slot behind the locals of a function
 abbrev pub first_temporary : Function → ℕ
@@ -130,6 +126,12 @@ jump_if_nonzero o target = instructions.Branch comparisons.NotEqual o (operands.
 abbrev pub check_code : (tag : ℕ) → Operand → (p : ℕ) → List Instruction
 check_code tag o p = jump_if_nonzero o (p + 2) ∷ instructions.Uncaught tag o ∷ []
 
+-- A value of so many words comes to a slot and those behind it. A number has one word: where there are more, it is that of a null
+-- pointer, whose others may be anything.
+abbrev pub move_of : (words d : ℕ) → Operand → Instruction
+move_of words d (operands.Slot n) = if words == 1 then instructions.Move d (operands.Slot n) else instructions.MoveWords d n words
+move_of words d (operands.Word n) = instructions.Move d (operands.Word n)
+
 -- a value that may not be null is tested
 abbrev pub conversion_code : (to : Kind) → Operand → (p : ℕ) → List Instruction
 conversion_code kinds.NonNull o p = check_code null_exception o p
@@ -172,8 +174,35 @@ compute_code o l r operand p d = operand ++ operator_code o l r (p + length oper
 abbrev pub test_code : LogicalOperator → (operand : List Instruction) → (p d t : ℕ) → List Instruction
 test_code o operand p d t = test_jump o t (p + 1 + length operand) ∷ operand ++ truth_code t d
 
-abbrev pub copy_code : Operand → (d : ℕ) → List Instruction
-copy_code o d = if is_in o d then [] else instructions.Move d o ∷ []
+abbrev pub copy_code : (words : ℕ) → Operand → (d : ℕ) → List Instruction
+copy_code words o d = if is_in o d then [] else move_of words d o ∷ []
+
+-- ---- conversions
+
+-- a value has as many words after a conversion as before it
+abbrev pub are_as_wide : (from to : Kind) → Bool
+are_as_wide from to = words_of_kind from == words_of_kind to
+
+-- It may come to the slot where it is to be before it is converted: it has as many words, and is not tested there.
+abbrev pub converts_there : (from to : Kind) → Bool
+converts_there from kinds.NonNull = false
+converts_there from to = are_as_wide from to
+
+-- the words that an argument is passed with
+abbrev pub passed_words : Converted → ℕ
+passed_words (Convert from to a) = words_of_kind to
+
+abbrev pub all_passed : Arguments → ℕ
+all_passed NoArguments = 0
+all_passed (MoreArguments c cs) = passed_words c + all_passed cs
+
+-- code that brings a value, and its conversion where it is then
+abbrev pub converted_by : Option Operand → (code : List Instruction) → (to : Kind) → Operand → (p : ℕ) → List Instruction
+converted_by known code to o p = code_unless known code ++ conversion_code to o (p + length (code_unless known code))
+
+-- the same, and the value comes to slot d
+abbrev pub moved_by : Option Operand → (code : List Instruction) → (to : Kind) → Operand → (p d : ℕ) → List Instruction
+moved_by known code to o p d = converted_by known code to o p ++ move_of (words_of_kind to) d o ∷ []
 
 -- ---- conditions, branches and loops
 
@@ -261,8 +290,15 @@ module _ (starts : List ℕ) where
   abbrev pub value_operand : Expression → (t : ℕ) → Operand
   value_operand a t = operand_or (operand_of a) (value_slot a t)
 
+  -- A value is converted where it is, but where it changes its words: then it is brought to slot t.
+  abbrev pub source_of : Converted → Option Operand
+  source_of (Convert from to a) = if are_as_wide from to then operand_of a else None
+
+  abbrev pub source_slot : Converted → (t : ℕ) → ℕ
+  source_slot (Convert from to a) t = if are_as_wide from to then value_slot a t else t
+
   abbrev pub converted_operand : Converted → (t : ℕ) → Operand
-  converted_operand (Convert from to a) t = value_operand a t
+  converted_operand c t = operand_or (source_of c) (source_slot c t)
 
   -- the byte that `putchar` prints, which is its only argument
   abbrev pub printed_operand : Arguments → Operand → (t : ℕ) → Operand
@@ -271,16 +307,16 @@ module _ (starts : List ℕ) where
 
   -- ---- expressions
 
-  -- the value of a place
-  abbrev pub load_code : Lvalue → (d : ℕ) → List Instruction
-  load_code (Local p n) d = instructions.Move d (operands.Slot (slot_of starts n)) ∷ []
-  load_code (Global n) d = instructions.LoadGlobal d n ∷ []
+  -- the value of a place, which has so many words
+  abbrev pub load_code : (words : ℕ) → Lvalue → (d : ℕ) → List Instruction
+  load_code words (Local p n) d = move_of words d (operands.Slot (slot_of starts n)) ∷ []
+  load_code words (Global n) d = instructions.LoadGlobal d n ∷ []
 
   -- The code of an expression that begins at place p and brings its value to slot d, with temporaries from slot t on.
   abbrev mutual
     pub expression_code : Expression → (p d t : ℕ) → List Instruction
     expression_code (Number n) p d t = instructions.Move d (operands.Word n) ∷ []
-    expression_code (Copy l ty) p d t = load_code l d
+    expression_code (Copy l ty) p d t = load_code (words_of ty) l d
     expression_code (Call callees.Putchar cs ty) p d t =
         printed_code cs p t
         ++ instructions.WriteByte (printed_operand cs (operands.Slot t) t)
@@ -288,7 +324,7 @@ module _ (starts : List ℕ) where
         ∷ []
     expression_code (Call callees.Getchar cs ty) p d t = arguments_code cs p t ++ instructions.ReadByte d ∷ []
     expression_code (Call (callees.Function n) cs ty) p d t =
-        arguments_code cs p t ++ instructions.Call n t (argument_count cs) d ∷ []
+        arguments_code cs p t ++ instructions.Call n t (all_passed cs) d ∷ []
     expression_code (Unary o a) p d t =
         code_unless (operand_of a) (expression_code a p (value_slot a t) t)
         ++ instructions.Unary (unary_operator o) d (value_operand a t)
@@ -297,15 +333,16 @@ module _ (starts : List ℕ) where
         code_unless (left_of a os) (expression_code a p (left_slot a os d t) t)
         ++ operations_code os (p + length (code_unless (left_of a os) (expression_code a p (left_slot a os d t) t)))
         (operand_or (left_of a os) (left_slot a os d t)) d t
-    expression_code (Assign (Local w n) c ty) p d t = initial_code c p (slot_of starts n) t ++ copy_code (operands.Slot (slot_of starts n)) d
+    expression_code (Assign (Local w n) c ty) p d t =
+        initial_code c p (slot_of starts n) t ++ copy_code (passed_words c) (operands.Slot (slot_of starts n)) d
     expression_code (Assign (Global n) c ty) p d t =
-        (converted_operand_code c p t ++ instructions.StoreGlobal n (converted_operand c t) ∷ []) ++ copy_code (converted_operand c t) d
+        (converted_operand_code c p t ++ instructions.StoreGlobal n (converted_operand c t) ∷ []) ++ copy_code (passed_words c) (converted_operand c t) d
     expression_code a p d t = instructions.Move d (operands.Word 0) ∷ []
 
-    -- each argument comes into the slot behind that of the one before
+    -- each argument comes into the slots behind those of the one before
     pub arguments_code : Arguments → (p t : ℕ) → List Instruction
     arguments_code NoArguments p t = []
-    arguments_code (MoreArguments c cs) p t = converted_code c p t ++ arguments_code cs (p + length (converted_code c p t)) (suc t)
+    arguments_code (MoreArguments c cs) p t = converted_code c p t ++ arguments_code cs (p + length (converted_code c p t)) (t + passed_words c)
 
     -- the value comes to slot t and is converted there
     pub converted_code : Converted → (p t : ℕ) → List Instruction
@@ -315,8 +352,7 @@ module _ (starts : List ℕ) where
     -- the value is converted where it is
     pub converted_operand_code : Converted → (p t : ℕ) → List Instruction
     converted_operand_code (Convert from to a) p t =
-        code_unless (operand_of a) (expression_code a p (value_slot a t) t)
-        ++ conversion_code to (value_operand a t) (p + length (code_unless (operand_of a) (expression_code a p (value_slot a t) t)))
+        converted_by (source_of (Convert from to a)) (expression_code a p (source_slot (Convert from to a) t) t) to (converted_operand (Convert from to a) t) p
 
     -- the arguments of `putchar`, of which there is one
     pub printed_code : Arguments → (p t : ℕ) → List Instruction
@@ -326,12 +362,10 @@ module _ (starts : List ℕ) where
 
     -- Slot d gets the value. It is the last that happens, and nothing can be raised behind it.
     pub initial_code : Converted → (p d t : ℕ) → List Instruction
-    initial_code (Convert from kinds.NonNull a) p d t =
-        code_unless (operand_of a) (expression_code a p (value_slot a t) t)
-        ++ check_code null_exception (value_operand a t) (p + length (code_unless (operand_of a) (expression_code a p (value_slot a t) t)))
-        ++ instructions.Move d (value_operand a t)
-        ∷ []
-    initial_code (Convert from to a) p d t = expression_code a p d t
+    initial_code (Convert from to a) p d t =
+        if converts_there from to
+        then expression_code a p d t
+        else moved_by (source_of (Convert from to a)) (expression_code a p (source_slot (Convert from to a) t) t) to (converted_operand (Convert from to a) t) p d
 
     -- The left operand is l. It is t where an operator is a test, or where the right operand has code.
     pub operations_code : Operations → (p : ℕ) → (l : Operand) → (d t : ℕ) → List Instruction
@@ -396,9 +430,9 @@ module _ (starts : List ℕ) where
   abbrev pub return_code : Option Converted → (p t : ℕ) → List Instruction
   return_code None p t = instructions.Return t ∷ []
   return_code (Some (Convert from to a)) p t =
-      code_unless_slot (operand_of a) (expression_code a p t t)
-      ++ conversion_code to (operands.Slot (slot_or (operand_of a) t)) (p + length (code_unless_slot (operand_of a) (expression_code a p t t)))
-      ++ instructions.Return (slot_or (operand_of a) t)
+      code_unless_slot (source_of (Convert from to a)) (expression_code a p t t)
+      ++ conversion_code to (operands.Slot (slot_or (source_of (Convert from to a)) t)) (p + length (code_unless_slot (source_of (Convert from to a)) (expression_code a p t t)))
+      ++ instructions.Return (slot_or (source_of (Convert from to a)) t)
       ∷ []
 
   -- a local with an initial value gets it
@@ -443,18 +477,22 @@ function_code h = items_code (starts_of (slot_types h)) h.body 0 0 (first_tempor
 -- the words that a function returns
 abbrev pub results_of : Option Ty → ℕ
 results_of None = 0
-results_of (Some t) = 1
+results_of (Some t) = words_of t
 
 abbrev pub span_of_place : Place → Span
 span_of_place p = record { line = p.line; column = p.column }
 
--- its slots are the locals and as many temporaries as its expressions need, and one for what they give
+-- the words of the largest value
+abbrev pub spare_slots : ℕ
+spare_slots = 3
+
+-- its slots are the locals and as many temporaries as its expressions need, and those of one value more, such as what it returns
 abbrev pub lower_function : Function → Routine
 lower_function h = record {
   name = span_of_place h.place;
-  parameters = length h.parameters;
+  parameters = words_of_all h.parameters;
   results = results_of h.result;
-  slots = first_temporary h + items_need h.body + 1;
+  slots = first_temporary h + items_need h.body + spare_slots;
   frame_count = frame_count h;
   code = function_code h;
 }

@@ -6,7 +6,7 @@ ghost use Rattle.cyc_lower.specs.Emission.{Appends};
 
 use crate::locals::slot_of;
 use crate::operands::Condition;
-use crate::operators::failing_jump;
+use crate::operators::{failing_jump, move_of};
 use cyc_plain::{Instruction, Operand};
 use cyc_types::typed::Lvalue;
 use std::alloc::{AllocError, Global};
@@ -76,22 +76,20 @@ impl Emitter {
         self.patch(place, failing_jump(condition, target));
     }
 
-    /// The value of a place comes into a slot.
+    /// The value of a place, which has so many words, comes to a slot and those behind it.
     pub(crate) fn load(
         &mut self,
         starts: &[usize],
+        words: usize,
         source: Lvalue,
         slot: usize,
     ) -> Result<(), AllocError>
-        ensures { Appends result self.old self.new (load_code starts.now (view_lvalue source) slot) }
+        ensures { Appends result self.old self.new (load_code starts.now words (view_lvalue source) slot) }
     {
         self.emit(match source {
-            Lvalue::Local { number, .. } => Instruction::Move {
-                destination: slot,
-                source: Operand::Slot {
-                    number: slot_of(starts, number),
-                },
-            },
+            Lvalue::Local { number, .. } => move_of(words, slot, Operand::Slot {
+                number: slot_of(starts, number),
+            }),
             Lvalue::Global { number } => Instruction::LoadGlobal {
                 destination: slot,
                 global: number,

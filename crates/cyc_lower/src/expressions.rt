@@ -4,16 +4,21 @@ ghost use Rattle.std.specs.Prelude.{◌≡◌, ◌+◌, ◌<◌, ◌≤◌, [], 
 ghost use Rattle.cyc_types.specs.Types.{Void};
 ghost use Rattle.cyc_types.specs.TypedTreeView.{view_expression, view_converted, view_lvalue, arguments_of, operations_of};
 ghost use Rattle.cyc_types.specs.TypedTrees.{Call};
+ghost use Rattle.cyc_meaning.specs.Values.{words_of_kind};
 ghost use Rattle.cyc_plain.specs.declared.instruction.Operand.TheVariants as operands;
 ghost use Rattle.cyc_plain.specs.declared.instruction.Instruction.TheVariants as instructions;
-ghost use Rattle.cyc_lower.specs.Lowering.{operand_of, operand_or, slot_or, code_unless_slot, left_of, left_slot, value_operand, converted_operand, printed_operand, check_code, conversion_code, divisor_code, operator_code, truth_code, copy_code, expression_code, arguments_code, converted_code, converted_operand_code, printed_code, initial_code, assignment_code, assigned_operand, operations_code, discarded_code, condition_of, condition_code};
-ghost use Rattle.cyc_lower.specs.Emission.{Appends, Gives, HasRoom, HasRoomFor, most_locals, value_code, print_code, converted_slot, converted_slot_code, left_code, operation_code, IsChain, zero_condition};
+ghost use Rattle.cyc_lower.specs.Lowering.{operand_of, operand_or, left_of, left_slot, value_operand, converted_operand, printed_operand, check_code, conversion_code, divisor_code, operator_code, truth_code, copy_code, all_passed, expression_code, arguments_code, converted_operand_code, printed_code, initial_code, assignment_code, assigned_operand, operations_code, discarded_code, condition_of, condition_code};
+ghost use Rattle.cyc_lower.specs.Emission.{Appends, Gives, HasRoom, HasRoomFor, most_locals, value_code, source_code, slot_code, print_code, converted_slot, converted_slot_code, left_code, operation_code, IsChain, zero_condition};
 
 use crate::emitter::Emitter;
+use crate::frame_count::{words_of, words_of_kind};
 use crate::locals::slot_of;
-use crate::operands::{Condition, is_in, operand_of, takes_operand, value_slot};
+use crate::operands::{
+    Condition, are_as_wide, converts_there, is_in, operand_of, slot_behind, takes_operand,
+    value_slot,
+};
 use crate::operators::{
-    binary_operator, failing_comparison, jump_if_nonzero, test_jump, unary_operator,
+    binary_operator, failing_comparison, jump_if_nonzero, move_of, test_jump, unary_operator,
 };
 use cyc_plain::{BinaryOperator, Comparison, Instruction, Operand, UnaryOperator};
 use cyc_types::typed;
@@ -93,17 +98,14 @@ impl Emitter {
         })
     }
 
-    /// A value comes to a slot, where it is not there yet.
-    fn copy(&mut self, source: Operand, slot: usize) -> Result<(), AllocError>
-        ensures { Appends result self.old self.new (copy_code source slot) }
+    /// A value of a kind comes to a slot, where it is not there yet.
+    fn copy(&mut self, kind: Kind, source: Operand, slot: usize) -> Result<(), AllocError>
+        ensures { Appends result self.old self.new (copy_code (words_of_kind kind) source slot) }
     {
         if is_in(source, slot) {
             return Ok(());
         }
-        self.emit(Instruction::Move {
-            destination: slot,
-            source,
-        })
+        self.emit(move_of(words_of_kind(kind), slot, source))
     }
 
     /// What stands for a form that is not built yet, and is never run.
@@ -133,7 +135,9 @@ impl Emitter {
                 destination: slot,
                 source: Operand::Word { word: *value },
             }),
-            Expr::Copy { source, .. } => self.load(starts, *source, slot),
+            Expr::Copy { source, of_type } => {
+                self.load(starts, words_of(of_type), *source, slot)
+            }
             Expr::Call {
                 callee,
                 arguments,
@@ -153,7 +157,7 @@ impl Emitter {
             }
             Expr::Assign { target, value, .. } => {
                 let assigned = self.lower_assignment(starts, *target, value, free)?;
-                self.copy(assigned, slot)
+                self.copy(value.to, assigned, slot)
             }
             _ => self.emit_missing(slot),
         }
@@ -208,11 +212,11 @@ impl Emitter {
                 self.emit(Instruction::ReadByte { destination: slot })
             }
             Callee::Function { number } => {
-                self.lower_arguments(starts, arguments, free)?;
+                let count = self.lower_arguments(starts, arguments, free)?;
                 self.emit(Instruction::Call {
                     function: number,
                     arguments: free,
-                    count: arguments.len(),
+                    count,
                     result: slot,
                 })
             }
@@ -238,24 +242,42 @@ impl Emitter {
         Ok(byte)
     }
 
-    /// Each argument comes into the slot behind that of the one before.
+    /// Each argument comes into the slots behind those of the one before. How many words they have is answered.
     #[cycle(expression)]
     fn lower_arguments(
         &mut self,
         starts: &[usize],
         arguments: &[Converted],
         first: usize,
-    ) -> Result<(), AllocError>
+    ) -> Result<usize, AllocError>
         requires { first ≤ most_locals + length self.old.code.items }
-        ensures { Appends result self.old self.new (arguments_code starts.now (arguments_of arguments.now) (length self.old.code.items) first) }
+        ensures { Gives (all_passed (arguments_of arguments.now)) result self.old self.new (arguments_code starts.now (arguments_of arguments.now) (length self.old.code.items) first) }
     {
         let mut slot = first;
         for argument in arguments {
             self.lower_expression(starts, &argument.value, slot, slot)?;
             self.convert(argument.to, Operand::Slot { number: slot })?;
-            slot += 1;
+            slot = slot_behind(slot, argument.to)?;
         }
-        Ok(())
+        Ok(slot - first)
+    }
+
+    /// A value that is to be converted: where it is, or in a temporary where its words change.
+    #[cycle(expression)]
+    fn lower_source(
+        &mut self,
+        starts: &[usize],
+        value: &Converted,
+        free: usize,
+    ) -> Result<Operand, AllocError>
+        requires { free ≤ most_locals + length self.old.code.items }
+        ensures { Gives (converted_operand starts.now (view_converted value.now) free) result self.old self.new (source_code starts.now (view_converted value.now) (length self.old.code.items) free) }
+    {
+        if are_as_wide(value.from, value.to) {
+            return self.lower_operand(starts, &value.value, free);
+        }
+        self.lower_expression(starts, &value.value, free, free)?;
+        Ok(Operand::Slot { number: free })
     }
 
     /// A value that is converted where it is.
@@ -269,7 +291,7 @@ impl Emitter {
         requires { free ≤ most_locals + length self.old.code.items }
         ensures { Gives (converted_operand starts.now (view_converted value.now) free) result self.old self.new (converted_operand_code starts.now (view_converted value.now) (length self.old.code.items) free) }
     {
-        let operand = self.lower_operand(starts, &value.value, free)?;
+        let operand = self.lower_source(starts, value, free)?;
         self.convert(value.to, operand)?;
         Ok(operand)
     }
@@ -286,14 +308,11 @@ impl Emitter {
         requires { free ≤ most_locals + length self.old.code.items }
         ensures { Appends result self.old self.new (initial_code starts.now (view_converted value.now) (length self.old.code.items) slot free) }
     {
-        if matches!(value.to, Kind::NonNull) {
-            let source = self.lower_converted(starts, value, free)?;
-            return self.emit(Instruction::Move {
-                destination: slot,
-                source,
-            });
+        if converts_there(value.from, value.to) {
+            return self.lower_expression(starts, &value.value, slot, free);
         }
-        self.lower_expression(starts, &value.value, slot, free)
+        let source = self.lower_converted(starts, value, free)?;
+        self.emit(move_of(words_of_kind(value.to), slot, source))
     }
 
     /// An assignment, and where its value stands then.
@@ -521,23 +540,23 @@ impl Emitter {
         }
     }
 
-    /// A value that is to be in a slot: in that of a local, or in `free`.
+    /// A value that is to be in a slot: in that of a local where no words change, or in `free`.
     pub(crate) fn lower_to_slot(
         &mut self,
         starts: &[usize],
-        value: &Expr,
+        value: &Converted,
         free: usize,
     ) -> Result<usize, AllocError>
         requires { free ≤ most_locals + length self.old.code.items }
-        ensures { Gives (slot_or (operand_of starts.now (view_expression value.now)) free) result self.old self.new (code_unless_slot (operand_of starts.now (view_expression value.now)) (expression_code starts.now (view_expression value.now) (length self.old.code.items) free free)) }
+        ensures { Gives (converted_slot starts.now (view_converted value.now) free) result self.old self.new (slot_code starts.now (view_converted value.now) (length self.old.code.items) free) }
     {
-        match operand_of(starts, value) {
-            Some(Operand::Slot { number }) => Ok(number),
-            Some(Operand::Word { .. }) | None => {
-                self.lower_expression(starts, value, free, free)?;
-                Ok(free)
+        if are_as_wide(value.from, value.to) {
+            if let Some(Operand::Slot { number }) = operand_of(starts, &value.value) {
+                return Ok(number);
             }
         }
+        self.lower_expression(starts, &value.value, free, free)?;
+        Ok(free)
     }
 
     /// A value that is returned, converted, and its slot.
@@ -550,7 +569,7 @@ impl Emitter {
         requires { free ≤ most_locals + length self.old.code.items }
         ensures { Gives (converted_slot starts.now (view_converted value.now) free) result self.old self.new (converted_slot_code starts.now (view_converted value.now) (length self.old.code.items) free) }
     {
-        let slot = self.lower_to_slot(starts, &value.value, free)?;
+        let slot = self.lower_to_slot(starts, value, free)?;
         self.convert(value.to, Operand::Slot { number: slot })?;
         Ok(slot)
     }

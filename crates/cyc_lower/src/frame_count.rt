@@ -27,8 +27,9 @@ const KEPT_WORDS: usize = 24;
 const HANDLER_WORDS: usize = 6;
 
 /// The words of a value of a kind.
-fn words_of_kind(kind: Kind) -> usize
-    ensures { result ≡ words_of_kind kind }
+pub(crate) fn words_of_kind(kind: Kind) -> usize
+    ensures words { result ≡ words_of_kind kind }
+    ensures few { result ≤ 3 }
 {
     match kind {
         Kind::Fat => 3,
@@ -477,7 +478,7 @@ fn kept_by_default(default: &Option<Body>) -> usize
 }
 
 /// The words of variables of these types.
-fn words_of_all(types: &[Ty]) -> usize
+pub(crate) fn words_of_all(types: &[Ty]) -> usize
     requires { words_of_all (map view_ty types.now) ≤ most_frame_count }
     ensures { result ≡ words_of_all (map view_ty types.now) }
 {

@@ -3,6 +3,7 @@ ghost use Rattle.std.specs.Prelude.{◌≡◌, ◌≤◌, map, option_map, IfOk}
 ghost use Rattle.cyc_syntax.specs.TokenRule.{max_tokens};
 ghost use Rattle.cyc_types.specs.TypeView.{view_ty};
 ghost use Rattle.cyc_types.specs.TypedTreeView.{view_constant, view_global, view_function, view_program};
+ghost use Rattle.cyc_types.specs.typing.WellTyped.{IsWellTypedProgram};
 ghost use Rattle.cyc_types.specs.Weight.{program_weight};
 ghost use Rattle.cyc_plain.specs.Program.{routine_of};
 ghost use Rattle.cyc_meaning.specs.FrameCount.{frame_count};
@@ -11,19 +12,22 @@ ghost use Rattle.cyc_lower.specs.Emission.{most_frame_count, HaveFewWords};
 ghost use Rattle.cyc_lower.specs.Lowered.{CanBeLowered};
 
 use crate::emitter::Emitter;
-use crate::frame_count::{frame_count, items_need};
+use crate::frame_count::{frame_count, items_need, words_of, words_of_all};
 use crate::locals::slots_of_locals;
 use cyc_plain::{Function, Instruction, Plain};
 use cyc_types::typed::{self, Constant};
 use cyc_types::{Ty, TypedTree};
 use std::alloc::{AllocError, Global};
 
+/// The words of the largest value.
+const SPARE_SLOTS: usize = 3;
+
 /// The words that a function returns.
 fn results_of(of_type: &Option<Ty>) -> usize
     ensures { result ≡ results_of (option_map view_ty of_type.now) }
 {
     match of_type {
-        Some(_) => 1,
+        Some(of_type) => words_of(of_type),
         None => 0,
     }
 }
@@ -38,7 +42,7 @@ fn initial_word(value: Constant) -> u32
     }
 }
 
-/// A function. Its slots are its locals, and behind them the temporaries.
+/// A function. Its slots are its locals, and behind them the temporaries and one value more.
 fn lower_function(alloc: Global, function: &typed::Function) -> Result<Function, AllocError>
     requires { frame_count (view_function function.now) ≤ most_frame_count }
     ensures { IfOk result (λ f. routine_of f ≡ lower_function (view_function function.now)) }
@@ -49,9 +53,9 @@ fn lower_function(alloc: Global, function: &typed::Function) -> Result<Function,
     emitter.emit(Instruction::Return { value: free })?;
     Ok(Function {
         name: function.span,
-        parameters: function.parameters.len(),
+        parameters: words_of_all(&function.parameters),
         results: results_of(&function.result),
-        slots: free + items_need(&function.body) + 1,
+        slots: free + items_need(&function.body) + SPARE_SLOTS,
         frame_count: frame_count(function),
         code: emitter.code,
     })
@@ -84,6 +88,7 @@ fn lower_globals(alloc: Global, globals: &[typed::Global]) -> Result<Vec<u32>, A
 /// The program, in which each function and each global keeps its number.
 pub(crate) fn lower_tree(alloc: Global, tree: &TypedTree) -> Result<Plain, AllocError>
     requires few { HaveFewWords (map view_function tree.now.functions.items) }
+    requires well_typed { IsWellTypedProgram (view_program tree.now) }
     requires small { program_weight (view_program tree.now) ≤ max_tokens }
     requires can_be { CanBeLowered (view_program tree.now) }
     ensures { IfOk result (λ plain. plain ≡ lower_program (view_program tree.now)) }

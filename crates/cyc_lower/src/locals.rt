@@ -5,7 +5,7 @@ ghost use Rattle.cyc_types.specs.TypeView.{view_ty};
 ghost use Rattle.cyc_types.specs.TypedTreeView.{view_function};
 ghost use Rattle.cyc_meaning.specs.FrameCount.{words_of_all, frame_count};
 ghost use Rattle.cyc_lower.specs.Slots.{starts_from, starts_of, slot_of};
-ghost use Rattle.cyc_lower.specs.Lowering.{one_word, slot_types, first_temporary};
+ghost use Rattle.cyc_lower.specs.Lowering.{slot_types, first_temporary};
 ghost use Rattle.cyc_lower.specs.Emission.{most_frame_count};
 
 use crate::frame_count::words_of;
@@ -23,27 +23,7 @@ pub(crate) fn slot_of(starts: &[usize], number: usize) -> usize
     }
 }
 
-/// The words of an argument: it is passed as one yet, whatever its type.
-fn passed_words(_of_type: &Ty) -> usize
-    ensures { result ≡ words_of (one_word (view_ty _of_type.now)) }
-{
-    1
-}
-
-/// Parameters get as many slots as their arguments have words, from a slot on. The slot behind them is answered.
-fn add_parameters(starts: &mut Vec<usize>, first: usize, types: &[Ty]) -> Result<usize, AllocError>
-    requires { first + words_of_all (map one_word (map view_ty types.now)) ≤ most_frame_count }
-    ensures { IfOk result (λ behind. (behind ≡ first + words_of_all (map one_word (map view_ty types.now))) × (starts.new.items ≡ starts.old.items ++ starts_from first (map one_word (map view_ty types.now)))) }
-{
-    let mut slot = first;
-    for of_type in types {
-        starts.push(slot)?;
-        slot += passed_words(of_type);
-    }
-    Ok(slot)
-}
-
-/// Locals get as many slots as their types have words, from a slot on. The slot behind them is answered.
+/// Parameters or other locals get as many slots as their types have words, from a slot on. The slot behind them is answered.
 fn add_locals(starts: &mut Vec<usize>, first: usize, types: &[Ty]) -> Result<usize, AllocError>
     requires { first + words_of_all (map view_ty types.now) ≤ most_frame_count }
     ensures { IfOk result (λ behind. (behind ≡ first + words_of_all (map view_ty types.now)) × (starts.new.items ≡ starts.old.items ++ starts_from first (map view_ty types.now))) }
@@ -65,7 +45,7 @@ pub(crate) fn slots_of_locals(
     ensures { IfOk result (λ slots. (slots.0.items ≡ starts_of (slot_types (view_function function.now))) × (slots.1 ≡ first_temporary (view_function function.now))) }
 {
     let mut starts = Vec::new(alloc);
-    let behind = add_parameters(&mut starts, 0, &function.parameters)?;
+    let behind = add_locals(&mut starts, 0, &function.parameters)?;
     let free = add_locals(&mut starts, behind, &function.locals)?;
     Ok((starts, free))
 }

@@ -1,12 +1,18 @@
 //! Where the values of expressions stand.
-ghost use Rattle.std.specs.Prelude.{◌≡◌};
+ghost use Rattle.std.specs.Prelude.{◌≡◌, ◌+◌, ◌≤◌, IfOk};
 ghost use Rattle.cyc_types.specs.TypedTreeView.{view_expression, operations_of};
-ghost use Rattle.cyc_lower.specs.Lowering.{operand_of, value_slot, is_in};
-ghost use Rattle.cyc_lower.specs.Emission.{takes_operand};
+ghost use Rattle.cyc_meaning.specs.Values.{words_of_kind};
+ghost use Rattle.cyc_lower.specs.Lowering.{operand_of, value_slot, is_in, are_as_wide, converts_there};
+ghost use Rattle.cyc_lower.specs.Emission.{most_locals, takes_operand};
 
+use crate::frame_count::words_of_kind;
 use crate::locals::slot_of;
 use cyc_plain::{Comparison, Operand};
-use cyc_types::typed::{Expr, Lvalue, Operation};
+use cyc_types::typed::{Expr, Kind, Lvalue, Operation};
+use std::alloc::AllocError;
+
+/// A frame has fewer slots than this and a few.
+const MOST_SLOTS: usize = 4_294_967_000;
 
 /// A condition: it fails where this comparison of two operands holds.
 #[derive(Clone, Copy)]
@@ -53,6 +59,33 @@ pub(crate) fn takes_operand(starts: &[usize], operations: &[Operation]) -> bool
         Some(Operation::Compute { operand, .. }) => operand_of(starts, operand).is_some(),
         _ => false,
     }
+}
+
+/// Whether a value has as many words after a conversion as before it.
+pub(crate) fn are_as_wide(from: Kind, to: Kind) -> bool
+    ensures { result ≡ are_as_wide from to }
+{
+    words_of_kind(from) == words_of_kind(to)
+}
+
+/// Whether a value may come to the slot where it is to be before it is converted.
+pub(crate) fn converts_there(from: Kind, to: Kind) -> bool
+    ensures { result ≡ converts_there from to }
+{
+    match to {
+        Kind::NonNull => false,
+        Kind::Int | Kind::Nullable | Kind::Fat | Kind::Handle | Kind::Key => are_as_wide(from, to),
+    }
+}
+
+/// The slot behind a value of a kind. No frame has so many slots that a word does not count them.
+pub(crate) fn slot_behind(slot: usize, kind: Kind) -> Result<usize, AllocError>
+    ensures { IfOk result (λ behind. (behind ≡ slot + words_of_kind kind) × (behind ≤ most_locals)) }
+{
+    if slot > MOST_SLOTS {
+        return Err(AllocError);
+    }
+    Ok(slot + words_of_kind(kind))
 }
 
 /// Whether the value in an operand is in this slot.

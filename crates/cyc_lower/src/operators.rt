@@ -1,6 +1,6 @@
 //! What operators become.
 ghost use Rattle.std.specs.Prelude.{◌≡◌};
-ghost use Rattle.cyc_lower.specs.Lowering.{unary_operator, binary_operator, failing_comparison, failing_jump, jump_if_zero, jump_if_nonzero, test_jump};
+ghost use Rattle.cyc_lower.specs.Lowering.{unary_operator, binary_operator, failing_comparison, move_of, failing_jump, jump_if_zero, jump_if_nonzero, test_jump};
 
 use crate::operands::Condition;
 use cyc_plain::{BinaryOperator, Comparison, Instruction, Operand, UnaryOperator};
@@ -60,6 +60,23 @@ pub(crate) fn failing_comparison(operator: typed::Operator) -> Option<Comparison
         | typed::Operator::Multiply
         | typed::Operator::Divide
         | typed::Operator::Remainder => None,
+    }
+}
+
+/// A value of so many words comes to a slot and those behind it. A number has one word.
+pub(crate) fn move_of(words: usize, destination: usize, source: Operand) -> Instruction
+    ensures { result ≡ move_of words destination source }
+{
+    match source {
+        Operand::Slot { number } if words != 1 => Instruction::MoveWords {
+            destination,
+            source: number,
+            count: words,
+        },
+        Operand::Slot { .. } | Operand::Word { .. } => Instruction::Move {
+            destination,
+            source,
+        },
     }
 }
 

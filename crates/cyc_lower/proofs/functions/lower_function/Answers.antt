@@ -1,34 +1,40 @@
-use Rattle.std.proofs.Common.{◌≡◌, ◌+◌, List, ap, ◌∙◌, arith, length}
+use Rattle.std.proofs.Common.{◌≡◌, ◌+◌, List, map, ap, ◌∙◌, arith}
 use Rattle.cyc_types.specs.declared.typed.Item.{Item}
 use Rattle.cyc_types.specs.TypeView.{view_ty}
 use Rattle.cyc_types.specs.TypedTreeView.{view_function, items_of}
-use Rattle.cyc_meaning.specs.FrameCount.{items_need}
+use Rattle.cyc_types.specs.declared.ty.Ty.{Ty}
+use Rattle.cyc_meaning.specs.FrameCount.{items_need, words_of_all}
 use Rattle.cyc_lower.specs.Lowering.{first_temporary, function_code, span_of_place}
-use Rattle.cyc_lower.proofs.Routines.{counted, few_locals, function_made}
+use Rattle.cyc_lower.proofs.Routines.{few_locals, function_made}
 use Rattle.cyc_lower.proofs.functions.lower_function.Goals as goal
 
 pub lower_items-requires-clause-slots : goal.lower_items-requires-clause-slots
 lower_items-requires-clause-slots c = omega (arith, (few_locals c.args.function.now c.requires).1, c.in_ok-starts.ensures.1)
 
+pub words_of_all-requires : goal.words_of_all-requires
+words_of_all-requires c =
+    let parameters = ap (λ (ts : List Ty). words_of_all (map view_ty ts)) c.deref-3.ensures.value in
+    omega (arith, c.requires, parameters)
+
 pub overflow_add-result : goal.overflow_add-result
 overflow_add-result c =
     let f = c.args.function.now in
-    let body = ap (λ (js : List Item). items_need (items_of js)) c.deref-3.ensures.value in
+    let body = ap (λ (js : List Item). items_need (items_of js)) c.deref-4.ensures.value in
     omega (arith, (few_locals f c.requires).1, c.in_ok-starts.ensures.1, c.requires, body, c.items_need.ensures)
 
 pub overflow_add-result-2 : goal.overflow_add-result-2
 overflow_add-result-2 c =
     let f = c.args.function.now in
-    let body = ap (λ (js : List Item). items_need (items_of js)) c.deref-3.ensures.value in
+    let body = ap (λ (js : List Item). items_need (items_of js)) c.deref-4.ensures.value in
     omega (arith, (few_locals f c.requires).1, c.in_ok-starts.ensures.1, c.requires, body, c.items_need.ensures)
 
 pub returns : goal.returns
 returns c =
     let f = c.args.function.now in
     let h = view_function f in
-    let parameters : c.len.result ≡ length h.parameters = omega (arith, c.len.ensures, f.parameters.ok.0, counted view_ty f.parameters.items) in
-    let body = ap (λ (js : List Item). items_need (items_of js)) c.deref-3.ensures.value in
-    let slots : c.in_ok-starts.free + c.items_need.result + 1 ≡ first_temporary h + items_need h.body + 1 = omega (arith, c.in_ok-starts.ensures.1, c.items_need.ensures, body) in
+    let parameters : c.words_of_all.result ≡ words_of_all h.parameters = c.words_of_all.ensures ∙ ap (λ (ts : List Ty). words_of_all (map view_ty ts)) c.deref-3.ensures.value in
+    let body = ap (λ (js : List Item). items_need (items_of js)) c.deref-4.ensures.value in
+    let slots : c.in_ok-starts.free + c.items_need.result + 3 ≡ first_temporary h + items_need h.body + 3 = omega (arith, c.in_ok-starts.ensures.1, c.items_need.ensures, body) in
     let code : c.emit.new.self.code.items ≡ function_code h =
     function_made h c.deref.result.now c.in_ok-starts.free (items_of c.deref-2.result.now) c.new-emitter.result.code.items c.lower_items.new.self.code.items c.emit.new.self.code.items
     (c.deref.ensures.value ∙ c.in_ok-starts.ensures.0) c.in_ok-starts.ensures.1 (ap (λ (js : List Item). items_of js) c.deref-2.ensures.value) c.new-emitter.ensures c.in_ok-lower_items.ensures c.in_ok-emit.ensures in

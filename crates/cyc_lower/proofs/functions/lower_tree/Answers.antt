@@ -17,4 +17,4 @@ new-requires c =
     = c.in_ok-globals.ensures ∙ ap (λ (gs : List Global). map lower_global (map view_global gs)) c.deref-2.ensures.value in
     let same : program_of c.in_ok-functions.functions.items c.in_ok-globals.globals.items c.args.tree.now.main ≡ lower_program source
     = λ i. record { functions = functions i; globals = globals i; main = source.main } in
-    subst IsPlain (sym same) (is_plain source c.requires.can_be c.requires.small)
+    subst IsPlain (sym same) (is_plain source c.requires.well_typed c.requires.can_be c.requires.small)

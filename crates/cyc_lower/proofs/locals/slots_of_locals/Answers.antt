@@ -4,22 +4,19 @@ use Rattle.cyc_types.specs.TypeView.{view_ty}
 use Rattle.cyc_types.specs.TypedTreeView.{view_function}
 use Rattle.cyc_meaning.specs.FrameCount.{words_of_all}
 use Rattle.cyc_lower.specs.Slots.{starts_from}
-use Rattle.cyc_lower.specs.Lowering.{one_word}
-use Rattle.cyc_lower.proofs.Slots.{slots-few, slots-made}
+use Rattle.cyc_lower.proofs.Slots.{slots-made}
 use Rattle.cyc_lower.proofs.locals.slots_of_locals.Goals as goal
-
-pub add_parameters-requires : goal.add_parameters-requires
-add_parameters-requires c =
-    let f = c.args.function.now in
-    let parameters = ap (λ (ts : List Ty). words_of_all (map one_word (map view_ty ts))) c.deref.ensures.value in
-    omega (arith, c.requires, (slots-few (view_function f)).0, parameters)
 
 pub add_locals-requires : goal.add_locals-requires
 add_locals-requires c =
-    let f = c.args.function.now in
-    let parameters = ap (λ (ts : List Ty). words_of_all (map one_word (map view_ty ts))) c.deref.ensures.value in
+    let parameters = ap (λ (ts : List Ty). words_of_all (map view_ty ts)) c.deref.ensures.value in
+    omega (arith, c.requires, parameters)
+
+pub add_locals-requires-2 : goal.add_locals-requires-2
+add_locals-requires-2 c =
+    let parameters = ap (λ (ts : List Ty). words_of_all (map view_ty ts)) c.deref.ensures.value in
     let locals = ap (λ (ts : List Ty). words_of_all (map view_ty ts)) c.deref-2.ensures.value in
-    omega (arith, c.requires, (slots-few (view_function f)).0, parameters, locals, c.in_ok-behind.ensures.0)
+    omega (arith, c.requires, parameters, locals, c.in_ok-behind.ensures.0)
 
 pub returns : goal.returns
 returns c =
@@ -27,10 +24,10 @@ returns c =
     let parameters = c.deref.ensures.value in
     let locals = c.deref-2.ensures.value in
     let behind = c.in_ok-behind.behind in
-    let first = c.add_parameters.new.starts.items in
-    let words = ap (λ (ts : List Ty). words_of_all (map one_word (map view_ty ts))) parameters in
-    slots-made h behind c.in_ok-free.free first c.add_locals.new.starts.items
+    let first = c.add_locals.new.starts.items in
+    let words = ap (λ (ts : List Ty). words_of_all (map view_ty ts)) parameters in
+    slots-made h behind c.in_ok-free.free first c.add_locals-2.new.starts.items
     (omega (arith, c.in_ok-behind.ensures.0, words))
-    (c.in_ok-behind.ensures.1 ∙ ap (λ (l : List ℕ). l ++ starts_from 0 (map one_word (map view_ty c.deref.result.now))) c.new-starts.ensures.items ∙ ap (λ (ts : List Ty). starts_from 0 (map one_word (map view_ty ts))) parameters)
+    (c.in_ok-behind.ensures.1 ∙ ap (λ (l : List ℕ). l ++ starts_from 0 (map view_ty c.deref.result.now)) c.new-starts.ensures.items ∙ ap (λ (ts : List Ty). starts_from 0 (map view_ty ts)) parameters)
     (c.in_ok-free.ensures.0 ∙ ap (λ (ts : List Ty). behind + words_of_all (map view_ty ts)) locals)
     (c.in_ok-free.ensures.1 ∙ ap (λ (ts : List Ty). first ++ starts_from behind (map view_ty ts)) locals)

@@ -21,4 +21,4 @@ returns c =
     let t = c.args.program.now.tree in
     let few : length (view_program t).functions ≤ MOST_FUNCTIONS
     = omega (arith, c.if-len-gt-MOST_FUNCTIONS.false, c.len.ensures, t.functions.ok.0, length-map t.functions.items view_function) in
-    lowered (view_program t) c.in_ok-plain.plain c.requires.can_be few c.in_ok-plain.ensures
+    lowered (view_program t) c.in_ok-plain.plain c.requires.well_typed c.requires.can_be few c.in_ok-plain.ensures

@@ -4,12 +4,14 @@ use borrow.Author.Rules.{rules, get_or_read}
 use Rattle.cyc_types.specs.declared.ty.Ty.TheFolds as types
 use Rattle.cyc_types.specs.declared.typed.Dereference.TheFolds as expressions
 use Rattle.cyc_types.specs.declared.typed.Operation.{Operation}
+use Rattle.cyc_types.specs.declared.typed.Converted.{Converted as ConvertedCode}
+use Rattle.cyc_meaning.specs.Values.{words_of_kind}
 use Rattle.cyc_types.specs.TypedTreeView.{view_expression, operations_of}
 use Rattle.cyc_plain.specs.declared.instruction.Operand.TheVariants as operands
 use Rattle.cyc_plain.specs.declared.instruction.Instruction.{Instruction}
-use Rattle.cyc_lower.specs.Lowering.{expression_code, conversion_code, test_jump, next_slot}
+use Rattle.cyc_lower.specs.Lowering.{copy_code, expression_code, conversion_code, test_jump, next_slot}
 use Rattle.cyc_lower.specs.Emission.{HasRoom, operation_code}
-use Rattle.cyc_lower.proofs.Emitting.{Remains, all_arguments, one_argument, next_argument, arguments_lower, all_operations, one_operation, next_operation, operations_lower, goes_on, joined, converted_longer, made_putchar, made_call, made_called, made_binary, room_behind, made_left_alone, made_left_first, made_compute, made_test, room_after, slot_by_count, made_print, made_assigned}
+use Rattle.cyc_lower.proofs.Emitting.{Remains, all_arguments, one_argument, next_argument, arguments_lower, all_operations, one_operation, next_operation, operations_lower, goes_on, joined, passed_on, made_putchar, made_call, made_called, made_binary, room_behind, made_left_alone, made_left_first, made_compute, made_test, room_after, slot_by_count, made_print, made_assigned}
 use Rattle.cyc_lower.proofs.emitter.Emitter.+expression.Goals.{lower_left-then-is_empty, lower_left-else-is_empty, lower_operations-then-behind-eq0, lower_operations-else-behind-eq0}
 use Rattle.cyc_lower.proofs.emitter.Emitter.+expression.Goals as goal
 
@@ -22,11 +24,13 @@ lower_arguments-loop-argument-preserved t c =
     let slot = c.loop-argument.slot in
     let i = c.loop-argument.argument-index in
     let x = c.argument-item.result in
+    let words = passed_on c.args.arguments.now i slot c.args.first x c.loop-argument-test.true c.argument-item.is c.loop-argument.invariant.2 in
     let added = joined code (expression_code c.args.starts.now (view_expression x.value) (length code) slot slot) (λ (p : ℕ). conversion_code x.to (operands.Slot slot) p) made new c.in_ok-lower_expression.ensures c.in_ok-convert.ensures in
-    let next : slot + 1 ≡ suc slot = omega arith in (
-      subst (λ (n : ℕ). Remains (all_arguments c.args.starts.now) old c.args.arguments.now c.args.first (i + 1) new n) (sym next)
+    let next = c.in_ok-slot.ensures in (
+      subst (λ (n : ℕ). Remains (all_arguments c.args.starts.now) old c.args.arguments.now c.args.first (i + 1) new n) (sym next.0)
           (goes_on (all_arguments c.args.starts.now) (one_argument c.args.starts.now) (next_argument c.args.starts.now) (arguments_lower c.args.starts.now) old c.args.arguments.now c.args.first i code new slot x c.loop-argument-test.true c.argument-item.is added c.loop-argument.invariant.0),
-      omega (arith, converted_longer c.args.starts.now code new x slot added, c.loop-argument.invariant.1),
+      omega (arith, next.1),
+      omega (arith, words, next.0),
     )
 
 pub call-returns-in_ok-byte-in-Putchar : goal.call-returns-in_ok-byte-in-Putchar
@@ -35,10 +39,10 @@ call-returns-in_ok-byte-in-Putchar t c =
     (made_putchar c.args.starts.now c.args.callee c.args.arguments.now c.args.self.now.code.items c.print.new.self.code.items c.emit.new.self.code.items c.args.slot c.args.free c.in_ok-byte-in-Putchar.byte c.in-Putchar.is c.in_ok-byte-in-Putchar.ensures.0 c.in_ok-byte-in-Putchar.ensures.1)
     c.emit.ensures
 
-pub call-returns-in_ok-lower_arguments-in-Function : goal.call-returns-in_ok-lower_arguments-in-Function
-call-returns-in_ok-lower_arguments-in-Function t c =
+pub call-returns-in_ok-count-in-Function : goal.call-returns-in_ok-count-in-Function
+call-returns-in_ok-count-in-Function t c =
     on_ok_weaker c.emit-in-Function.result
-    (made_call c.args.starts.now c.args.callee c.args.arguments.now c.args.self.now.code.items c.lower_arguments-in-Function.new.self.code.items c.emit-in-Function.new.self.code.items c.args.slot c.args.free c.in-Function.number (length c.args.arguments.now) c.in-Function.is refl c.in_ok-lower_arguments-in-Function.ensures)
+    (made_call c.args.starts.now c.args.callee c.args.arguments.now c.args.self.now.code.items c.lower_arguments-in-Function.new.self.code.items c.emit-in-Function.new.self.code.items c.args.slot c.args.free c.in-Function.number c.in_ok-count-in-Function.count c.in-Function.is c.in_ok-count-in-Function.ensures.0 c.in_ok-count-in-Function.ensures.1)
     c.emit-in-Function.ensures
 
 pub lower_expression-lower_operations-requires : goal.lower_expression-lower_operations-requires
@@ -126,6 +130,8 @@ print-returns t c =
 
 pub lower_expression-returns-in_ok-assigned-in-Assign : goal.lower_expression-returns-in_ok-assigned-in-Assign
 lower_expression-returns-in_ok-assigned-in-Assign t c =
+    let same = c.deref-in-Assign-2.ensures ∙ sym c.deref-in-Assign.ensures in
     on_ok_weaker c.copy.result
-    (made_assigned c.args.starts.now c.args.value.now c.in-Assign.target c.in-Assign.value c.in-Assign.result c.in-Assign.is c.deref-in-Assign.result.now c.deref-in-Assign.ensures c.args.self.now.code.items c.lower_assignment.new.self.code.items c.copy.new.self.code.items c.in_ok-assigned-in-Assign.assigned c.args.slot c.args.free c.in_ok-assigned-in-Assign.ensures.0 c.in_ok-assigned-in-Assign.ensures.1)
+    (λ e. made_assigned c.args.starts.now c.args.value.now c.in-Assign.target c.in-Assign.value c.in-Assign.result c.in-Assign.is c.deref-in-Assign.result.now c.deref-in-Assign.ensures c.args.self.now.code.items c.lower_assignment.new.self.code.items c.copy.new.self.code.items c.in_ok-assigned-in-Assign.assigned c.args.slot c.args.free c.in_ok-assigned-in-Assign.ensures.0 c.in_ok-assigned-in-Assign.ensures.1
+    (e ∙ ap (λ (z : ConvertedCode). c.lower_assignment.new.self.code.items ++ copy_code (words_of_kind z.to) c.in_ok-assigned-in-Assign.assigned c.args.slot) same))
     c.copy.ensures

@@ -1,6 +1,7 @@
 use Rattle.std.specs.Prelude.{◌≡◌, ◌+◌, ◌≤◌, length, drop}
-use Rattle.cyc_types.specs.TypedTreeView.{operations_of}
+use Rattle.cyc_types.specs.TypedTreeView.{arguments_of, operations_of}
 use Rattle.cyc_plain.specs.declared.instruction.Operand.TheVariants as operands
+use Rattle.cyc_lower.specs.Lowering.{all_passed}
 use Rattle.cyc_lower.specs.Emission.{most_locals, HasRoom}
 use Rattle.cyc_lower.proofs.Emitting.{Remains, all_arguments, all_printed, all_operations, PrintedLeft}
 use Rattle.cyc_lower.proofs.emitter.Emitter.+expression.Given as goal
@@ -9,6 +10,7 @@ abbrev pub invariant-lower_arguments-loop-argument : goal.invariant-lower_argume
 invariant-lower_arguments-loop-argument l =
     Remains (all_arguments l.starts) l.fn.self.code.items l.arguments l.fn.first l.argument-index l.self.code.items l.slot
     × (l.slot ≤ most_locals + length l.self.code.items)
+    × (l.slot + all_passed (arguments_of (drop l.argument-index l.arguments)) ≡ l.fn.first + all_passed (arguments_of l.arguments))
 
 abbrev pub invariant-print-loop-argument : goal.invariant-print-loop-argument
 invariant-print-loop-argument l =

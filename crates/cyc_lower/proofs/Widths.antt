@@ -1,0 +1,104 @@
+-- The kinds of what expressions give, and the words of locals.
+use Rattle.std.proofs.Common.{◌≡◌, ◌⊎◌, ℕ, zero, suc, ◌+◌, ◌*◌, ◌≤◌, ◌<◌, Bool, true, false, List, [], ◌∷◌, Option, None, Some, slice_get, refl, sym, ap, ◌∙◌, arith}
+use Rattle.std.specs.Prelude.{◌==◌}
+use Rattle.std.proofs.lemmas.Bool.{eqb-true}
+use Rattle.cyc_syntax.specs.declared.tree.PointerKind.{PointerKind}
+use Rattle.cyc_syntax.specs.declared.tree.PointerKind.TheVariants as marks
+use Rattle.cyc_types.specs.declared.typed.Kind.{Kind}
+use Rattle.cyc_types.specs.declared.typed.Kind.TheVariants as kinds
+use Rattle.cyc_types.specs.declared.typed.Callee.{Callee}
+use Rattle.cyc_types.specs.declared.typed.Callee.TheVariants as callees
+use Rattle.cyc_types.specs.Types.{Ty, words_of, words_of_mark}
+use Rattle.cyc_types.specs.Types as types
+use Rattle.cyc_types.specs.TypedTrees.{Expression, Copy, Call, Binary, Assign, Converted, Convert, NoOperations, Signature}
+use Rattle.cyc_meaning.specs.Values.{kind_of, kind_of_mark, number_of_kind, is_kind, words_of_kind}
+
+-- ---- kinds and their words
+
+pub kind_positive : (kind : Kind) → 1 ≤ words_of_kind kind
+kind_positive kinds.Int = omega arith
+kind_positive kinds.Nullable = omega arith
+kind_positive kinds.NonNull = omega arith
+kind_positive kinds.Fat = omega arith
+kind_positive kinds.Handle = omega arith
+kind_positive kinds.Key = omega arith
+
+pub kind_few : (kind : Kind) → words_of_kind kind ≤ 3
+kind_few kinds.Int = omega arith
+kind_few kinds.Nullable = omega arith
+kind_few kinds.NonNull = omega arith
+kind_few kinds.Fat = omega arith
+kind_few kinds.Handle = omega arith
+kind_few kinds.Key = omega arith
+
+-- a cell of a type has the words of its kind
+pub type_words : (t : Ty) → words_of_kind (kind_of t) ≡ words_of t
+type_words types.Int = refl
+type_words (types.Pointer marks.Nullable t r) = refl
+type_words (types.Pointer marks.NonNull t r) = refl
+type_words (types.Pointer marks.Fat t r) = refl
+type_words (types.Handle r) = refl
+type_words (types.Key r) = refl
+type_words (types.Struct n rs) = refl
+
+abbrev kind_numbered : ℕ → Kind
+kind_numbered zero = kinds.Int
+kind_numbered (suc zero) = kinds.Nullable
+kind_numbered (suc (suc zero)) = kinds.NonNull
+kind_numbered (suc (suc (suc zero))) = kinds.Fat
+kind_numbered (suc (suc (suc (suc zero)))) = kinds.Handle
+kind_numbered n = kinds.Key
+
+number_tells : (kind : Kind) → kind_numbered (number_of_kind kind) ≡ kind
+number_tells kinds.Int = refl
+number_tells kinds.Nullable = refl
+number_tells kinds.NonNull = refl
+number_tells kinds.Fat = refl
+number_tells kinds.Handle = refl
+number_tells kinds.Key = refl
+
+pub same_kind : (a b : Kind) → is_kind a b ≡ true → a ≡ b
+same_kind a b is = sym (number_tells a) ∙ ap kind_numbered (eqb-true (number_of_kind a) (number_of_kind b) is) ∙ number_tells b
+
+-- ---- what expressions give
+
+-- the kind of what a function returns, and of what is called
+abbrev pub kind_of_result : Option Ty → Kind
+kind_of_result None = kinds.Int
+kind_of_result (Some t) = kind_of t
+
+abbrev pub result_kind : Option Signature → Kind
+result_kind None = kinds.Int
+result_kind (Some s) = kind_of_result s.result
+
+module _ (signatures : List Signature) where
+  abbrev pub called_kind : Callee → Kind
+  called_kind callees.Putchar = kinds.Int
+  called_kind callees.Getchar = kinds.Int
+  called_kind (callees.Function n) = result_kind (slice_get signatures n)
+
+  abbrev pub given : Expression → Kind
+  given (Copy l t) = kind_of t
+  given (Call f cs t) = called_kind f
+  given (Binary a NoOperations t) = given a
+  given (Assign l (Convert from to a) t) = to
+  given a = kinds.Int
+
+abbrev pub passed_kind : Converted → Kind
+passed_kind (Convert from to a) = to
+
+-- ---- the words of locals
+
+-- those of the local of this number
+abbrev pub words_in : List Ty → ℕ → ℕ
+words_in [] n = 0
+words_in (t ∷ ts) zero = words_of t
+words_in (t ∷ ts) (suc n) = words_in ts n
+
+-- a value of a kind has room in the local of this number
+abbrev pub HasRoom : List Ty → ℕ → Kind → Type 0
+HasRoom ts n kind = words_of_kind kind ≤ words_in ts n
+
+-- so many places from one on are not concerned
+abbrev pub Outside : (first many n : ℕ) → Type 0
+Outside first many n = (n < first) ⊎ (first + many ≤ n)
