@@ -193,8 +193,7 @@ module _ (source : Program) (pages calls : ℕ) where
       → ValueStack source c.active.function e.locals (given_at source c.active.function a) o q c.frames k → IsBegun a k e w c
   known_operand a o k e w c q known end (well, shared, facts, holds) stack =
       let found = reads a o k e w c known well facts in
-      silently source pages calls (Running (Evaluating a) k e w) (Running (Given found.value) k e w) (plain.Running c) found.gives
-      (
+      silently source pages calls (Running (Evaluating a) k e w) (Running (Given found.value) k e w) (plain.Running c) found.gives (
         shared,
         in_operand o facts found.is holds
             (subst (λ i. ValueStack source c.active.function e.locals i o c.active.next c.frames k) (sym found.same)

@@ -87,9 +87,13 @@ impl Emitter {
         ensures { Appends result self.old self.new (load_code starts.now words (view_lvalue source) slot) }
     {
         self.emit(match source {
-            Lvalue::Local { number, .. } => move_of(words, slot, Operand::Slot {
-                number: slot_of(starts, number),
-            }),
+            Lvalue::Local { number, .. } => move_of(
+                words,
+                slot,
+                Operand::Slot {
+                    number: slot_of(starts, number),
+                },
+            ),
             Lvalue::Global { number } => Instruction::LoadGlobal {
                 destination: slot,
                 global: number,
