@@ -20,7 +20,7 @@ use Rattle.cyc_words.specs.Simulation.{Run}
 use Rattle.cyc_plain.specs.Program.{Routine, Program, no_routine, routine_at}
 use Rattle.cyc_plain.specs.State.{put, Handler, Open, Caught, Activation, Frame, Configuration, State, Running, Ended, Stuck, status_of, place_of, memory_at}
 use Rattle.cyc_plain.specs.Step.{Choice, gives, operand_word, returns, loads, saves, advanced, asks, is_intact, tries, closes, lands, throws, finishes, call_in, call_of, asked, performed, executed, instruction_at, step, Step, start, machine}
-use Rattle.cyc_plain.specs.WellFormed.{IsInRange, IsRoutine, IsWellFormed, leaves, DividesByZero, AsksForNoWord, AsksInVain, HasNoHandler}
+use Rattle.cyc_plain.specs.WellFormed.{IsInRange, IsRoutine, IsWellFormed, leaves, DividesByZero, AsksForNoWord, AsksInVain, AsksForHandlers}
 use Rattle.cyc_plain.proofs.RunLaws.{limited_either, if_either}
 
 -- ---- lists
@@ -217,7 +217,7 @@ not_failed c e = cc
 
 -- why a run cannot go on
 abbrev Stops : Program → State → Type 0
-Stops program s = DividesByZero program s ⊎ (AsksForNoWord program s ⊎ (AsksInVain program s ⊎ HasNoHandler program s))
+Stops program s = DividesByZero program s ⊎ (AsksForNoWord program s ⊎ (AsksInVain program s ⊎ AsksForHandlers program s))
 
 divides : (program : Program) (c : Configuration) (operator : BinaryOperator) (destination : ℕ) (left right : Operand) (b : Bool) → has_no_result operator (operand_word c.active.slots right) ≡ b
     → instruction_at program (place_of (Running c)) ≡ Some (instructions.Binary operator destination left right)

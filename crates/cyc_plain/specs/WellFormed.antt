@@ -181,15 +181,15 @@ AsksInVain program (Running c) =
 AsksInVain program (Ended ending output input) = ⊥
 AsksInVain program (Stuck output input) = ⊥
 
--- the instruction to be executed next asks for a handler that is not there, or is there and should not be
+-- the instruction to be executed next closes a handler, throws, or returns where none may be open
 abbrev pub is_of_handlers : Instruction → Bool
 is_of_handlers (instructions.Leave first) = true
 is_of_handlers (instructions.Throw tag value) = true
 is_of_handlers (instructions.Finish value) = true
 is_of_handlers instruction = false
 
-abbrev pub HasNoHandler : Program → State → Type 0
-HasNoHandler program (Running c) =
+abbrev pub AsksForHandlers : Program → State → Type 0
+AsksForHandlers program (Running c) =
     (i : Instruction) × (instruction_at program (place_of (Running c)) ≡ Some i) × (is_of_handlers i ≡ true)
-HasNoHandler program (Ended ending output input) = ⊥
-HasNoHandler program (Stuck output input) = ⊥
+AsksForHandlers program (Ended ending output input) = ⊥
+AsksForHandlers program (Stuck output input) = ⊥

@@ -21,7 +21,7 @@ ghost use Rattle.cyc_plain.specs.State.{Words, Configuration, State, HoldsWords,
 ghost use Rattle.cyc_plain.specs.State as state;
 ghost use Rattle.cyc_plain.specs.Step.{Choice, IsServed, Step, asked, call_in, instruction_at, is_within, limited_step, machine, served_to, start, step};
 ghost use Rattle.cyc_plain.specs.Straight.{HasAt, AreStraight, executed_in, places_behind};
-ghost use Rattle.cyc_plain.specs.WellFormed.{IsWellFormed, HasWords, DividesByZero, AsksForNoWord, AsksInVain, HasNoHandler};
+ghost use Rattle.cyc_plain.specs.WellFormed.{IsWellFormed, HasWords, DividesByZero, AsksForNoWord, AsksInVain, AsksForHandlers};
 
 /// A run that is over stays as it is.
 pub fn ended_stays()
@@ -83,7 +83,7 @@ pub fn few_get_stuck()
     ensures { (program : Program) (pages calls count : ℕ) (store : StoreState) (input : List ℕ) (old new : State) → IsWellFormed program
         → Run (machine program pages calls) count (start program store input) old → status_of old ≡ simulation.Running
         → Step program pages calls old new → status_of new ≡ simulation.Failed
-        → DividesByZero program old ⊎ (AsksForNoWord program old ⊎ (AsksInVain program old ⊎ HasNoHandler program old)) }
+        → DividesByZero program old ⊎ (AsksForNoWord program old ⊎ (AsksInVain program old ⊎ AsksForHandlers program old)) }
 {}
 
 /// In a run of a program whose numbers are words, from a store of words and on an input of bytes, every value is a word.

@@ -1,5 +1,5 @@
 -- The instructions that open and close handlers, and that throw.
-use Rattle.std.proofs.Common.{◌≡◌, ◌≢◌, ℕ, zero, suc, ◌+◌, ◌*◌, ◌%◌, ◌^◌, ◌<◌, ◌≤◌, Bool, true, false, not, ◌&&◌, List, [], ◌∷◌, ◌++◌, length, Some, slice_get, refl, sym, ap, subst, ◌∙◌, arith, inl, inr, length-append}
+use Rattle.std.proofs.Common.{◌≡◌, ◌≢◌, ℕ, suc, ◌+◌, ◌*◌, ◌<◌, ◌≤◌, Bool, true, false, not, ◌&&◌, List, [], ◌∷◌, ◌++◌, length, Some, refl, sym, ap, subst, ◌∙◌, arith, inl, inr, length-append}
 use Rattle.std.specs.Prelude.{◌==◌, if◌then◌else◌}
 use Rattle.std.proofs.lemmas.Bool.{cases_eq, cases_lt, eqb-true, eq-eqb, ne_eqb}
 use Rattle.cyc_words.specs.Ending.{Ending, Uncaught}
@@ -8,7 +8,7 @@ use Rattle.cyc_isa.specs.Effect.{memory_address}
 use Rattle.cyc_isa.specs.Decoding.{register_of}
 use Rattle.cyc_isa.specs.declared.instr.Instr.{Instr}
 use Rattle.cyc_isa.specs.declared.instr.BranchOp.TheVariants as branch
-use Rattle.cyc_machine.specs.State.{stack_end, globals_length, words_per_call}
+use Rattle.cyc_machine.specs.State.{globals_length, words_per_call}
 use Rattle.cyc_machine.specs.declared.constants.TheConstants.{ARGUMENT, END_UNCAUGHT, RETURN_ADDRESS, SECOND_ARGUMENT, SERVICE}
 use Rattle.cyc_plain.specs.declared.instruction.Instruction.{Instruction}
 use Rattle.cyc_plain.specs.declared.instruction.Instruction.TheVariants as plain
@@ -30,20 +30,19 @@ use Rattle.cyc_select.specs.declared.code.Line.TheVariants as lines
 use Rattle.cyc_select.specs.Labelled.{Labelled, IsFormed, AreAddresses}
 use Rattle.cyc_select.specs.Machine as labelled
 use Rattle.cyc_select.specs.Machine.{State, Running, Ended}
-use Rattle.cyc_select.specs.Selection.{ordinary, small, syscall, load, store_slot, load_code, load_count, slot_offset, store_all, recorded_code, caught_code, opened_code, unwound_code, load_record, body, body_count, instruction_line}
+use Rattle.cyc_select.specs.Selection.{ordinary, small, syscall, load, load_code, load_count, slot_offset, store_all, recorded_code, caught_code, opened_code, unwound_code, body, instruction_line}
 use Rattle.cyc_select.proofs.Blocks.{Puts}
 use Rattle.cyc_select.proofs.Calls.{length_ordinary}
 use Rattle.cyc_select.proofs.Cells.{IsCell}
-use Rattle.cyc_select.proofs.Computing.{IsHeld, load_puts, argument_scratch}
+use Rattle.cyc_select.proofs.Computing.{IsHeld, load_puts}
 use Rattle.cyc_select.proofs.Counts.{length_load}
 use Rattle.cyc_select.proofs.Lines.{line_next}
 use Rattle.cyc_select.proofs.Matches.{At, Landed, Reached, reached, within}
 use Rattle.cyc_select.proofs.Operations.{add_small, address_at}
-use Rattle.cyc_select.proofs.Requests.{put_all, are_stored}
-use Rattle.cyc_select.proofs.Returns.{same_slots}
-use Rattle.cyc_select.proofs.Standing.{Chain, Lies, IsRecord, AreRecords, IsBeyond, IsNewest, IsKept, kept_here, Standing, lies, word_cell, slot_address, slot_cell, slot_word_is, return_address, return_cell, standing_registers, standing_handlers, standing_at, standing_slot, standing_return}
+use Rattle.cyc_select.proofs.Requests.{are_stored}
+use Rattle.cyc_select.proofs.Standing.{Chain, Lies, IsRecord, IsNewest, IsKept, kept_here, Standing, lies, word_cell, slot_address, slot_cell, slot_word_is, return_address, return_cell, standing_registers, standing_handlers, standing_at, standing_slot, standing_return}
 use Rattle.cyc_select.proofs.Views.{Contents, written}
-use Rattle.cyc_select.proofs.Walks.{Stands, stands_front, stands_back, stands_first, stands_behind, after_r, after_w, Walk, now_at, now_is, walk_end, walk_few, walk_from, walk_block, walk_branch, walk_jump, walk_call, walk_return, walk_uncaught}
+use Rattle.cyc_select.proofs.Walks.{Stands, stands_front, stands_back, stands_first, stands_behind, after_r, after_w, Walk, now_at, now_is, walk_end, walk_few, walk_block, walk_branch, walk_jump, walk_call, walk_return, walk_uncaught}
 
 -- ---- records
 
