@@ -1,5 +1,7 @@
 -- what is known of each local
 pub mod States
+-- changes that are undone
+pub mod Trails
 -- nodes, and the lists of nodes in them
 pub mod Walks
 pub mod KeptNodes

@@ -1,5 +1,5 @@
 -- What the code has to do with the flow rules: the states that it holds, and what its functions answer.
-use Rattle.std.specs.Prelude.{◌≡◌, ℕ, List, map, Option, Some, None, Result, Ok, Err}
+use Rattle.std.specs.Prelude.{◌≡◌, ℕ, List, [], ◌∷◌, map, Option, Some, None, Result, Ok, Err}
 use Rattle.cyc_words.specs.declared.fault.Fault.{Fault}
 use Rattle.cyc_words.specs.Fault.{memory_fault}
 use Rattle.cyc_flow.specs.declared.state.Fullness.{Fullness as FullnessCode}
@@ -8,9 +8,11 @@ use Rattle.cyc_flow.specs.declared.state.State.{State as StateCode}
 use Rattle.cyc_flow.specs.declared.state.State.TheVariants as states
 use Rattle.cyc_flow.specs.declared.stop.Stop.{Stop}
 use Rattle.cyc_flow.specs.declared.stop.Stop.TheVariants as stops
+use Rattle.cyc_flow.specs.declared.state.Change.{Change}
 use Rattle.cyc_flow.specs.declared.expressions.Tracked.{Tracked}
+use Rattle.cyc_flow.specs.declared.evaluation.Evaluation.{Evaluation}
 use Rattle.cyc_types.specs.Rules.{Checked, run}
-use Rattle.cyc_types.specs.flow.States.{Fullness, Vacant, Locked, Full, State, Unreached, Reached}
+use Rattle.cyc_types.specs.flow.States.{Fullness, Vacant, Locked, Full, State, Unreached, Reached, lower, fullness, with_fullness}
 use Rattle.cyc_types.specs.TypedTrees.{Clauses}
 use Rattle.cyc_types.specs.flow.Touched.{touched_clauses}
 use Rattle.cyc_types.specs.flow.Statements.{Around, Known, rule_clauses}
@@ -23,6 +25,29 @@ view_fullness code.Full = Full
 abbrev pub view_state : StateCode → State
 view_state states.Unreached = Unreached
 view_state (states.Reached v) = Reached (map view_fullness v.items)
+
+-- what was known before these changes, of which the last led here
+abbrev pub undone : List Change → State → State
+undone [] f = f
+undone (c ∷ cs) f = with_fullness (view_fullness c.before) (undone cs f) c.number
+
+-- what was known when the expression began, or else the operand around
+abbrev pub begun : Evaluation → State
+begun v = undone v.trail.items (view_state v.state)
+
+-- each of these locals is no fuller than that
+abbrev pub lowered : List Change → State → State
+lowered [] f = f
+lowered (c ∷ cs) f = lowered cs (with_fullness (lower (fullness f c.number) (view_fullness c.before)) f c.number)
+
+-- each of these locals is no fuller than it is in the first state
+abbrev pub lowered_to : State → List Change → State → State
+lowered_to g [] f = f
+lowered_to g (c ∷ cs) f = lowered_to g cs (with_fullness (lower (fullness f c.number) (fullness g c.number)) f c.number)
+
+-- what is known in this state of each local that was changed
+abbrev pub Notes : (now : List Change) → State → (changes : List Change) → Type 0
+Notes vs g cs = (f : State) → lowered vs f ≡ lowered_to g cs f
 
 -- the fault that is answered
 abbrev pub fault_of : Stop → Fault
@@ -45,12 +70,12 @@ abbrev pub Allows : Result (Unit {0}) Stop → Checked (Unit {0}) → Type 0
 Allows (Ok u) checked = checked ≡ Ok tt
 Allows (Err e) checked = Stops e checked
 
--- What is known behind an expression is what the rule says is known there, and these locals are touched.
-abbrev pub Leads : Result (Unit {0}) Stop → (behind : Tracked) → Checked State → List ℕ → Type 0
-Leads (Ok u) t checked ns = (checked ≡ Ok (view_state t.state)) × (t.touched.items ≡ ns)
-Leads (Err e) t checked ns = Stops e checked
+-- What is known behind an expression is what the rule says is known there, these locals are touched, and it has begun with this known.
+abbrev pub Leads : Result (Unit {0}) Stop → (behind : Evaluation) → Checked State → List ℕ → (start : State) → Type 0
+Leads (Ok u) v checked ns start = (checked ≡ Ok (view_state v.state)) × (v.touched.items ≡ ns) × (begun v ≡ start)
+Leads (Err e) v checked ns start = Stops e checked
 
--- The same where what is known is handed on.
+-- The same of a whole expression, where what is known is handed on.
 abbrev pub Gives : Result Tracked Stop → Checked State → List ℕ → Type 0
 Gives (Ok t) checked ns = (checked ≡ Ok (view_state t.state)) × (t.touched.items ≡ ns)
 Gives (Err e) checked ns = Stops e checked

@@ -9,11 +9,12 @@ ghost use Rattle.cyc_types.specs.flow.States.{Vacant, Full, with_fullness};
 ghost use Rattle.cyc_types.specs.flow.Touched.{and_local, and_assigned, touched, touched_place, touched_placement, touched_initial, touched_converted, touched_arguments, touched_operations};
 ghost use Rattle.cyc_types.specs.flow.Expressions.{and_peeked, peek_of, peek_behind, looked, moved, used, stored, rule, rule_place, rule_placement, rule_initial, rule_converted, rule_arguments, rule_operations};
 ghost use Rattle.cyc_flow.specs.declared.stop.Stop.TheVariants.{Refused};
-ghost use Rattle.cyc_flow.specs.Code.{view_fullness, view_state, Leads};
+ghost use Rattle.cyc_flow.specs.Code.{view_fullness, view_state, begun, Leads};
 ghost use Rattle.cyc_flow.specs.Steps.{rule_operation, touched_operation};
 
+use crate::evaluation::Evaluation;
 use crate::settled::{Settled, check_head};
-use crate::state::{Fullness, State, meet};
+use crate::state::{Fullness, State};
 use crate::stop::Stop;
 use cyc_types::typed::{
     Converted, Dereference, Expr, Initial, Lvalue, Operation, Placement, ValueType,
@@ -103,10 +104,12 @@ impl Tracked {
             touched: all,
         })
     }
+}
 
+impl Evaluation {
     /// A peek of a local.
     fn look(&self, span: Span, number: usize) -> Result<(), Stop>
-        ensures { Leads result self.now (run (looked (place_of_span span) number (view_state self.now.state))) self.now.touched.items }
+        ensures { Leads result self.now (run (looked (place_of_span span) number (view_state self.now.state))) self.now.touched.items (begun self.now) }
     {
         let mut settled = Settled::new();
         settled.look(&self.state, span, number);
@@ -115,7 +118,7 @@ impl Tracked {
 
     /// A use of a variable that leaves its value there.
     fn use_variable(&self, waiting: &[usize], variable: Lvalue) -> Result<(), Stop>
-        ensures { Leads result self.now (run (used waiting.now (view_lvalue variable) (view_state self.now.state))) self.now.touched.items }
+        ensures { Leads result self.now (run (used waiting.now (view_lvalue variable) (view_state self.now.state))) self.now.touched.items (begun self.now) }
     {
         let Lvalue::Local { span, number } = variable else {
             return Ok(());
@@ -127,12 +130,12 @@ impl Tracked {
 
     /// A use of a local's value, which leaves it empty.
     fn consume(&mut self, waiting: &[usize], span: Span, number: usize) -> Result<(), Stop>
-        ensures { Leads result self.new (run (moved waiting.now (place_of_span span) number (view_state self.old.state))) (and_local number self.old.touched.items) }
+        ensures { Leads result self.new (run (moved waiting.now (place_of_span span) number (view_state self.old.state))) (and_local number self.old.touched.items) (begun self.old) }
     {
         let mut settled = Settled::new();
         settled.use_local(waiting, &self.state, span, number);
         settled.end()?;
-        self.set(number, Fullness::Vacant);
+        self.set(number, Fullness::Vacant)?;
         self.touch(number)?;
         Ok(())
     }
@@ -144,7 +147,7 @@ impl Tracked {
         variable: Lvalue,
         result_type: &ValueType,
     ) -> Result<(), Stop>
-        ensures { Leads result self.new (run (stored waiting.now (view_lvalue variable) (view_state self.old.state))) (and_assigned (view_lvalue variable) (view_value_type result_type.now) self.old.touched.items) }
+        ensures { Leads result self.new (run (stored waiting.now (view_lvalue variable) (view_state self.old.state))) (and_assigned (view_lvalue variable) (view_value_type result_type.now) self.old.touched.items) (begun self.old) }
     {
         let Lvalue::Local { span, number } = variable else {
             return Ok(());
@@ -152,7 +155,7 @@ impl Tracked {
         let mut settled = Settled::new();
         settled.store_local(waiting, &self.state, span, number);
         settled.end()?;
-        self.set(number, Fullness::Full);
+        self.set(number, Fullness::Full)?;
         if let ValueType::Void = result_type {
             self.touch(number)?;
         }
@@ -167,7 +170,7 @@ impl Tracked {
         waiting: &[usize],
         value: &Expr,
     ) -> Result<(), Stop>
-        ensures { Leads result self.new (run (rule waiting.now (view_expression value.now) (view_state self.old.state))) (touched (view_expression value.now) self.old.touched.items) }
+        ensures { Leads result self.new (run (rule waiting.now (view_expression value.now) (view_state self.old.state))) (touched (view_expression value.now) self.old.touched.items) (begun self.old) }
     {
         match value {
             Expr::Number { .. } | Expr::NullPointer | Expr::HeapRegion | Expr::Counter { .. } => {
@@ -220,7 +223,7 @@ impl Tracked {
         waiting: &[usize],
         place: &Dereference,
     ) -> Result<(), Stop>
-        ensures { Leads result self.new (run (rule_place waiting.now (view_dereference place.now) (view_state self.old.state))) (touched_place (view_dereference place.now) self.old.touched.items) }
+        ensures { Leads result self.new (run (rule_place waiting.now (view_dereference place.now) (view_state self.old.state))) (touched_place (view_dereference place.now) self.old.touched.items) (begun self.old) }
     {
         match place {
             Dereference::Target { pointer, .. } => self.evaluate(alloc, waiting, pointer),
@@ -236,7 +239,7 @@ impl Tracked {
     /// Goes through the handle of the region that an object is made in, if it has one.
     #[cycle(expression)]
     fn place(&mut self, alloc: Global, waiting: &[usize], placement: &Placement) -> Result<(), Stop>
-        ensures { Leads result self.new (run (rule_placement waiting.now (view_placement placement.now) (view_state self.old.state))) (touched_placement (view_placement placement.now) self.old.touched.items) }
+        ensures { Leads result self.new (run (rule_placement waiting.now (view_placement placement.now) (view_state self.old.state))) (touched_placement (view_placement placement.now) self.old.touched.items) (begun self.old) }
     {
         match placement {
             Placement::OnHeap => Ok(()),
@@ -253,7 +256,7 @@ impl Tracked {
         waiting: &[usize],
         initial: &Initial,
     ) -> Result<(), Stop>
-        ensures { Leads result self.new (run (rule_initial waiting.now (view_initial initial.now) (view_state self.old.state))) (touched_initial (view_initial initial.now) self.old.touched.items) }
+        ensures { Leads result self.new (run (rule_initial waiting.now (view_initial initial.now) (view_state self.old.state))) (touched_initial (view_initial initial.now) self.old.touched.items) (begun self.old) }
     {
         match initial {
             Initial::Plain { value, .. } => self.evaluate(alloc, waiting, value),
@@ -265,10 +268,12 @@ impl Tracked {
                 ..
             } => {
                 self.evaluate(alloc, waiting, length)?;
+                let outer = mem::replace(&mut self.trail, Vec::new(alloc));
                 let head = self.state.copy(alloc)?;
                 self.evaluate(alloc, waiting, element)?;
                 check_head(&self.state, &head, *span)?;
                 self.state = head;
+                self.trail = outer;
                 Ok(())
             }
         }
@@ -282,7 +287,7 @@ impl Tracked {
         waiting: &[usize],
         converted: &Converted,
     ) -> Result<(), Stop>
-        ensures { Leads result self.new (run (rule_converted waiting.now (view_converted converted.now) (view_state self.old.state))) (touched_converted (view_converted converted.now) self.old.touched.items) }
+        ensures { Leads result self.new (run (rule_converted waiting.now (view_converted converted.now) (view_state self.old.state))) (touched_converted (view_converted converted.now) self.old.touched.items) (begun self.old) }
     {
         self.evaluate(alloc, waiting, &converted.value)
     }
@@ -296,7 +301,7 @@ impl Tracked {
         waiting: &[usize],
         arguments: &[Converted],
     ) -> Result<(), Stop>
-        ensures { Leads result self.new (run (rule_arguments waiting.now (arguments_of arguments.now) (view_state self.old.state))) (touched_arguments (arguments_of arguments.now) self.old.touched.items) }
+        ensures { Leads result self.new (run (rule_arguments waiting.now (arguments_of arguments.now) (view_state self.old.state))) (touched_arguments (arguments_of arguments.now) self.old.touched.items) (begun self.old) }
     {
         for argument in arguments {
             self.convert(alloc, waiting, argument)?;
@@ -312,15 +317,15 @@ impl Tracked {
         waiting: &[usize],
         operation: &Operation,
     ) -> Result<(), Stop>
-        ensures { Leads result self.new (run (rule_operation waiting.now operation.now (view_state self.old.state))) (touched_operation operation.now self.old.touched.items) }
+        ensures { Leads result self.new (run (rule_operation waiting.now operation.now (view_state self.old.state))) (touched_operation operation.now self.old.touched.items) (begun self.old) }
     {
         match operation {
             Operation::Compute { operand, .. } => self.evaluate(alloc, waiting, operand),
             Operation::Test { operand, .. } => {
-                let before = self.state.copy(alloc)?;
+                let outer = mem::replace(&mut self.trail, Vec::new(alloc));
                 self.evaluate(alloc, waiting, operand)?;
-                let behind = mem::replace(&mut self.state, State::Unreached);
-                self.state = meet(before, behind);
+                self.meet_start(alloc)?;
+                self.resume(outer)?;
                 Ok(())
             }
             Operation::Pointer { operand, .. } => self.evaluate(alloc, waiting, operand),
@@ -344,7 +349,7 @@ impl Tracked {
         waiting: &[usize],
         operations: &[Operation],
     ) -> Result<(), Stop>
-        ensures { Leads result self.new (run (rule_operations waiting.now (operations_of operations.now) (view_state self.old.state))) (touched_operations (operations_of operations.now) self.old.touched.items) }
+        ensures { Leads result self.new (run (rule_operations waiting.now (operations_of operations.now) (view_state self.old.state))) (touched_operations (operations_of operations.now) self.old.touched.items) (begun self.old) }
     {
         for operation in operations {
             self.apply_operation(alloc, waiting, operation)?;

@@ -6,6 +6,7 @@ pub use check::{Explained, Flowed, explain, flow};
 
 mod cause;
 mod check;
+mod evaluation;
 mod expressions;
 mod settled;
 mod state;

@@ -31,7 +31,7 @@ impl Fullness {
     }
 
     /// By their numbers, so that a loop over many of them has no branches.
-    fn lower(self, other: Fullness) -> Fullness
+    pub(crate) fn lower(self, other: Fullness) -> Fullness
         ensures { view_fullness result ≡ lower (view_fullness self) (view_fullness other) }
     {
         if (self as u8) < (other as u8) {
@@ -46,6 +46,13 @@ impl Fullness {
     {
         (other as u8) <= (self as u8)
     }
+}
+
+/// What was known of a local before a change.
+#[derive(Clone, Copy)]
+pub(crate) struct Change {
+    pub(crate) number: usize,
+    pub(crate) before: Fullness,
 }
 
 #[derive(Drop)]

@@ -12,6 +12,7 @@ ghost use Rattle.cyc_flow.specs.Code.{view_state, Ends, Gives, GivesKnown, Gives
 ghost use Rattle.cyc_types.specs.flow.Programs.{in_function};
 ghost use Rattle.cyc_flow.specs.Steps.{stands, view_loop};
 
+use crate::evaluation::Evaluation;
 use crate::expressions::{Tracked, and_peeked, peek_behind};
 use crate::settled::{Settled, check_head};
 use crate::state::{Fullness, State, meet};
@@ -24,19 +25,21 @@ use std::mem;
 // ---- what stands in a statement
 
 /// Behind an expression that stands in no other.
-fn evaluate(alloc: Global, value: &Expr, mut tracked: Tracked) -> Result<Tracked, Stop>
+fn evaluate(alloc: Global, value: &Expr, tracked: Tracked) -> Result<Tracked, Stop>
     ensures { Gives result (run (rule [] (view_expression value.now) (view_state tracked.state))) (touched (view_expression value.now) tracked.touched.items) }
 {
-    tracked.evaluate(alloc, &[], value)?;
-    Ok(tracked)
+    let mut evaluation = Evaluation::new(alloc, tracked);
+    evaluation.evaluate(alloc, &[], value)?;
+    Ok(evaluation.end())
 }
 
 /// The same of one whose value is converted.
-fn convert(alloc: Global, value: &Converted, mut tracked: Tracked) -> Result<Tracked, Stop>
+fn convert(alloc: Global, value: &Converted, tracked: Tracked) -> Result<Tracked, Stop>
     ensures { Gives result (run (rule_converted [] (view_converted value.now) (view_state tracked.state))) (touched_converted (view_converted value.now) tracked.touched.items) }
 {
-    tracked.convert(alloc, &[], value)?;
-    Ok(tracked)
+    let mut evaluation = Evaluation::new(alloc, tracked);
+    evaluation.convert(alloc, &[], value)?;
+    Ok(evaluation.end())
 }
 
 /// Behind the value that is returned, if one is.
@@ -109,15 +112,16 @@ fn find_side(
     alloc: Global,
     waiting: &[usize],
     side: &Side,
-    mut tracked: Tracked,
+    tracked: Tracked,
 ) -> Result<Tracked, Stop>
     ensures { Gives result (run (rule_side waiting.now (view_side side.now) (view_state tracked.state))) (touched_side (view_side side.now) tracked.touched.items) }
 {
     match side {
         Side::Variable { .. } => Ok(tracked),
         Side::Cell { place } => {
-            tracked.find(alloc, waiting, place)?;
-            Ok(tracked)
+            let mut evaluation = Evaluation::new(alloc, tracked);
+            evaluation.find(alloc, waiting, place)?;
+            Ok(evaluation.end())
         }
     }
 }

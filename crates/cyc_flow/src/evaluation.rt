@@ -1,0 +1,128 @@
+//! An expression that is gone through. What it changes is noted, so that `&&` and `||` look at nothing else.
+ghost use Rattle.std.specs.Prelude.{◌≡◌, ◌++◌, [], IfOk};
+ghost use Rattle.cyc_types.specs.flow.States.{meet, with_fullness};
+ghost use Rattle.cyc_types.specs.flow.Touched.{and_local};
+ghost use Rattle.cyc_flow.specs.Code.{view_fullness, view_state, undone, begun, lowered, Notes};
+
+use crate::expressions::Tracked;
+use crate::state::{Change, Fullness, State};
+use std::alloc::{AllocError, Global};
+
+/// What is known at a place of an expression, and which locals were touched before it.
+#[derive(Drop)]
+pub(crate) struct Evaluation {
+    pub(crate) state: State,
+    pub(crate) touched: Vec<usize>,
+    /// What was changed since the expression began, or else the operand of the innermost `&&` or `||` around, in order.
+    pub(crate) trail: Vec<Change>,
+}
+
+/// What is known now of each local that was changed.
+#[tactic(auto, using(std::proofs::lemmas::List::drop_more, crate::proofs::Trails::noted_now))]
+fn changed(alloc: Global, state: &State, trail: &[Change]) -> Result<Vec<Change>, AllocError>
+    ensures { IfOk result (λ v. Notes v.items (view_state state.now) trail.now) }
+{
+    let mut changed = Vec::new(alloc);
+    for change in trail {
+        changed.push(Change {
+            number: change.number,
+            before: state.fullness(change.number),
+        })?;
+    }
+    Ok(changed)
+}
+
+impl Evaluation {
+    pub(crate) fn new(alloc: Global, tracked: Tracked) -> Evaluation
+        ensures state { view_state result.state ≡ view_state tracked.state }
+        ensures touched { result.touched.items ≡ tracked.touched.items }
+    {
+        Evaluation {
+            state: tracked.state,
+            touched: tracked.touched,
+            trail: Vec::new(alloc),
+        }
+    }
+
+    pub(crate) fn end(self) -> Tracked
+        ensures state { view_state result.state ≡ view_state self.state }
+        ensures touched { result.touched.items ≡ self.touched.items }
+    {
+        Tracked {
+            state: self.state,
+            touched: self.touched,
+        }
+    }
+
+    /// Of one local this is known now.
+    pub(crate) fn set(&mut self, number: usize, fullness: Fullness) -> Result<(), AllocError>
+        ensures state { IfOk result (λ _. view_state self.new.state ≡ with_fullness (view_fullness fullness) (view_state self.old.state) number) }
+        ensures touched { IfOk result (λ _. self.new.touched.items ≡ self.old.touched.items) }
+        ensures begun { IfOk result (λ _. begun self.new ≡ begun self.old) }
+    {
+        let before = self.state.fullness(number);
+        self.trail.push(Change { number, before })?;
+        self.state.set(number, fullness);
+        Ok(())
+    }
+
+    /// A local is consumed or assigned.
+    pub(crate) fn touch(&mut self, number: usize) -> Result<(), AllocError>
+        ensures state { IfOk result (λ _. view_state self.new.state ≡ view_state self.old.state) }
+        ensures touched { IfOk result (λ _. self.new.touched.items ≡ and_local number self.old.touched.items) }
+        ensures begun { IfOk result (λ _. begun self.new ≡ begun self.old) }
+    {
+        self.touched.push(number)?;
+        Ok(())
+    }
+
+    /// Back to what was known at the start.
+    fn undo(&mut self)
+        ensures state { view_state self.new.state ≡ begun self.old }
+        ensures touched { self.new.touched.items ≡ self.old.touched.items }
+        ensures trail { self.new.trail.items ≡ [] }
+    {
+        while let Some(change) = self.trail.pop() {
+            self.state.set(change.number, change.before);
+        }
+    }
+
+    /// Each of these locals is no fuller than that.
+    #[tactic(auto, using(std::proofs::lemmas::List::drop_more))]
+    fn lower(&mut self, changes: &[Change]) -> Result<(), AllocError>
+        ensures state { IfOk result (λ _. view_state self.new.state ≡ lowered changes.now (view_state self.old.state)) }
+        ensures touched { IfOk result (λ _. self.new.touched.items ≡ self.old.touched.items) }
+        ensures begun { IfOk result (λ _. begun self.new ≡ begun self.old) }
+    {
+        for change in changes {
+            let fullness = self.state.fullness(change.number).lower(change.before);
+            self.set(change.number, fullness)?;
+        }
+        Ok(())
+    }
+
+    /// What is known now meets what was known at the start.
+    #[tactic(auto, using(crate::proofs::Trails::meet_undone))]
+    pub(crate) fn meet_start(&mut self, alloc: Global) -> Result<(), AllocError>
+        ensures state { IfOk result (λ _. view_state self.new.state ≡ meet (begun self.old) (view_state self.old.state)) }
+        ensures touched { IfOk result (λ _. self.new.touched.items ≡ self.old.touched.items) }
+        ensures begun { IfOk result (λ _. begun self.new ≡ begun self.old) }
+    {
+        let changed = changed(alloc, &self.state, &self.trail)?;
+        self.undo();
+        self.lower(&changed)
+    }
+
+    /// Behind an operand of `&&` or `||`, before which this was changed.
+    #[tactic(auto, using(crate::proofs::Trails::undone_append))]
+    pub(crate) fn resume(&mut self, outer: Vec<Change>) -> Result<(), AllocError>
+        ensures state { IfOk result (λ _. view_state self.new.state ≡ view_state self.old.state) }
+        ensures touched { IfOk result (λ _. self.new.touched.items ≡ self.old.touched.items) }
+        ensures begun { IfOk result (λ _. begun self.new ≡ undone outer.items (begun self.old)) }
+    {
+        let mut all = outer;
+        all.extend_from_slice(&self.trail)?;
+        self.trail = all;
+        Ok(())
+    }
+}
