@@ -200,7 +200,7 @@ fn are_as_full(one: &[Fullness], other: &[Fullness]) -> bool
     let mut all = true;
     for i in 0..one.len() {
         let one_is = one[i].is_as_full(other[i]);
-        all = all && one_is;
+        all = one_is && all;
     }
     all
 }
