@@ -38,14 +38,14 @@ use Rattle.cyc_soundness.specs.Classes.{KeepsToHeap, InArguments, InOperations}
 use Rattle.cyc_soundness.specs.Stacks.{Evaluates, Val, turned, IsCalled, pointer, null, IsStack, IsFocus, IsWell}
 use Rattle.cyc_soundness.specs.Stacks as stacks
 use Rattle.cyc_soundness.proofs.Numbers.{some_same}
-use Rattle.cyc_soundness.proofs.TypeLemmas.{is_kind_same, kind_read, kind_meant, instances_read, result_read}
+use Rattle.cyc_soundness.proofs.TypeLemmas.{place_type, is_kind_same, kind_read, kind_meant, instances_read, result_read}
 use Rattle.cyc_soundness.proofs.FlowLemmas.{implies_self, meet_first, meet_second, vacant_implied, holds_implied, reached_with}
 use Rattle.cyc_soundness.proofs.WorldLemmas.{risen, with_filled, result_grown, holds_grown}
 use Rattle.cyc_soundness.proofs.StackLemmas.{stack_grown, pointer_left, bound_of, place_local, among_bound, among_variable, among_live, among_level, among_set, set_stored, open_of, globals_among}
 use Rattle.cyc_soundness.proofs.ValueLemmas.{zero_is, converted, kind_given}
 use Rattle.cyc_soundness.proofs.Cells.{running, part_at, reads, writes}
 use Rattle.cyc_soundness.proofs.Objects.{makes_on}
-use Rattle.cyc_soundness.proofs.Places.{place_type, takes, gives}
+use Rattle.cyc_soundness.proofs.Places.{takes, gives}
 
 pub not_true : (b : Bool) → not b ≡ true → b ≡ false
 not_true true e = absurd (let k : false ≡ true = e in cc)
@@ -278,6 +278,7 @@ module _ (p : Program) where
           (
             Val (Value (lives.read u)) h,
             stacks.loads_from u h plain (ap values.kind_of (sym (place_type c d u r cell))),
+            tt,
             subst (λ z. IsStack p g x bs (Val (read_value z) h) k) same stack,
           ),
         )
@@ -298,6 +299,7 @@ module _ (p : Program) where
           (
             Val (Value (pointer marks.NonNull (lives.read v))) h,
             stacks.takes_address (lives.read v) h,
+            tt,
             subst (λ z. IsStack p g x bs (Val (read_value z) h) k) (same ∙ ap types.Value u_is) stack,
           ),
         )
@@ -324,6 +326,7 @@ module _ (p : Program) where
           (
             Val (read_value (assigned_type v)) h,
             stacks.stores_to c s v f1 h stands (record { waiting = and_peeked (peek_behind d) q; typed = inl well; flows = dc; kept = kc }) conv from_is to_is,
+            tt,
             subst (λ z. IsStack p g x bs (Val (read_value z) h) k) (same ∙ gives_u) stack,
           ),
         )

@@ -8,6 +8,7 @@ mod StackLemmas
 mod ValueLemmas
 mod Cells
 mod Objects
+mod Swapping
 mod Places
 mod Evaluation
 mod Supply

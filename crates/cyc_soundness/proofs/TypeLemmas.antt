@@ -9,7 +9,9 @@ use Rattle.cyc_types.specs.declared.typed.Kind.TheVariants as kinds
 use Rattle.cyc_types.specs.Regions.{substituted_region}
 use Rattle.cyc_types.specs.Types.{Ty, substituted_ty, result_type}
 use Rattle.cyc_types.specs.Types as types
+use Rattle.cyc_types.specs.TypedTrees.{Dereference, Target, Member, Element, type_of_place}
 use Rattle.cyc_types.specs.typing.Tests as tests
+use Rattle.cyc_types.specs.typing.WellTyped.{Context, IsCell}
 use Rattle.cyc_meaning.specs.Values.{is_kind}
 use Rattle.cyc_meaning.specs.Values as values
 use Rattle.cyc_soundness.specs.Lives.{Value, kind_at, as_heap, read, read_value}
@@ -67,3 +69,10 @@ instances_read m (t ∷ ts) = ap (λ u. u ∷ map read (map (substituted_ty m) t
 pub result_read : (m : List Region) (t : Option Ty) → read_value (result_type (option_map (substituted_ty m) t)) ≡ read_value (result_type t)
 result_read m None = refl
 result_read m (Some t) = ap Value (instance_read m t)
+
+-- ---- the types of trees
+
+pub place_type : (c : Context) (d : Dereference) (t : Ty) (r : Region) → IsCell c d t r → t ≡ type_of_place d
+place_type c (Target k a u) t r (m, well, alive, kind, same) = same
+place_type c (Member k a n field u) t r (m, rs, s, v, well, thin, alive, kind, at, there, of, same) = same
+place_type c (Element a i u) t r (well, index, alive, same) = same
