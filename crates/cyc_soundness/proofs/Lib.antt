@@ -18,3 +18,5 @@ mod Unwinding
 mod BuiltLemmas
 -- what `cyc_system` cites
 pub mod Whole
+-- texts
+mod Examples
