@@ -8,7 +8,7 @@ use Rattle.cyc_syntax.specs.declared.tree.PointerKind.TheVariants as marks
 use Rattle.cyc_syntax.specs.declared.tree.PrefixOperator.TheVariants as prefixes
 use Rattle.cyc_syntax.specs.declared.tree.BinaryOperator.TheVariants as operators
 use Rattle.cyc_syntax.specs.Symbols.{Place}
-use Rattle.cyc_syntax.specs.Trees.{Named, BaseType, Int, Struct, WrittenType, Expression, Number, Null, Variable, NumberOfElements, Chained, Prefixed, New, Binary, Assign, Plain, Fields, Array, NoExpressions, MoreExpressions, NoPostfixes, ThenIndex, ThenField, NoOperations, ThenOperation, Evaluate, Swap, Return, Braces, Items, NoItems, MoreItems, Execute, Local, Listed, Declaration, StructType, Function}
+use Rattle.cyc_syntax.specs.Trees.{Named, BaseType, Int, Struct, Handle, WrittenType, Expression, Number, Null, HeapRegion, UniqueRegion, Variable, Call, NumberOfElements, Chained, Prefixed, New, RegionNew, Binary, Assign, Plain, Fields, Array, NoExpressions, MoreExpressions, NoPostfixes, ThenIndex, ThenField, NoOperations, ThenOperation, Evaluate, Swap, Return, Try, Braces, Items, NoItems, MoreItems, Execute, Local, Default, Listed, Declaration, StructType, Global, Function}
 use Rattle.cyc_types.specs.TypedTrees as typed
 use Rattle.cyc_types.specs.Rules.{Checked}
 use Rattle.cyc_types.specs.typing.Programs.{rule_program, check_of, IsTypedProgram}
@@ -43,7 +43,7 @@ never_dead texts tree s ends = go (check_of texts tree) refl ends
 -- ---- trees
 
 abbrev texts : List (List ℕ)
-texts = codes "main" ∷ codes "S" ∷ codes "p" ∷ codes "x" ∷ codes "n" ∷ codes "i" ∷ []
+texts = codes "main" ∷ codes "S" ∷ codes "p" ∷ codes "x" ∷ codes "n" ∷ codes "i" ∷ codes "U" ∷ codes "f" ∷ codes "r" ∷ codes "h" ∷ []
 
 abbrev at : ℕ → Place
 at column = record { line = 1; column = column }
@@ -54,6 +54,10 @@ named n column = record { name = n; place = at column }
 abbrev written : BaseType → List PointerKind → WrittenType
 written b [] = record { place = at 1; base = b; marks = [] }
 written b (k ∷ ks) = record { place = at 1; base = b; marks = record { kind = k; region = None } ∷ [] }
+
+-- a pointer to an int in the region of this name, which is never null
+abbrev into : ℕ → WrittenType
+into n = record { place = at 1; base = Int; marks = record { kind = marks.NonNull; region = Some (named n 3) } ∷ [] }
 
 abbrev main : Items → Declaration
 main is = Function (Some (written Int [])) (named 0 5) (record { list = Listed []; effect = None; constraints = [] }) (Braces (at 11) is (at 99))
@@ -93,3 +97,38 @@ swapped : Ends (check_of texts (
     (MoreItems (Execute (Return (at 12) (Some (field 3)))) NoItems)))
     ∷ [])) (HasEnded (Returned (pos 5)))
 swapped = (refl, (((tt, (tt, (tt, tt))), ((tt, tt), (tt, tt))), tt), refl)
+
+-- int main(){ int @`U p = rnew(unique_region) 5; return *p; }
+unique : Ends (check_of texts (
+    main (
+    MoreItems (Local (into 6) (named 2 5) (Some (RegionNew (at 6) (UniqueRegion (at 7)) (Plain (Number (at 8) 5)))))
+    (MoreItems (Execute (Return (at 9) (Some (Prefixed (at 10) prefixes.Dereference (Variable (named 2 11)))))) NoItems))
+    ∷ [])) (HasEnded (Returned (pos 5)))
+unique = (refl, (((tt, tt), (tt, tt)), tt), refl)
+
+-- int main(){ int *p = NULL; try return *p; catch { default: return 9; } }
+caught : Ends (check_of texts (
+    main (
+    MoreItems (Local (written Int (marks.Nullable ∷ [])) (named 2 5) (Some (Null (at 6))))
+    (MoreItems (Execute (Try (at 7) (Return (at 8) (Some (Prefixed (at 9) prefixes.Dereference (Variable (named 2 10))))) (Default (MoreItems (Execute (Return (at 11) (Some (Number (at 12) 9)))) NoItems)))) NoItems))
+    ∷ [])) (HasEnded (Returned (pos 9)))
+caught = (refl, ((tt, ((tt, (tt, tt)), tt)), tt), refl)
+
+-- int x; int main(){ int *p = &x; *p = 8; return x; }
+global : Ends (check_of texts (
+    Global (written Int []) (named 3 1) None
+    ∷ main (
+    MoreItems (Local (written Int (marks.Nullable ∷ [])) (named 2 5) (Some (Prefixed (at 6) prefixes.AddressOf (Variable (named 3 7)))))
+    (MoreItems (Execute (Evaluate (Assign (Prefixed (at 8) prefixes.Dereference (Variable (named 2 9))) (Number (at 10) 8))))
+    (MoreItems (Execute (Return (at 11) (Some (Variable (named 3 12))))) NoItems)))
+    ∷ [])) (HasEnded (Returned (pos 8)))
+global = (refl, ((tt, ((tt, tt), (tt, tt))), tt), refl)
+
+-- int f(region_t<`r> h){ int @`r p = rnew(h) 6; return *p; } int main(){ return f(heap_region); }
+by_handle : Ends (check_of texts (
+    Function (Some (written Int [])) (named 7 1) (record { list = Listed (record { of_type = written (Handle (named 8 2)) []; name = named 9 3 } ∷ []); effect = None; constraints = [] }) (Braces (at 4) (
+    MoreItems (Local (into 8) (named 2 5) (Some (RegionNew (at 6) (Variable (named 9 7)) (Plain (Number (at 8) 6)))))
+    (MoreItems (Execute (Return (at 9) (Some (Prefixed (at 10) prefixes.Dereference (Variable (named 2 11)))))) NoItems)) (at 12))
+    ∷ main (MoreItems (Execute (Return (at 13) (Some (Call (named 7 14) (MoreExpressions (HeapRegion (at 15)) NoExpressions))))) NoItems)
+    ∷ [])) (HasEnded (Returned (pos 6)))
+by_handle = (refl, (((tt, tt), (tt, tt)), (((tt, tt), tt), tt)), refl)
