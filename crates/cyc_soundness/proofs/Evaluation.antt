@@ -21,13 +21,13 @@ use Rattle.cyc_types.specs.typing.WellTyped.{Context, HasLocal, IsCallee, WellTy
 use Rattle.cyc_types.specs.flow.States as flow
 use Rattle.cyc_types.specs.flow.States.{Full, meet, fullness, with_fullness, is_vacant}
 use Rattle.cyc_types.specs.flow.Expressions.{and_peeked, peek_behind, rule, rule_arguments, rule_operations}
-use Rattle.cyc_meaning.specs.Values.{Operand}
+use Rattle.cyc_meaning.specs.Values.{Operand, is_kind}
 use Rattle.cyc_meaning.specs.Values as values
 use Rattle.cyc_meaning.specs.Operators.{Gives, is_zero, truth, truth_result, truth_of, decides}
 use Rattle.cyc_meaning.specs.Conversion.{conversion}
-use Rattle.cyc_meaning.specs.Pointers.{takes_kind}
+use Rattle.cyc_meaning.specs.Pointers.{takes_kind, followed}
 use Rattle.cyc_meaning.specs.State.{InRegion, Unique, World, heap_number, cell_at, Environment, ConvertTo, Operate, Chain, Apply, ApplyPointer, Decide, Store, Pass, CountElements, PlaceBy, LoadFrom, TakeAddress, StoreTo, Entry, Needs, NeedsPlace, Focus, Evaluating, Locating, Given, Calling, Running}
-use Rattle.cyc_meaning.specs.Parts.{wrong, computed, loaded_from, stored}
+use Rattle.cyc_meaning.specs.Parts.{target_of_value, target_by, leads_to, wrong, computed, loaded_from, stored}
 use Rattle.cyc_meaning.specs.Nesting.{ends_of, AreOpen}
 use Rattle.cyc_meaning.specs.Step.{step_evaluating, counts, passes, assigned, decided, tested, awaits_right, chained, converts}
 use Rattle.cyc_soundness.specs.Lives.{RunTy, RunValue, Value, kind_at, read_value, OfRegion}
@@ -37,15 +37,15 @@ use Rattle.cyc_soundness.specs.Frames.{IsAmong, Bound, InScope, Variable, IsBoun
 use Rattle.cyc_soundness.specs.Classes.{KeepsToHeap, InArguments, InOperations}
 use Rattle.cyc_soundness.specs.Stacks.{Evaluates, Val, turned, IsCalled, pointer, null, IsStack, IsFocus, IsWell}
 use Rattle.cyc_soundness.specs.Stacks as stacks
-use Rattle.cyc_soundness.proofs.Numbers.{some_same}
-use Rattle.cyc_soundness.proofs.TypeLemmas.{place_type, is_kind_same, kind_read, kind_meant, instances_read, result_read}
+use Rattle.cyc_soundness.proofs.Numbers.{some_same, both}
+use Rattle.cyc_soundness.proofs.TypeLemmas.{place_type, target_typed, is_kind_same, kind_read, kind_meant, instances_read, result_read}
 use Rattle.cyc_soundness.proofs.FlowLemmas.{implies_self, meet_first, meet_second, vacant_implied, holds_implied, reached_with}
 use Rattle.cyc_soundness.proofs.WorldLemmas.{risen, with_filled, result_grown, holds_grown}
 use Rattle.cyc_soundness.proofs.StackLemmas.{stack_grown, pointer_left, bound_of, place_local, among_bound, among_variable, among_live, among_level, among_set, set_stored, open_of, globals_among}
 use Rattle.cyc_soundness.proofs.ValueLemmas.{zero_is, converted, kind_given}
 use Rattle.cyc_soundness.proofs.Cells.{running, part_at, reads, writes}
 use Rattle.cyc_soundness.proofs.Objects.{makes_on}
-use Rattle.cyc_soundness.proofs.Places.{takes, gives}
+use Rattle.cyc_soundness.proofs.Places.{takes, gives, converted_leads}
 
 pub not_true : (b : Bool) → not b ≡ true → b ≡ false
 not_true true e = absurd (let k : false ≡ true = e in cc)
@@ -118,7 +118,7 @@ module _ (p : Program) where
     pass_on k callee before done NoArguments (t ∷ ts) c r f h q live stands holds passed flows kept operands called stack = absurd passed
     pass_on k callee before done (MoreArguments d as') [] c r f h q live stands holds passed flows kept operands called stack = absurd passed
     pass_on k callee before done (MoreArguments (Convert from to a) as') (t ∷ ts) c r f h q live stands holds ((v, well, conv, from_is, to_is), passed) (f1, d, ds) (one, kept) operands called stack =
-        on (Evaluating a) (Needs (ConvertTo from to) ∷ Needs (Pass callee before as') ∷ k) live (
+        on (Evaluating a) (Needs (ConvertTo from to (target_by a)) ∷ Needs (Pass callee before as') ∷ k) live (
           c,
           v,
           f,
@@ -130,7 +130,7 @@ module _ (p : Program) where
             [],
             bs,
             Val (Value (lives.read t)) f1,
-            stacks.converts c v t f1 conv from_is to_is,
+            stacks.converts c v t f1 conv from_is to_is (target_typed c a v (inl well)),
             tt,
             (done, bs, Val (read_value r) h, stacks.passes c done t ts r f1 h stands (record { waiting = q; typed = passed; flows = ds; kept = kept }) called, operands, stack),
           ),
@@ -217,7 +217,7 @@ module _ (p : Program) where
         let at : e.locals n ≡ Some b.object = ap e.locals (sym number) ∙ among_bound e among bound in
         let known_is : h ≡ with_fullness Full f1 b.number = known ∙ ap (λ i. with_fullness Full f1 i) (sym number) in
         subst (λ o. IsWell p (assigned o (Convert from to a) k e w)) (sym at) (
-        on (Evaluating a) (Needs (ConvertTo from to) ∷ Needs (Store (values.Thin b.object 0)) ∷ k) live (
+        on (Evaluating a) (Needs (ConvertTo from to (target_by a)) ∷ Needs (Store (values.Thin b.object 0)) ∷ k) live (
           c,
           s,
           f,
@@ -229,7 +229,7 @@ module _ (p : Program) where
             [],
             bs,
             Val (Value (lives.read v)) f1,
-            stacks.converts c s v f1 conv from_is to_is,
+            stacks.converts c s v f1 conv from_is to_is (target_typed c a s (inl well)),
             tt,
             (
               [],
@@ -242,7 +242,7 @@ module _ (p : Program) where
           ),
         ))
     evaluate (Assign (Global n) (Convert from to a) u) k c t f h q opens live stands holds (inl (v, r, (region, there), (s, well, conv, from_is, to_is), gives_u, same)) (f1, d, (demands, known)) kept stack =
-        on (Evaluating a) (Needs (ConvertTo from to) ∷ Needs (Store (values.Thin n 0)) ∷ k) live (
+        on (Evaluating a) (Needs (ConvertTo from to (target_by a)) ∷ Needs (Store (values.Thin n 0)) ∷ k) live (
           c,
           s,
           f,
@@ -254,7 +254,7 @@ module _ (p : Program) where
             [],
             bs,
             Val (Value (lives.read v)) f1,
-            stacks.converts c s v f1 conv from_is to_is,
+            stacks.converts c s v f1 conv from_is to_is (target_typed c a s (inl well)),
             tt,
             (
               [],
@@ -433,10 +433,12 @@ module _ (p : Program) where
         pointed o (Some n) q v b os k c s v2 w2 f f1 live stands holds is op (record { waiting = and_peeked (Some n) q; typed = well; flows = d; kept = one })
         ([], bs, Val (Value (lives.read u)) h, stacks.chains c w2 u f1 h stands (record { waiting = q; typed = chain; flows = ds; kept = kept }), tt, stack)
 
-    pub converted_on : (from to : Kind) (v : Operand) (k : List Entry) (c : Context) (s : ValueType) (t : Ty) (f : flow.State) → LiveIn (ends_of k) bs → Holds g f bs → IsResult g (read_value s) v → Converts c s t
-        → from ≡ tests.kind_of_value s → to ≡ tests.kind_of t → IsStack p g x bs (Val (Value (lives.read t)) f) k → IsWell p (converts from to v k e w)
-    converted_on from to v k c s t f live holds is conv from_is to_is stack =
-        subst (λ (b : Bool). IsWell p (if b then computed to (conversion to v.value) k e w else wrong w)) (sym (is_kind_same v.kind from (kind_given g c s t v conv is ∙ sym from_is)))
+    pub converted_on : (from to : Kind) (target : Option Kind) (v : Operand) (k : List Entry) (c : Context) (s : ValueType) (t : Ty) (f : flow.State) → LiveIn (ends_of k) bs → Holds g f bs → IsResult g (read_value s) v → Converts c s t
+        → from ≡ tests.kind_of_value s → to ≡ tests.kind_of t → target ≡ target_of_value s → IsStack p g x bs (Val (Value (lives.read t)) f) k → IsWell p (converts from to target v k e w)
+    converted_on from to target v k c s t f live holds is conv from_is to_is same stack =
+        let leads_so : leads_to w target (followed v.value) ≡ true = ap (λ z. leads_to w z (followed v.value)) same ∙ converted_leads g w typed c s t v conv is in
+        subst (λ (b : Bool). IsWell p (if b then computed to (conversion to v.value) k e w else wrong w))
+        (sym (both (is_kind v.kind from) (leads_to w target (followed v.value)) (is_kind_same v.kind from (kind_given g c s t v conv is ∙ sym from_is)) leads_so))
         (subst (λ z. IsWell p (computed z (conversion z v.value) k e w)) (sym to_is)
         (gives p g x bs e w typed globals bound variables k (tests.kind_of t) (lives.read t) f (conversion (tests.kind_of t) v.value) live holds (sym (kind_read t)) (converted g c s t v conv is) stack))
 

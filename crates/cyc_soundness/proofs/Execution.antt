@@ -16,7 +16,7 @@ use Rattle.cyc_types.specs.flow.Statements as statements
 use Rattle.cyc_meaning.specs.Values as values
 use Rattle.cyc_meaning.specs.State.{Stack, new_region, World, opened, Environment, ConvertTo, Initialise, Choose, Test, ThrowWith, Entry, Needs, Discard, Rest, Handler, Focus, Evaluating, Executing, Proceeding, Breaking, Continuing, Returning, Throwing, State, Running}
 use Rattle.cyc_meaning.specs.State as state
-use Rattle.cyc_meaning.specs.Parts.{inside, region_end}
+use Rattle.cyc_meaning.specs.Parts.{target_by, inside, region_end}
 use Rattle.cyc_meaning.specs.Exceptions.{throws}
 use Rattle.cyc_meaning.specs.Nesting.{ends_of, IsNested}
 use Rattle.cyc_meaning.specs.Step.{step_executing, returns, continues_with}
@@ -26,7 +26,7 @@ use Rattle.cyc_soundness.specs.Frames.{InScope, IsBound, AreVariables, LiveIn, W
 use Rattle.cyc_soundness.specs.Classes.{InStatement, InItems, InValue, InThrown}
 use Rattle.cyc_soundness.specs.Stacks.{Evaluates, Executes, Continues, Catches, IsLoop, Val, Go, IsReturn, IsStack, IsFocus, IsWell}
 use Rattle.cyc_soundness.specs.Stacks as stacks
-use Rattle.cyc_soundness.proofs.TypeLemmas.{kind_read, kind_meant}
+use Rattle.cyc_soundness.proofs.TypeLemmas.{target_typed, kind_read, kind_meant}
 use Rattle.cyc_soundness.proofs.FlowLemmas.{implies_self, implies_after, meet_first, meet_second, at_least_implies, emptied_implied, holds_implied}
 use Rattle.cyc_soundness.proofs.RuleLemmas.{breaks_statement, breaks_items, breaks_clauses, clauses_implied, no_locks}
 use Rattle.cyc_soundness.proofs.StackLemmas.{within_bound, within_variables, within_live, within_holds, below_more, live_more}
@@ -79,7 +79,7 @@ module _ (p : Program) (g : Typing) (x : Exits) (bs : List InScope) (e : Environ
       → IsWell p (returns (Some (Convert from to a)) k e w)
   return_on a from to k c f h None live stands holds result is flows kept stack = absurd is
   return_on a from to k c f h (Some t) live stands holds result (s, well, conv, from_is, to_is) flows kept stack =
-      on (Evaluating a) (Needs (ConvertTo from to) ∷ Needs state.Return ∷ k) live (
+      on (Evaluating a) (Needs (ConvertTo from to (target_by a)) ∷ Needs state.Return ∷ k) live (
         c,
         s,
         f,
@@ -87,7 +87,7 @@ module _ (p : Program) (g : Typing) (x : Exits) (bs : List InScope) (e : Environ
         stands,
         holds,
         record { waiting = []; typed = inl well; flows = flows; kept = kept },
-        ([], bs, Val (Value (read t)) h, stacks.converts c s t h conv from_is to_is, tt, ([], bs, Go Unreached, stacks.returns t h Unreached (sym result), tt, stack)),
+        ([], bs, Val (Value (read t)) h, stacks.converts c s t h conv from_is to_is (target_typed c a s (inl well)), tt, ([], bs, Go Unreached, stacks.returns t h Unreached (sym result), tt, stack)),
       )
 
   break_on : (k : List Entry) (c : Context) (f h before behind' : flow.State) (o : Option LoopExit) → x.loop ≡ o → is_loop o ≡ true → LiveIn (ends_of k) bs → Holds g f bs → behind' ≡ meet before f
@@ -242,7 +242,7 @@ module _ (p : Program) (g : Typing) (x : Exits) (bs : List InScope) (e : Environ
       let l_is : l ≡ record { now = with_fullness Full f1 n; breaks = before } = known2 ∙ ap (λ z. record { now = z; breaks = before }) known1 in
       let flows = subst (λ (z : Known). Derives (rule_items (around x) js z) (record { now = h; breaks = behind' })) l_is djs in
       let rest : Continues x (with_local true t c) js (with_fullness Full f1 n) h = record { before = before; behind = behind'; typed = wjs; flows = flows; breaks = are; kept = kjs } in
-      on (Evaluating a) (Needs (ConvertTo from to) ∷ Needs (Initialise n (values.kind_of t) js) ∷ k) live (
+      on (Evaluating a) (Needs (ConvertTo from to (target_by a)) ∷ Needs (Initialise n (values.kind_of t) js) ∷ k) live (
         c,
         s,
         f,
@@ -254,7 +254,7 @@ module _ (p : Program) (g : Typing) (x : Exits) (bs : List InScope) (e : Environ
           [],
           bs,
           Val (Value (read t)) f1,
-          stacks.converts c s t f1 conv from_is to_is,
+          stacks.converts c s t f1 conv from_is to_is (target_typed c a s (inl well)),
           tt,
           ([], cs, Go h, stacks.initialises cs c t f1 h within stands number (sym (kind_meant t) ∙ kind_read t) rest, tt, stack),
         ),

@@ -20,7 +20,7 @@ use Rattle.cyc_meaning.specs.Values.{Operand, Cell}
 use Rattle.cyc_meaning.specs.Values as values
 use Rattle.cyc_meaning.specs.State.{Owner, InRegion, Unique, Object, World, Found, Closed, found_region, region_at, cell_at, heap_number, is_open, Environment, with_counter, ConvertTo, MakePlain, MakeFields, MakeArray, FillElement, Write, Entry, Needs, Focus, Evaluating, Given, Writing, Beginning, Repeating, Throwing, Running}
 use Rattle.cyc_meaning.specs.Objects.{made_in, made_unique, created_in, created}
-use Rattle.cyc_meaning.specs.Parts.{wrong, stored, step_writing}
+use Rattle.cyc_meaning.specs.Parts.{target_by, wrong, stored, step_writing}
 use Rattle.cyc_meaning.specs.Operators.{array_size}
 use Rattle.cyc_meaning.specs.Allocation.{writes_from, blanks_of, filled, makes_of, makes_plain, makes_fields, most_words, blanks, begun, makes_array, step_beginning, step_repeating, fills_element, makes}
 use Rattle.cyc_meaning.specs.Nesting.{ends_of}
@@ -33,7 +33,7 @@ use Rattle.cyc_soundness.specs.Stacks.{Val, turned, AreFields, pointer, Repeats,
 use Rattle.cyc_soundness.specs.Stacks as stacks
 use Rattle.cyc_soundness.proofs.Numbers.{same_or_other, less_or_same, slice_get-set_same}
 use Rattle.cyc_soundness.proofs.FlowLemmas.{at_least_implies, holds_implied}
-use Rattle.cyc_soundness.proofs.TypeLemmas.{is_kind_same, kind_read, instances_read}
+use Rattle.cyc_soundness.proofs.TypeLemmas.{target_typed, is_kind_same, kind_read, instances_read}
 use Rattle.cyc_soundness.proofs.WorldLemmas.{operands_grown, variables_grown, holds_grown, globals_grown, with_object, object_grows, object_typed, typed_beside, open_region, risen, with_filled}
 use Rattle.cyc_soundness.proofs.StackLemmas.{stack_grown, within_bound, within_variables, within_live, within_holds}
 use Rattle.cyc_soundness.proofs.Cells.{running, part_at, writes}
@@ -382,7 +382,7 @@ module _ (p : Program) (g : Typing) (x : Exits) (bs : List InScope) (e : Environ
   fields_on k owner before done NoArguments (t ∷ ts) c n ls f h q live stands holds owned passed flows kept operands fields stack = absurd passed
   fields_on k owner before done (MoreArguments d as') [] c n ls f h q live stands holds owned passed flows kept operands fields stack = absurd passed
   fields_on k owner before done (MoreArguments (Convert from to a) as') (t ∷ ts) c n ls f h q live stands holds owned ((v, well, conv, from_is, to_is), passed) (f1, d, ds) (one, kept) operands fields stack =
-      running p g x bs e w typed globals bound variables (Evaluating a) (Needs (ConvertTo from to) ∷ Needs (MakeFields owner before as') ∷ k) live (
+      running p g x bs e w typed globals bound variables (Evaluating a) (Needs (ConvertTo from to (target_by a)) ∷ Needs (MakeFields owner before as') ∷ k) live (
         c,
         v,
         f,
@@ -394,7 +394,7 @@ module _ (p : Program) (g : Typing) (x : Exits) (bs : List InScope) (e : Environ
           [],
           bs,
           Val (Value (read t)) f1,
-          stacks.converts c v t f1 conv from_is to_is,
+          stacks.converts c v t f1 conv from_is to_is (target_typed c a v (inl well)),
           tt,
           (
             done,

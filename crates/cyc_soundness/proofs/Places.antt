@@ -1,5 +1,5 @@
 -- PLACES that a pointer leads to, and what waits for them; operators of pointers.
-use Rattle.std.proofs.Common.{◌≡◌, inl, ℕ, zero, suc, ◌+◌, ◌<◌, ◌≤◌, Bool, true, false, List, [], ◌∷◌, length, map, Option, Some, slice_get, refl, sym, ap, subst, ◌∙◌, arith}
+use Rattle.std.proofs.Common.{◌≡◌, inl, ℕ, zero, suc, ◌+◌, ◌<◌, ◌≤◌, Bool, true, false, List, [], ◌∷◌, length, map, Option, Some, None, slice_get, refl, sym, ap, subst, ◌∙◌, arith}
 use Rattle.std.specs.Prelude.{if◌then◌else◌, nat_lt, ◌==◌, ◌&&◌}
 use Rattle.std.proofs.lemmas.Bool.{eq-eqb, ltb-true}
 use Rattle.cyc_syntax.specs.declared.tree.PointerKind.{PointerKind}
@@ -17,29 +17,29 @@ use Rattle.cyc_types.specs.Rules.{Derives}
 use Rattle.cyc_types.specs.typing.Tests.{is_struct, is_thin_mark}
 use Rattle.cyc_types.specs.typing.Tests as tests
 use Rattle.cyc_types.specs.typing.Expressions.{assigned_type}
-use Rattle.cyc_types.specs.typing.WellTyped.{Context, IsCell, PointerOperation, adds, subtracts, equals, differs, thin_null, thin_there, fat_null, fat_there, null_is, null_is_not}
+use Rattle.cyc_types.specs.typing.WellTyped.{Context, IsCell, Converts, PointerOperation, adds, subtracts, equals, differs, thin_null, thin_there, fat_null, fat_there, null_is, null_is_not}
 use Rattle.cyc_types.specs.flow.States as flow
 use Rattle.cyc_types.specs.flow.Expressions.{and_peeked, peek_of, rule_place}
 use Rattle.cyc_meaning.specs.Values.{Operand, Cell, is_kind, are_kinds, is_thin, kinds_of}
 use Rattle.cyc_meaning.specs.Values as values
 use Rattle.cyc_meaning.specs.Operators.{Result, Gives, Raises, Misfits, null_exception, array_bounds, truth}
 use Rattle.cyc_meaning.specs.Pointers.{null_test, moved, element_count, pointer_result, takes_kind, followed, At, Stops, Nowhere}
-use Rattle.cyc_meaning.specs.State.{World, Found, Environment, ConvertTo, StoreCell, Follow, FollowMember, Index, Advance, AwaitingPlace, Entry, Needs, Focus, Evaluating, Given, GivenPlace, Throwing, Running}
+use Rattle.cyc_meaning.specs.State.{Object, World, Found, Environment, ConvertTo, StoreCell, Follow, FollowMember, Index, Advance, AwaitingPlace, Entry, Needs, Focus, Evaluating, Given, GivenPlace, Throwing, Running}
 use Rattle.cyc_meaning.specs.Objects.{object_at, both_found, compared}
-use Rattle.cyc_meaning.specs.Parts.{wrong, computed, stored_at}
+use Rattle.cyc_meaning.specs.Parts.{target_of, target_of_value, target_by, is_target, cell_of, leads_to, wrong, computed, stored_at}
 use Rattle.cyc_meaning.specs.Places.{arrives, follows, field_of, member_of, follows_member, indexes, advances, locates_member, step_locating, placed}
 use Rattle.cyc_meaning.specs.Nesting.{ends_of, AreOpen}
 use Rattle.cyc_meaning.specs.Step.{tells, applies_pointer}
 use Rattle.cyc_soundness.specs.Lives.{Life, OfRegion, RunTy, RunValue, Value, kind_at, as_heap, read, read_value}
 use Rattle.cyc_soundness.specs.Lives as lives
-use Rattle.cyc_soundness.specs.Worlds.{Typing, IsFilled, IsTarget, HasType, IsResult, Fits, AreCells, IsTyped}
+use Rattle.cyc_soundness.specs.Worlds.{ObjectType, Typing, IsFilled, IsPart, IsTarget, HasType, IsResult, Fits, AreCells, IsObject, IsTyped}
 use Rattle.cyc_soundness.specs.Frames.{InScope, IsBound, AreVariables, LiveIn, Holds, Exits, IsContext, KnowsProgram}
 use Rattle.cyc_soundness.specs.Classes.{InPlace}
 use Rattle.cyc_soundness.specs.Stacks.{Evaluates, Val, PlaceOf, pointer, null, WaitsPlace, of_cell, KeepsPlace, IsStack, IsFocus, IsWell}
 use Rattle.cyc_soundness.specs.Stacks as stacks
 use Rattle.cyc_soundness.proofs.Numbers.{some_same, inside, mapped, both}
-use Rattle.cyc_soundness.proofs.TypeLemmas.{is_kind_same, mark_kinds, kind_meant, instance_read}
-use Rattle.cyc_soundness.proofs.WorldLemmas.{holds_grown, result_grown}
+use Rattle.cyc_soundness.proofs.TypeLemmas.{target_typed, is_kind_same, mark_kinds, kind_meant, instance_read}
+use Rattle.cyc_soundness.proofs.WorldLemmas.{holds_grown, result_grown, typed_cell}
 use Rattle.cyc_soundness.proofs.StackLemmas.{stack_grown}
 use Rattle.cyc_soundness.proofs.Swapping.{finds_right_on, both_on}
 use Rattle.cyc_soundness.proofs.Cells.{running, part_at, life_of, target_live, reads_target, writes_target}
@@ -117,6 +117,66 @@ kinds_typed g (t ∷ ts) [] n are = absurd are
 kinds_typed g (t ∷ ts) (c ∷ cs) zero (one, are) = both (is_kind c.kind (values.kind_of t)) (are_kinds (kinds_of cs) (map values.kind_of ts)) (is_kind_same c.kind (values.kind_of t) (one.0 ∙ kind_meant t)) (kinds_typed g ts cs zero are)
 kinds_typed g (t ∷ ts) (c ∷ cs) (suc n) (one, are) = both (is_kind c.kind (values.kind_of t)) (are_kinds (kinds_of cs) (map values.kind_of ts)) (is_kind_same c.kind (values.kind_of t) (one.0 ∙ kind_meant t)) (kinds_typed g ts cs n are)
 
+-- ---- what is reached is what the tree says
+
+abbrev leads_nowhere : RunTy → Type 0
+leads_nowhere (lives.Pointer k t l) = ⊥
+leads_nowhere t = Unit {0}
+
+module _ (g : Typing) (w : World) (typed : IsTyped g w.regions w.objects) where
+  -- a cell of the type that the tree says
+  value_there : (y : ObjectType) (t : Ty) (offset : ℕ) (z : Object) (n : ℕ) → IsObject g n y z → slice_get y.cells offset ≡ Some (read t)
+      → is_target (Some (values.kind_of t)) offset (slice_get z.cells offset) ≡ true
+  value_there y t offset z n is at =
+      let c = typed_cell g y.cells z.cells n offset (read t) is.cells at in
+      ap (λ o. is_target (Some (values.kind_of t)) offset o) c.at ∙ is_kind_same c.cell.kind (values.kind_of t) (c.kind ∙ kind_meant t)
+
+  part_there : (object : ℕ) (y : ObjectType) (t : Ty) (offset : ℕ) (z : Object) (n : ℕ) → IsPart g object y (read t) offset → IsObject g n y z → is_target (target_of t) offset (slice_get z.cells offset) ≡ true
+  part_there object y types.Int offset z n part is = value_there y types.Int offset z n is part.0
+  part_there object y (types.Pointer k t r) offset z n part is = value_there y (types.Pointer k t r) offset z n is part.0
+  part_there object y (types.Handle r) offset z n part is = value_there y (types.Handle r) offset z n is part.0
+  part_there object y (types.Key r) offset z n part is = value_there y (types.Key r) offset z n is part.0
+  part_there object y (types.Struct m rs) offset z n part is = eq-eqb offset 0 part.0
+
+  is_target_of : (t : Ty) (object offset : ℕ) → IsTarget g (read t) (OfRegion 0) object offset → leads_to w (target_of t) (At object offset) ≡ true
+  is_target_of t object offset (y, there, shown, outlasts, part) =
+      let (z, n, stands, flag, is) = typed.each object y there in
+      ap (λ o. is_target (target_of t) offset (cell_of o offset)) stands ∙ part_there object y t offset z n part is
+
+  pub leads_there : (m : PointerKind) (t : Ty) (v : values.Value) → HasType g (pointer m (read t)) v → leads_to w (target_of t) (followed v) ≡ true
+  leads_there m t values.Null has = refl
+  leads_there marks.Nullable t (values.Thin object offset) has = is_target_of t object offset has
+  leads_there marks.NonNull t (values.Thin object offset) has = is_target_of t object offset has
+  leads_there marks.Fat t (values.Fat object start count index) has = go (nat_lt index count) refl
+    where
+      go : (b : Bool) → nat_lt index count ≡ b → leads_to w (target_of t) (if b then At object (start + index) else Stops array_bounds) ≡ true
+      go true less = is_target_of t object (start + index) (has index (ltb-true index count less))
+      go false less = refl
+  leads_there marks.Nullable t v has = absurd has
+  leads_there marks.NonNull t v has = absurd has
+  leads_there marks.Fat t v has = absurd has
+
+  no_pointer : (t : RunTy) (target : Option Kind) (v : values.Value) → leads_nowhere t → HasType g t v → leads_to w target (followed v) ≡ true
+  no_pointer lives.Int target (values.Int n) plain has = refl
+  no_pointer (lives.Handle l) target (values.Handle r) plain has = refl
+  no_pointer (lives.Key l) target (values.Key r) plain has = refl
+  no_pointer (lives.Pointer k t l) target v plain has = absurd plain
+  no_pointer t target v plain has = absurd has
+
+  -- also of what is converted
+  pub converted_leads : (c : Context) (s : ValueType) (t : Ty) (v : Operand) → Converts c s t → IsResult g (read_value s) v → leads_to w (target_of_value s) (followed v.value) ≡ true
+  converted_leads c (types.Value types.Int) t v conv is = no_pointer lives.Int None v.value tt is.1
+  converted_leads c (types.Value (types.Pointer k u r)) t v conv is = leads_there k u v.value is.1
+  converted_leads c (types.Value (types.Handle r)) t v conv is = no_pointer (lives.Handle (OfRegion 0)) None v.value tt is.1
+  converted_leads c (types.Value (types.Key r)) t v conv is = no_pointer (lives.Key (OfRegion 0)) None v.value tt is.1
+  converted_leads c (types.Value (types.Struct n rs)) t v conv is = absurd is.1
+  converted_leads c types.Null t v conv is = ap (λ z. leads_to w None (followed z)) is.1
+  converted_leads c types.Void types.Int v conv is = absurd conv
+  converted_leads c types.Void (types.Pointer k t r) v conv is = absurd conv
+  converted_leads c types.Void (types.Handle r) v conv is = absurd conv
+  converted_leads c types.Void (types.Key r) v conv is = absurd conv
+  converted_leads c types.Void (types.Struct n rs) v conv is = absurd conv
+
 module _ (p : Program) (g : Typing) (x : Exits) (bs : List InScope) (e : Environment) (w : World) (typed : IsTyped g w.regions w.objects) (globals : KnowsProgram g p) (bound : IsBound e.locals e.counters bs) (variables : AreVariables g bs) where
   on : (focus : Focus) (k : List Entry) → LiveIn (ends_of k) bs → IsFocus p g x bs focus k → IsWell p (Running focus k e w)
   on focus k live stands = running p g x bs e w typed globals bound variables focus k live stands
@@ -133,7 +193,7 @@ module _ (p : Program) (g : Typing) (x : Exits) (bs : List InScope) (e : Environ
   pub locate : (d : Dereference) (k : List Entry) (c : Context) (t : Ty) (f h : flow.State) (q : List ℕ) (r : Named) → LiveIn (ends_of k) bs → IsContext p x bs c → Holds g f bs → IsCell c d t r → Derives (rule_place q d f) h → InPlace d
       → IsStack p g x bs (PlaceOf (read t) h) k → IsWell p (step_locating p d k e w)
   locate (Target pk a u) k c t f h q r live stands holds (m, well, alive, kind, same) flows kept stack =
-      on (Evaluating a) (Needs (Follow pk) ∷ k) live (
+      on (Evaluating a) (Needs (Follow pk (target_of u)) ∷ k) live (
         c,
         types.Value (types.Pointer m u r),
         f,
@@ -141,7 +201,7 @@ module _ (p : Program) (g : Typing) (x : Exits) (bs : List InScope) (e : Environ
         stands,
         holds,
         record { waiting = q; typed = well; flows = flows; kept = kept },
-        ([], bs, PlaceOf (read u) h, stacks.follows m u h kind, tt, subst (λ z. IsStack p g x bs (PlaceOf (read z) h) k) same stack),
+        ([], bs, PlaceOf (read u) h, stacks.follows m u h kind refl, tt, subst (λ z. IsStack p g x bs (PlaceOf (read z) h) k) same stack),
       )
   locate (Member pk a n field u) k c t f h q r live stands holds (m, rs, s, v, well, thin, alive, kind, at, there, of, same) flows kept stack =
       let struct : slice_get p.structs n ≡ Some s = ap (λ ss. slice_get ss n) (sym stands.structs) ∙ at in
@@ -158,7 +218,7 @@ module _ (p : Program) (g : Typing) (x : Exits) (bs : List InScope) (e : Environ
         ([], bs, PlaceOf (read v) h, stacks.follows_member m n (map as_heap rs) s v h kind struct refl there, tt, subst (λ z. IsStack p g x bs (PlaceOf z h) k) is stack),
       ))
   locate (Element a i u) k c t f h q r live stands holds (well, index, alive, same) (f1, d, di) (ka, ki) stack =
-      on (Evaluating a) (Needs (Index (peeked (Element a i u)) i) ∷ k) live (
+      on (Evaluating a) (Needs (Index (peeked (Element a i u)) (target_of u) i) ∷ k) live (
         c,
         types.Value (types.Pointer marks.Fat u r),
         f,
@@ -170,7 +230,7 @@ module _ (p : Program) (g : Typing) (x : Exits) (bs : List InScope) (e : Environ
           [],
           bs,
           PlaceOf (read u) h,
-          stacks.indexes c u f1 h stands (record { waiting = and_peeked (peek_of a) q; typed = inl index; flows = di; kept = ki }),
+          stacks.indexes c u f1 h stands (record { waiting = and_peeked (peek_of a) q; typed = inl index; flows = di; kept = ki }) refl,
           tt,
           subst (λ z. IsStack p g x bs (PlaceOf (read z) h) k) same stack,
         ),
@@ -189,11 +249,13 @@ module _ (p : Program) (g : Typing) (x : Exits) (bs : List InScope) (e : Environ
       go false less = on (Throwing array_bounds 0) k live (PlaceOf t f, stack)
   arrived m t v k f live holds has stack = absurd has
 
-  pub follow_on : (m : PointerKind) (pk : Kind) (t : RunTy) (v : Operand) (k : List Entry) (f : flow.State) → LiveIn (ends_of k) bs → Holds g f bs → pk ≡ tests.kind_of_mark m → IsResult g (Value (pointer m t)) v
-      → IsStack p g x bs (PlaceOf t f) k → IsWell p (follows pk v k e w)
-  follow_on m pk t v k f live holds kind is stack =
-      subst (λ (b : Bool). IsWell p (if b then arrives (followed v.value) k e w else wrong w)) (sym (is_kind_same v.kind pk (is.0 ∙ mark_kinds m ∙ sym kind)))
-      (arrived m t v.value k f live holds is.1 stack)
+  pub follow_on : (m : PointerKind) (pk : Kind) (target : Option Kind) (t : Ty) (v : Operand) (k : List Entry) (f : flow.State) → LiveIn (ends_of k) bs → Holds g f bs → pk ≡ tests.kind_of_mark m → target ≡ target_of t
+      → IsResult g (Value (pointer m (read t))) v → IsStack p g x bs (PlaceOf (read t) f) k → IsWell p (follows pk target v k e w)
+  follow_on m pk target t v k f live holds kind same is stack =
+      let leads_so : leads_to w target (followed v.value) ≡ true = ap (λ z. leads_to w z (followed v.value)) same ∙ leads_there g w typed m t v.value is.1 in
+      subst (λ (b : Bool). IsWell p (if b then arrives (followed v.value) k e w else wrong w))
+      (sym (both (is_kind v.kind pk) (leads_to w target (followed v.value)) (is_kind_same v.kind pk (is.0 ∙ mark_kinds m ∙ sym kind)) leads_so))
+      (arrived m (read t) v.value k f live holds is.1 stack)
 
   -- ---- fields
 
@@ -238,18 +300,18 @@ module _ (p : Program) (g : Typing) (x : Exits) (bs : List InScope) (e : Environ
 
   -- ---- elements
 
-  pub index_on : (peek : Option ℕ) (index : Expression) (c : Context) (t : Ty) (base : Operand) (k : List Entry) (f h : flow.State) → LiveIn (ends_of k) bs → Holds g f bs → IsContext p x bs c → Evaluates c index f (types.Value types.Int) h
-      → IsResult g (Value (pointer marks.Fat (read t))) base → IsStack p g x bs (PlaceOf (read t) h) k → IsWell p (indexes peek index base k e w)
-  index_on peek index c t base k f h live holds stands evaluates is stack =
-      subst (λ (b : Bool). IsWell p (if b then Running (Evaluating index) (Needs (Advance peek base) ∷ k) e w else wrong w)) (sym (is_kind_same base.kind kinds.Fat is.0))
-      (on (Evaluating index) (Needs (Advance peek base) ∷ k) live
-      (c, types.Value types.Int, f, h, stands, holds, evaluates, (pointer marks.Fat (read t) ∷ [], bs, PlaceOf (read t) h, stacks.advances t h, (is, tt), stack)))
+  pub index_on : (peek : Option ℕ) (target : Option Kind) (index : Expression) (c : Context) (t : Ty) (base : Operand) (k : List Entry) (f h : flow.State) → LiveIn (ends_of k) bs → Holds g f bs → IsContext p x bs c → Evaluates c index f (types.Value types.Int) h
+      → target ≡ target_of t → IsResult g (Value (pointer marks.Fat (read t))) base → IsStack p g x bs (PlaceOf (read t) h) k → IsWell p (indexes peek target index base k e w)
+  index_on peek target index c t base k f h live holds stands evaluates same is stack =
+      subst (λ (b : Bool). IsWell p (if b then Running (Evaluating index) (Needs (Advance peek target base) ∷ k) e w else wrong w)) (sym (is_kind_same base.kind kinds.Fat is.0))
+      (on (Evaluating index) (Needs (Advance peek target base) ∷ k) live
+      (c, types.Value types.Int, f, h, stands, holds, evaluates, (pointer marks.Fat (read t) ∷ [], bs, PlaceOf (read t) h, stacks.advances t h same, (is, tt), stack)))
 
-  pub advance_on : (t : Ty) (base index : Operand) (k : List Entry) (f : flow.State) → LiveIn (ends_of k) bs → Holds g f bs → IsResult g (Value (pointer marks.Fat (read t))) base → IsResult g (Value lives.Int) index
-      → IsStack p g x bs (PlaceOf (read t) f) k → IsWell p (advances base index k e w)
-  advance_on t base index k f live holds is int stack =
-      gives (Needs (Follow kinds.Fat) ∷ k) kinds.Fat (pointer marks.Fat (read t)) f (pointer_result operators.AddFat base.value index.value) live holds refl (added g (read t) base.value index.value is.1 int.1)
-      ([], bs, PlaceOf (read t) f, stacks.follows marks.Fat t f refl, tt, stack)
+  pub advance_on : (t : Ty) (target : Option Kind) (base index : Operand) (k : List Entry) (f : flow.State) → LiveIn (ends_of k) bs → Holds g f bs → target ≡ target_of t → IsResult g (Value (pointer marks.Fat (read t))) base → IsResult g (Value lives.Int) index
+      → IsStack p g x bs (PlaceOf (read t) f) k → IsWell p (advances target base index k e w)
+  advance_on t target base index k f live holds same is int stack =
+      gives (Needs (Follow kinds.Fat target) ∷ k) kinds.Fat (pointer marks.Fat (read t)) f (pointer_result operators.AddFat base.value index.value) live holds refl (added g (read t) base.value index.value is.1 int.1)
+      ([], bs, PlaceOf (read t) f, stacks.follows marks.Fat t f refl same, tt, stack)
 
   pub count_on : (t : Ty) (v : Operand) (k : List Entry) (f : flow.State) → LiveIn (ends_of k) bs → Holds g f bs → IsResult g (Value (pointer marks.Fat (read t))) v → IsStack p g x bs (Val (Value lives.Int) f) k
       → IsWell p (computed kinds.Int (element_count v.value) k e w)
@@ -262,7 +324,7 @@ module _ (p : Program) (g : Typing) (x : Exits) (bs : List InScope) (e : Environ
   place_given (values.Thin object offset) k opens live holds has (stacks.loads_from {kind} t f plain same) keeps stack = reads_target p g x bs e w typed globals bound variables k kind object offset t f opens live holds has plain (kind_meant t ∙ sym same) stack
   place_given place k opens live holds has (stacks.takes_address t f) keeps stack = on (Given (record { kind = kinds.NonNull; value = place })) k live (Value (pointer marks.NonNull t), f, holds, (refl, has), stack)
   place_given place k opens live holds has (stacks.stores_to {peek} {from} {to} {a} c v t f h stands evaluates conv from_is to_is) keeps stack =
-      on (Evaluating a) (Needs (ConvertTo from to) ∷ Needs (StoreCell peek place) ∷ k) live (
+      on (Evaluating a) (Needs (ConvertTo from to (target_by a)) ∷ Needs (StoreCell peek place) ∷ k) live (
         c,
         v,
         f,
@@ -274,7 +336,7 @@ module _ (p : Program) (g : Typing) (x : Exits) (bs : List InScope) (e : Environ
           [],
           bs,
           Val (Value (read t)) h,
-          stacks.converts c v t h conv from_is to_is,
+          stacks.converts c v t h conv from_is to_is (target_typed c a v evaluates.typed),
           tt,
           (pointer marks.NonNull (read t) ∷ [], bs, Val (read_value (assigned_type t)) h, stacks.stores_cell t h, ((refl, has), tt), stack),
         ),

@@ -138,7 +138,7 @@ void_tested : (v : ValueType) → read_value v ≡ Void → is_tested v ≡ true
 void_tested v e tested = let k : false ≡ true = subst (λ z. is_tested z ≡ true) (void_read v e) tested in absurd (cc)
 
 void_waits : {p : Program} {x : Exits} {bs cs : List InScope} {a : Awaiting} {ts : List RunTy} {r : RunValue} {f : flow.State} {next : Want} → Waits p x bs a ts r f cs next → r ≡ Void → ⊥
-void_waits (stacks.converts c v t f conv from to) e = void_converts c t (subst (λ z. Converts c z t) (void_read v e) conv)
+void_waits (stacks.converts c v t f conv from to target) e = void_converts c t (subst (λ z. Converts c z t) (void_read v e) conv)
 void_waits (stacks.negates f) e = value_void lives.Int e
 void_waits (stacks.complements f) e = value_void lives.Int e
 void_waits (stacks.denies v f tested) e = void_tested v e tested
@@ -150,10 +150,10 @@ void_waits (stacks.stores_global number t f there) e = value_void (read t) e
 void_waits (stacks.points c t v w f op) e = pointer_right op e
 void_waits (stacks.null_points c v w f op) e = pointer_right op e
 void_waits (stacks.stores_cell t f) e = value_void (read t) e
-void_waits (stacks.follows m t f kind) e = value_void (stacks.pointer m (read t)) e
+void_waits (stacks.follows m t f kind target) e = value_void (stacks.pointer m (read t)) e
 void_waits (stacks.follows_member m n ls s t f kind struct fields field) e = value_void (stacks.pointer m (lives.Struct n ls)) e
-void_waits (stacks.indexes c t f h stands evaluates) e = value_void (stacks.pointer marks.Fat (read t)) e
-void_waits (stacks.advances t f) e = value_void lives.Int e
+void_waits (stacks.indexes c t f h stands evaluates target) e = value_void (stacks.pointer marks.Fat (read t)) e
+void_waits (stacks.advances t f target) e = value_void lives.Int e
 void_waits (stacks.counts_elements t f) e = value_void (stacks.pointer marks.Fat (read t)) e
 void_waits (stacks.places_by c m t f h stands makes) e = value_void (lives.Handle (lives.OfRegion 0)) e
 void_waits (stacks.makes_plain t f owner kind) e = value_void (read t) e
@@ -314,7 +314,7 @@ found_is Closed h = absurd h
 found_is Missing h = absurd h
 
 pub waits_within : {p : Program} {x : Exits} {bs cs : List InScope} {a : Awaiting} {ts : List RunTy} {r : RunValue} {f : flow.State} {next : Want} → Waits p x bs a ts r f cs next → Within cs bs
-waits_within {bs = bs} (stacks.converts c v t f conv from to) = itself bs
+waits_within {bs = bs} (stacks.converts c v t f conv from to target) = itself bs
 waits_within {bs = bs} (stacks.negates f) = itself bs
 waits_within {bs = bs} (stacks.complements f) = itself bs
 waits_within {bs = bs} (stacks.denies v f tested) = itself bs
@@ -326,10 +326,10 @@ waits_within {bs = bs} (stacks.stores_global number t f there) = itself bs
 waits_within {bs = bs} (stacks.points c t v w f op) = itself bs
 waits_within {bs = bs} (stacks.null_points c v w f op) = itself bs
 waits_within {bs = bs} (stacks.stores_cell t f) = itself bs
-waits_within {bs = bs} (stacks.follows m t f kind) = itself bs
+waits_within {bs = bs} (stacks.follows m t f kind target) = itself bs
 waits_within {bs = bs} (stacks.follows_member m n ls s t f kind struct fields field) = itself bs
-waits_within {bs = bs} (stacks.indexes c t f h stands evaluates) = itself bs
-waits_within {bs = bs} (stacks.advances t f) = itself bs
+waits_within {bs = bs} (stacks.indexes c t f h stands evaluates target) = itself bs
+waits_within {bs = bs} (stacks.advances t f target) = itself bs
 waits_within {bs = bs} (stacks.counts_elements t f) = itself bs
 waits_within {bs = bs} (stacks.places_by c m t f h stands makes) = itself bs
 waits_within {bs = bs} (stacks.makes_plain t f owner kind) = itself bs

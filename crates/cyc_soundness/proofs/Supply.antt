@@ -173,8 +173,8 @@ module _ (p : Program) (g : Typing) (x : Exits) (bs : List InScope) (e : Environ
 
   pub given : {a : Awaiting} {ts : List RunTy} {r : RunValue} {f : flow.State} {cs : List InScope} {next : Want} (v : Operand) (k : List Entry) → IsNested k e w → LiveIn (ends_of k) bs → Holds g f bs → IsResult g r v
       → Waits p x bs a ts r f cs next → Keeps g a ts → IsStack p g x cs next k → IsWell p (supplied a v k e w)
-  given v k nests live holds is (stacks.converts {from} {to} c s t f conv from_is to_is) are stack =
-      converted_on p g x bs e w typed globals bound variables from to v k c s t f live holds is conv from_is to_is stack
+  given v k nests live holds is (stacks.converts {from} {to} {target} c s t f conv from_is to_is same) are stack =
+      converted_on p g x bs e w typed globals bound variables from to target v k c s t f live holds is conv from_is to_is same stack
   given v k nests live holds is (stacks.negates f) are stack =
       gives p g x bs e w typed globals bound variables k kinds.Int lives.Int f (unary_result unary.Negate v.value) live holds refl (negated g v.value is.1) stack
   given v k nests live holds is (stacks.complements f) are stack =
@@ -194,12 +194,12 @@ module _ (p : Program) (g : Typing) (x : Exits) (bs : List InScope) (e : Environ
   given v k nests live holds is (stacks.null_points c s u f op) are stack = null_point_on p g x bs e w typed globals bound variables v k f live holds op is stack
   given v k nests live holds is (stacks.stores_cell {peek} {place} t f) ((kind, to), unit) stack =
       cell_stored p g x bs e w typed globals bound variables place v t k f nests.0 live holds to is stack
-  given v k nests live holds is (stacks.follows {k = pk} m t f kind) are stack = follow_on p g x bs e w typed globals bound variables m pk (read t) v k f live holds kind is stack
+  given v k nests live holds is (stacks.follows {k = pk} {target} m t f kind same) are stack = follow_on p g x bs e w typed globals bound variables m pk target t v k f live holds kind same is stack
   given v k nests live holds is (stacks.follows_member {k = pk} {fields} {field} m n ls s t f kind struct fields_are there) are stack =
       member_on p g x bs e w typed globals bound variables m pk fields n ls s t field v k f nests.0 live holds kind fields_are struct there is stack
-  given v k nests live holds is (stacks.indexes {peek} {index} c t f h stands evaluates) are stack =
-      index_on p g x bs e w typed globals bound variables peek index c t v k f h live holds stands evaluates is stack
-  given v k nests live holds is (stacks.advances {peek} {base} t f) (base_is, unit) stack = advance_on p g x bs e w typed globals bound variables t base v k f live holds base_is is stack
+  given v k nests live holds is (stacks.indexes {peek} {target} {index} c t f h stands evaluates same) are stack =
+      index_on p g x bs e w typed globals bound variables peek target index c t v k f h live holds stands evaluates same is stack
+  given v k nests live holds is (stacks.advances {peek} {target} {base} t f same) (base_is, unit) stack = advance_on p g x bs e w typed globals bound variables t target base v k f live holds same base_is is stack
   given v k nests live holds is (stacks.counts_elements t f) are stack = count_on p g x bs e w typed globals bound variables t v k f live holds is stack
   given v k nests live holds is (stacks.places_by {i} c m t f h stands makes) are stack = placed_by i v.value k c m t f h makes.waiting live stands holds makes.typed makes.flows makes.kept is.1 stack
   given v k nests live holds is (stacks.makes_plain {owner} {kind} t f owned kind_is) are stack = plain_on p g x bs e w typed globals bound variables owner kind v t k f live holds owned kind_is is stack

@@ -164,19 +164,19 @@ pub record CellAt (g : Typing) (n : ℕ) (t : RunTy) (offset : ℕ) (cells : Lis
 never_less : {A : Type 0} (i : ℕ) → i < 0 → A
 never_less i less = absurd (omega (arith, less))
 
-cell_of : (g : Typing) (ts : List RunTy) (cs : List Cell) (n i : ℕ) (t : RunTy) → AreCells g ts cs n → slice_get ts i ≡ Some t → CellAt g n t i cs
-cell_of g [] cs n i t are found = absurd (let e : None ≡ Some t = found in cc)
-cell_of g (u ∷ ts) [] n i t are found = absurd are
-cell_of g (u ∷ ts) (c ∷ cs) zero zero t ((kind, is), are) found =
+pub typed_cell : (g : Typing) (ts : List RunTy) (cs : List Cell) (n i : ℕ) (t : RunTy) → AreCells g ts cs n → slice_get ts i ≡ Some t → CellAt g n t i cs
+typed_cell g [] cs n i t are found = absurd (let e : None ≡ Some t = found in cc)
+typed_cell g (u ∷ ts) [] n i t are found = absurd are
+typed_cell g (u ∷ ts) (c ∷ cs) zero zero t ((kind, is), are) found =
     record { cell = c; at = refl; kind = kind ∙ ap kind_at (some_same u t found); content = λ less. never_less 0 less }
-cell_of g (u ∷ ts) (c ∷ cs) (suc n) zero t ((kind, is), are) found =
+typed_cell g (u ∷ ts) (c ∷ cs) (suc n) zero t ((kind, is), are) found =
     let same = some_same u t found in
     record { cell = c; at = refl; kind = kind ∙ ap kind_at same; content = λ less. content_there g t c.content (subst (λ z. IsContent g true z c.content) same is) }
-cell_of g (u ∷ ts) (c ∷ cs) zero (suc i) t (one, are) found =
-    let rest = cell_of g ts cs zero i t are found in
+typed_cell g (u ∷ ts) (c ∷ cs) zero (suc i) t (one, are) found =
+    let rest = typed_cell g ts cs zero i t are found in
     record { cell = rest.cell; at = rest.at; kind = rest.kind; content = λ less. never_less (suc i) less }
-cell_of g (u ∷ ts) (c ∷ cs) (suc n) (suc i) t (one, are) found =
-    let rest = cell_of g ts cs n i t are found in
+typed_cell g (u ∷ ts) (c ∷ cs) (suc n) (suc i) t (one, are) found =
+    let rest = typed_cell g ts cs n i t are found in
     record { cell = rest.cell; at = rest.at; kind = rest.kind; content = λ less. rest.content (let e : i < n = omega (arith, less) in e) }
 
 pub live_owner : (w : World) (region : ℕ) (o : Owner) → IsOwner (OfRegion region) o → is_open (slice_get w.regions region) ≡ true → is_live w o ≡ true
@@ -198,7 +198,7 @@ pub cell_there : (g : Typing) (w : World) (number offset region : ℕ) (t : RunT
     → x.life ≡ OfRegion region → is_open (slice_get w.regions region) ≡ true → HasCell g w number offset x t
 cell_there g w number offset region t x typed at cells life opens =
     let (y, n, there, flag, is) = typed.each number x at in
-    let c = cell_of g x.cells y.cells n offset t is.cells cells in
+    let c = typed_cell g x.cells y.cells n offset t is.cells cells in
     let live : is_live w y.owner ≡ true = live_owner w region y.owner (subst (λ l. IsOwner l y.owner) life is.owner) opens in
     record {
       object = y;

@@ -27,6 +27,7 @@ use Rattle.cyc_meaning.specs.Values.{Operand}
 use Rattle.cyc_meaning.specs.Values as values
 use Rattle.cyc_meaning.specs.State.{Owner, Awaiting, ConvertTo, Operate, Chain, Apply, ApplyPointer, Decide, Store, StoreCell, Pass, Follow, FollowMember, Index, Advance, CountElements, PlaceBy, MakePlain, MakeFields, MakeArray, FillElement, Initialise, Choose, Test, Return, ThrowWith, AwaitingPlace, LoadFrom, TakeAddress, StoreTo, SwapLeft, SwapRight, Write, Entry, Needs, NeedsPlace, Discard, Rest, Join, Loop, CloseRegion, Handler, Caller, Main, Environment, World, Focus, Evaluating, Locating, Given, GivenPlace, Executing, Proceeding, Calling, Entering, Binding, Naming, Writing, Swapping, Beginning, Repeating, Breaking, Continuing, Returning, Throwing, Catching, State, Running, Ended, Dead, Wrong}
 use Rattle.cyc_meaning.specs.Allocation.{writes_from}
+use Rattle.cyc_meaning.specs.Parts.{target_of, target_of_value}
 use Rattle.cyc_meaning.specs.Nesting.{ends_of}
 use Rattle.cyc_soundness.specs.Lives.{Life, OfRegion, RunTy, RunValue, Value, read, read_value}
 use Rattle.cyc_soundness.specs.Lives as lives
@@ -130,7 +131,7 @@ held (Apply operator left) = left ∷ []
 held (ApplyPointer peek operator left) = left ∷ []
 held (StoreCell peek place) = record { kind = kinds.NonNull; value = place } ∷ []
 held (Pass callee before rest) = before
-held (Advance peek base) = base ∷ []
+held (Advance peek target base) = base ∷ []
 held (MakeFields owner before rest) = before
 held a = []
 
@@ -183,8 +184,8 @@ pub record Repeats (c : Context) (level : ℕ) (kind : Kind) (element : Expressi
 
 -- What waits for a value: with the types of the operands that wait in it, what it awaits, and what goes on then, in which scope.
 pub data Waits (p : Program) (x : Exits) (bs : List InScope) : Awaiting → List RunTy → RunValue → flow.State → List InScope → Want → Type 0 where
-  converts : {from to : Kind} (c : Context) (v : ValueType) (t : Ty) (f : flow.State) → Converts c v t → from ≡ kind_of_value v → to ≡ kind_of t
-      → Waits p x bs (ConvertTo from to) [] (read_value v) f bs (Val (Value (read t)) f)
+  converts : {from to : Kind} {target : Option Kind} (c : Context) (v : ValueType) (t : Ty) (f : flow.State) → Converts c v t → from ≡ kind_of_value v → to ≡ kind_of t → target ≡ target_of_value v
+      → Waits p x bs (ConvertTo from to target) [] (read_value v) f bs (Val (Value (read t)) f)
   negates : (f : flow.State) → Waits p x bs (Operate unary.Negate) [] (Value lives.Int) f bs (Val (Value lives.Int) f)
   complements : (f : flow.State) → Waits p x bs (Operate unary.Complement) [] (Value lives.Int) f bs (Val (Value lives.Int) f)
   denies : (v : ValueType) (f : flow.State) → is_tested v ≡ true → Waits p x bs (Operate unary.Not) [] (read_value v) f bs (Val (Value lives.Int) f)
@@ -202,14 +203,14 @@ pub data Waits (p : Program) (x : Exits) (bs : List InScope) : Awaiting → List
       → Waits p x bs (ApplyPointer peek o null) (pointer marks.Nullable lives.Int ∷ []) (read_value v) f bs (Val (read_value w) f)
   stores_cell : {peek : Option ℕ} {place : values.Value} (t : Ty) (f : flow.State)
       → Waits p x bs (StoreCell peek place) (pointer marks.NonNull (read t) ∷ []) (Value (read t)) f bs (Val (read_value (assigned_type t)) f)
-  follows : {k : Kind} (m : PointerKind) (t : Ty) (f : flow.State) → k ≡ kind_of_mark m → Waits p x bs (Follow k) [] (Value (pointer m (read t))) f bs (PlaceOf (read t) f)
+  follows : {k : Kind} {target : Option Kind} (m : PointerKind) (t : Ty) (f : flow.State) → k ≡ kind_of_mark m → target ≡ target_of t → Waits p x bs (Follow k target) [] (Value (pointer m (read t))) f bs (PlaceOf (read t) f)
   follows_member : {k : Kind} {fields : List Kind} {field : ℕ} (m : PointerKind) (n : ℕ) (ls : List Life) (s : StructType) (t : Ty) (f : flow.State) → k ≡ kind_of_mark m
       → slice_get p.structs n ≡ Some s → fields ≡ map values.kind_of s.fields → slice_get s.fields field ≡ Some t
       → Waits p x bs (FollowMember k fields field) [] (Value (pointer m (lives.Struct n ls))) f bs (PlaceOf (read t) f)
-  indexes : {peek : Option ℕ} {index : Expression} (c : Context) (t : Ty) (f h : flow.State) → IsContext p x bs c → Evaluates c index f (types.Value types.Int) h
-      → Waits p x bs (Index peek index) [] (Value (pointer marks.Fat (read t))) f bs (PlaceOf (read t) h)
-  advances : {peek : Option ℕ} {base : Operand} (t : Ty) (f : flow.State)
-      → Waits p x bs (Advance peek base) (pointer marks.Fat (read t) ∷ []) (Value lives.Int) f bs (PlaceOf (read t) f)
+  indexes : {peek : Option ℕ} {target : Option Kind} {index : Expression} (c : Context) (t : Ty) (f h : flow.State) → IsContext p x bs c → Evaluates c index f (types.Value types.Int) h → target ≡ target_of t
+      → Waits p x bs (Index peek target index) [] (Value (pointer marks.Fat (read t))) f bs (PlaceOf (read t) h)
+  advances : {peek : Option ℕ} {target : Option Kind} {base : Operand} (t : Ty) (f : flow.State) → target ≡ target_of t
+      → Waits p x bs (Advance peek target base) (pointer marks.Fat (read t) ∷ []) (Value lives.Int) f bs (PlaceOf (read t) f)
   counts_elements : (t : Ty) (f : flow.State) → Waits p x bs CountElements [] (Value (pointer marks.Fat (read t))) f bs (Val (Value lives.Int) f)
   places_by : {i : Initial} (c : Context) (m : PointerKind) (t : Ty) (f h : flow.State) → IsContext p x bs c → Makes c i m t f h
       → Waits p x bs (PlaceBy i) [] (Value (lives.Handle (OfRegion 0))) f bs (Val (Value (pointer m (read t))) h)
