@@ -278,6 +278,7 @@ module _ (p : Program) where
           (
             Val (Value (lives.read u)) h,
             stacks.loads_from u h plain (ap values.kind_of (sym (place_type c d u r cell))),
+            tt,
             subst (λ z. IsStack p g x bs (Val (read_value z) h) k) same stack,
           ),
         )
@@ -298,6 +299,7 @@ module _ (p : Program) where
           (
             Val (Value (pointer marks.NonNull (lives.read v))) h,
             stacks.takes_address (lives.read v) h,
+            tt,
             subst (λ z. IsStack p g x bs (Val (read_value z) h) k) (same ∙ ap types.Value u_is) stack,
           ),
         )
@@ -324,6 +326,7 @@ module _ (p : Program) where
           (
             Val (read_value (assigned_type v)) h,
             stacks.stores_to c s v f1 h stands (record { waiting = and_peeked (peek_behind d) q; typed = inl well; flows = dc; kept = kc }) conv from_is to_is,
+            tt,
             subst (λ z. IsStack p g x bs (Val (read_value z) h) k) (same ∙ gives_u) stack,
           ),
         )

@@ -3,14 +3,15 @@ use Rattle.std.proofs.Common.{◌≡◌, inl, ℕ, ◌+◌, ◌≤◌, Bool, tru
 use Rattle.cyc_types.specs.declared.typed.Kind.{Kind}
 use Rattle.cyc_types.specs.Types.{Ty}
 use Rattle.cyc_types.specs.Types as types
-use Rattle.cyc_types.specs.TypedTrees.{Expression, Convert, Statement, Block, Empty, Evaluate, If, While, Break, Continue, Throw, Try, Items, NoItems, MoreItems, Execute, Declare, DeclareRegion, OpenRegion, DeclareAlias, DeclareKey, Program}
+use Rattle.cyc_types.specs.TypedTrees.{Expression, Convert, Statement, Block, Empty, Evaluate, Swap, If, While, Break, Continue, Throw, Try, Items, NoItems, MoreItems, Execute, Declare, DeclareRegion, OpenRegion, DeclareAlias, DeclareKey, Program}
 use Rattle.cyc_types.specs.TypedTrees as typed
 use Rattle.cyc_types.specs.Rules.{AllKept, Derives}
 use Rattle.cyc_types.specs.Declarations.{declared_types}
 use Rattle.cyc_types.specs.typing.WellTyped.{Context, IsReturned, IsThrown, in_block, behind, with_local, WellTypedStatement, WellTypedItems}
 use Rattle.cyc_types.specs.flow.States as flow
 use Rattle.cyc_types.specs.flow.States.{Unreached, Vacant, Full, meet, with_fullness, with_each}
-use Rattle.cyc_types.specs.flow.Statements.{Known, caught, rule_statement, rule_items}
+use Rattle.cyc_types.specs.flow.Expressions.{and_peeked}
+use Rattle.cyc_types.specs.flow.Statements.{peeked_side, side_demanded, Known, caught, rule_statement, rule_items}
 use Rattle.cyc_types.specs.flow.Statements as statements
 use Rattle.cyc_meaning.specs.Values as values
 use Rattle.cyc_meaning.specs.State.{Stack, new_region, World, opened, Environment, ConvertTo, Initialise, Choose, Test, ThrowWith, Entry, Needs, Discard, Rest, Handler, Focus, Evaluating, Executing, Proceeding, Breaking, Continuing, Returning, Throwing, State, Running}
@@ -32,6 +33,7 @@ use Rattle.cyc_soundness.proofs.StackLemmas.{within_bound, within_variables, wit
 use Rattle.cyc_soundness.proofs.WorldLemmas.{opened_typed}
 use Rattle.cyc_soundness.proofs.Cells.{running}
 use Rattle.cyc_soundness.proofs.Supply.{declares_blank}
+use Rattle.cyc_soundness.proofs.Swapping.{kept_both, swap_on}
 use Rattle.cyc_types.specs.flow.Touched.{touched_statement}
 
 -- the same scope further on, where more numbers are given out
@@ -139,6 +141,11 @@ module _ (p : Program) (g : Typing) (x : Exits) (bs : List InScope) (e : Environ
         record { waiting = []; typed = inl well; flows = d; kept = kept },
         subst (λ z. IsStack p g x bs (Go z) k) (ap (λ (z : Known). z.now) known) stack,
       )
+  execute (Swap y z) k c f h before behind' live stands holds (t, ty, tz, plain) (f1, (f2, dy, (f3, dz, (demands, same))), (u, known)) are (ky, kz) stack =
+      let now : h ≡ f3 = ap (λ (z : Known). z.now) known ∙ same in
+      let (first, second) = kept_both (side_demanded [] y f3) (side_demanded (and_peeked (peeked_side y) []) z f3) demands in
+      swap_on p g x bs e w typed' globals bound variables y z c t k f f2 f3 (and_peeked (peeked_side y) []) live stands holds plain ty dy first ky
+      (record { waiting = and_peeked (peeked_side y) []; typed = tz; flows = dz; used = second; kept = kz }) (subst (λ i. IsStack p g x bs (Go i) k) now stack)
   execute (If a s t) k c f h before behind' live stands holds ((v, well, tested), ws, wt) (f1, d, (l, ds, (m, dt, (u, known)))) are (ka, ks, kt) stack =
       let now : h ≡ meet l.now m.now = ap (λ (z : Known). z.now) known in
       let breaks : behind' ≡ m.breaks = ap (λ (z : Known). z.breaks) known in
@@ -211,7 +218,6 @@ module _ (p : Program) (g : Typing) (x : Exits) (bs : List InScope) (e : Environ
           stack,
         ),
       )
-  execute s k c f h before behind' live stands holds well flows are kept stack = absurd kept
 
   -- ---- items
 

@@ -1,5 +1,5 @@
 -- What is known of locals: what implies what, and what the rules only lower.
-use Rattle.std.proofs.Common.{◌≡◌, ℕ, zero, suc, Bool, true, false, List, [], ◌∷◌, refl, sym, subst, ◌∙◌}
+use Rattle.std.proofs.Common.{◌≡◌, ℕ, zero, suc, Bool, true, false, not, List, [], ◌∷◌, refl, sym, subst, ◌∙◌}
 use Rattle.std.specs.Prelude.{◌≢◌, get_or, slice_set, if◌then◌else◌}
 use Rattle.std.proofs.lemmas.List.{get_or-set_other}
 use Rattle.cyc_types.specs.flow.States.{Fullness, Vacant, Locked, Full, State, Unreached, Reached, lower, lower_each, meet, is_as_full, are_as_full, is_at_least, is_reached, fullness, with_fullness, is_vacant, is_locked, emptied}
@@ -120,3 +120,8 @@ now_vacant (a ∷ as') (suc n) = now_vacant as' n
 pub vacant_now : (f : State) (n : ℕ) → is_reached f ≡ true → IsSet (with_fullness Vacant f n) n → ⊥
 vacant_now Unreached n reached s = let k : false ≡ true = reached in absurd (cc)
 vacant_now (Reached as') n reached s = let k : true ≡ false = sym (now_vacant as' n) ∙ s in absurd (cc)
+
+-- what a rule asks of a local that is used
+pub not_vacant : (b : Bool) → not b ≡ true → b ≡ false
+not_vacant true e = absurd (let k : false ≡ true = e in cc)
+not_vacant false e = refl

@@ -8,6 +8,7 @@ mod StackLemmas
 mod ValueLemmas
 mod Cells
 mod Objects
+mod Swapping
 mod Places
 mod Evaluation
 mod Supply
@@ -17,3 +18,5 @@ mod Unwinding
 mod BuiltLemmas
 -- what `cyc_system` cites
 pub mod Whole
+-- texts
+mod Examples

@@ -35,12 +35,13 @@ use Rattle.cyc_soundness.specs.Lives as lives
 use Rattle.cyc_soundness.specs.Worlds.{ObjectType, Typing, IsFilled, IsPart, IsTarget, HasType, IsResult, Fits, AreCells, IsObject, IsTyped}
 use Rattle.cyc_soundness.specs.Frames.{InScope, IsBound, AreVariables, LiveIn, Holds, Exits, IsContext, KnowsProgram}
 use Rattle.cyc_soundness.specs.Classes.{InPlace}
-use Rattle.cyc_soundness.specs.Stacks.{Evaluates, Val, PlaceOf, pointer, null, WaitsPlace, IsStack, IsFocus, IsWell}
+use Rattle.cyc_soundness.specs.Stacks.{Evaluates, Val, PlaceOf, pointer, null, WaitsPlace, of_cell, KeepsPlace, IsStack, IsFocus, IsWell}
 use Rattle.cyc_soundness.specs.Stacks as stacks
 use Rattle.cyc_soundness.proofs.Numbers.{some_same, inside, mapped, both}
 use Rattle.cyc_soundness.proofs.TypeLemmas.{target_typed, is_kind_same, mark_kinds, kind_meant, instance_read}
 use Rattle.cyc_soundness.proofs.WorldLemmas.{holds_grown, result_grown, typed_cell}
 use Rattle.cyc_soundness.proofs.StackLemmas.{stack_grown}
+use Rattle.cyc_soundness.proofs.Swapping.{finds_right_on, both_on}
 use Rattle.cyc_soundness.proofs.Cells.{running, part_at, life_of, target_live, reads_target, writes_target}
 
 -- ---- pointers
@@ -319,10 +320,10 @@ module _ (p : Program) (g : Typing) (x : Exits) (bs : List InScope) (e : Environ
   -- ---- what waits for a place
 
   pub place_given : {a : AwaitingPlace} {t : RunTy} {f : flow.State} {next : stacks.Want} (place : values.Value) (k : List Entry) → AreOpen w.regions (ends_of k) → LiveIn (ends_of k) bs → Holds g f bs → HasType g (pointer marks.NonNull t) place
-      → WaitsPlace p x bs a t f next → IsStack p g x bs next k → IsWell p (placed a place k e w)
-  place_given (values.Thin object offset) k opens live holds has (stacks.loads_from {kind} t f plain same) stack = reads_target p g x bs e w typed globals bound variables k kind object offset t f opens live holds has plain (kind_meant t ∙ sym same) stack
-  place_given place k opens live holds has (stacks.takes_address t f) stack = on (Given (record { kind = kinds.NonNull; value = place })) k live (Value (pointer marks.NonNull t), f, holds, (refl, has), stack)
-  place_given place k opens live holds has (stacks.stores_to {peek} {from} {to} {a} c v t f h stands evaluates conv from_is to_is) stack =
+      → WaitsPlace p x bs a t f next → KeepsPlace p g bs a t f → IsStack p g x bs next k → IsWell p (placed a place k e w)
+  place_given (values.Thin object offset) k opens live holds has (stacks.loads_from {kind} t f plain same) keeps stack = reads_target p g x bs e w typed globals bound variables k kind object offset t f opens live holds has plain (kind_meant t ∙ sym same) stack
+  place_given place k opens live holds has (stacks.takes_address t f) keeps stack = on (Given (record { kind = kinds.NonNull; value = place })) k live (Value (pointer marks.NonNull t), f, holds, (refl, has), stack)
+  place_given place k opens live holds has (stacks.stores_to {peek} {from} {to} {a} c v t f h stands evaluates conv from_is to_is) keeps stack =
       on (Evaluating a) (Needs (ConvertTo from to (target_by a)) ∷ Needs (StoreCell peek place) ∷ k) live (
         c,
         v,
@@ -340,7 +341,12 @@ module _ (p : Program) (g : Typing) (x : Exits) (bs : List InScope) (e : Environ
           (pointer marks.NonNull (read t) ∷ [], bs, Val (read_value (assigned_type t)) h, stacks.stores_cell t h, ((refl, has), tt), stack),
         ),
       )
-  place_given place k opens live holds has waits stack = absurd has
+  place_given place k opens live holds has (stacks.swaps_left {kind} {peek} {right} c t f h stands kind_is plain finds) keeps stack =
+      finds_right_on p g x bs e w typed globals bound variables kind peek place right c t k f h finds.waiting live stands holds kind_is plain (λ i. of_cell place has) finds.typed finds.flows finds.used finds.kept stack
+  place_given place k opens live holds has (stacks.swaps_right {kind} {peek} {left} t f kind_is) (u, same, plain, spot) stack =
+      both_on p g x bs e w typed globals bound variables kind left place u k f live holds (kind_is ∙ sym (kind_meant t) ∙ ap kind_at same ∙ kind_meant u) plain spot
+      (of_cell place (subst (λ z. HasType g (pointer marks.NonNull z) place) same has)) stack
+  place_given place k opens live holds has waits keeps stack = absurd has
 
   pub cell_stored : (place : values.Value) (v : Operand) (t : Ty) (k : List Entry) (f : flow.State) → AreOpen w.regions (ends_of k) → LiveIn (ends_of k) bs → Holds g f bs → HasType g (pointer marks.NonNull (read t)) place → IsResult g (Value (read t)) v
       → IsStack p g x bs (Val (read_value (assigned_type t)) f) k → IsWell p (stored_at place v (Given v) k e w)

@@ -11,7 +11,8 @@ use Rattle.cyc_types.specs.typing.Tests.{is_tested}
 use Rattle.cyc_types.specs.typing.WellTyped.{LocalInScope, Context, HasLocal, HasPlace, Converts, PointerOperation, adds, subtracts, equals, differs, thin_null, thin_there, fat_null, fat_there, null_is, null_is_not, IsChain}
 use Rattle.cyc_types.specs.flow.States as flow
 use Rattle.cyc_types.specs.flow.States.{Full, with_fullness}
-use Rattle.cyc_meaning.specs.State.{Region, Access, Found, Closed, Missing, found_region, is_open, heap_number, globals_number, World, FillElement, Environment, with_local, Awaiting, Entry, Needs, NeedsPlace, Discard, Rest, Join, Loop, CloseRegion, CloseLexical, Handler, Caller, Main}
+use Rattle.cyc_meaning.specs.Values as values
+use Rattle.cyc_meaning.specs.State.{Region, Access, Found, Closed, Missing, found_region, is_open, heap_number, globals_number, World, FillElement, AwaitingPlace, SwapRight, Write, Environment, with_local, Awaiting, Entry, Needs, NeedsPlace, Discard, Rest, Join, Loop, CloseRegion, CloseLexical, Handler, Caller, Main}
 use Rattle.cyc_meaning.specs.Nesting.{ends_of, IsFound, AreOpen, IsHome, IsNested}
 use Rattle.cyc_meaning.specs.Nesting as nesting
 use Rattle.cyc_soundness.specs.Lives.{RunTy, RunValue, Void, Null, Value, read, read_value}
@@ -19,11 +20,11 @@ use Rattle.cyc_soundness.specs.Lives as lives
 use Rattle.cyc_soundness.specs.Worlds.{Typing, IsFull, variable_type, Grows}
 use Rattle.cyc_soundness.specs.Frames.{IsAmong, first, later, Bound, InScope, Variable, Level, IsScope, AreBelow, IsBound, AreVariables, LiveIn, Within, itself, older, IsSet, AreSet, Holds, Exits}
 use Rattle.cyc_soundness.specs.Classes.{InOperations}
-use Rattle.cyc_soundness.specs.Stacks.{IsAccepted, Want, Nothing, Val, PlaceOf, Go, held, Waits, IsArrayOf, Keeps, IsStack}
+use Rattle.cyc_soundness.specs.Stacks.{IsAccepted, Want, Nothing, Val, PlaceOf, Go, held, Waits, IsArrayOf, Keeps, IsSpot, of_local, of_global, of_cell, KeepsPlace, AreSwapped, IsStack}
 use Rattle.cyc_soundness.specs.Stacks as stacks
 use Rattle.cyc_soundness.proofs.Numbers.{same_or_other}
 use Rattle.cyc_soundness.proofs.FlowLemmas.{other_set}
-use Rattle.cyc_soundness.proofs.WorldLemmas.{operands_grown, variables_grown, holds_grown}
+use Rattle.cyc_soundness.proofs.WorldLemmas.{type_grown, result_grown, operands_grown, variables_grown, holds_grown}
 
 -- the functions of a program, each of which the rules accept
 abbrev pub AreAccepted : Program → Type 0
@@ -41,10 +42,23 @@ module _ (p : Program) (g h : Typing) (grows : Grows g h) where
   keeps_grown (FillElement object count index level kind element) ts are = array_grown ts object count index are
   keeps_grown a ts are = operands_grown g h grows ts (held a) are
 
+  pub spot_grown : (bs : List InScope) (t : Ty) (f : flow.State) (v : values.Value) → IsSpot p g bs t f v → IsSpot p h bs t f v
+  spot_grown bs t f v (of_local b among of_type is) = of_local b among of_type is
+  spot_grown bs t f v (of_global number there) = of_global number there
+  spot_grown bs t f v (of_cell place has) = of_cell place (type_grown g h grows (stacks.pointer marks.NonNull (read t)) place has)
+
+  keeps_place_grown : (bs : List InScope) (a : AwaitingPlace) (r : RunTy) (f : flow.State) → KeepsPlace p g bs a r f → KeepsPlace p h bs a r f
+  keeps_place_grown bs (SwapRight kind peek left) r f (t, same, plain, spot) = (t, same, plain, spot_grown bs t f left spot)
+  keeps_place_grown bs a r f keeps = tt
+
+  pub swapped_grown : (bs : List InScope) (f : flow.State) (ws : List Write) → AreSwapped p g bs f ws → AreSwapped p h bs f ws
+  swapped_grown bs f [] are = tt
+  swapped_grown bs f (w ∷ ws) ((t, plain, spot, is), are) = ((t, plain, spot_grown bs t f w.place spot, result_grown g h grows (Value (read t)) w.operand is), swapped_grown bs f ws are)
+
   pub stack_grown : (x : Exits) (bs : List InScope) (w : Want) (k : List Entry) → IsStack p g x bs w k → IsStack p h x bs w k
   stack_grown x bs Nothing [] is = tt
   stack_grown x bs (Val r f) (Needs a ∷ k) (ts, cs, next, waits, are, rest) = (ts, cs, next, waits, keeps_grown a ts are, stack_grown x cs next k rest)
-  stack_grown x bs (PlaceOf t f) (NeedsPlace a ∷ k) (next, waits, rest) = (next, waits, stack_grown x bs next k rest)
+  stack_grown x bs (PlaceOf t f) (NeedsPlace a ∷ k) (next, waits, keeps, rest) = (next, waits, keeps_place_grown bs a t f keeps, stack_grown x bs next k rest)
   stack_grown x bs (Val r f) (Discard ∷ k) is = stack_grown x bs (Go f) k is
   stack_grown x bs (Go f) (Discard ∷ k) is = stack_grown x bs (Go f) k is
   stack_grown x bs (Go f) (Rest js ∷ k) (cs, c, end, within, stands, continues, rest) = (cs, c, end, within, stands, continues, stack_grown x cs (Go end) k rest)

@@ -135,7 +135,7 @@ module _ (p : Program) (g : Typing) (e : Environment) (w : World) (typed : IsTyp
     throws_on (Needs a ∷ k) tag value (Val r f) nests live (ts, cs, next, waits, are, stack) =
         let within = waits_within waits in
         running p g x cs e w typed globals (within_bound e cs bs within bound) (within_variables g cs bs within variables) (Throwing tag value) k (within_live (ends_of k) cs bs within live) (next, stack)
-    throws_on (NeedsPlace a ∷ k) tag value (PlaceOf t f) nests live (next, waits, stack) = on (Throwing tag value) k live (next, stack)
+    throws_on (NeedsPlace a ∷ k) tag value (PlaceOf t f) nests live (next, waits, keeps, stack) = on (Throwing tag value) k live (next, stack)
     throws_on (Discard ∷ k) tag value (Val r f) nests live stack = on (Throwing tag value) k live (Go f, stack)
     throws_on (Discard ∷ k) tag value (Go f) nests live stack = on (Throwing tag value) k live (Go f, stack)
     throws_on (Rest js ∷ k) tag value (Go f) nests live (cs, c, h, within, stands, rest, stack) =

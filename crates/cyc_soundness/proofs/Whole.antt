@@ -18,7 +18,7 @@ use Rattle.cyc_types.specs.flow.States as flow
 use Rattle.cyc_types.specs.flow.States.{is_reached}
 use Rattle.cyc_types.specs.flow.Programs.{end_demanded, rule_functions, IsAllowedProgram}
 use Rattle.cyc_meaning.specs.Values as values
-use Rattle.cyc_meaning.specs.State.{World, Object, Environment, no_locals, first_world, global_object, constant_value, Entry, Needs, NeedsPlace, Discard, Main, Focus, Evaluating, Locating, Given, GivenPlace, Writing, Beginning, Repeating, Executing, Proceeding, Calling, Entering, Binding, Naming, Breaking, Continuing, Returning, Throwing, Catching, State, Running, Ended, Dead, Wrong, GoesOn, HasEnded, IsDead, IsWrong, status_of}
+use Rattle.cyc_meaning.specs.State.{World, Object, Environment, no_locals, first_world, global_object, constant_value, Entry, Needs, NeedsPlace, Discard, Main, Focus, Evaluating, Locating, Given, GivenPlace, Writing, Swapping, Beginning, Repeating, Executing, Proceeding, Calling, Entering, Binding, Naming, Breaking, Continuing, Returning, Throwing, Catching, State, Running, Ended, Dead, Wrong, GoesOn, HasEnded, IsDead, IsWrong, status_of}
 use Rattle.cyc_meaning.specs.Parts.{wrong}
 use Rattle.cyc_meaning.specs.Nesting.{ends_of, IsNested, Nests}
 use Rattle.cyc_meaning.specs.Places.{step_given_place}
@@ -37,6 +37,7 @@ use Rattle.cyc_soundness.proofs.BuiltLemmas.{built_kept}
 use Rattle.cyc_soundness.proofs.StackLemmas.{AreAccepted}
 use Rattle.cyc_soundness.proofs.Cells.{running}
 use Rattle.cyc_soundness.proofs.Objects.{begin_array, repeat_on, write_on}
+use Rattle.cyc_soundness.proofs.Swapping.{swapped_on, swapping_on}
 use Rattle.cyc_soundness.proofs.Places.{locate, place_given}
 use Rattle.cyc_soundness.proofs.Evaluation.{not_true, of_map, evaluate}
 use Rattle.cyc_soundness.proofs.Supply.{given, declares_full}
@@ -54,7 +55,7 @@ module _ (p : Program) (accepted : AreAccepted p) (e : Environment) (w : World) 
 
   place_on : (place : values.Value) (k : List Entry) (t : RunTy) (f : flow.State) → IsNested k e w → LiveIn (ends_of k) bs → Holds g f bs → HasType g (pointer marks.NonNull t) place → IsStack p g x bs (PlaceOf t f) k
       → IsWell p (step_given_place place k e w)
-  place_on place (NeedsPlace a ∷ k) t f nests live holds has (next, waits, stack) = place_given p g x bs e w objects globals bound variables place k nests.0 live holds has waits stack
+  place_on place (NeedsPlace a ∷ k) t f nests live holds has (next, waits, keeps, stack) = place_given p g x bs e w objects globals bound variables place k nests.0 live holds has waits keeps stack
   place_on place k t f nests live holds has stack = absurd stack
 
   step_well : (focus : Focus) (k : List Entry) → IsNested k e w → LiveIn (ends_of k) bs → IsFocus p g x bs focus k → IsWell p (stepped p focus k e w)
@@ -74,6 +75,9 @@ module _ (p : Program) (accepted : AreAccepted p) (e : Environment) (w : World) 
       locate p g x bs e w objects globals bound variables d k c t f h locates.waiting locates.region live stands holds locates.typed locates.flows locates.kept stack
   step_well (GivenPlace place) k nests live (t, f, holds, has, stack) = place_on place k t f nests live holds has stack
   step_well (Writing these (Some v)) k nests live (t, f, holds, making, stack) = write_on p g x bs e w objects globals bound variables these v t k f live holds making stack
+  step_well (Writing these None) k nests live (f, holds, are, stack) = swapped_on p g x bs e w objects globals bound variables these k f nests.0 live holds are stack
+  step_well (Swapping kind left right before) k nests live (t, f, holds, kind_is, plain, here, there, read_is, stack) =
+      swapping_on p g x bs e w objects globals bound variables kind left right before t k f nests.0 live holds kind_is plain here there read_is stack
   step_well (Beginning owner count level kind element) k nests live (c, t, f, stands, holds, owned, repeats, stack) =
       begin_array p g x bs e w objects globals bound variables owner count level kind element k c t f live stands holds owned repeats stack
   step_well (Repeating object count index level kind element) k nests live (c, t, f, stands, holds, repeats, array, stack) =
@@ -84,7 +88,6 @@ module _ (p : Program) (accepted : AreAccepted p) (e : Environment) (w : World) 
   step_well (Throwing tag value) k nests live (want, stack) = throws_on p g e w objects globals x bs bound variables k tag value want nests live stack
   step_well (Catching tag value cs) k nests live (c, start', f, h, stands, holds, catches, stack) =
       catch p accepted g x bs e w objects globals bound variables tag value cs k c start' f h catches.before catches.behind live stands holds catches.typed catches.flows catches.breaks catches.kept stack
-  step_well focus k nests live stands = absurd stands
 
 pub well_step : (p : Program) (s : State) → AreAccepted p → Nests s → IsWell p s → IsWell p (step p s)
 well_step p (Running focus k e w) accepted nests well =

@@ -1,10 +1,10 @@
 -- CLASSES OF PROGRAMS that a theorem speaks of. Each is a predicate on typed trees, empty for the nodes that are not in it yet.
 use Rattle.std.specs.Prelude.{List, [], ◌∷◌, Option, Some, None}
-use Rattle.cyc_types.specs.TypedTrees.{Global, Expression, Number, NullPointer, HeapRegion, Counter, Copy, Move, Peek, Load, AddressOf, AddressOfCell, NumberOfElements, Call, Unary, Binary, Assign, Store, New, Dereference, Target, Member, Element, Placement, OnHeap, AsUnique, ByHandle, Initial, Plain, Fields, Array, Converted, Convert, Arguments, NoArguments, MoreArguments, Operations, NoOperations, ThenCompute, ThenTest, ThenPointer, ThenPointerPeek, Statement, Block, Empty, Evaluate, If, While, Return, Break, Continue, Throw, Try, Items, NoItems, MoreItems, Execute, Declare, Clauses, NoClauses, Default, Case, Function, Program}
+use Rattle.cyc_types.specs.TypedTrees.{Global, Expression, Number, NullPointer, HeapRegion, Counter, Copy, Move, Peek, Load, AddressOf, AddressOfCell, NumberOfElements, Call, Unary, Binary, Assign, Store, New, Dereference, Target, Member, Element, Placement, OnHeap, AsUnique, ByHandle, Initial, Plain, Fields, Array, Converted, Convert, Arguments, NoArguments, MoreArguments, Operations, NoOperations, ThenCompute, ThenTest, ThenPointer, ThenPointerPeek, Side, VariableSide, CellSide, Statement, Block, Empty, Evaluate, Swap, If, While, Return, Break, Continue, Throw, Try, Items, NoItems, MoreItems, Execute, Declare, Clauses, NoClauses, Default, Case, Function, Program}
 
 -- Programs in which nothing ends that can be reached: they declare no region, key or alias, give nothing back, and take the address of no
--- local. All types are there, and so are objects in the heap and unique ones, places behind pointers, functions with regions, conversions
--- between all marks, loops and exceptions; swaps are not.
+-- local. All types are there, and so are objects in the heap and unique ones, places behind pointers, swaps, functions with regions,
+-- conversions between all marks, loops and exceptions.
 abbrev mutual
   pub KeepsToHeap : Expression → Type 0
   KeepsToHeap (Number n) = Unit {0}
@@ -63,11 +63,16 @@ abbrev pub InThrown : Option Expression → Type 0
 InThrown None = Unit {0}
 InThrown (Some a) = KeepsToHeap a
 
+abbrev pub InSide : Side → Type 0
+InSide (VariableSide l t) = Unit {0}
+InSide (CellSide d) = InPlace d
+
 abbrev mutual
   pub InStatement : Statement → Type 0
   InStatement (Block r js) = InItems js
   InStatement Empty = Unit {0}
   InStatement (Evaluate a) = KeepsToHeap a
+  InStatement (Swap x y) = InSide x × InSide y
   InStatement (If a s t) = KeepsToHeap a × InStatement s × InStatement t
   InStatement (While p a s) = KeepsToHeap a × InStatement s
   InStatement (Return v) = InValue v
@@ -75,7 +80,6 @@ abbrev mutual
   InStatement Continue = Unit {0}
   InStatement (Throw n v) = InThrown v
   InStatement (Try s cs) = InStatement s × InClauses cs
-  InStatement s = ⊥
 
   pub InItems : Items → Type 0
   InItems NoItems = Unit {0}

@@ -13,27 +13,27 @@ use Rattle.cyc_types.specs.declared.typed.PointerOperator.{PointerOperator}
 use Rattle.cyc_types.specs.declared.typed.UnaryOperator.TheVariants as unary
 use Rattle.cyc_types.specs.Types.{Ty, ValueType, result_type}
 use Rattle.cyc_types.specs.Types as types
-use Rattle.cyc_types.specs.TypedTrees.{Expression, Dereference, Initial, Convert, Arguments, Operations, Statement, Items, Clauses, StructType, GlobalVariable, Function, Program}
-use Rattle.cyc_types.specs.Rules.{Derives}
+use Rattle.cyc_types.specs.TypedTrees.{Expression, Dereference, Initial, Convert, Arguments, Operations, Side, Statement, Items, Clauses, StructType, GlobalVariable, Function, Program}
+use Rattle.cyc_types.specs.Rules.{AllKept, Derives}
 use Rattle.cyc_types.specs.typing.Tests.{is_struct, is_tested, kind_of_mark, kind_of, kind_of_value}
 use Rattle.cyc_types.specs.typing.Expressions.{assigned_type}
-use Rattle.cyc_types.specs.typing.WellTyped.{LocalInScope, Context, WellTyped, IsPeek, IsCell, ArePassed, IsMade, Converts, PointerOperation, IsChain, with_counter, in_body, with_local, WellTypedStatement, WellTypedItems, WellTypedClauses, IsWellTypedFunction, parameters_in_scope}
+use Rattle.cyc_types.specs.typing.WellTyped.{LocalInScope, Context, WellTyped, IsPeek, IsCell, IsSide, ArePassed, IsMade, Converts, PointerOperation, IsChain, with_counter, in_body, with_local, WellTypedStatement, WellTypedItems, WellTypedClauses, IsWellTypedFunction, parameters_in_scope}
 use Rattle.cyc_types.specs.flow.States as flow
 use Rattle.cyc_types.specs.flow.States.{Unreached, Full, with_fullness, is_reached}
 use Rattle.cyc_types.specs.flow.Expressions.{rule, rule_place, rule_initial, rule_arguments, rule_operations}
-use Rattle.cyc_types.specs.flow.Statements.{rule_statement, rule_items, rule_clauses}
+use Rattle.cyc_types.specs.flow.Statements.{rule_side, side_demanded, rule_statement, rule_items, rule_clauses}
 use Rattle.cyc_types.specs.flow.Programs.{start_of, in_function}
 use Rattle.cyc_meaning.specs.Values.{Operand}
 use Rattle.cyc_meaning.specs.Values as values
-use Rattle.cyc_meaning.specs.State.{Owner, Awaiting, ConvertTo, Operate, Chain, Apply, ApplyPointer, Decide, Store, StoreCell, Pass, Follow, FollowMember, Index, Advance, CountElements, PlaceBy, MakePlain, MakeFields, MakeArray, FillElement, Initialise, Choose, Test, Return, ThrowWith, AwaitingPlace, LoadFrom, TakeAddress, StoreTo, Write, Entry, Needs, NeedsPlace, Discard, Rest, Join, Loop, CloseRegion, Handler, Caller, Main, Environment, World, Focus, Evaluating, Locating, Given, GivenPlace, Executing, Proceeding, Calling, Entering, Binding, Naming, Writing, Beginning, Repeating, Breaking, Continuing, Returning, Throwing, Catching, State, Running, Ended, Dead, Wrong}
+use Rattle.cyc_meaning.specs.State.{Owner, Awaiting, ConvertTo, Operate, Chain, Apply, ApplyPointer, Decide, Store, StoreCell, Pass, Follow, FollowMember, Index, Advance, CountElements, PlaceBy, MakePlain, MakeFields, MakeArray, FillElement, Initialise, Choose, Test, Return, ThrowWith, AwaitingPlace, LoadFrom, TakeAddress, StoreTo, SwapLeft, SwapRight, Write, Entry, Needs, NeedsPlace, Discard, Rest, Join, Loop, CloseRegion, Handler, Caller, Main, Environment, World, Focus, Evaluating, Locating, Given, GivenPlace, Executing, Proceeding, Calling, Entering, Binding, Naming, Writing, Swapping, Beginning, Repeating, Breaking, Continuing, Returning, Throwing, Catching, State, Running, Ended, Dead, Wrong}
 use Rattle.cyc_meaning.specs.Allocation.{writes_from}
 use Rattle.cyc_meaning.specs.Parts.{target_of, target_of_value}
 use Rattle.cyc_meaning.specs.Nesting.{ends_of}
 use Rattle.cyc_soundness.specs.Lives.{Life, OfRegion, RunTy, RunValue, Value, read, read_value}
 use Rattle.cyc_soundness.specs.Lives as lives
 use Rattle.cyc_soundness.specs.Worlds.{ObjectType, Typing, IsFilled, IsFull, HasType, IsResult, AreOperands, IsOwner, IsTyped}
-use Rattle.cyc_soundness.specs.Frames.{IsAmong, Bound, InScope, Variable, Level, IsScope, AreBelow, IsBound, AreVariables, LiveIn, Within, Holds, Implies, LoopExit, Exits, around, AreBreaks, is_loop, IsContext, KnowsProgram}
-use Rattle.cyc_soundness.specs.Classes.{KeepsToHeap, InPlace, InInitial, InArguments, InOperations, InStatement, InItems, InClauses}
+use Rattle.cyc_soundness.specs.Frames.{IsAmong, Bound, InScope, Variable, Level, IsScope, AreBelow, IsBound, AreVariables, LiveIn, Within, IsSet, Holds, Implies, LoopExit, Exits, around, AreBreaks, is_loop, IsContext, KnowsProgram}
+use Rattle.cyc_soundness.specs.Classes.{KeepsToHeap, InPlace, InSide, InInitial, InArguments, InOperations, InStatement, InItems, InClauses}
 
 -- ---- trees, with what is known before and behind them
 
@@ -70,6 +70,14 @@ pub record Makes (c : Context) (i : Initial) (m : PointerKind) (t : Ty) (f h : f
   pub typed : IsMade c i m t
   pub flows : Derives (rule_initial waiting i f) h
   pub kept : InInitial i
+
+-- a side of a swap, of this type; what is known is what is known once both places are found
+pub record Finds (c : Context) (y : Side) (f : flow.State) (t : Ty) (h : flow.State) : Type 0 where
+  pub waiting : List ℕ
+  pub typed : IsSide c y t
+  pub flows : Derives (rule_side waiting y f) h
+  pub used : AllKept (side_demanded waiting y h)
+  pub kept : InSide y
 
 -- behind a statement this is known, which is what the breaks in it leave to the loop around
 pub record Executes (x : Exits) (c : Context) (s : Statement) (f h : flow.State) : Type 0 where
@@ -233,6 +241,9 @@ pub data WaitsPlace (p : Program) (x : Exits) (bs : List InScope) : AwaitingPlac
   takes_address : (t : RunTy) (f : flow.State) → WaitsPlace p x bs TakeAddress t f (Val (Value (pointer marks.NonNull t)) f)
   stores_to : {peek : Option ℕ} {from to : Kind} {a : Expression} (c : Context) (v : ValueType) (t : Ty) (f h : flow.State) → IsContext p x bs c → Evaluates c a f v h
       → Converts c v t → from ≡ kind_of_value v → to ≡ kind_of t → WaitsPlace p x bs (StoreTo peek (Convert from to a)) (read t) f (Val (read_value (assigned_type t)) h)
+  swaps_left : {kind : Kind} {peek : Option ℕ} {right : Side} (c : Context) (t : Ty) (f h : flow.State) → IsContext p x bs c → kind ≡ values.kind_of t → is_struct t ≡ false → Finds c right f t h
+      → WaitsPlace p x bs (SwapLeft kind peek right) (read t) f (Go h)
+  swaps_right : {kind : Kind} {peek : Option ℕ} {left : values.Value} (t : Ty) (f : flow.State) → kind ≡ values.kind_of t → WaitsPlace p x bs (SwapRight kind peek left) (read t) f (Go f)
 
 -- ---- arrays
 
@@ -251,6 +262,30 @@ abbrev pub Keeps : Typing → Awaiting → List RunTy → Type 0
 Keeps g (FillElement object count index level kind element) ts = IsArrayOf g ts object count index
 Keeps g a ts = AreOperands g ts (held a)
 
+-- ---- swaps
+
+-- A side of a swap whose place is found: a variable that holds something where this is known, or a cell that a pointer leads to.
+pub data IsSpot (p : Program) (g : Typing) (bs : List InScope) (t : Ty) (f : flow.State) : values.Value → Type 0 where
+  of_local : (b : Bound) → IsAmong (Variable b) bs → b.of_type ≡ read t → IsSet f b.number → IsSpot p g bs t f (values.Thin b.object 0)
+  of_global : (number : ℕ) → slice_get (map (λ (v : GlobalVariable). v.of_type) p.globals) number ≡ Some t → IsSpot p g bs t f (values.Thin number 0)
+  of_cell : (place : values.Value) → HasType g (pointer marks.NonNull (read t)) place → IsSpot p g bs t f place
+
+-- the left place of a swap that waits for the right one, of this type
+abbrev pub KeepsPlace : Program → Typing → List InScope → AwaitingPlace → RunTy → flow.State → Type 0
+KeepsPlace p g bs (SwapRight kind peek left) r f = (t : Ty) × (r ≡ read t) × (is_struct t ≡ false) × IsSpot p g bs t f left
+KeepsPlace p g bs a r f = Unit {0}
+
+-- what was read of the left side
+abbrev pub IsRead : Typing → Ty → Option Operand → Type 0
+IsRead g t None = Unit {0}
+IsRead g t (Some v) = IsResult g (Value (read t)) v
+
+-- each place gets a value of its type
+abbrev pub AreSwapped : Program → Typing → List InScope → flow.State → List Write → Type 0
+AreSwapped p g bs f [] = Unit {0}
+AreSwapped p g bs f (w ∷ ws) =
+    ((t : Ty) × (is_struct t ≡ false) × IsSpot p g bs t f w.place × IsResult g (Value (read t)) w.operand) × AreSwapped p g bs f ws
+
 -- ---- the control stack
 
 -- a function with a result never comes to its end
@@ -262,7 +297,7 @@ abbrev pub IsStack : Program → Typing → Exits → List InScope → Want → 
 IsStack p g x bs Nothing [] = Unit {0}
 IsStack p g x bs (Val r f) (Needs a ∷ k) =
     (ts : List RunTy) × (cs : List InScope) × (next : Want) × Waits p x bs a ts r f cs next × Keeps g a ts × IsStack p g x cs next k
-IsStack p g x bs (PlaceOf t f) (NeedsPlace a ∷ k) = (next : Want) × WaitsPlace p x bs a t f next × IsStack p g x bs next k
+IsStack p g x bs (PlaceOf t f) (NeedsPlace a ∷ k) = (next : Want) × WaitsPlace p x bs a t f next × KeepsPlace p g bs a t f × IsStack p g x bs next k
 IsStack p g x bs (Val r f) (Discard ∷ k) = IsStack p g x bs (Go f) k
 IsStack p g x bs (Go f) (Discard ∷ k) = IsStack p g x bs (Go f) k
 -- the locals that a block declares are out of scope behind its items
@@ -338,6 +373,9 @@ IsFocus p g x bs (GivenPlace place) k =
     (t : RunTy) × (f : flow.State) × Holds g f bs × HasType g (pointer marks.NonNull t) place × IsStack p g x bs (PlaceOf t f) k
 IsFocus p g x bs (Writing writes (Some v)) k =
     (t : RunTy) × (f : flow.State) × Holds g f bs × IsMaking g writes v t × IsStack p g x bs (Val (Value (pointer marks.NonNull t)) f) k
+IsFocus p g x bs (Writing writes None) k = (f : flow.State) × Holds g f bs × AreSwapped p g bs f writes × IsStack p g x bs (Go f) k
+IsFocus p g x bs (Swapping kind left right before) k =
+    (t : Ty) × (f : flow.State) × Holds g f bs × (kind ≡ values.kind_of t) × (is_struct t ≡ false) × IsSpot p g bs t f left × IsSpot p g bs t f right × IsRead g t before × IsStack p g x bs (Go f) k
 IsFocus p g x bs (Beginning owner count level kind element) k =
     (c : Context) × (t : Ty) × (f : flow.State) × IsContext p x bs c × Holds g f bs × IsOwner (OfRegion 0) owner × Repeats c level kind element t f × IsStack p g x bs (Val (Value (pointer marks.Fat (read t))) f) k
 IsFocus p g x bs (Repeating object count index level kind element) k =
@@ -362,7 +400,6 @@ IsFocus p g x bs (Returning v) k = (f : flow.State) × IsReturn g x.result v × 
 IsFocus p g x bs (Throwing tag value) k = (w : Want) × IsStack p g x bs w k
 IsFocus p g x bs (Catching tag value cs) k =
     (c : Context) × (start f h : flow.State) × IsContext p x bs c × Holds g start bs × Catches x c start cs f h × IsStack p g x bs (Go h) k
-IsFocus p g x bs focus k = ⊥
 
 pub record IsRunning (p : Program) (focus : Focus) (k : List Entry) (e : Environment) (w : World) : Type 0 where
   pub typing : Typing
