@@ -27,25 +27,30 @@ view_state (states.Reached v) = Reached (map view_fullness v.items)
 -- the fault that is answered
 abbrev pub fault_of : Stop → Fault
 fault_of stops.Memory = memory_fault
-fault_of (stops.Refused x) = x
+fault_of (stops.Refused x n) = x
 
 -- A refusal of the code is the rule's. When memory runs out, nothing is said.
 abbrev pub Stops : {Y : Type 0} → Stop → Checked Y → Type 0
 Stops stops.Memory checked = Unit {0}
-Stops (stops.Refused x) checked = checked ≡ Err x
+Stops (stops.Refused x n) checked = checked ≡ Err x
 
 -- The code goes on where no fault is known, and else stops with it: never for want of memory.
 abbrev pub Ends : Result (Unit {0}) Stop → Option Fault → Type 0
 Ends (Ok u) fault = fault ≡ None
 Ends (Err stops.Memory) fault = ⊥
-Ends (Err (stops.Refused x)) fault = fault ≡ Some x
+Ends (Err (stops.Refused x n)) fault = fault ≡ Some x
 
 -- The code goes on where the rule is kept.
 abbrev pub Allows : Result (Unit {0}) Stop → Checked (Unit {0}) → Type 0
 Allows (Ok u) checked = checked ≡ Ok tt
 Allows (Err e) checked = Stops e checked
 
--- What the code knows behind an expression is what the rule says is known there, and these locals are touched.
+-- What is known behind an expression is what the rule says is known there, and these locals are touched.
+abbrev pub Leads : Result (Unit {0}) Stop → (behind : Tracked) → Checked State → List ℕ → Type 0
+Leads (Ok u) t checked ns = (checked ≡ Ok (view_state t.state)) × (t.touched.items ≡ ns)
+Leads (Err e) t checked ns = Stops e checked
+
+-- The same where what is known is handed on.
 abbrev pub Gives : Result Tracked Stop → Checked State → List ℕ → Type 0
 Gives (Ok t) checked ns = (checked ≡ Ok (view_state t.state)) × (t.touched.items ≡ ns)
 Gives (Err e) checked ns = Stops e checked
