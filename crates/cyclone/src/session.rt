@@ -6,7 +6,9 @@ use crate::arguments::Request;
 use crate::console::{Keyboard, Screen};
 use crate::excerpt::Shown;
 use crate::files::{read_image, read_text, write_image};
+use crate::flow_cause::cause_of;
 use crate::message::Message;
+use crate::refusal::words_for;
 use crate::unbuilt::first_unbuilt;
 use crate::work::{check, list_image, run_image};
 use clap::error::ErrorKind;
@@ -33,6 +35,8 @@ fn report_refusal(rt: &HostRuntime, name: &str, text: &[u8], fault: Fault) -> An
             text,
             fault,
             unbuilt,
+            words: words_for(rt.alloc(), text, fault),
+            cause: cause_of(rt.alloc(), text, fault),
         };
         let _ = rt.eprint(message);
     }
