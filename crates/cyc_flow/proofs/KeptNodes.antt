@@ -76,7 +76,7 @@ module _ (statement : Stmt) (region : ℕ) (v : Vec ItemCode Heap) (is : stateme
 gives_known : (r : Result Tracked Stop) (checked : Checked State) (ns : List ℕ) (breaks : State) → Gives r checked ns → GivesKnown r (and_then checked (λ f. Ok (known f breaks))) ns breaks
 gives_known (Ok t) checked ns breaks (h, k) = (ap (λ (o : Checked State). and_then o (λ f. Ok (known f breaks))) h, k)
 gives_known (Err stops.Memory) checked ns breaks h = tt
-gives_known (Err (stops.Refused x)) checked ns breaks h = ap (λ (o : Checked State). and_then o (λ f. Ok (known f breaks))) h
+gives_known (Err (stops.Refused x n)) checked ns breaks h = ap (λ (o : Checked State). and_then o (λ f. Ok (known f breaks))) h
 
 module _ (statement : Stmt) (x y : SideCode) (is : statement ≡ stmt.Swap x y) (r : Result Tracked Stop) (c : Around) (f : State) (ns : List ℕ) (breaks : State) where
   pub kept_swap : Gives r (run (rule_swapped (view_side x) (view_side y) f)) (touched_side (view_side y) (touched_side (view_side x) ns))

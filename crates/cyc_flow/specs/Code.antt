@@ -27,18 +27,18 @@ view_state (states.Reached v) = Reached (map view_fullness v.items)
 -- the fault that is answered
 abbrev pub fault_of : Stop → Fault
 fault_of stops.Memory = memory_fault
-fault_of (stops.Refused x) = x
+fault_of (stops.Refused x n) = x
 
 -- A refusal of the code is the rule's. When memory runs out, nothing is said.
 abbrev pub Stops : {Y : Type 0} → Stop → Checked Y → Type 0
 Stops stops.Memory checked = Unit {0}
-Stops (stops.Refused x) checked = checked ≡ Err x
+Stops (stops.Refused x n) checked = checked ≡ Err x
 
 -- The code goes on where no fault is known, and else stops with it: never for want of memory.
 abbrev pub Ends : Result (Unit {0}) Stop → Option Fault → Type 0
 Ends (Ok u) fault = fault ≡ None
 Ends (Err stops.Memory) fault = ⊥
-Ends (Err (stops.Refused x)) fault = fault ≡ Some x
+Ends (Err (stops.Refused x n)) fault = fault ≡ Some x
 
 -- The code goes on where the rule is kept.
 abbrev pub Allows : Result (Unit {0}) Stop → Checked (Unit {0}) → Type 0

@@ -1,11 +1,12 @@
 //! The flow check of a program.
-ghost use Rattle.std.specs.Prelude.{◌≡◌, map, None, IfOk};
+ghost use Rattle.std.specs.Prelude.{◌≡◌, map, None, Err, IfOk, IfSome};
 ghost use Rattle.cyc_words.specs.Decision.{Decides};
 ghost use Rattle.cyc_types.specs.TypedTreeView.{view_function, view_program};
 ghost use Rattle.cyc_types.specs.Rules.{settled, run};
-ghost use Rattle.cyc_types.specs.flow.Programs.{start_of, end_demanded, rule_function, rule_functions, IsAllowedProgram, IsStoppedProgram};
+ghost use Rattle.cyc_types.specs.flow.Programs.{start_of, end_demanded, rule_function, rule_functions, rule_program, IsAllowedProgram, IsStoppedProgram};
 ghost use Rattle.cyc_flow.specs.Code.{view_state, Ends, Allows};
 
+use crate::cause::{Cause, find_cause};
 use crate::expressions::Tracked;
 use crate::settled::Settled;
 use crate::state::{Fullness, State, add};
@@ -35,6 +36,26 @@ pub fn flow(alloc: Global, tree: TypedTree) -> Result<Flowed, Fault>
 {
     check_functions(alloc, &tree.functions)?;
     Ok(Flowed { tree })
+}
+
+/// A fault of flow, and where the variable of which it speaks came to be as it is, if there is such a place.
+#[derive(Clone, Copy, Debug, PartialEq, Eq)]
+pub struct Explained {
+    pub fault: Fault,
+    pub cause: Option<Cause>,
+}
+
+/// The first fault of a typed tree that `flow` refuses, for a person: none of one that keeps the flow rules, nor where memory runs out.
+pub fn explain(alloc: Global, tree: &TypedTree) -> Option<Explained>
+    ensures { IfSome result (λ e. run (rule_program (view_program tree.now)) ≡ Err e.fault) }
+{
+    match check_functions(alloc, &tree.functions) {
+        Err(Stop::Refused { fault, number }) => Some(Explained {
+            fault,
+            cause: find_cause(&tree.functions, fault, number),
+        }),
+        _ => None,
+    }
 }
 
 #[tactic(auto, using(std::proofs::lemmas::List::drop_more))]
@@ -77,6 +98,6 @@ fn check_end(function: &Function, state: &State) -> Result<(), Stop>
         return Ok(());
     }
     let mut settled = Settled::new();
-    settled.demand(Code::MissingReturn, function.end, !state.is_reached());
+    settled.demand(Code::MissingReturn, function.end, 0, !state.is_reached());
     settled.end()
 }

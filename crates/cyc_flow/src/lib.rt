@@ -1,8 +1,10 @@
 //! The flow check: whether a typed tree keeps the flow rules, by what is known of each local at each place.
 #![tactic(auto)]
 
-pub use check::{Flowed, flow};
+pub use cause::{Cause, Change};
+pub use check::{Explained, Flowed, explain, flow};
 
+mod cause;
 mod check;
 mod expressions;
 mod settled;

@@ -13,16 +13,21 @@ use cyc_words::{Code, Fault, Span};
 pub(crate) struct Settled {
     /// The fault so far.
     known: Option<Fault>,
+    /// The local of which it speaks, if it speaks of one. No rule depends on it.
+    number: usize,
 }
 
 impl Settled {
     pub(crate) fn new() -> Settled
         ensures { result.known ≡ None }
     {
-        Settled { known: None }
+        Settled {
+            known: None,
+            number: 0,
+        }
     }
 
-    pub(crate) fn demand(&mut self, code: Code, span: Span, kept: bool)
+    pub(crate) fn demand(&mut self, code: Code, span: Span, number: usize, kept: bool)
         ensures { self.new.known ≡ noted self.old.known (demand code (place_of_span span) kept) }
     {
         if kept {
@@ -38,6 +43,7 @@ impl Settled {
             line: span.line,
             column: span.column,
         });
+        self.number = number;
     }
 
     /// That the local which is named here holds a value that is not lent out.
@@ -45,8 +51,8 @@ impl Settled {
         ensures { self.new.known ≡ settled self.old.known (full_demanded (place_of_span span) number (view_state state.now)) }
     {
         let fullness = state.fullness(number);
-        self.demand(Code::EmptyVariable, span, !fullness.is_vacant());
-        self.demand(Code::LockedVariable, span, !fullness.is_locked());
+        self.demand(Code::EmptyVariable, span, number, !fullness.is_vacant());
+        self.demand(Code::LockedVariable, span, number, !fullness.is_locked());
     }
 
     /// The same, and that no peek of it waits.
@@ -54,7 +60,12 @@ impl Settled {
         ensures { self.new.known ≡ settled self.old.known (use_demanded waiting.now (place_of_span span) number (view_state state.now)) }
     {
         self.look(state, span, number);
-        self.demand(Code::LockedVariable, span, state.is_free(waiting, number));
+        self.demand(
+            Code::LockedVariable,
+            span,
+            number,
+            state.is_free(waiting, number),
+        );
     }
 
     /// That the local which is assigned here is not lent out, and that no peek of it waits.
@@ -71,6 +82,7 @@ impl Settled {
         self.demand(
             Code::LockedVariable,
             span,
+            number,
             !is_lent && state.is_free(waiting, number),
         );
     }
@@ -79,7 +91,9 @@ impl Settled {
     pub(crate) fn go_on(&mut self, state: &State, head: &State, span: Span)
         ensures { self.new.known ≡ settled self.old.known (head_demanded (place_of_span span) (view_state state.now) (view_state head.now)) }
     {
-        self.demand(Code::LoopEmptiesVariable, span, state.is_at_least(head));
+        let kept = state.is_at_least(head);
+        let number = if kept { 0 } else { state.first_emptier(head) };
+        self.demand(Code::LoopEmptiesVariable, span, number, kept);
     }
 
     /// Whether all demands were kept.
@@ -87,7 +101,10 @@ impl Settled {
         ensures { Ends result self.now.known }
     {
         match self.known {
-            Some(fault) => Err(Stop::Refused(fault)),
+            Some(fault) => Err(Stop::Refused {
+                fault,
+                number: self.number,
+            }),
             None => Ok(()),
         }
     }

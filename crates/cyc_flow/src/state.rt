@@ -141,6 +141,19 @@ impl State {
         }
     }
 
+    /// The first local that is emptier here than there, or 0 where none is: only what is said to a person depends on it.
+    pub(crate) fn first_emptier(&self, other: &State) -> usize {
+        let (State::Reached(here), State::Reached(there)) = (self, other) else {
+            return 0;
+        };
+        for i in 0..here.len().min(there.len()) {
+            if !here[i].is_as_full(there[i]) {
+                return i;
+            }
+        }
+        0
+    }
+
     pub(crate) fn copy(&self, alloc: Global) -> Result<State, AllocError>
         ensures { IfOk result (λ s. view_state s ≡ view_state self.now) }
     {

@@ -10,7 +10,8 @@ use std::alloc::{AllocError, AllocFailed};
 pub(crate) enum Stop {
     /// An allocation was refused.
     Memory,
-    Refused(Fault),
+    /// With the number of the local of which the rule speaks, if it speaks of one.
+    Refused { fault: Fault, number: usize },
 }
 
 impl From<AllocError> for Stop {
@@ -35,7 +36,7 @@ impl From<Stop> for Fault {
     fn from(stop: Stop) -> Fault {
         match stop {
             Stop::Memory => Fault::memory(),
-            Stop::Refused(fault) => fault,
+            Stop::Refused { fault, .. } => fault,
         }
     }
 }

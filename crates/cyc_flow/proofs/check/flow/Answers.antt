@@ -20,7 +20,7 @@ allows t fs same h = answers_tree (rule_program (view_program t)) tt (ap (λ (gs
 
 fails : (t : TypedTree) (fs : List Function) (e : Stop) → fs ≡ t.functions.items → Stops e (run (rule_functions (map view_function fs))) → (fault_of e ≡ memory_fault) ⊎ IsStoppedProgram (view_program t) (fault_of e)
 fails t fs stops.Memory same h = inl refl
-fails t fs (stops.Refused x) same h = inr (answers_fault (rule_program (view_program t)) x (ap (λ (gs : List Function). run (rule_functions (map view_function gs))) (sym same) ∙ h))
+fails t fs (stops.Refused x n) same h = inr (answers_fault (rule_program (view_program t)) x (ap (λ (gs : List Function). run (rule_functions (map view_function gs))) (sym same) ∙ h))
 
 pub invariant_of-result : goal.invariant_of-result
 invariant_of-result c = record { allowed = ∣ allows c.args.tree c.deref.result.now c.deref.ensures.value c.in_ok-check_functions.ensures ∣₁ }

@@ -24,6 +24,6 @@ pub apply_operation-returns-in_ok-tracked-in-Binary : goal.apply_operation-retur
 apply_operation-returns-in_ok-tracked-in-Binary t c =
     let h = c.in_ok-tracked-in-Binary.ensures in
     let P : Operation → Type 0 =
-        λ o. Gives c.apply_operations.result (run (rule_operation c.args.waiting.now o (view_state c.args.self.state))) (touched_operation o c.args.self.touched.items) in
+    λ o. Gives c.apply_operations.result (run (rule_operation c.args.waiting.now o (view_state c.args.self.state))) (touched_operation o c.args.self.touched.items) in
     subst P (sym c.in-Compute.is)
     (kept_binary c.in-Compute.operand c.in-Binary.first c.in-Binary.rest c.in-Binary.of_type c.in-Binary.is c.deref.result.now c.deref.ensures c.deref-in-Binary.result.now c.deref-in-Binary.ensures.value c.apply_operations.result c.args.waiting.now (view_state c.args.self.state) (view_state c.in_ok-tracked-in-Binary.tracked.state) c.args.self.touched.items c.in_ok-tracked-in-Binary.tracked.touched.items h.0 h.1 c.apply_operations.ensures)
