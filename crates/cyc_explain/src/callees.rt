@@ -34,7 +34,16 @@ fn homes_of(walk: &Walk<'_, '_>, function: Ident) -> Option<Vec<Home>> {
     parameter_homes(alloc, &names, members(parameters), &signature.parameters).ok()
 }
 
-/// The words for a region of a callee, and what it is at the call.
+/// What words name where these are the regions of a callee.
+fn names_of<'a>(walk: &'a Walk<'_, '_>, homes: &'a [Home]) -> Named<'a> {
+    Named {
+        alloc: walk.scope.alloc(),
+        tree: walk.tree,
+        homes,
+    }
+}
+
+/// What a region variable of a callee is at the call.
 fn say_here(
     words: &mut Vec<u8>,
     callee: Named<'_>,
@@ -42,10 +51,47 @@ fn say_here(
     caller: Named<'_>,
     here: Region,
 ) -> Result<(), AllocError> {
-    callee.say_region(words, region)?;
-    say(words, " is ")?;
-    caller.say_region(words, here)?;
-    say(words, " here")
+    match region {
+        Region::Heap | Region::Unique => Ok(()),
+        Region::Variable(_) => {
+            say(words, ", and ")?;
+            callee.say_region(words, region)?;
+            say(words, " is ")?;
+            caller.say_region(words, here)?;
+            say(words, " here")
+        }
+    }
+}
+
+/// A constraint of a callee, as its head names its regions, and what these are at the call.
+fn say_constraint(
+    words: &mut Vec<u8>,
+    callee: Named<'_>,
+    own: (Region, Region),
+    caller: Named<'_>,
+    here: (Region, Region),
+) -> Result<(), AllocError> {
+    say(words, " has the constraint ")?;
+    callee.say_region(words, own.0)?;
+    say(words, " > ")?;
+    callee.say_region(words, own.1)?;
+    say_here(words, callee, own.0, caller, here.0)?;
+    say_here(words, callee, own.1, caller, here.1)
+}
+
+/// A constraint that does not hold at a call.
+fn say_broken(
+    walk: &Walk<'_, '_>,
+    words: &mut Vec<u8>,
+    function: Ident,
+    callee: Named<'_>,
+    own: (Region, Region),
+    here: (Region, Region),
+) -> Result<(), AllocError> {
+    let caller = walk.named();
+    caller.say_name(words, function.name.number)?;
+    say_constraint(words, callee, own, caller, here)?;
+    walk.say_shorter(words, here.0, here.1)
 }
 
 /// The words for the first constraint that a call does not keep, where that is the fault.
@@ -59,28 +105,13 @@ pub(crate) fn explain_constraint(
         return None;
     }
     let homes = homes_of(walk, function)?;
-    let caller = walk.named();
-    let callee = Named {
-        alloc: caller.alloc,
-        tree: caller.tree,
-        homes: homes.as_slice(),
-    };
+    let callee = names_of(walk, &homes);
     for i in 0..here.constraints.len() {
         let (longer, shorter) = here.constraints[i];
-        let (own_longer, own_shorter) = *signature.constraints.get(i)?;
+        let own = *signature.constraints.get(i)?;
         if !walk.scope.outlives(longer, shorter) {
             let mut words = walk.words();
-            let out = &mut words;
-            caller.say_name(out, function.name.number).ok()?;
-            say(out, " has the constraint ").ok()?;
-            callee.say_region(out, own_longer).ok()?;
-            say(out, " > ").ok()?;
-            callee.say_region(out, own_shorter).ok()?;
-            say(out, ", and ").ok()?;
-            say_here(out, callee, own_longer, caller, longer).ok()?;
-            say(out, ", ").ok()?;
-            say_here(out, callee, own_shorter, caller, shorter).ok()?;
-            walk.say_shorter(out, longer, shorter).ok()?;
+            say_broken(walk, &mut words, function, callee, own, (longer, shorter)).ok()?;
             return Some(words);
         }
     }
@@ -88,7 +119,11 @@ pub(crate) fn explain_constraint(
 }
 
 /// The effect of a callee, as its head names its regions.
-fn say_effect(words: &mut Vec<u8>, callee: Named<'_>, effect: &[Region]) -> Result<(), AllocError> {
+fn say_effect(
+    words: &mut Vec<u8>,
+    callee: Named<'_>,
+    effect: &[Region],
+) -> Result<(), AllocError> {
     say(words, "{")?;
     for i in 0..effect.len() {
         if i > 0 {
@@ -97,6 +132,26 @@ fn say_effect(words: &mut Vec<u8>, callee: Named<'_>, effect: &[Region]) -> Resu
         callee.say_region(words, effect[i])?;
     }
     say(words, "}")
+}
+
+/// A region of a callee's effect that is not live at a call.
+fn say_not_live(
+    walk: &Walk<'_, '_>,
+    words: &mut Vec<u8>,
+    function: Ident,
+    callee: Named<'_>,
+    effect: &[Region],
+    own: Region,
+    here: Region,
+) -> Result<(), AllocError> {
+    let caller = walk.named();
+    say(words, "the effect of ")?;
+    caller.say_name(words, function.name.number)?;
+    say(words, " is ")?;
+    say_effect(words, callee, effect)?;
+    say_here(words, callee, own, caller, here)?;
+    say(words, "\n")?;
+    walk.say_closed(words, here)
 }
 
 /// The words for the first region of a callee's effect that is not live, where that is the fault.
@@ -110,26 +165,14 @@ pub(crate) fn explain_effect(
         return None;
     }
     let homes = homes_of(walk, function)?;
-    let caller = walk.named();
-    let callee = Named {
-        alloc: caller.alloc,
-        tree: caller.tree,
-        homes: homes.as_slice(),
-    };
+    let callee = names_of(walk, &homes);
     for i in 0..here.effect.len() {
         let region = here.effect[i];
         let own = *signature.effect.get(i)?;
         if !walk.scope.is_live(region) {
             let mut words = walk.words();
-            let out = &mut words;
-            say(out, "the effect of ").ok()?;
-            caller.say_name(out, function.name.number).ok()?;
-            say(out, " is ").ok()?;
-            say_effect(out, callee, &signature.effect).ok()?;
-            say(out, ", and ").ok()?;
-            say_here(out, callee, own, caller, region).ok()?;
-            say(out, "\n").ok()?;
-            walk.say_closed(out, region).ok()?;
+            let effect = &signature.effect;
+            say_not_live(walk, &mut words, function, callee, effect, own, region).ok()?;
             return Some(words);
         }
     }

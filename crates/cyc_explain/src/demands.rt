@@ -1,6 +1,6 @@
 //! Words for the demands that a fault can be of.
 use crate::homes::{Home, Origin, find_home};
-use crate::position::{is_at, is_from};
+use crate::position::{is_fault, is_from};
 use crate::words::{Named, say, say_place};
 use cyc_forms::types::is_struct;
 use cyc_forms::{Given, convert};
@@ -34,7 +34,7 @@ impl Walk<'_, '_> {
 
     /// Whether the fault is this one.
     pub(crate) fn is_fault(&self, code: Code, span: Span) -> bool {
-        self.fault.code == code && is_at(self.fault, span)
+        is_fault(self.fault, code, span)
     }
 
     pub(crate) fn words(&self) -> Vec<u8> {
@@ -67,10 +67,7 @@ impl Walk<'_, '_> {
 
     /// What is said about a name.
     pub(crate) fn about(&self, name: Ident, text: &str) -> Option<Vec<u8>> {
-        let mut words = self.words();
-        self.named().say_name(&mut words, name.name.number).ok()?;
-        say(&mut words, text).ok()?;
-        Some(words)
+        self.named().about(name, text)
     }
 
     /// The words for a cell of this type that is read at this place, where the fault is that it is a struct.

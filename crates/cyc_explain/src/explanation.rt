@@ -4,7 +4,7 @@ ghost use Rattle.cyc_words.specs.Fault.{memory_fault};
 ghost use Rattle.cyc_syntax.specs.TreeView.{view_declaration};
 ghost use Rattle.cyc_types.specs.typing.Programs.{IsRefusedProgram};
 
-use crate::declarations::explain_global;
+use crate::declarations::explain_head;
 use crate::demands::Walk;
 use crate::homes::{Home, Origin, parameter_homes};
 use crate::position::is_from;
@@ -42,31 +42,36 @@ fn explain_fault(alloc: Global, tree: &Tree, fault: Fault) -> Explained
     Explained { fault, words }
 }
 
-/// The words for a fault in the value of a global, or in the body of a function.
+/// The words for a fault in a declaration.
+fn words_at(
+    alloc: Global,
+    tree: &Tree,
+    declaration: &Declaration,
+    fault: Fault,
+) -> Option<Vec<u8>> {
+    if let Declaration::Function {
+        result,
+        name,
+        parameters,
+        body,
+    } = declaration
+    {
+        if is_from(fault, body.span) && !is_from(fault, body.end) {
+            return words_in(alloc, tree, result, *name, parameters, body, fault);
+        }
+    }
+    let named = Named {
+        alloc,
+        tree,
+        homes: &[],
+    };
+    explain_head(named, declaration, fault)
+}
+
 fn words_for(alloc: Global, tree: &Tree, fault: Fault) -> Option<Vec<u8>> {
     for declaration in &tree.declarations {
-        match declaration {
-            Declaration::Global { of_type, value, .. } => {
-                let named = Named {
-                    alloc,
-                    tree,
-                    homes: &[],
-                };
-                if let Some(words) = explain_global(named, of_type, *value, fault) {
-                    return Some(words);
-                }
-            }
-            Declaration::Function {
-                result,
-                name,
-                parameters,
-                body,
-            } => {
-                if is_from(fault, body.span) && !is_from(fault, body.end) {
-                    return words_in(alloc, tree, result, *name, parameters, body, fault);
-                }
-            }
-            Declaration::Struct { .. } | Declaration::Exceptions { .. } => {}
+        if let Some(words) = words_at(alloc, tree, declaration, fault) {
+            return Some(words);
         }
     }
     None

@@ -2,7 +2,6 @@
 use crate::callees::{explain_constraint, explain_effect};
 use crate::demands::Walk;
 use crate::instance::at_call;
-use crate::words::{say, say_count, say_number};
 use cyc_expressions::{check_expression, check_looked, check_place};
 use cyc_forms::types::is_struct;
 use cyc_forms::{
@@ -22,6 +21,7 @@ const COMPARED: &str = "two ints, two thin pointers to one type, or a pointer an
 pub(crate) fn explain_own(walk: &mut Walk<'_, '_>, expression: &Expr) -> Option<Vec<u8>> {
     match expression {
         Expr::Variable { name } => explain_name(walk, *name),
+        Expr::FreeKey { key, .. } => explain_name(walk, *key),
         Expr::Call {
             function,
             arguments,
@@ -81,7 +81,7 @@ fn has_members(given: Given<'_>) -> bool {
 }
 
 /// A name that is no value.
-fn explain_name(walk: &Walk<'_, '_>, name: Ident) -> Option<Vec<u8>> {
+pub(crate) fn explain_name(walk: &Walk<'_, '_>, name: Ident) -> Option<Vec<u8>> {
     let Meaning::Routine { .. } = walk.scope.meaning(name) else {
         return None;
     };
@@ -340,13 +340,7 @@ fn explain_count(
     if wanted == found || !walk.is_fault(Code::TypeMismatch, span) {
         return None;
     }
-    let alloc = walk.scope.alloc();
-    let mut words = walk.words();
-    say(&mut words, "expected ").ok()?;
-    say_count(&mut words, alloc, wanted, one, many).ok()?;
-    say(&mut words, ", found ").ok()?;
-    say_number(&mut words, alloc, found).ok()?;
-    Some(words)
+    walk.named().counted(wanted, found, one, many)
 }
 
 /// What types ask of the values that are passed to them.
@@ -426,7 +420,7 @@ pub(crate) fn explain_fields(
 }
 
 /// The words for too many or too few region arguments.
-pub(crate) fn explain_regions(
+fn explain_regions(
     walk: &Walk<'_, '_>,
     span: Span,
     count: usize,

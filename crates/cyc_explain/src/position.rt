@@ -1,11 +1,16 @@
 //! Where a fault stands.
 use cyc_forms::span_of;
 use cyc_syntax::{Item, Stmt};
-use cyc_words::{Fault, Span};
+use cyc_words::{Code, Fault, Span};
 
 /// Whether the fault stands at this place.
-pub(crate) fn is_at(fault: Fault, span: Span) -> bool {
+fn is_at(fault: Fault, span: Span) -> bool {
     fault.line == span.line && fault.column == span.column
+}
+
+/// Whether the fault is this one.
+pub(crate) fn is_fault(fault: Fault, code: Code, span: Span) -> bool {
+    fault.code == code && is_at(fault, span)
 }
 
 /// Whether the fault stands at this place or behind it.

@@ -2,7 +2,7 @@
 use crate::declarations::explain_type;
 use crate::demands::Walk;
 use crate::expressions::explain_expression;
-use crate::forms::explain_test;
+use crate::forms::{explain_name, explain_test};
 use crate::homes::{Home, Origin};
 use crate::position::{is_from, start_of, start_of_item};
 use cyc_expressions::{check_expression, check_place};
@@ -39,13 +39,14 @@ fn explain_item(walk: &mut Walk<'_, '_>, item: &Item) -> Option<Vec<u8>> {
             value: Some(value),
             ..
         } if is_from(walk.fault, span_of(value)) => explain_initial_value(walk, of_type, value),
-        Item::Local { of_type, .. } => explain_type(walk, of_type),
+        Item::Local { of_type, .. } => explain_type(walk.named(), of_type, walk.fault),
         Item::Alias {
             region,
             of_type,
             source,
             ..
         } => explain_alias(walk, *region, of_type, *source),
+        Item::Region { key: Some(key), .. } => explain_name(walk, *key),
         Item::Region { .. } | Item::DynamicRegion { .. } => None,
     }
 }
@@ -293,11 +294,11 @@ fn explain_alias(
     source: Ident,
 ) -> Option<Vec<u8>> {
     let own = open_region(walk, ScopeKind::Alias, region)?;
-    if let Some(words) = explain_type(walk, written) {
+    if let Some(words) = explain_type(walk.named(), written, walk.fault) {
         return Some(words);
     }
     if !walk.is_fault(Code::TypeMismatch, written.span) {
-        return None;
+        return explain_name(walk, source);
     }
     let of_type = source_type(walk, source)?;
     let Ty::Pointer { kind, target, .. } = of_type else {

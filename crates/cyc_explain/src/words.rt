@@ -11,7 +11,7 @@ pub(crate) fn say(words: &mut Vec<u8>, text: &str) -> Result<(), AllocError> {
     Ok(())
 }
 
-pub(crate) fn say_number(
+fn say_number(
     words: &mut Vec<u8>,
     alloc: Global,
     number: usize,
@@ -20,7 +20,7 @@ pub(crate) fn say_number(
     say(words, text.as_str())
 }
 
-pub(crate) fn say_count(
+fn say_count(
     words: &mut Vec<u8>,
     alloc: Global,
     count: usize,
@@ -69,6 +69,40 @@ pub(crate) struct Named<'a> {
 }
 
 impl Named<'_> {
+    pub(crate) fn words(self) -> Vec<u8> {
+        Vec::new(self.alloc)
+    }
+
+    pub(crate) fn text(self, text: &str) -> Option<Vec<u8>> {
+        let mut words = self.words();
+        say(&mut words, text).ok()?;
+        Some(words)
+    }
+
+    /// What is said about a name.
+    pub(crate) fn about(self, name: Ident, text: &str) -> Option<Vec<u8>> {
+        let mut words = self.words();
+        self.say_name(&mut words, name.name.number).ok()?;
+        say(&mut words, text).ok()?;
+        Some(words)
+    }
+
+    /// The words for another number of things than is wanted.
+    pub(crate) fn counted(
+        self,
+        wanted: usize,
+        found: usize,
+        one: &str,
+        many: &str,
+    ) -> Option<Vec<u8>> {
+        let mut words = self.words();
+        say(&mut words, "expected ").ok()?;
+        say_count(&mut words, self.alloc, wanted, one, many).ok()?;
+        say(&mut words, ", found ").ok()?;
+        say_number(&mut words, self.alloc, found).ok()?;
+        Some(words)
+    }
+
     pub(crate) fn say_name(self, words: &mut Vec<u8>, number: usize) -> Result<(), AllocError> {
         let names = &self.tree.names;
         if number < names.len() {

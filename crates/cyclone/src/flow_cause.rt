@@ -21,13 +21,14 @@ pub fn cause_of(alloc: Global, text: &[u8], fault: Fault) -> Option<Cause> {
     explain(alloc, &typed)?.cause
 }
 
-/// What was done to the variable, in words.
-fn words_of(change: Change) -> &'static str {
-    match change {
-        Change::Moved => "is moved here",
-        Change::Assigned => "is assigned here",
-        Change::Locked => "is locked here",
-        Change::Peeked => "is looked at here",
+/// What was done to the variable, in words. What is empty where it was assigned or locked stands behind a `try` whose body did that.
+fn words_of(change: Change, code: Code) -> &'static str {
+    match (change, code) {
+        (Change::Moved, _) => "is moved here",
+        (Change::Peeked, _) => "is looked at here",
+        (Change::Locked, Code::LockedVariable) => "is locked here",
+        (Change::Locked, _) => "is locked here, in the body of a try",
+        (Change::Assigned, _) => "is assigned here, in the body of a try",
     }
 }
 
@@ -50,6 +51,7 @@ pub struct Note<'a> {
     /// The name of the file.
     pub name: &'a str,
     pub text: &'a [u8],
+    pub code: Code,
     pub cause: Cause,
 }
 
@@ -64,7 +66,7 @@ impl fmt::Display for Note<'_> {
             span.line,
             span.column,
             Shown(variable),
-            words_of(self.cause.change)
+            words_of(self.cause.change, self.code)
         )?;
         write!(f, "{}", excerpt_at(self.text, span.line, span.column))
     }

@@ -63,6 +63,7 @@ impl fmt::Display for Message<'_> {
             let note = Note {
                 name: self.name,
                 text: self.text,
+                code,
                 cause,
             };
             write!(f, "{note}")?;
