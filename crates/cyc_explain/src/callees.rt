@@ -119,11 +119,7 @@ pub(crate) fn explain_constraint(
 }
 
 /// The effect of a callee, as its head names its regions.
-fn say_effect(
-    words: &mut Vec<u8>,
-    callee: Named<'_>,
-    effect: &[Region],
-) -> Result<(), AllocError> {
+fn say_effect(words: &mut Vec<u8>, callee: Named<'_>, effect: &[Region]) -> Result<(), AllocError> {
     say(words, "{")?;
     for i in 0..effect.len() {
         if i > 0 {

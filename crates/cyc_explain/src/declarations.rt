@@ -33,10 +33,7 @@ fn explain_shape(named: Named<'_>, written: &WrittenType) -> Option<Vec<u8>> {
         BaseType::Key { .. } => named.text("no pointer leads to a key"),
         BaseType::Struct { name, .. } => match written.marks.first() {
             Some(mark) if mark.kind != PointerKind::Fat => None,
-            _ => named.about(
-                *name,
-                " is a struct: only a * or @ pointer to it is a type",
-            ),
+            _ => named.about(*name, " is a struct: only a * or @ pointer to it is a type"),
         },
     }
 }
@@ -139,7 +136,8 @@ fn say_initial(
     say(words, found)
 }
 
-/// The words for a global of a type that none has, or that does not begin with a value of its type, where that is the fault.
+/// The words for a global of a type that none has, or that does not begin with a value of its type, where that is
+/// the fault.
 fn explain_global(
     named: Named<'_>,
     written: &WrittenType,

@@ -27,7 +27,8 @@ pub struct Explained {
 /// The fault that `check` refuses a tree with, explained: with the two types or regions at hand.
 pub fn explain(alloc: Global, tree: &Tree) -> Option<Explained>
     // Only what is refused is explained, and by its own fault, unless memory ran out.
-    ensures { IfSome result (λ e. (e.fault ≡ memory_fault) ⊎ IsRefusedProgram tree.now.names (map view_declaration tree.now.declarations.items) e.fault) }
+    ensures { IfSome result (λ e. (e.fault ≡ memory_fault)
+        ⊎ IsRefusedProgram tree.now.names (map view_declaration tree.now.declarations.items) e.fault) }
 {
     match check(alloc, tree) {
         Ok(_) => None,

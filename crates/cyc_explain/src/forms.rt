@@ -15,6 +15,7 @@ use cyc_types::{Ty, typed};
 use cyc_words::{Code, Span};
 
 const INT_OR_POINTER: &str = "int or a pointer";
+
 const COMPARED: &str = "two ints, two thin pointers to one type, or a pointer and NULL";
 
 /// The words for a fault in what an expression asks of its parts.

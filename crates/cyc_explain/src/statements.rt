@@ -75,13 +75,21 @@ fn explain_statement(walk: &mut Walk<'_, '_>, statement: &Stmt) -> Option<Vec<u8
                     return explain_statement(walk, other);
                 }
             }
-            explain_conditional(walk, condition, then)
+            if is_from(walk.fault, start_of(then)) {
+                return explain_statement(walk, then);
+            }
+            explain_condition(walk, condition)
         }
         Stmt::While {
             condition,
             body,
             ..
-        } => explain_conditional(walk, condition, body),
+        } => {
+            if is_from(walk.fault, start_of(body)) {
+                return explain_statement(walk, body);
+            }
+            explain_condition(walk, condition)
+        }
         Stmt::Return { span, value } => explain_return(walk, *span, value),
         Stmt::Throw {
             exception,
@@ -110,16 +118,8 @@ fn explain_statement(walk: &mut Walk<'_, '_>, statement: &Stmt) -> Option<Vec<u8
     }
 }
 
-/// The words for a fault in a condition or in the statement behind it.
-#[cycle(statement)]
-fn explain_conditional(
-    walk: &mut Walk<'_, '_>,
-    condition: &Expr,
-    statement: &Stmt,
-) -> Option<Vec<u8>> {
-    if is_from(walk.fault, start_of(statement)) {
-        return explain_statement(walk, statement);
-    }
+/// The words for a fault in a condition.
+fn explain_condition(walk: &mut Walk<'_, '_>, condition: &Expr) -> Option<Vec<u8>> {
     if let Some(words) = explain_expression(walk, condition) {
         return Some(words);
     }

@@ -11,11 +11,7 @@ pub(crate) fn say(words: &mut Vec<u8>, text: &str) -> Result<(), AllocError> {
     Ok(())
 }
 
-fn say_number(
-    words: &mut Vec<u8>,
-    alloc: Global,
-    number: usize,
-) -> Result<(), AllocError> {
+fn say_number(words: &mut Vec<u8>, alloc: Global, number: usize) -> Result<(), AllocError> {
     let text = format!(in alloc; "{number}")?;
     say(words, text.as_str())
 }

@@ -8,8 +8,8 @@ use cyc_words::{Code, Fault, Span};
 use std::alloc::Global;
 use std::fmt;
 
-/// Where the variable of a text's first fault came to be as it is, if the fault is one of flow and there is such a place. Where memory
-/// runs out, there is none to name.
+/// Where the variable of a text's first fault came to be as it is, if the fault is one of flow and
+/// there is such a place. Where memory runs out, there is none to name.
 pub fn cause_of(alloc: Global, text: &[u8], fault: Fault) -> Option<Cause> {
     match fault.code {
         Code::EmptyVariable | Code::LockedVariable | Code::LoopEmptiesVariable => {}
@@ -21,7 +21,8 @@ pub fn cause_of(alloc: Global, text: &[u8], fault: Fault) -> Option<Cause> {
     explain(alloc, &typed)?.cause
 }
 
-/// What was done to the variable, in words. What is empty where it was assigned or locked stands behind a `try` whose body did that.
+/// What was done to the variable, in words. One that is empty although it was assigned or locked is
+/// so by a `try`, whose body did that.
 fn words_of(change: Change, code: Code) -> &'static str {
     match (change, code) {
         (Change::Moved, _) => "is moved here",

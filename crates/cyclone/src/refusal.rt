@@ -17,7 +17,8 @@ fn is_explained(code: Code) -> bool {
     )
 }
 
-/// The types or regions at hand where a text is refused with this fault, in lines. Where memory runs out there is nothing to say.
+/// The types or regions at hand where a text is refused with this fault, in lines. Where memory runs
+/// out there is nothing to say.
 pub fn words_for(alloc: Global, text: &[u8], fault: Fault) -> Option<Vec<u8>> {
     if !is_explained(fault.code) {
         return None;
