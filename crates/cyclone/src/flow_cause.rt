@@ -1,9 +1,8 @@
 //! What a person reads of a variable that is empty or locked where it is used: where it came to be so.
 use crate::excerpt::{Shown, excerpt_at};
+use crate::refusal::tree_of;
 use cyc_check::check;
 use cyc_flow::{Cause, Change, explain};
-use cyc_lex::lex;
-use cyc_parse::parse;
 use cyc_words::{Code, Fault, Span};
 use std::alloc::Global;
 use std::fmt;
@@ -15,10 +14,13 @@ pub fn cause_of(alloc: Global, text: &[u8], fault: Fault) -> Option<Cause> {
         Code::EmptyVariable | Code::LockedVariable | Code::LoopEmptiesVariable => {}
         _ => return None,
     }
-    let tokens = lex(alloc, text).ok()?;
-    let tree = parse(alloc, &tokens, text).ok()?;
+    let tree = tree_of(alloc, text).ok()?;
     let typed = check(alloc, &tree).ok()?;
-    explain(alloc, &typed)?.cause
+    let explained = explain(alloc, &typed)?;
+    if explained.fault != fault {
+        return None;
+    }
+    explained.cause
 }
 
 /// What was done to the variable, in words. One that is empty although it was assigned or locked is

@@ -1,4 +1,7 @@
 //! From the words of the command line to the answer, over files and the standard streams.
+ghost use Rattle.std.specs.Prelude.{◌≡◌};
+ghost use Rattle.cyclone.specs.Answer.{answer_of_fault};
+
 use crate::advice::explanation;
 use crate::answer::Answer;
 use crate::arguments;
@@ -23,7 +26,10 @@ use std::{env, io};
 type Buffer = RefCell<BufWriter<Stdout>>;
 
 /// The answer to a refused program, whose message for a person goes to standard error.
-fn report_refusal(rt: &HostRuntime, name: &str, text: &[u8], fault: Fault) -> Answer {
+fn report_refusal(rt: &HostRuntime, name: &str, text: &[u8], fault: Fault) -> Answer
+    // What is said to a person changes nothing of it.
+    ensures { result ≡ answer_of_fault fault }
+{
     let answer = Answer::from(fault);
     if let Answer::Refused(fault) = answer {
         let unbuilt = match fault.code {
