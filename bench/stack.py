@@ -49,6 +49,7 @@ TEXTS = {
     "functions": numbered("void f#(){}", 9998) + function("return 0;"),
     "a body that can end": function(nested("{", ";", "}")),
     "a name that is not declared": function("return " + nested(LEVELS, "x", ")") + ";"),
+    "a variable that is empty": function("int x; return " + nested(LEVELS, "x", ")") + ";"),
     "operators one level too deep": function("return " + nested(LEVELS, "1", ")", 200) + ";"),
     "operators with no end": function("return " + nested(LEVELS, "1", "", 199)),
     "blocks one level too deep": function(nested("{", "return 0;", "}", 200)),

@@ -66,8 +66,6 @@ class Step:
         self.closed = set()
         self.full = False
         self.broken = False
-        # the stack in MB, where the program needs more than others are given
-        self.stack = None
 
 
 class Case:
@@ -185,8 +183,6 @@ class Reader:
             step.full = True
         elif word == "broken":
             step.broken = True
-        elif word == "stack":
-            step.stack = int(rest)
         else:
             raise BadCase(f"`{word}` is no word of a case")
 
@@ -275,8 +271,7 @@ def run_step(step, folder, program):
     streams = [f"{number}>&-" for name, number in (("in", 0), ("out", 1), ("err", 2)) if name in step.closed]
     if step.full:
         streams.append("1>/dev/full")
-    raised = f"ulimit -S -s {step.stack * 1024} && " if step.stack else ""
-    shell = ["sh", "-c", raised + 'exec "$@" ' + " ".join(streams), "sh"]
+    shell = ["sh", "-c", 'exec "$@" ' + " ".join(streams), "sh"]
     output = subprocess.PIPE
     if step.broken:
         reading, output = os.pipe()

@@ -1,5 +1,5 @@
 -- What is known behind a node of the typed tree with a list of nodes, by the items of that list.
-use Rattle.std.proofs.Common.{◌≡◌, ℕ, List, [], ◌++◌, Option, None, Some, Result, Ok, Err, refl, sym, ap, subst, ◌∙◌}
+use Rattle.std.proofs.Common.{◌≡◌, ℕ, List, [], ◌++◌, Option, None, Some, Result, Ok, Err, sym, ap, subst, ◌∙◌}
 use Rattle.std.specs.declared.vec.Vec.{Vec}
 use Rattle.std.specs.declared.boxed.Box.{Box}
 use Rattle.std.specs.declared.alloc.Global.{Global as Heap}
@@ -34,33 +34,33 @@ use Rattle.cyc_types.specs.flow.Programs.{in_function}
 use Rattle.cyc_flow.specs.declared.expressions.Tracked.{Tracked}
 use Rattle.cyc_flow.specs.declared.stop.Stop.{Stop}
 use Rattle.cyc_flow.specs.declared.stop.Stop.TheVariants as stops
-use Rattle.cyc_flow.specs.Code.{view_state, Gives, GivesKnown, known}
+use Rattle.cyc_flow.specs.Code.{Leads, Gives, GivesKnown, known}
 use Rattle.cyc_flow.specs.Steps.{stands}
 
-module _ (value : Expr) (f : Callee) (v : Vec ConvertedCode Heap) (t : ValueType) (is : value ≡ expr.Call f v t) (items : List ConvertedCode) (same : items ≡ v.items) (r : Result Tracked Stop) (q : List ℕ) (s : State) (ns : List ℕ) where
-  pub kept_call : Gives r (run (rule_arguments q (arguments_of items) s)) (touched_arguments (arguments_of items) ns) → Gives r (run (rule q (view_expression value) s)) (touched (view_expression value) ns)
+module _ (value : Expr) (f : Callee) (v : Vec ConvertedCode Heap) (of_type : ValueType) (is : value ≡ expr.Call f v of_type) (items : List ConvertedCode) (same : items ≡ v.items) (r : Result (Unit {0}) Stop) (t : Tracked) (q : List ℕ) (s : State) (ns : List ℕ) where
+  pub kept_call : Leads r t (run (rule_arguments q (arguments_of items) s)) (touched_arguments (arguments_of items) ns) → Leads r t (run (rule q (view_expression value) s)) (touched (view_expression value) ns)
   kept_call h =
-      let e : view_expression value ≡ Call f (arguments_of items) (view_value_type t)
-      = ap view_expression is ∙ view_call f v t ∙ ap (λ (cs : List ConvertedCode). Call f (arguments_of cs) (view_value_type t)) (sym same) in
-      let P : Expression → Type 0 = λ a. Gives r (run (rule q a s)) (touched a ns) in
+      let e : view_expression value ≡ Call f (arguments_of items) (view_value_type of_type)
+      = ap view_expression is ∙ view_call f v of_type ∙ ap (λ (cs : List ConvertedCode). Call f (arguments_of cs) (view_value_type of_type)) (sym same) in
+      let P : Expression → Type 0 = λ a. Leads r t (run (rule q a s)) (touched a ns) in
       subst P (sym e) h
 
-module _ (value : Expr) (b : Box Expr Heap) (v : Vec Operation Heap) (t : Ty) (is : value ≡ expr.Binary b v t) (first : Expr) (at : first ≡ b.value) (items : List Operation) (same : items ≡ v.items) (r : Result Tracked Stop) (q : List ℕ) (s behind : State) (ns touches : List ℕ) where
+module _ (value : Expr) (b : Box Expr Heap) (v : Vec Operation Heap) (of_type : Ty) (is : value ≡ expr.Binary b v of_type) (first : Expr) (at : first ≡ b.value) (items : List Operation) (same : items ≡ v.items) (r : Result (Unit {0}) Stop) (t : Tracked) (q : List ℕ) (s behind : State) (ns touches : List ℕ) where
   pub kept_binary : run (rule q (view_expression first) s) ≡ Ok behind → touches ≡ touched (view_expression first) ns
-      → Gives r (run (rule_operations q (operations_of items) behind)) (touched_operations (operations_of items) touches) → Gives r (run (rule q (view_expression value) s)) (touched (view_expression value) ns)
+      → Leads r t (run (rule_operations q (operations_of items) behind)) (touched_operations (operations_of items) touches) → Leads r t (run (rule q (view_expression value) s)) (touched (view_expression value) ns)
   kept_binary k d h =
-      let e : view_expression value ≡ Binary (view_expression first) (operations_of items) (view_ty t)
-      = ap view_expression is ∙ view_binary b v t ∙ ap (λ (os : List Operation). Binary (view_expression b.value) (operations_of os) (view_ty t)) (sym same) ∙ ap (λ (x : Expr). Binary (view_expression x) (operations_of items) (view_ty t)) (sym at) in
-      let P : Expression → Type 0 = λ a. Gives r (run (rule q a s)) (touched a ns) in
-      let Q : List ℕ → Type 0 = λ ms. Gives r (run (rule_operations q (operations_of items) behind)) (touched_operations (operations_of items) ms) in
-      let R : Checked State → Type 0 = λ o. Gives r (and_then o (λ g. run (rule_operations q (operations_of items) g))) (touched_operations (operations_of items) (touched (view_expression first) ns)) in
+      let e : view_expression value ≡ Binary (view_expression first) (operations_of items) (view_ty of_type)
+      = ap view_expression is ∙ view_binary b v of_type ∙ ap (λ (os : List Operation). Binary (view_expression b.value) (operations_of os) (view_ty of_type)) (sym same) ∙ ap (λ (x : Expr). Binary (view_expression x) (operations_of items) (view_ty of_type)) (sym at) in
+      let P : Expression → Type 0 = λ a. Leads r t (run (rule q a s)) (touched a ns) in
+      let Q : List ℕ → Type 0 = λ ms. Leads r t (run (rule_operations q (operations_of items) behind)) (touched_operations (operations_of items) ms) in
+      let R : Checked State → Type 0 = λ o. Leads r t (and_then o (λ g. run (rule_operations q (operations_of items) g))) (touched_operations (operations_of items) (touched (view_expression first) ns)) in
       subst P (sym e) (subst R (sym k) (subst Q d h))
 
-module _ (value : InitialCode) (v : Vec ConvertedCode Heap) (is : value ≡ initial.Fields v) (items : List ConvertedCode) (same : items ≡ v.items) (r : Result Tracked Stop) (q : List ℕ) (s : State) (ns : List ℕ) where
-  pub kept_fields : Gives r (run (rule_arguments q (arguments_of items) s)) (touched_arguments (arguments_of items) ns) → Gives r (run (rule_initial q (view_initial value) s)) (touched_initial (view_initial value) ns)
+module _ (value : InitialCode) (v : Vec ConvertedCode Heap) (is : value ≡ initial.Fields v) (items : List ConvertedCode) (same : items ≡ v.items) (r : Result (Unit {0}) Stop) (t : Tracked) (q : List ℕ) (s : State) (ns : List ℕ) where
+  pub kept_fields : Leads r t (run (rule_arguments q (arguments_of items) s)) (touched_arguments (arguments_of items) ns) → Leads r t (run (rule_initial q (view_initial value) s)) (touched_initial (view_initial value) ns)
   kept_fields h =
       let e : view_initial value ≡ Fields (arguments_of items) = ap view_initial is ∙ view_fields v ∙ ap (λ (cs : List ConvertedCode). Fields (arguments_of cs)) (sym same) in
-      let P : Initial → Type 0 = λ a. Gives r (run (rule_initial q a s)) (touched_initial a ns) in
+      let P : Initial → Type 0 = λ a. Leads r t (run (rule_initial q a s)) (touched_initial a ns) in
       subst P (sym e) h
 
 module _ (statement : Stmt) (region : ℕ) (v : Vec ItemCode Heap) (is : statement ≡ stmt.Block region v) (items : List ItemCode) (same : items ≡ v.items) (r : Result Tracked Stop) (c : Around) (k : Known) (ns : List ℕ) (breaks : State) where

@@ -37,20 +37,28 @@ lowered_all xs ys whole i n d e k =
 
 -- ---- nothing is emptier
 
--- all before is as full
-abbrev pub Compared : List FullnessCode → List FullnessCode → ℕ → Bool → Type 0
-Compared xs ys i whole = are_as_full (map view_fullness (drop i xs)) (map view_fullness (drop i ys)) ≡ whole
+-- so many are compared, and what is left decides, if all of them were as full
+abbrev pub Compared : List FullnessCode → List FullnessCode → ℕ → (all : Bool) → (whole : Bool) → Type 0
+Compared xs ys i all whole = (all && are_as_full (map view_fullness (drop i xs)) (map view_fullness (drop i ys))) ≡ whole
+
+pub compared_one : (a b c : Bool) → ((a && b) && c) ≡ (a && (b && c))
+compared_one true b c = refl
+compared_one false b c = refl
 
 none_to_compare : (xs ys : List FullnessCode) → length xs ≡ 0 → length ys ≡ 0 → are_as_full (views xs) (views ys) ≡ true
 none_to_compare [] [] h k = refl
 none_to_compare [] (y ∷ ys) h k = absurd (omega arith)
 none_to_compare (x ∷ xs) ys h k = absurd (omega arith)
 
-pub compared_all : (xs ys : List FullnessCode) (whole : Bool) (n : ℕ) → length xs ≡ length ys → length xs ≤ n → Compared xs ys n whole → true ≡ whole
-compared_all xs ys whole n same e h =
+pub compared_all : (xs ys : List FullnessCode) (all whole : Bool) (n : ℕ) → length xs ≡ length ys → length xs ≤ n → Compared xs ys n all whole → all ≡ whole
+compared_all xs ys all whole n same e h =
     let one : length (drop n xs) ≡ 0 = omega (arith, length-drop n xs) in
     let other : length (drop n ys) ≡ 0 = omega (arith, length-drop n ys) in
-    sym (none_to_compare (drop n xs) (drop n ys) one other) ∙ h
+    sym (and_true all (none_to_compare (drop n xs) (drop n ys) one other)) ∙ h
+  where
+    and_true : (a : Bool) {b : Bool} → b ≡ true → (a && b) ≡ a
+    and_true true e = e
+    and_true false e = refl
 
 -- lists of different lengths are not compared
 pub unequal : (xs ys : List FullnessCode) → (length xs ≡ length ys → ⊥) → are_as_full (views xs) (views ys) ≡ false

@@ -45,7 +45,12 @@ abbrev pub Allows : Result (Unit {0}) Stop → Checked (Unit {0}) → Type 0
 Allows (Ok u) checked = checked ≡ Ok tt
 Allows (Err e) checked = Stops e checked
 
--- What the code knows behind an expression is what the rule says is known there, and these locals are touched.
+-- What is known behind an expression is what the rule says is known there, and these locals are touched.
+abbrev pub Leads : Result (Unit {0}) Stop → (behind : Tracked) → Checked State → List ℕ → Type 0
+Leads (Ok u) t checked ns = (checked ≡ Ok (view_state t.state)) × (t.touched.items ≡ ns)
+Leads (Err e) t checked ns = Stops e checked
+
+-- The same where what is known is handed on.
 abbrev pub Gives : Result Tracked Stop → Checked State → List ℕ → Type 0
 Gives (Ok t) checked ns = (checked ≡ Ok (view_state t.state)) × (t.touched.items ≡ ns)
 Gives (Err e) checked ns = Stops e checked

@@ -1,5 +1,5 @@
 -- One step of each chain that the code goes through, and where a statement stands.
-use Rattle.std.specs.Prelude.{ℕ, List, Option, Some, None}
+use Rattle.std.specs.Prelude.{ℕ, List, Option, Some}
 use Rattle.cyc_syntax.specs.TreeView.{place_of_span}
 use Rattle.cyc_types.specs.declared.typed.Operation.{Operation}
 use Rattle.cyc_types.specs.declared.typed.Operation.TheVariants as operation

@@ -1,5 +1,5 @@
-//! What is known behind an expression, where it keeps the flow rules. Each method takes what is known before, and the locals of which a
-//! peek waits.
+//! What is known behind an expression, where it keeps the flow rules. Each method changes what is known before into what is known behind,
+//! and takes the locals of which a peek waits. What is known is changed in its place, since expressions nest deepest: a frame holds none.
 ghost use Rattle.std.specs.Prelude.{◌≡◌, ◌++◌, IfOk, Some, Ok, option_map};
 ghost use Rattle.cyc_syntax.specs.TreeView.{place_of_span};
 ghost use Rattle.cyc_types.specs.Rules.{run, fault_at};
@@ -9,7 +9,7 @@ ghost use Rattle.cyc_types.specs.flow.States.{Vacant, Full, with_fullness};
 ghost use Rattle.cyc_types.specs.flow.Touched.{and_local, and_assigned, touched, touched_place, touched_placement, touched_initial, touched_converted, touched_arguments, touched_operations};
 ghost use Rattle.cyc_types.specs.flow.Expressions.{and_peeked, peek_of, peek_behind, looked, moved, used, stored, rule, rule_place, rule_placement, rule_initial, rule_converted, rule_arguments, rule_operations};
 ghost use Rattle.cyc_flow.specs.declared.stop.Stop.TheVariants.{Refused};
-ghost use Rattle.cyc_flow.specs.Code.{view_fullness, view_state, Gives};
+ghost use Rattle.cyc_flow.specs.Code.{view_fullness, view_state, Leads};
 ghost use Rattle.cyc_flow.specs.Steps.{rule_operation, touched_operation};
 
 use crate::settled::{Settled, check_head};
@@ -20,6 +20,7 @@ use cyc_types::typed::{
 };
 use cyc_words::{Code, Fault, Span};
 use std::alloc::{AllocError, Global};
+use std::mem;
 
 /// What is known at a place, and which locals were consumed, assigned or locked before it: unique pointers and keys.
 #[derive(Drop)]
@@ -65,15 +66,21 @@ pub(crate) fn and_peeked(
 }
 
 impl Tracked {
+    /// Of one local this is known now.
+    pub(crate) fn set(&mut self, number: usize, fullness: Fullness)
+        ensures state { view_state self.new.state ≡ with_fullness (view_fullness fullness) (view_state self.old.state) number }
+        ensures touched { self.new.touched.items ≡ self.old.touched.items }
+    {
+        self.state.set(number, fullness);
+    }
+
     /// The same but for one local, of which this is known.
-    pub(crate) fn with_fullness(self, number: usize, fullness: Fullness) -> Tracked
+    pub(crate) fn with_fullness(mut self, number: usize, fullness: Fullness) -> Tracked
         ensures state { view_state result.state ≡ with_fullness (view_fullness fullness) (view_state self.state) number }
         ensures touched { result.touched.items ≡ self.touched.items }
     {
-        Tracked {
-            state: self.state.with_fullness(number, fullness),
-            touched: self.touched,
-        }
+        self.set(number, fullness);
+        self
     }
 
     /// A local is consumed, assigned or locked.
@@ -97,78 +104,75 @@ impl Tracked {
         })
     }
 
-    /// Behind a peek of a local.
-    fn look(self, span: Span, number: usize) -> Result<Tracked, Stop>
-        ensures { Gives result (run (looked (place_of_span span) number (view_state self.state))) self.touched.items }
+    /// A peek of a local.
+    fn look(&self, span: Span, number: usize) -> Result<(), Stop>
+        ensures { Leads result self.now (run (looked (place_of_span span) number (view_state self.now.state))) self.now.touched.items }
     {
         let mut settled = Settled::new();
         settled.look(&self.state, span, number);
-        settled.end()?;
-        Ok(self)
+        settled.end()
     }
 
-    /// Behind a use of a variable that leaves its value there.
-    fn use_variable(self, waiting: &[usize], variable: Lvalue) -> Result<Tracked, Stop>
-        ensures { Gives result (run (used waiting.now (view_lvalue variable) (view_state self.state))) self.touched.items }
+    /// A use of a variable that leaves its value there.
+    fn use_variable(&self, waiting: &[usize], variable: Lvalue) -> Result<(), Stop>
+        ensures { Leads result self.now (run (used waiting.now (view_lvalue variable) (view_state self.now.state))) self.now.touched.items }
     {
         let Lvalue::Local { span, number } = variable else {
-            return Ok(self);
+            return Ok(());
         };
         let mut settled = Settled::new();
         settled.use_local(waiting, &self.state, span, number);
-        settled.end()?;
-        Ok(self)
+        settled.end()
     }
 
-    /// Behind a use of a local's value that leaves it empty.
-    fn consume(self, waiting: &[usize], span: Span, number: usize) -> Result<Tracked, Stop>
-        ensures { Gives result (run (moved waiting.now (place_of_span span) number (view_state self.state))) (and_local number self.touched.items) }
+    /// A use of a local's value, which leaves it empty.
+    fn consume(&mut self, waiting: &[usize], span: Span, number: usize) -> Result<(), Stop>
+        ensures { Leads result self.new (run (moved waiting.now (place_of_span span) number (view_state self.old.state))) (and_local number self.old.touched.items) }
     {
         let mut settled = Settled::new();
         settled.use_local(waiting, &self.state, span, number);
         settled.end()?;
-        let mut tracked = self.with_fullness(number, Fullness::Vacant);
-        tracked.touch(number)?;
-        Ok(tracked)
+        self.set(number, Fullness::Vacant);
+        self.touch(number)?;
+        Ok(())
     }
 
-    /// Behind an assignment to a variable, whose value has this type.
+    /// An assignment to a variable, whose value has this type.
     fn assign(
-        self,
+        &mut self,
         waiting: &[usize],
         variable: Lvalue,
         result_type: &ValueType,
-    ) -> Result<Tracked, Stop>
-        ensures { Gives result (run (stored waiting.now (view_lvalue variable) (view_state self.state))) (and_assigned (view_lvalue variable) (view_value_type result_type.now) self.touched.items) }
+    ) -> Result<(), Stop>
+        ensures { Leads result self.new (run (stored waiting.now (view_lvalue variable) (view_state self.old.state))) (and_assigned (view_lvalue variable) (view_value_type result_type.now) self.old.touched.items) }
     {
         let Lvalue::Local { span, number } = variable else {
-            return Ok(self);
+            return Ok(());
         };
         let mut settled = Settled::new();
         settled.store_local(waiting, &self.state, span, number);
         settled.end()?;
-        let mut tracked = self.with_fullness(number, Fullness::Full);
+        self.set(number, Fullness::Full);
         if let ValueType::Void = result_type {
-            tracked.touch(number)?;
+            self.touch(number)?;
         }
-        Ok(tracked)
+        Ok(())
     }
 
-    /// Behind an expression.
+    /// Goes through an expression.
     #[cycle(expression)]
     pub(crate) fn evaluate(
-        self,
+        &mut self,
         alloc: Global,
         waiting: &[usize],
         value: &Expr,
-    ) -> Result<Tracked, Stop>
-        ensures { Gives result (run (rule waiting.now (view_expression value.now) (view_state self.state))) (touched (view_expression value.now) self.touched.items) }
+    ) -> Result<(), Stop>
+        ensures { Leads result self.new (run (rule waiting.now (view_expression value.now) (view_state self.old.state))) (touched (view_expression value.now) self.old.touched.items) }
     {
         match value {
-            Expr::Number { .. } => Ok(self),
-            Expr::NullPointer => Ok(self),
-            Expr::HeapRegion => Ok(self),
-            Expr::Counter { .. } => Ok(self),
+            Expr::Number { .. } | Expr::NullPointer | Expr::HeapRegion | Expr::Counter { .. } => {
+                Ok(())
+            }
             Expr::Copy { source, .. } => self.use_variable(waiting, *source),
             Expr::Move { span, number, .. } => self.consume(waiting, *span, *number),
             Expr::Peek { span, number, .. } => self.look(*span, *number),
@@ -181,75 +185,75 @@ impl Tracked {
             Expr::Call { arguments, .. } => self.pass(alloc, waiting, arguments),
             Expr::Unary { operand, .. } => self.evaluate(alloc, waiting, operand),
             Expr::Binary { first, rest, .. } => {
-                let tracked = self.evaluate(alloc, waiting, first)?;
-                tracked.apply_operations(alloc, waiting, rest)
+                self.evaluate(alloc, waiting, first)?;
+                self.apply_operations(alloc, waiting, rest)
             }
             Expr::Assign {
                 target,
                 value,
                 result: result_type,
             } => {
-                let tracked = self.convert(alloc, waiting, value)?;
-                tracked.assign(waiting, *target, result_type)
+                self.convert(alloc, waiting, value)?;
+                self.assign(waiting, *target, result_type)
             }
             Expr::Store { target, value, .. } => {
-                let tracked = self.find(alloc, waiting, target)?;
+                self.find(alloc, waiting, target)?;
                 let waiting = and_peeked(alloc, waiting, peek_behind(target))?;
-                tracked.convert(alloc, &waiting, value)
+                self.convert(alloc, &waiting, value)
             }
             Expr::New {
                 placement,
                 initial,
                 ..
             } => {
-                let tracked = self.place(alloc, waiting, placement)?;
-                tracked.initialise(alloc, waiting, initial)
+                self.place(alloc, waiting, placement)?;
+                self.initialise(alloc, waiting, initial)
             }
         }
     }
 
-    /// Behind a place that a pointer leads to.
+    /// Goes through a place that a pointer leads to.
     #[cycle(expression)]
     pub(crate) fn find(
-        self,
+        &mut self,
         alloc: Global,
         waiting: &[usize],
         place: &Dereference,
-    ) -> Result<Tracked, Stop>
-        ensures { Gives result (run (rule_place waiting.now (view_dereference place.now) (view_state self.state))) (touched_place (view_dereference place.now) self.touched.items) }
+    ) -> Result<(), Stop>
+        ensures { Leads result self.new (run (rule_place waiting.now (view_dereference place.now) (view_state self.old.state))) (touched_place (view_dereference place.now) self.old.touched.items) }
     {
         match place {
             Dereference::Target { pointer, .. } => self.evaluate(alloc, waiting, pointer),
             Dereference::Member { pointer, .. } => self.evaluate(alloc, waiting, pointer),
             Dereference::Element { pointer, index, .. } => {
-                let tracked = self.evaluate(alloc, waiting, pointer)?;
+                self.evaluate(alloc, waiting, pointer)?;
                 let waiting = and_peeked(alloc, waiting, peek_of(pointer))?;
-                tracked.evaluate(alloc, &waiting, index)
+                self.evaluate(alloc, &waiting, index)
             }
         }
     }
 
-    /// Behind the handle of the region that an object is made in, if it has one.
+    /// Goes through the handle of the region that an object is made in, if it has one.
     #[cycle(expression)]
-    fn place(self, alloc: Global, waiting: &[usize], placement: &Placement) -> Result<Tracked, Stop>
-        ensures { Gives result (run (rule_placement waiting.now (view_placement placement.now) (view_state self.state))) (touched_placement (view_placement placement.now) self.touched.items) }
+    fn place(&mut self, alloc: Global, waiting: &[usize], placement: &Placement) -> Result<(), Stop>
+        ensures { Leads result self.new (run (rule_placement waiting.now (view_placement placement.now) (view_state self.old.state))) (touched_placement (view_placement placement.now) self.old.touched.items) }
     {
         match placement {
-            Placement::OnHeap => Ok(self),
-            Placement::AsUnique => Ok(self),
+            Placement::OnHeap => Ok(()),
+            Placement::AsUnique => Ok(()),
             Placement::ByHandle { handle } => self.evaluate(alloc, waiting, handle),
         }
     }
 
-    /// Behind what a new object holds. An array may have no elements, and its last one leaves what is known at the first.
+    /// Goes through what a new object holds. An array may have no elements, and its last one leaves what is known at the first.
     #[cycle(expression)]
     fn initialise(
-        self,
+        &mut self,
         alloc: Global,
         waiting: &[usize],
         initial: &Initial,
-    ) -> Result<Tracked, Stop>
-        ensures { Gives result (run (rule_initial waiting.now (view_initial initial.now) (view_state self.state))) (touched_initial (view_initial initial.now) self.touched.items) }
+    ) -> Result<(), Stop>
+        ensures { Leads result self.new (run (rule_initial waiting.now (view_initial initial.now) (view_state self.old.state))) (touched_initial (view_initial initial.now) self.old.touched.items) }
     {
         match initial {
             Initial::Plain { value, .. } => self.evaluate(alloc, waiting, value),
@@ -260,74 +264,64 @@ impl Tracked {
                 element,
                 ..
             } => {
-                let tracked = self.evaluate(alloc, waiting, length)?;
-                let head = tracked.state.copy(alloc)?;
-                let end = tracked.evaluate(alloc, waiting, element)?;
-                check_head(&end.state, &head, *span)?;
-                Ok(Tracked {
-                    state: head,
-                    touched: end.touched,
-                })
+                self.evaluate(alloc, waiting, length)?;
+                let head = self.state.copy(alloc)?;
+                self.evaluate(alloc, waiting, element)?;
+                check_head(&self.state, &head, *span)?;
+                self.state = head;
+                Ok(())
             }
         }
     }
 
-    /// Behind an expression whose value is converted.
+    /// Goes through an expression whose value is converted.
     #[cycle(expression)]
     pub(crate) fn convert(
-        self,
+        &mut self,
         alloc: Global,
         waiting: &[usize],
         converted: &Converted,
-    ) -> Result<Tracked, Stop>
-        ensures { Gives result (run (rule_converted waiting.now (view_converted converted.now) (view_state self.state))) (touched_converted (view_converted converted.now) self.touched.items) }
+    ) -> Result<(), Stop>
+        ensures { Leads result self.new (run (rule_converted waiting.now (view_converted converted.now) (view_state self.old.state))) (touched_converted (view_converted converted.now) self.old.touched.items) }
     {
         self.evaluate(alloc, waiting, &converted.value)
     }
 
-    /// Behind the arguments of a call, or the fields of a struct.
+    /// Goes through the arguments of a call, or the fields of a struct.
     #[cycle(expression)]
     #[tactic(auto, using(std::proofs::lemmas::List::drop_more))]
     fn pass(
-        self,
+        &mut self,
         alloc: Global,
         waiting: &[usize],
         arguments: &[Converted],
-    ) -> Result<Tracked, Stop>
-        ensures { Gives result (run (rule_arguments waiting.now (arguments_of arguments.now) (view_state self.state))) (touched_arguments (arguments_of arguments.now) self.touched.items) }
+    ) -> Result<(), Stop>
+        ensures { Leads result self.new (run (rule_arguments waiting.now (arguments_of arguments.now) (view_state self.old.state))) (touched_arguments (arguments_of arguments.now) self.old.touched.items) }
     {
-        let mut tracked = self;
         for argument in arguments {
-            tracked = tracked.convert(alloc, waiting, argument)?;
+            self.convert(alloc, waiting, argument)?;
         }
-        Ok(tracked)
+        Ok(())
     }
 
-    /// Behind one operator of a chain and its operand, which `&&` and `||` may leave out.
+    /// Goes through one operator of a chain and its operand, which `&&` and `||` may leave out.
     #[cycle(expression)]
     fn apply_operation(
-        self,
+        &mut self,
         alloc: Global,
         waiting: &[usize],
         operation: &Operation,
-    ) -> Result<Tracked, Stop>
-        ensures { Gives result (run (rule_operation waiting.now operation.now (view_state self.state))) (touched_operation operation.now self.touched.items) }
+    ) -> Result<(), Stop>
+        ensures { Leads result self.new (run (rule_operation waiting.now operation.now (view_state self.old.state))) (touched_operation operation.now self.old.touched.items) }
     {
         match operation {
-            Operation::Compute { operand, .. } => match operand {
-                Expr::Binary { first, rest, .. } => {
-                    let tracked = self.evaluate(alloc, waiting, first)?;
-                    tracked.apply_operations(alloc, waiting, rest)
-                }
-                other => self.evaluate(alloc, waiting, other),
-            },
+            Operation::Compute { operand, .. } => self.evaluate(alloc, waiting, operand),
             Operation::Test { operand, .. } => {
                 let before = self.state.copy(alloc)?;
-                let behind = self.evaluate(alloc, waiting, operand)?;
-                Ok(Tracked {
-                    state: meet(before, behind.state),
-                    touched: behind.touched,
-                })
+                self.evaluate(alloc, waiting, operand)?;
+                let behind = mem::replace(&mut self.state, State::Unreached);
+                self.state = meet(before, behind);
+                Ok(())
             }
             Operation::Pointer { operand, .. } => self.evaluate(alloc, waiting, operand),
             Operation::PointerPeek {
@@ -341,21 +335,20 @@ impl Tracked {
         }
     }
 
-    /// Behind the rest of a chain.
+    /// Goes through the rest of a chain.
     #[cycle(expression)]
     #[tactic(auto, using(std::proofs::lemmas::List::drop_more, crate::proofs::Walks::operation_run, crate::proofs::Walks::operation_touched))]
     fn apply_operations(
-        self,
+        &mut self,
         alloc: Global,
         waiting: &[usize],
         operations: &[Operation],
-    ) -> Result<Tracked, Stop>
-        ensures { Gives result (run (rule_operations waiting.now (operations_of operations.now) (view_state self.state))) (touched_operations (operations_of operations.now) self.touched.items) }
+    ) -> Result<(), Stop>
+        ensures { Leads result self.new (run (rule_operations waiting.now (operations_of operations.now) (view_state self.old.state))) (touched_operations (operations_of operations.now) self.old.touched.items) }
     {
-        let mut tracked = self;
         for operation in operations {
-            tracked = tracked.apply_operation(alloc, waiting, operation)?;
+            self.apply_operation(alloc, waiting, operation)?;
         }
-        Ok(tracked)
+        Ok(())
     }
 }

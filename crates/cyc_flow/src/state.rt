@@ -30,24 +30,21 @@ impl Fullness {
         matches!(self, Fullness::Locked)
     }
 
+    /// By their numbers, so that a loop over many of them has no branches.
     fn lower(self, other: Fullness) -> Fullness
         ensures { view_fullness result ≡ lower (view_fullness self) (view_fullness other) }
     {
-        match (self, other) {
-            (Fullness::Vacant, _) | (Fullness::Locked, Fullness::Vacant) => Fullness::Vacant,
-            (Fullness::Locked, _) => Fullness::Locked,
-            (Fullness::Full, _) => other,
+        if (self as u8) < (other as u8) {
+            self
+        } else {
+            other
         }
     }
 
     fn is_as_full(self, other: Fullness) -> bool
         ensures { result ≡ is_as_full (view_fullness self) (view_fullness other) }
     {
-        match (self, other) {
-            (Fullness::Vacant, Fullness::Locked | Fullness::Full)
-            | (Fullness::Locked, Fullness::Full) => false,
-            _ => true,
-        }
+        (other as u8) <= (self as u8)
     }
 }
 
@@ -76,26 +73,25 @@ impl State {
         }
     }
 
-    /// The same but for one local, of which this is known. Of code that is never run nothing is kept.
-    pub(crate) fn with_fullness(mut self, number: usize, fullness: Fullness) -> State
-        ensures { view_state result ≡ with_fullness (view_fullness fullness) (view_state self) number }
+    /// Of one local this is known now. Of code that is never run nothing is kept.
+    pub(crate) fn set(&mut self, number: usize, fullness: Fullness)
+        ensures { view_state self.new ≡ with_fullness (view_fullness fullness) (view_state self.old) number }
     {
-        if let State::Reached(locals) = &mut self {
+        if let State::Reached(locals) = self {
             if number < locals.len() {
                 locals[number] = fullness;
             }
         }
-        self
     }
 
-    /// The same of each of these locals.
+    /// The same but for these locals, of each of which this is known.
     #[tactic(auto, using(std::proofs::lemmas::List::drop_more))]
     pub(crate) fn with_each(self, numbers: &[usize], fullness: Fullness) -> State
         ensures { view_state result ≡ with_each (view_fullness fullness) numbers.now (view_state self) }
     {
         let mut state = self;
         for number in numbers {
-            state = state.with_fullness(*number, fullness);
+            state.set(*number, fullness);
         }
         state
     }
@@ -108,7 +104,7 @@ impl State {
         let mut state = self;
         for number in numbers {
             if !state.fullness(*number).is_locked() {
-                state = state.with_fullness(*number, Fullness::Vacant);
+                state.set(*number, Fullness::Vacant);
             }
         }
         state
@@ -187,19 +183,19 @@ fn lower_each(mut one: Vec<Fullness>, other: &[Fullness]) -> Vec<Fullness>
     one
 }
 
-#[tactic(auto, using(crate::proofs::States::unequal))]
+#[tactic(auto, using(crate::proofs::States::unequal, crate::proofs::States::compared_one))]
 fn are_as_full(one: &[Fullness], other: &[Fullness]) -> bool
     ensures { result ≡ are_as_full (map view_fullness one.now) (map view_fullness other.now) }
 {
     if one.len() != other.len() {
         return false;
     }
+    let mut all = true;
     for i in 0..one.len() {
-        if !one[i].is_as_full(other[i]) {
-            return false;
-        }
+        let one_is = one[i].is_as_full(other[i]);
+        all = all && one_is;
     }
-    true
+    all
 }
 
 /// Adds as many locals of which this is known.

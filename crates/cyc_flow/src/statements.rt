@@ -5,8 +5,8 @@ ghost use Rattle.cyc_types.specs.Rules.{and_then, settled, run};
 ghost use Rattle.cyc_types.specs.TypedTreeView.{view_expression, view_converted, view_side, view_statement, view_item, items_of, default_of, clauses_of};
 ghost use Rattle.cyc_types.specs.TypedTrees.{While, Try};
 ghost use Rattle.cyc_types.specs.flow.States.{Unreached, Full, meet, with_each};
-ghost use Rattle.cyc_types.specs.flow.Touched.{and_local, touched, touched_value, touched_thrown, touched_declaration, touched_side, touched_statement, touched_item, touched_items, touched_clauses};
-ghost use Rattle.cyc_types.specs.flow.Expressions.{rule};
+ghost use Rattle.cyc_types.specs.flow.Touched.{and_local, touched, touched_value, touched_thrown, touched_converted, touched_declaration, touched_side, touched_statement, touched_item, touched_items, touched_clauses};
+ghost use Rattle.cyc_types.specs.flow.Expressions.{rule, rule_converted};
 ghost use Rattle.cyc_types.specs.flow.Statements.{rule_value, rule_thrown, rule_side, peeked_side, side_demanded, rule_swapped, continue_demanded, locked_by, locks_of, rule_declared, rule_locked, caught, with_caught, or_clause, at_end, rule_statement, rule_item, rule_items, rule_clauses};
 ghost use Rattle.cyc_flow.specs.Code.{view_state, Ends, Gives, GivesKnown, GivesClauses, known};
 ghost use Rattle.cyc_types.specs.flow.Programs.{in_function};
@@ -24,10 +24,19 @@ use std::mem;
 // ---- what stands in a statement
 
 /// Behind an expression that stands in no other.
-fn evaluate(alloc: Global, value: &Expr, tracked: Tracked) -> Result<Tracked, Stop>
+fn evaluate(alloc: Global, value: &Expr, mut tracked: Tracked) -> Result<Tracked, Stop>
     ensures { Gives result (run (rule [] (view_expression value.now) (view_state tracked.state))) (touched (view_expression value.now) tracked.touched.items) }
 {
-    tracked.evaluate(alloc, &[], value)
+    tracked.evaluate(alloc, &[], value)?;
+    Ok(tracked)
+}
+
+/// The same of one whose value is converted.
+fn convert(alloc: Global, value: &Converted, mut tracked: Tracked) -> Result<Tracked, Stop>
+    ensures { Gives result (run (rule_converted [] (view_converted value.now) (view_state tracked.state))) (touched_converted (view_converted value.now) tracked.touched.items) }
+{
+    tracked.convert(alloc, &[], value)?;
+    Ok(tracked)
 }
 
 /// Behind the value that is returned, if one is.
@@ -36,7 +45,7 @@ fn return_value(alloc: Global, value: &Option<Converted>, tracked: Tracked) -> R
 {
     match value {
         None => Ok(tracked),
-        Some(converted) => tracked.convert(alloc, &[], converted),
+        Some(value) => convert(alloc, value, tracked),
     }
 }
 
@@ -65,8 +74,8 @@ fn declare(
             behind.touch(number)?;
             Ok(behind)
         }
-        Some(converted) => {
-            let behind = tracked.convert(alloc, &[], converted)?;
+        Some(value) => {
+            let behind = convert(alloc, value, tracked)?;
             Ok(behind.with_fullness(number, Fullness::Full))
         }
     }
@@ -100,13 +109,16 @@ fn find_side(
     alloc: Global,
     waiting: &[usize],
     side: &Side,
-    tracked: Tracked,
+    mut tracked: Tracked,
 ) -> Result<Tracked, Stop>
     ensures { Gives result (run (rule_side waiting.now (view_side side.now) (view_state tracked.state))) (touched_side (view_side side.now) tracked.touched.items) }
 {
     match side {
         Side::Variable { .. } => Ok(tracked),
-        Side::Cell { place } => tracked.find(alloc, waiting, place),
+        Side::Cell { place } => {
+            tracked.find(alloc, waiting, place)?;
+            Ok(tracked)
+        }
     }
 }
 
@@ -348,12 +360,10 @@ impl Walk {
         ensures known { GivesKnown result (and_then (run (rule_items (stands (option_map (λ l. view_loop l.now) around.entry) self.old.locks.items) (items_of items.now) (known (with_caught number (view_state start.now)) (view_state self.old.breaks)))) (λ k. Ok (or_clause (view_state before.state) (items_of items.now) k))) (touched_items (items_of items.now) before.touched.items) (view_state self.new.breaks) }
         ensures locks { IfOk result (λ _. self.new.locks.items ≡ self.old.locks.items) }
     {
-        let caught = match number {
-            None => start.copy(self.alloc)?,
-            Some(number) => start
-                .copy(self.alloc)?
-                .with_fullness(number, Fullness::Full),
-        };
+        let mut caught = start.copy(self.alloc)?;
+        if let Some(number) = number {
+            caught.set(number, Fullness::Full);
+        }
         let inside = Tracked {
             state: caught,
             touched: before.touched,

@@ -7,7 +7,9 @@ use Rattle.cyc_store.specs.State as stores
 use Rattle.cyc_plain.specs.declared.instruction.Instruction.{Instruction}
 use Rattle.cyc_plain.specs.declared.instruction.Instruction.TheVariants.{Move, Unary, Binary, Jump, Branch, Call, Return, ReadByte, WriteByte, LoadGlobal, StoreGlobal}
 use Rattle.cyc_plain.specs.declared.instruction.Instruction.TheVariants as instructions
+use Rattle.cyc_plain.specs.declared.instruction.Operand.{Operand}
 use Rattle.cyc_plain.specs.declared.instruction.Operand.TheVariants.{Slot, Word}
+use Rattle.cyc_plain.specs.declared.instruction.Request.TheVariants as requests
 use Rattle.cyc_plain.specs.declared.instruction.Comparison.{Comparison}
 use Rattle.cyc_plain.specs.declared.instruction.Comparison.TheVariants as comparisons
 use Rattle.cyc_plain.specs.declared.instruction.UnaryOperator.{UnaryOperator}
@@ -274,3 +276,67 @@ words_may_overlap = refl
 
 words_are_moved : status_of (after 4 1 (program (Move 1 (Word 5) ∷ Move 2 (Word 6) ∷ instructions.MoveWords 0 1 2 ∷ Return 1 ∷ [])) []) ≡ Ended (Returned (pos 6))
 words_are_moved = refl
+
+-- ---- calls of the store
+
+-- from a new store of three pages, where each block is made at this address, and each region gets this handle
+abbrev after_calls : (steps : ℕ) → List Instruction → Status
+after_calls steps code =
+    status_of (run (program code) 3 1 (record { contents = λ (slot : ℕ). 0; serving = record { handle = 7; address = 0x20000000; memory = λ (address : ℕ). 0 } }) steps (start (program code) empty_store []))
+
+abbrev allocate : (handle words : Operand) → Instruction
+allocate handle words = instructions.Ask (requests.Allocate 2 handle words)
+
+abbrev open_lexical : (destination : ℕ) → Instruction
+open_lexical destination = instructions.Ask (requests.OpenLexical destination)
+
+abbrev open_dynamic : (destination : ℕ) → Instruction
+open_dynamic destination = instructions.Ask (requests.OpenDynamic destination)
+
+abbrev close_to : Operand → Instruction
+close_to mark = instructions.Ask (requests.CloseTo mark)
+
+abbrev close_dynamic : Operand → Instruction
+close_dynamic handle = instructions.Ask (requests.CloseDynamic handle)
+
+abbrev free : Operand → Instruction
+free address = instructions.Ask (requests.Free address)
+
+block_is_made : after_calls 4 (allocate (Word 1) (Word 2) ∷ instructions.Store (Slot 2) 4 (Word 7) ∷ instructions.Load 0 (Slot 2) 4 ∷ Return 0 ∷ []) ≡ Ended (Returned (pos 7))
+block_is_made = refl
+
+block_past_the_pages_is_full : after_calls 4 (allocate (Word 1) (Word 1000) ∷ allocate (Word 1) (Word 1000) ∷ allocate (Word 1) (Word 1000) ∷ allocate (Word 1) (Word 25) ∷ Return 0 ∷ []) ≡ Ended Full
+block_past_the_pages_is_full = refl
+
+block_of_no_region_is_stuck : after_calls 1 (allocate (Word 3) (Word 2) ∷ Return 0 ∷ []) ≡ Failed
+block_of_no_region_is_stuck = refl
+
+block_of_no_words_is_stuck : after_calls 1 (allocate (Word 1) (Word 0) ∷ Return 0 ∷ []) ≡ Failed
+block_of_no_words_is_stuck = refl
+
+handle_comes_to_a_slot : after_calls 2 (open_lexical 0 ∷ Return 0 ∷ []) ≡ Ended (Returned (pos 7))
+handle_comes_to_a_slot = refl
+
+mark_comes_behind_it : after_calls 3 (open_lexical 0 ∷ open_lexical 2 ∷ Return 3 ∷ []) ≡ Ended (Returned (pos 1))
+mark_comes_behind_it = refl
+
+region_past_the_pages_is_full : after_calls 3 (open_lexical 0 ∷ open_dynamic 0 ∷ open_lexical 0 ∷ Return 0 ∷ []) ≡ Ended Full
+region_past_the_pages_is_full = refl
+
+words_of_a_region_are_there : after_calls 3 (open_lexical 0 ∷ allocate (Slot 0) (Word 2) ∷ instructions.Load 3 (Slot 2) 0 ∷ Return 3 ∷ []) ≡ simulation.Running
+words_of_a_region_are_there = refl
+
+words_of_a_closed_region_are_not : after_calls 4 (open_lexical 0 ∷ allocate (Slot 0) (Word 2) ∷ close_to (Slot 1) ∷ instructions.Load 3 (Slot 2) 0 ∷ Return 3 ∷ []) ≡ Failed
+words_of_a_closed_region_are_not = refl
+
+close_past_what_is_open_is_stuck : after_calls 1 (close_to (Word 1) ∷ Return 0 ∷ []) ≡ Failed
+close_past_what_is_open_is_stuck = refl
+
+dynamic_region_is_closed_once : after_calls 3 (open_dynamic 0 ∷ close_dynamic (Slot 0) ∷ close_dynamic (Slot 0) ∷ Return 0 ∷ []) ≡ Failed
+dynamic_region_is_closed_once = refl
+
+close_to_leaves_dynamic_regions : after_calls 4 (open_dynamic 0 ∷ close_to (Word 0) ∷ close_dynamic (Slot 0) ∷ Return 0 ∷ []) ≡ Ended (Returned (pos 7))
+close_to_leaves_dynamic_regions = refl
+
+block_is_freed_once : after_calls 3 (allocate (Word 2) (Word 3) ∷ free (Slot 2) ∷ free (Slot 2) ∷ Return 0 ∷ []) ≡ Failed
+block_is_freed_once = refl

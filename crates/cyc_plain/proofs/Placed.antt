@@ -7,17 +7,21 @@ use Rattle.std.specs.List.{AllByRecursion}
 use Rattle.cyc_words.specs.Ending.{Full}
 use Rattle.cyc_words.specs.Word.{add_of}
 use Rattle.cyc_store.specs.State.{StoreState}
+use Rattle.cyc_store.specs.Services as services
+use Rattle.cyc_store.specs.Services.{Call, Refusal, refusal}
 use Rattle.cyc_plain.specs.declared.instruction.Instruction.{Instruction}
 use Rattle.cyc_plain.specs.declared.instruction.Instruction.TheVariants as instructions
 use Rattle.cyc_plain.specs.declared.instruction.BinaryOperator.{BinaryOperator}
+use Rattle.cyc_plain.specs.declared.instruction.Request.{Request}
 use Rattle.cyc_plain.specs.declared.instruction.Operand.{Operand}
 use Rattle.cyc_plain.specs.Operators.{has_no_result, binary_result, compares}
+use Rattle.cyc_plain.specs.Requests.{destination_of}
 use Rattle.cyc_words.specs.Simulation as simulation
 use Rattle.cyc_words.specs.Simulation.{Run}
 use Rattle.cyc_plain.specs.Program.{Routine, Program, no_routine, routine_at}
 use Rattle.cyc_plain.specs.State.{Frame, Configuration, State, Running, Ended, Stuck, status_of, place_of, memory_at}
-use Rattle.cyc_plain.specs.Step.{Choice, gives, operand_word, returns, loads, saves, performed, executed, instruction_at, step, Step, start, machine}
-use Rattle.cyc_plain.specs.WellFormed.{IsInRange, IsRoutine, IsWellFormed, leaves, DividesByZero, AsksForNoWord}
+use Rattle.cyc_plain.specs.Step.{Choice, gives, operand_word, returns, loads, saves, asks, call_in, call_of, asked, performed, executed, instruction_at, step, Step, start, machine}
+use Rattle.cyc_plain.specs.WellFormed.{IsInRange, IsRoutine, IsWellFormed, leaves, DividesByZero, AsksForNoWord, AsksInVain}
 use Rattle.cyc_plain.proofs.RunLaws.{limited_either, if_either}
 
 -- ---- lists
@@ -106,6 +110,14 @@ module _ (program : Program) (well : IsWellFormed program) (choice : Choice) (c 
   saved address word None next = tt
   saved address word (Some old) next = (next, waiting)
 
+  served : (destination : ℕ) (call : Call) (o : Option Refusal) → IsPlacedAt program c.active.function (c.active.next + 1) → IsPlaced program (asks choice.serving c destination call o)
+  served destination call None next = (next, waiting)
+  served destination call (Some services.BadMark) next = tt
+  served destination call (Some services.BadHandle) next = tt
+  served destination call (Some services.BadSize) next = tt
+  served destination call (Some services.NotABlock) next = tt
+  served destination call (Some services.Full) next = tt
+
   performs : (i : Instruction) → slice_get here.code c.active.next ≡ Some i → IsInRange program here i → IsPlaced program (performed program choice c i)
   performs (instructions.Move destination source) at range = (behind _ at refl, waiting)
   performs (instructions.MoveWords destination source count) at range = (behind _ at refl, waiting)
@@ -126,6 +138,8 @@ module _ (program : Program) (well : IsWellFormed program) (choice : Choice) (c 
   performs (instructions.WriteByte source) at range = (behind _ at refl, waiting)
   performs (instructions.LoadGlobal destination global) at range = (behind _ at refl, waiting)
   performs (instructions.StoreGlobal global source) at range = (behind _ at refl, waiting)
+  performs (instructions.Ask request) at range =
+      served (destination_of request) (call_in c.active.slots request) (refusal c.store (call_in c.active.slots request)) (behind (instructions.Ask request) at refl)
   performs (instructions.Uncaught tag value) at range = tt
 
   executes : (o : Option Instruction) → slice_get here.code c.active.next ≡ o → IsPlaced program (executed program choice c o)
@@ -156,7 +170,7 @@ not_failed c e = cc
 
 -- why a run cannot go on
 abbrev Stops : Program → State → Type 0
-Stops program s = DividesByZero program s ⊎ AsksForNoWord program s
+Stops program s = DividesByZero program s ⊎ (AsksForNoWord program s ⊎ AsksInVain program s)
 
 divides : (program : Program) (c : Configuration) (operator : BinaryOperator) (destination : ℕ) (left right : Operand) (b : Bool) → has_no_result operator (operand_word c.active.slots right) ≡ b
     → instruction_at program (place_of (Running c)) ≡ Some (instructions.Binary operator destination left right)
@@ -168,15 +182,30 @@ divides program c operator destination left right false is at failed = absurd (n
 loads_stop : (program : Program) (c : Configuration) (destination : ℕ) (base : Operand) (offset : ℕ) (found : Option ℕ) → memory_at c (add_of (operand_word c.active.slots base) offset) ≡ found
     → instruction_at program (place_of (Running c)) ≡ Some (instructions.Load destination base offset) → status_of (loads c destination found) ≡ simulation.Failed → Stops program (Running c)
 loads_stop program c destination base offset None is at failed =
-    inr (instructions.Load destination base offset, add_of (operand_word c.active.slots base) offset, at, refl, is)
+    inr (inl (instructions.Load destination base offset, add_of (operand_word c.active.slots base) offset, at, refl, is))
 loads_stop program c destination base offset (Some word) is at failed = absurd (not_failed c failed)
 
 saves_stop : (program : Program) (c : Configuration) (base : Operand) (offset : ℕ) (source : Operand) (found : Option ℕ) → memory_at c (add_of (operand_word c.active.slots base) offset) ≡ found
     → instruction_at program (place_of (Running c)) ≡ Some (instructions.Store base offset source)
     → status_of (saves c (add_of (operand_word c.active.slots base) offset) (operand_word c.active.slots source) found) ≡ simulation.Failed → Stops program (Running c)
 saves_stop program c base offset source None is at failed =
-    inr (instructions.Store base offset source, add_of (operand_word c.active.slots base) offset, at, refl, is)
+    inr (inl (instructions.Store base offset source, add_of (operand_word c.active.slots base) offset, at, refl, is))
 saves_stop program c base offset source (Some old) is at failed = absurd (not_failed c failed)
+
+-- a call of the store
+asks_stop : (program : Program) (choice : Choice) (c : Configuration) (destination : ℕ) (call : Call) (o : Option Refusal) → refusal c.store call ≡ o → asked program (Running c) ≡ Some call
+    → status_of (asks choice.serving c destination call o) ≡ simulation.Failed → Stops program (Running c)
+asks_stop program choice c destination call None is called failed = absurd (not_failed c failed)
+asks_stop program choice c destination call (Some services.BadMark) is called failed =
+    inr (inr (call, services.BadMark, called, is, λ e. let other : services.BadMark ≡ services.Full = e in cc))
+asks_stop program choice c destination call (Some services.BadHandle) is called failed =
+    inr (inr (call, services.BadHandle, called, is, λ e. let other : services.BadHandle ≡ services.Full = e in cc))
+asks_stop program choice c destination call (Some services.BadSize) is called failed =
+    inr (inr (call, services.BadSize, called, is, λ e. let other : services.BadSize ≡ services.Full = e in cc))
+asks_stop program choice c destination call (Some services.NotABlock) is called failed =
+    inr (inr (call, services.NotABlock, called, is, λ e. let other : services.NotABlock ≡ services.Full = e in cc))
+asks_stop program choice c destination call (Some services.Full) is called failed =
+    absurd (let e : simulation.Ended Full ≡ simulation.Failed = failed in cc)
 
 returns_not : (c : Configuration) (value results : ℕ) (frames : List Frame) → status_of (returns c value results frames) ≡ simulation.Failed → ⊥
 returns_not c value results [] failed = let e : status_of (returns c value results []) ≡ simulation.Failed = failed in cc
@@ -184,6 +213,9 @@ returns_not c value results (f ∷ frames) failed = not_failed c failed
 
 fails : (program : Program) (choice : Choice) (c : Configuration) (i : Instruction) → instruction_at program (place_of (Running c)) ≡ Some i → IsInRange program (routine_at program c.active.function) i → status_of (performed program choice c i) ≡ simulation.Failed → Stops program (Running c)
 fails program choice c (instructions.Binary operator destination left right) at range failed = divides program c operator destination left right (has_no_result operator (operand_word c.active.slots right)) refl at failed
+fails program choice c (instructions.Ask request) at range failed =
+    let call : Call = call_in c.active.slots request in
+    asks_stop program choice c (destination_of request) call (refusal c.store call) refl (ap (call_of c.active.slots) at) failed
 fails program choice c (instructions.Return value) at range failed = absurd (returns_not c value (routine_at program c.active.function).results c.frames failed)
 fails program choice c (instructions.Uncaught tag value) at range failed = absurd (let e : status_of (performed program choice c (instructions.Uncaught tag value)) ≡ simulation.Failed = failed in cc)
 fails program choice c (instructions.Move destination source) at range failed = absurd (not_failed c failed)

@@ -6,16 +6,19 @@ use Rattle.cyc_words.specs.Ending.{Ending, Full}
 use Rattle.cyc_words.specs.Prefix.{IsPrefix}
 use Rattle.cyc_words.proofs.PrefixLemmas.{IsPrefix-refl, IsPrefix-append}
 use Rattle.cyc_store.specs.State.{StoreState}
+use Rattle.cyc_store.specs.Services as services
+use Rattle.cyc_store.specs.Services.{Call, Refusal, refusal}
 use Rattle.cyc_store.specs.New.{IsNew}
 use Rattle.cyc_store.proofs.NewStores.{new_demand}
 use Rattle.cyc_plain.specs.declared.instruction.Instruction.{Instruction}
 use Rattle.cyc_plain.specs.declared.instruction.Instruction.TheVariants as instructions
 use Rattle.cyc_plain.specs.Operators.{has_no_result, binary_result}
+use Rattle.cyc_plain.specs.Requests.{destination_of}
 use Rattle.cyc_words.specs.Simulation as simulation
 use Rattle.cyc_words.specs.Simulation.{Status, IsLawful, Run}
 use Rattle.cyc_plain.specs.Program.{Program, routine_at}
 use Rattle.cyc_plain.specs.State.{Frame, Configuration, State, Running, Ended, Stuck, output_of, input_of, status_of, place_of}
-use Rattle.cyc_plain.specs.Step.{Choice, IsAllowed, gives, operand_word, returns, loads, saves, performed, executed, instruction_at, step, is_within, limited, limited_step, Step, start, machine}
+use Rattle.cyc_plain.specs.Step.{Choice, IsAllowed, MayServe, gives, operand_word, returns, loads, saves, asks, call_in, call_of, asked, performed, executed, instruction_at, step, is_within, limited, limited_step, Step, start, machine}
 use Rattle.cyc_words.proofs.Simulation.{Run-grows, Run-stays}
 
 -- ---- limits
@@ -74,6 +77,14 @@ saved : (c : Configuration) (address word : ℕ) (found : Option ℕ) → GoesOn
 saved c address word None = same c
 saved c address word (Some old) = same c
 
+served : (serving : services.Choice) (c : Configuration) (destination : ℕ) (call : Call) (o : Option Refusal) → GoesOn c (asks serving c destination call o)
+served serving c destination call None = same c
+served serving c destination call (Some services.BadMark) = same c
+served serving c destination call (Some services.BadHandle) = same c
+served serving c destination call (Some services.BadSize) = same c
+served serving c destination call (Some services.NotABlock) = same c
+served serving c destination call (Some services.Full) = same c
+
 performs : (program : Program) (choice : Choice) (c : Configuration) (i : Instruction) → GoesOn c (performed program choice c i)
 performs program choice c (instructions.Move destination source) = same c
 performs program choice c (instructions.MoveWords destination source count) = same c
@@ -89,6 +100,8 @@ performs program choice c (instructions.LoadGlobal destination global) = same c
 performs program choice c (instructions.StoreGlobal global source) = same c
 performs program choice c (instructions.Load destination address offset) = loaded c destination _
 performs program choice c (instructions.Store address offset source) = saved c _ _ _
+performs program choice c (instructions.Ask request) =
+    served choice.serving c (destination_of request) (call_in c.active.slots request) (refusal c.store (call_in c.active.slots request))
 performs program choice c (instructions.Uncaught tag value) = same c
 
 executes : (program : Program) (choice : Choice) (c : Configuration) (o : Option Instruction) → GoesOn c (executed program choice c o)
@@ -110,12 +123,41 @@ limited_steps program pages calls old new (choice, allowed, is) =
 
 -- ---- a run that is over
 
--- any choice will do
+-- any choice will do where the store is not called
 abbrev pub zeros : Choice
-zeros = record { contents = λ (slot : ℕ). 0 }
+zeros = record {
+  contents = λ (slot : ℕ). 0;
+  serving = record { handle = 0; address = 0; memory = λ (address : ℕ). 0 };
+}
 
-pub zeros_allowed : (program : Program) (s : State) → IsAllowed program s zeros
-zeros_allowed program s slot = omega arith
+serves_none : (serving : services.Choice) (call : Option Call) (s : State) → call ≡ None → MayServe serving call s
+serves_none serving None s none = tt
+serves_none serving (Some call) s none = absurd (let e : Some call ≡ None = none in cc)
+
+pub zeros_allowed : (program : Program) (s : State) → asked program s ≡ None → IsAllowed program s zeros
+zeros_allowed program s none = record {
+  contents = λ slot. omega arith;
+  serves = serves_none zeros.serving (asked program s) s none;
+}
+
+pub zeros_at : (program : Program) (c : Configuration) (i : Instruction) → instruction_at program (place_of (Running c)) ≡ Some i → call_of c.active.slots (Some i) ≡ None → IsAllowed program (Running c) zeros
+zeros_at program c i at free = zeros_allowed program (Running c) (ap (call_of c.active.slots) at ∙ free)
+
+-- a state that is over asks nothing
+over_asks : (program : Program) (s : State) (ending : Ending) → status_of s ≡ simulation.Ended ending → asked program s ≡ None
+over_asks program (Running c) ending ended = absurd (let e : simulation.Running ≡ simulation.Ended ending = ended in cc)
+over_asks program (Ended other output input) ending ended = refl
+over_asks program (Stuck output input) ending ended = refl
+
+-- nor is anything chosen where a call is refused
+refused_serves : (serving : services.Choice) (call : Call) (why : Refusal) (c : Configuration) → refusal c.store call ≡ Some why → MayServe serving (Some call) (Running c)
+refused_serves serving call why c refused none = absurd (let e : Some why ≡ None = sym refused ∙ none in cc)
+
+pub zeros_refused : (program : Program) (c : Configuration) (call : Call) (why : Refusal) → asked program (Running c) ≡ Some call → refusal c.store call ≡ Some why → IsAllowed program (Running c) zeros
+zeros_refused program c call why asks refused = record {
+  contents = λ slot. omega arith;
+  serves = subst (λ (o : Option Call). MayServe zeros.serving o (Running c)) (sym asks) (refused_serves zeros.serving call why c refused);
+}
 
 over_steps : (program : Program) (pages calls : ℕ) (choice : Choice) (s : State) (ending : Ending) → status_of s ≡ simulation.Ended ending → limited_step program pages calls choice s ≡ s
 over_steps program pages calls choice (Running c) ending ended = absurd (let e : simulation.Running ≡ simulation.Ended ending = ended in cc)
@@ -127,7 +169,7 @@ pub lawful : (program : Program) (pages calls : ℕ) → IsLawful (machine progr
 lawful program pages calls = record {
   grows = λ old new stepped. (limited_steps program pages calls old new stepped).0;
   stays = λ old new ending ended stepped. stepped.2 ∙ over_steps program pages calls stepped.0 old ending ended;
-  rests = λ s ending ended. (zeros, zeros_allowed program s, sym (over_steps program pages calls zeros s ending ended));
+  rests = λ s ending ended. (zeros, zeros_allowed program s (over_asks program s ending ended), sym (over_steps program pages calls zeros s ending ended));
 }
 
 -- ---- whole runs
@@ -145,11 +187,14 @@ input_shrinks program pages calls (suc n) old new (mid, stepped, rest) =
     let later = input_shrinks program pages calls n mid new rest in
     (first.0 ++ later.0, first.1 ∙ ap (λ (l : List ℕ). first.0 ++ l) later.1 ∙ sym (append_assoc first.0 later.0 (input_of new)))
 
-pub always_goes_on : (program : Program) (pages calls n : ℕ) (old : State) → (new : State) × Run (machine program pages calls) n old new
-always_goes_on program pages calls zero old = (old, refl)
-always_goes_on program pages calls (suc n) old =
-    let (new, run) = always_goes_on program pages calls n (limited_step program pages calls zeros old) in
-    (new, (limited_step program pages calls zeros old, (zeros, zeros_allowed program old, refl), run))
+-- there is a step where the store is not called, and where it refuses
+pub goes_on : (program : Program) (pages calls : ℕ) (old : State) → asked program old ≡ None → (new : State) × Step program pages calls old new
+goes_on program pages calls old none = (limited_step program pages calls zeros old, (zeros, zeros_allowed program old none, refl))
+
+pub goes_on_refused : (program : Program) (pages calls : ℕ) (c : Configuration) (call : Call) (why : Refusal) → asked program (Running c) ≡ Some call → refusal c.store call ≡ Some why
+    → (new : State) × Step program pages calls (Running c) new
+goes_on_refused program pages calls c call why asks refused =
+    (limited_step program pages calls zeros (Running c), (zeros, zeros_refused program c call why asks refused, refl))
 
 -- a run that starts within its limits stays within them
 pub stays_within : (program : Program) (pages calls n : ℕ) (old new : State) → is_within pages calls old ≡ true → Run (machine program pages calls) n old new → is_within pages calls new ≡ true

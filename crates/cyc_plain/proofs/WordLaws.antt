@@ -6,6 +6,8 @@ use Rattle.std.proofs.lemmas.Bool.{cases_lt}
 use Rattle.std.proofs.lemmas.List.{get_or_past}
 use Rattle.cyc_words.specs.Word.{IsWord, signed, add_of}
 use Rattle.cyc_words.proofs.WordLemmas.{IsWord-add_of, IsWord-sub_of, IsWord-shl_of, IsWord-sar_of, IsWord-div_of, IsWord-rem_of, IsWord-slt_of, IsWord-bit_and, IsWord-bit_or, IsWord-bit_xor}
+use Rattle.cyc_store.specs.Services as services
+use Rattle.cyc_store.specs.Services.{Call, Answer, Refusal, refusal, answer}
 use Rattle.cyc_store.specs.State as stores
 use Rattle.cyc_store.specs.State.{StoreState, Holder, homes, holder, word_at, has_saved}
 use Rattle.cyc_plain.specs.declared.instruction.UnaryOperator.{UnaryOperator}
@@ -17,10 +19,11 @@ use Rattle.cyc_plain.specs.declared.instruction.Operand.TheVariants as operands
 use Rattle.cyc_plain.specs.declared.instruction.Instruction.{Instruction}
 use Rattle.cyc_plain.specs.declared.instruction.Instruction.TheVariants as instructions
 use Rattle.cyc_plain.specs.Operators.{truth, unary_result, binary_result, has_no_result}
+use Rattle.cyc_plain.specs.Requests.{destination_of}
 use Rattle.cyc_words.specs.Simulation.{Run}
 use Rattle.cyc_plain.specs.Program.{Program, CodePlace, no_routine, routine_at}
 use Rattle.cyc_plain.specs.State.{Words, AreWords, put, copied, Frame, Configuration, State, Running, Ended, Stuck, place_of, HoldsWords}
-use Rattle.cyc_plain.specs.Step.{Choice, IsAllowed, gives, operand_word, returns, loads, saves, performed, executed, instruction_at, step, start, machine}
+use Rattle.cyc_plain.specs.Step.{Choice, IsAllowed, IsServed, MayServe, HasAnswerWords, gives, operand_word, returns, loads, saves, told, asks, call_in, call_of, performed, executed, instruction_at, step, start, machine}
 use Rattle.cyc_plain.specs.WellFormed.{IsOfWord, HasWord, HasWords}
 use Rattle.cyc_plain.proofs.RunLaws.{limited_either, if_either}
 use Rattle.cyc_plain.proofs.Placed.{holds_at}
@@ -72,6 +75,14 @@ stored_words : (s : StoreState) (address word : ℕ) (found : Option ℕ) → st
 stored_words s address word None all w = all
 stored_words s address word (Some old) all w = put_words s.memory address word all w
 
+told_words : (a : Answer) (destination : ℕ) (slots : Words) → AreWords slots → HasAnswerWords a → AreWords (told a destination slots)
+told_words (services.Refused why) destination slots all words = all
+told_words services.Done destination slots all words = all
+told_words (services.Opened handle) destination slots all word = put_words slots destination handle all word
+told_words (services.OpenedLexical handle mark) destination slots all (first, second) =
+    put_words (put slots destination handle) (suc destination) mark (put_words slots destination handle all first) second
+told_words (services.Allocated address) destination slots all word = put_words slots destination address all word
+
 first_word : (input : List ℕ) → AllByRecursion IsWord input → IsWord (unwrap_or (slice_get input 0) (2 ^ 32 - 1))
 first_word [] all = omega arith
 first_word (b ∷ input) (first, rest) = first
@@ -110,41 +121,53 @@ module _ (program : Program) (choice : Choice) (allowed : AreWords choice.conten
   saved address word None w = tt
   saved address word (Some old) w = (slots, frames, globals, stored_words c.store address word (word_at c.store address) store w, input)
 
-  performs : (i : Instruction) → HasWord i → HoldsWords (performed program choice c i)
-  performs (instructions.Move destination source) w = given destination (operand_word c.active.slots source) (known source w)
-  performs (instructions.MoveWords destination source count) w =
+  served : (destination : ℕ) (call : Call) (o : Option Refusal) → (o ≡ None → IsServed c.store call choice.serving) → HoldsWords (asks choice.serving c destination call o)
+  served destination call None serves =
+      let is = serves refl in
+      (told_words (answer c.store call choice.serving) destination c.active.slots slots is.words, frames, globals, is.allowed.words, input)
+  served destination call (Some services.BadMark) serves = tt
+  served destination call (Some services.BadHandle) serves = tt
+  served destination call (Some services.BadSize) serves = tt
+  served destination call (Some services.NotABlock) serves = tt
+  served destination call (Some services.Full) serves = tt
+
+  performs : (i : Instruction) → HasWord i → MayServe choice.serving (call_of c.active.slots (Some i)) (Running c) → HoldsWords (performed program choice c i)
+  performs (instructions.Move destination source) w serves = given destination (operand_word c.active.slots source) (known source w)
+  performs (instructions.MoveWords destination source count) w serves =
       (copied_words c.active.slots c.active.slots source count destination slots slots, frames, globals, store, input)
-  performs (instructions.Unary operator destination operand) w =
+  performs (instructions.Unary operator destination operand) w serves =
       given destination (unary_result operator (operand_word c.active.slots operand)) (IsWord-unary_result operator (operand_word c.active.slots operand) (known operand w))
-  performs (instructions.Binary operator destination left right) (first, second) =
+  performs (instructions.Binary operator destination left right) (first, second) serves =
       if_either HoldsWords (has_no_result operator (operand_word c.active.slots right)) (Stuck c.output c.input) (gives c destination (binary_result operator (operand_word c.active.slots left) (operand_word c.active.slots right)))
       tt (given destination (binary_result operator (operand_word c.active.slots left) (operand_word c.active.slots right)) (IsWord-binary_result operator (operand_word c.active.slots left) (operand_word c.active.slots right) (known left first) (known right second)))
-  performs (instructions.Jump target) w = (slots, frames, globals, store, input)
-  performs (instructions.Branch comparison left right target) w = (slots, frames, globals, store, input)
-  performs (instructions.Call function arguments count result) w =
+  performs (instructions.Jump target) w serves = (slots, frames, globals, store, input)
+  performs (instructions.Branch comparison left right target) w serves = (slots, frames, globals, store, input)
+  performs (instructions.Call function arguments count result) w serves =
       (copied_words c.active.slots choice.contents arguments count 0 slots allowed, (slots, frames), globals, store, input)
-  performs (instructions.Return value) w = returned value (routine_at program c.active.function).results c.frames frames
-  performs (instructions.ReadByte destination) w =
+  performs (instructions.Return value) w serves = returned value (routine_at program c.active.function).results c.frames frames
+  performs (instructions.ReadByte destination) w serves =
       (put_words c.active.slots destination (unwrap_or (slice_get c.input 0) (2 ^ 32 - 1)) slots (first_word c.input input), frames, globals, store, rest_words c.input input)
-  performs (instructions.WriteByte source) w = (slots, frames, globals, store, input)
-  performs (instructions.LoadGlobal destination global) w = given destination (c.globals global) (globals global)
-  performs (instructions.StoreGlobal global source) w =
+  performs (instructions.WriteByte source) w serves = (slots, frames, globals, store, input)
+  performs (instructions.LoadGlobal destination global) w serves = given destination (c.globals global) (globals global)
+  performs (instructions.StoreGlobal global source) w serves =
       (slots, frames, put_words c.globals global (operand_word c.active.slots source) globals (known source w), store, input)
-  performs (instructions.Load destination address offset) w =
+  performs (instructions.Load destination address offset) w serves =
       let at : ℕ = add_of (operand_word c.active.slots address) offset in
       loaded destination at (at % 4 == 0) (holder (homes c.store) at)
-  performs (instructions.Store address offset source) (first, second, third) =
+  performs (instructions.Store address offset source) (first, second, third) serves =
       let at : ℕ = add_of (operand_word c.active.slots address) offset in
       saved at (operand_word c.active.slots source) (word_at c.store at) (known source third)
-  performs (instructions.Uncaught tag value) w = tt
+  performs (instructions.Ask request) w serves =
+      served (destination_of request) (call_in c.active.slots request) (refusal c.store (call_in c.active.slots request)) serves
+  performs (instructions.Uncaught tag value) w serves = tt
 
-  executes : (o : Option Instruction) → ((i : Instruction) → o ≡ Some i → HasWord i) → HoldsWords (executed program choice c o)
-  executes (Some i) w = performs i (w i refl)
-  executes None w = tt
+  executes : (o : Option Instruction) → ((i : Instruction) → o ≡ Some i → HasWord i) → MayServe choice.serving (call_of c.active.slots o) (Running c) → HoldsWords (executed program choice c o)
+  executes (Some i) w serves = performs i (w i refl) serves
+  executes None w serves = tt
 
 words_step : (program : Program) (choice : Choice) (s : State) → HasWords program → IsAllowed program s choice → HoldsWords s → HoldsWords (step program choice s)
 words_step program choice (Running c) words allowed (slots, frames, globals, store, input) =
-    executes program choice allowed c slots frames globals store input (instruction_at program (place_of (Running c))) (λ i at. known_word program (place_of (Running c)) i words at)
+    executes program choice allowed.contents c slots frames globals store input (instruction_at program (place_of (Running c))) (λ i at. known_word program (place_of (Running c)) i words at) allowed.serves
 words_step program choice (Ended ending output input) words allowed holds = tt
 words_step program choice (Stuck output input) words allowed holds = tt
 

@@ -1,4 +1,5 @@
 -- what the type `Plain` and its facts rest on
+pub mod Requests
 pub mod Program
 pub mod WellFormed
 -- what a plain program means

@@ -8,6 +8,7 @@ use Rattle.cyc_plain.specs.declared.instruction.Instruction.TheVariants as instr
 use Rattle.cyc_plain.specs.declared.instruction.BinaryOperator.{BinaryOperator}
 use Rattle.cyc_plain.specs.declared.instruction.BinaryOperator.TheVariants as binary
 use Rattle.cyc_plain.specs.declared.program.Function.{Function}
+use Rattle.cyc_plain.specs.Requests.{request_size}
 
 -- a function: where its name stands, how many words it takes and returns, its slots, the words of its frame, its code
 pub record Routine : Type 0 where
@@ -74,6 +75,7 @@ instruction_size (instructions.LoadGlobal destination global) = 5
 instruction_size (instructions.StoreGlobal global source) = 5
 instruction_size (instructions.Load destination address offset) = 10
 instruction_size (instructions.Store address offset source) = 10
+instruction_size (instructions.Ask request) = request_size request
 instruction_size (instructions.Uncaught tag value) = 7
 
 abbrev pub size : Routine → ℕ

@@ -1,25 +1,28 @@
 -- What a plain program does: a step is a function of the state and of what is chosen. So the steps of a program are a
 -- relation, since nothing is said of the choice but that it is allowed.
 use Rattle.std.specs.Prelude.{◌≡◌, ℕ, zero, suc, ◌+◌, ◌-◌, ◌%◌, ◌^◌, Bool, ◌&&◌, nat_le, List, [], ◌∷◌, ◌++◌, drop, Option, Some, None, unwrap_or, slice_get, slice_index, if◌then◌else◌}
-use Rattle.cyc_words.specs.Word.{signed, add_of}
+use Rattle.cyc_words.specs.Word.{IsWord, signed, add_of}
 use Rattle.cyc_words.specs.Ending.{Returned, Uncaught, Full}
 use Rattle.cyc_store.specs.State.{StoreState}
+use Rattle.cyc_store.specs.Services as services
+use Rattle.cyc_store.specs.Services.{Call, Answer, Refusal, refusal, served, answer}
 use Rattle.cyc_plain.specs.declared.instruction.Instruction.{Instruction}
 use Rattle.cyc_plain.specs.declared.instruction.Instruction.TheVariants as instructions
 use Rattle.cyc_plain.specs.declared.instruction.Operand.{Operand}
 use Rattle.cyc_plain.specs.declared.instruction.Operand.TheVariants as operands
+use Rattle.cyc_plain.specs.declared.instruction.Request.{Request}
+use Rattle.cyc_plain.specs.declared.instruction.Request.TheVariants as requests
+use Rattle.cyc_plain.specs.Requests.{destination_of}
 use Rattle.cyc_plain.specs.Operators.{unary_result, binary_result, has_no_result, compares}
 use Rattle.cyc_plain.specs.Program.{Program, CodePlace, routine_at}
 use Rattle.cyc_words.specs.Simulation.{Machine}
 use Rattle.cyc_plain.specs.State.{Words, AreWords, put, copied, Frame, Configuration, memory_at, with_memory, State, Running, Ended, Stuck, output_of, input_of, status_of, place_of, demand, depth}
 
--- What a step may choose freely: the words that are in the slots of a new call before they are written.
+-- What a step may choose freely: the words that are in the slots of a new call before they are written, and what the
+-- store chooses where it is called.
 pub record Choice : Type 0 where
   pub contents : Words
-
--- which choices a program has in a state
-abbrev pub IsAllowed : Program → State → Choice → Type 0
-IsAllowed program s choice = AreWords choice.contents
+  pub serving : services.Choice
 
 -- Parts of a configuration changed.
 
@@ -77,6 +80,31 @@ abbrev pub saves : Configuration → (address word : ℕ) → Option ℕ → Sta
 saves c address word (Some old) = Running (advanced (with_memory c address word))
 saves c address word None = Stuck c.output c.input
 
+-- the call of the store that a request is
+abbrev pub call_in : Words → Request → Call
+call_in slots (requests.OpenLexical destination) = services.OpenLexical
+call_in slots (requests.CloseTo mark) = services.CloseTo (operand_word slots mark)
+call_in slots (requests.OpenDynamic destination) = services.OpenDynamic
+call_in slots (requests.CloseDynamic handle) = services.CloseDynamic (operand_word slots handle)
+call_in slots (requests.Allocate destination handle words) =
+    services.Allocate (operand_word slots handle) (operand_word slots words)
+call_in slots (requests.Free address) = services.Free (operand_word slots address)
+
+-- the slots behind it: what the store answers comes to those from this one on
+abbrev pub told : Answer → (destination : ℕ) → Words → Words
+told (services.Opened handle) destination slots = put slots destination handle
+told (services.OpenedLexical handle mark) destination slots = put (put slots destination handle) (suc destination) mark
+told (services.Allocated address) destination slots = put slots destination address
+told other destination slots = slots
+
+-- The store is called, which refuses or does not. Where there is no room for what it would come to the run ends, whatever
+-- would be chosen: demand goes by sizes alone. What is refused for another reason leaves a run that cannot go on.
+abbrev pub asks : services.Choice → Configuration → (destination : ℕ) → Call → Option Refusal → State
+asks serving c destination call None =
+    Running (advanced (with_slots (record c { store = served c.store call serving }) (told (answer c.store call serving) destination c.active.slots)))
+asks serving c destination call (Some services.Full) = Ended Full c.output c.input
+asks serving c destination call (Some why) = Stuck c.output c.input
+
 -- what an instruction does
 abbrev pub performed : Program → Choice → Configuration → Instruction → State
 performed program choice c (instructions.Move destination source) =
@@ -108,12 +136,48 @@ performed program choice c (instructions.Load destination address offset) =
 performed program choice c (instructions.Store address offset source) =
     saves c (add_of (operand_word c.active.slots address) offset) (operand_word c.active.slots source)
     (memory_at c (add_of (operand_word c.active.slots address) offset))
+performed program choice c (instructions.Ask request) =
+    asks choice.serving c (destination_of request) (call_in c.active.slots request)
+    (refusal c.store (call_in c.active.slots request))
 performed program choice c (instructions.Uncaught tag value) =
     Ended (Uncaught tag (signed (operand_word c.active.slots value))) c.output c.input
 
 -- the instruction to be executed
 abbrev pub instruction_at : Program → CodePlace → Option Instruction
 instruction_at program place = slice_get (routine_at program place.function).code place.index
+
+-- the call of the store that an instruction makes, if it makes one
+abbrev pub call_of : Words → Option Instruction → Option Call
+call_of slots (Some (instructions.Ask request)) = Some (call_in slots request)
+call_of slots (Some instruction) = None
+call_of slots None = None
+
+-- the call of the store that the next step makes
+abbrev pub asked : Program → State → Option Call
+asked program (Running c) = call_of c.active.slots (instruction_at program (place_of (Running c)))
+asked program (Ended ending output input) = None
+asked program (Stuck output input) = None
+
+-- what the store answers is words
+abbrev pub HasAnswerWords : Answer → Type 0
+HasAnswerWords (services.Opened handle) = IsWord handle
+HasAnswerWords (services.OpenedLexical handle mark) = IsWord handle × IsWord mark
+HasAnswerWords (services.Allocated address) = IsWord address
+HasAnswerWords other = Unit {0}
+
+-- A call that is not refused is served by a choice that the store allows, and answered by words.
+pub record IsServed (store : StoreState) (call : Call) (serving : services.Choice) : Type 0 where
+  pub allowed : services.IsAllowed store call serving
+  pub words : HasAnswerWords (answer store call serving)
+
+abbrev pub MayServe : services.Choice → Option Call → State → Type 0
+MayServe serving (Some call) (Running c) = refusal c.store call ≡ None → IsServed c.store call serving
+MayServe serving call s = Unit {0}
+
+-- Which choices a program has in a state: words, and what the store allows where it is called.
+pub record IsAllowed (program : Program) (s : State) (choice : Choice) : Type 0 where
+  pub contents : AreWords choice.contents
+  pub serves : MayServe choice.serving (asked program s) s
 
 abbrev pub executed : Program → Choice → Configuration → Option Instruction → State
 executed program choice c (Some instruction) = performed program choice c instruction

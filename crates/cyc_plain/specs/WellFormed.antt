@@ -1,14 +1,17 @@
 -- A well-formed plain program: all that it names is there, and its frames have room.
-use Rattle.std.specs.Prelude.{◌≡◌, ℕ, ◌+◌, ◌-◌, ◌<◌, ◌≤◌, Bool, true, false, length, sum_by, All, IsSomeAnd, Some, None, slice_get}
+use Rattle.std.specs.Prelude.{◌≡◌, ◌≢◌, ℕ, ◌+◌, ◌-◌, ◌<◌, ◌≤◌, Bool, true, false, length, sum_by, All, IsSomeAnd, Option, Some, None, slice_get}
 use Rattle.cyc_words.specs.Word.{IsWord, add_of}
+use Rattle.cyc_store.specs.Services.{Call, Refusal, Full, refusal}
 use Rattle.cyc_plain.specs.declared.instruction.Instruction.{Instruction}
 use Rattle.cyc_plain.specs.declared.instruction.Instruction.TheVariants as instructions
 use Rattle.cyc_plain.specs.declared.instruction.Operand.{Operand}
 use Rattle.cyc_plain.specs.declared.instruction.Operand.TheVariants as operands
 use Rattle.cyc_plain.specs.Operators.{has_no_result}
 use Rattle.cyc_plain.specs.declared.instruction.BinaryOperator.{BinaryOperator}
+use Rattle.cyc_plain.specs.declared.instruction.Request.{Request}
+use Rattle.cyc_plain.specs.Requests.{first_operand, second_operand, answer_count, destination_of}
 use Rattle.cyc_plain.specs.State.{Configuration, State, Running, Ended, Stuck, place_of, memory_at}
-use Rattle.cyc_plain.specs.Step.{operand_word, instruction_at}
+use Rattle.cyc_plain.specs.Step.{operand_word, instruction_at, asked}
 use Rattle.cyc_plain.specs.Program.{Routine, Program, routine_at, size}
 use Rattle.cyc_plain.specs.declared.limits.TheConstants.{LAYOUT_WORDS, GREATEST_VALUE, MOST_GLOBALS, MOST_SIZE}
 
@@ -36,6 +39,17 @@ pub record IsMoveInRange (r : Routine) (destination source count : ℕ) : Type 0
   pub destination_in_range : HasSlots r destination count
   pub source_in_range : HasSlots r source count
 
+-- an operand, where there is one
+abbrev pub IsArgument : Routine → Option Operand → Type 0
+IsArgument r (Some operand) = IsOperand r operand
+IsArgument r None = Unit {0}
+
+-- What a request takes is there, and so are the slots that get its answer.
+pub record IsRequestInRange (r : Routine) (request : Request) : Type 0 where
+  pub answer_in_range : HasSlots r (destination_of request) (answer_count request)
+  pub first_in_range : IsArgument r (first_operand request)
+  pub second_in_range : IsArgument r (second_operand request)
+
 -- the slots, targets, globals and functions that an instruction of a function names are there
 abbrev pub IsInRange : Program → Routine → Instruction → Type 0
 IsInRange program r (instructions.Move destination source) = (destination < r.slots) × IsOperand r source
@@ -58,6 +72,7 @@ IsInRange program r (instructions.StoreGlobal global source) =
     (global < length program.globals) × IsOperand r source
 IsInRange program r (instructions.Load destination address offset) = (destination < r.slots) × IsOperand r address
 IsInRange program r (instructions.Store address offset source) = IsOperand r address × IsOperand r source
+IsInRange program r (instructions.Ask request) = IsRequestInRange r request
 IsInRange program r (instructions.Uncaught tag value) = IsOperand r value
 
 -- after these the instruction behind them is never executed next
@@ -90,6 +105,10 @@ abbrev pub IsOfWord : Operand → Type 0
 IsOfWord (operands.Slot number) = Unit {0}
 IsOfWord (operands.Word word) = IsWord word
 
+abbrev pub IsArgumentOfWord : Option Operand → Type 0
+IsArgumentOfWord (Some operand) = IsOfWord operand
+IsArgumentOfWord None = Unit {0}
+
 abbrev pub HasWord : Instruction → Type 0
 HasWord (instructions.Move destination source) = IsOfWord source
 HasWord (instructions.Unary operator destination operand) = IsOfWord operand
@@ -99,6 +118,7 @@ HasWord (instructions.WriteByte source) = IsOfWord source
 HasWord (instructions.StoreGlobal global source) = IsOfWord source
 HasWord (instructions.Load destination address offset) = IsOfWord address × IsWord offset
 HasWord (instructions.Store address offset source) = IsOfWord address × IsWord offset × IsOfWord source
+HasWord (instructions.Ask request) = IsArgumentOfWord (first_operand request) × IsArgumentOfWord (second_operand request)
 HasWord (instructions.Uncaught tag value) = IsWord tag × IsOfWord value
 HasWord instruction = Unit {0}
 
@@ -135,3 +155,11 @@ AsksForNoWord program (Running c) =
     × (memory_at c address ≡ None)
 AsksForNoWord program (Ended ending output input) = ⊥
 AsksForNoWord program (Stuck output input) = ⊥
+
+-- the instruction to be executed next asks the store for what it refuses, not for want of room
+abbrev pub AsksInVain : Program → State → Type 0
+AsksInVain program (Running c) =
+    (call : Call) × (why : Refusal) × (asked program (Running c) ≡ Some call) × (refusal c.store call ≡ Some why)
+    × (why ≢ Full)
+AsksInVain program (Ended ending output input) = ⊥
+AsksInVain program (Stuck output input) = ⊥

@@ -59,6 +59,37 @@ pub enum Operand {
     Word { word: u32 },
 }
 
+/// What the store is asked for. What it answers comes into the slots from `destination` on.
+#[derive(Clone, Copy)]
+pub enum Request {
+    /// A lexical region is opened. The answer is its handle, and how many lexical regions were open.
+    OpenLexical {
+        destination: usize,
+    },
+    /// The newest lexical regions are closed, until so many are open.
+    CloseTo {
+        mark: Operand,
+    },
+    /// A dynamic region is opened. The answer is its handle.
+    OpenDynamic {
+        destination: usize,
+    },
+    /// The dynamic region with this handle is closed.
+    CloseDynamic {
+        handle: Operand,
+    },
+    /// A block of so many words is made in the region with this handle. The answer is its address.
+    Allocate {
+        destination: usize,
+        handle: Operand,
+        words: Operand,
+    },
+    /// The unique block at this address is freed.
+    Free {
+        address: Operand,
+    },
+}
+
 /// An instruction. After it the next one in the code is executed, where it says nothing else.
 #[derive(Clone, Copy)]
 pub enum Instruction {
@@ -132,6 +163,10 @@ pub enum Instruction {
         address: Operand,
         offset: u32,
         source: Operand,
+    },
+    /// The store is called. Where there is no room for what it would come to, the run ends.
+    Ask {
+        request: Request,
     },
     /// The run ends, with an exception of this tag and this word that nothing caught.
     Uncaught {

@@ -1,22 +1,23 @@
 //! Laws of the definitions in `specs/`. Each function does nothing: its contract is the law, and so it is proved with
 //! the crate. The lemmas behind them stand in `proofs/` for other proofs to cite.
 
-ghost use Rattle.std.specs.Prelude.{◌≡◌, ◌≢◌, ◌⊎◌, ℕ, ◌+◌, ◌<◌, ◌≤◌, List, length, ◌++◌, true, false, Some, Contains};
+ghost use Rattle.std.specs.Prelude.{◌≡◌, ◌≢◌, ◌⊎◌, ℕ, ◌+◌, ◌<◌, ◌≤◌, List, length, ◌++◌, true, false, Some, None, Contains};
 ghost use Rattle.std.specs.List.{AllByRecursion};
 ghost use Rattle.cyc_words.specs.Ending.{Ending, Full};
 ghost use Rattle.cyc_words.specs.Prefix.{IsPrefix};
 ghost use Rattle.cyc_store.specs.State.{StoreState};
 ghost use Rattle.cyc_store.specs.State as stores;
 ghost use Rattle.cyc_store.specs.New.{IsNew};
+ghost use Rattle.cyc_store.specs.Services.{Call, Refusal, refusal};
 ghost use Rattle.cyc_plain.specs.Program.{Program, CodePlace, routine_at, places_of};
 ghost use Rattle.cyc_plain.specs.declared.instruction.Instruction.{Instruction};
 ghost use Rattle.cyc_words.specs.Simulation.{Run, Path, IsDistinct};
 ghost use Rattle.cyc_words.specs.Simulation as simulation;
 ghost use Rattle.cyc_plain.specs.State.{Words, Configuration, State, HoldsWords, put, copied, output_of, input_of, status_of};
 ghost use Rattle.cyc_plain.specs.State as state;
-ghost use Rattle.cyc_plain.specs.Step.{Choice, Step, instruction_at, is_within, limited_step, machine, start, step};
+ghost use Rattle.cyc_plain.specs.Step.{Choice, Step, asked, instruction_at, is_within, limited_step, machine, start, step};
 ghost use Rattle.cyc_plain.specs.Straight.{HasAt, AreStraight, executed_in, places_behind};
-ghost use Rattle.cyc_plain.specs.WellFormed.{IsWellFormed, HasWords, DividesByZero, AsksForNoWord};
+ghost use Rattle.cyc_plain.specs.WellFormed.{IsWellFormed, HasWords, DividesByZero, AsksForNoWord, AsksInVain};
 
 /// A run that is over stays as it is.
 pub fn ended_stays()
@@ -32,9 +33,13 @@ pub fn output_grows()
         → (read : List ℕ) × (input_of old ≡ read ++ input_of new) }
 {}
 
-/// From every state there is a run of every number of steps.
-pub fn always_goes_on()
-    ensures { (program : Program) (pages calls count : ℕ) (old : State) → (new : State) × Run (machine program pages calls) count old new }
+/// From every state there is a step where the store is not called, and where it refuses what it is called for. (Of a call that
+/// it does not refuse the relation says what may be chosen, and the store that is called that something is.)
+pub fn steps_go_on()
+    ensures free { (program : Program) (pages calls : ℕ) (old : State) → asked program old ≡ None → (new : State) × Step program pages calls old new }
+    ensures refused { (program : Program) (pages calls : ℕ) (c : Configuration) (call : Call) (why : Refusal)
+        → asked program (state.Running c) ≡ Some call → refusal c.store call ≡ Some why
+        → (new : State) × Step program pages calls (state.Running c) new }
 {}
 
 /// A run keeps its limits: a step that keeps them is the program's own, and one that does not ends the run with `Full`, with
@@ -50,12 +55,13 @@ pub fn limits_are_kept()
         → limited_step program pages calls choice old ≡ state.Ended Full (output_of old) (input_of old) }
 {}
 
-/// A run of a well-formed program is never stuck but at a division by 0, and where it asks for a word that memory does not have.
+/// A run of a well-formed program is never stuck but at a division by 0, where it asks for a word that memory does not have, and
+/// where the store refuses what it is called for, not for want of room.
 pub fn few_get_stuck()
     ensures { (program : Program) (pages calls count : ℕ) (store : StoreState) (input : List ℕ) (old new : State) → IsWellFormed program
         → Run (machine program pages calls) count (start program store input) old → status_of old ≡ simulation.Running
         → Step program pages calls old new → status_of new ≡ simulation.Failed
-        → DividesByZero program old ⊎ AsksForNoWord program old }
+        → DividesByZero program old ⊎ (AsksForNoWord program old ⊎ AsksInVain program old) }
 {}
 
 /// In a run of a program whose numbers are words, from a store of words and on an input of bytes, every value is a word.

@@ -7,6 +7,6 @@ pub mod laws;
 mod limits;
 pub mod program;
 
-pub use instruction::{BinaryOperator, Comparison, Instruction, Operand, UnaryOperator};
+pub use instruction::{BinaryOperator, Comparison, Instruction, Operand, Request, UnaryOperator};
 pub use limits::{GREATEST_VALUE, LAYOUT_WORDS, MOST_GLOBALS, MOST_SIZE};
 pub use program::{Function, Plain};

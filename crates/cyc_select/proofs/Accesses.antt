@@ -19,7 +19,7 @@ use Rattle.cyc_plain.specs.State as states
 use Rattle.cyc_plain.specs.State.{Words, put, copied, Configuration, memory_at}
 use Rattle.cyc_plain.specs.Step.{instruction_at, operand_word, performed, loads, saves}
 use Rattle.cyc_plain.specs.WellFormed.{IsOperand, IsOfWord, IsWellFormed, IsMoveInRange}
-use Rattle.cyc_plain.proofs.RunLaws.{zeros, zeros_allowed}
+use Rattle.cyc_plain.proofs.RunLaws.{zeros, zeros_at}
 use Rattle.cyc_frame.specs.Layout.{AreFrames, frame_at}
 use Rattle.cyc_frame.specs.declared.frame.Frame.{Frame}
 use Rattle.cyc_select.specs.declared.constants.TheConstants.{FIRST, SECOND, ZERO, FRAME}
@@ -36,7 +36,8 @@ use Rattle.cyc_select.proofs.Halves.{fits_is}
 use Rattle.cyc_select.proofs.Lines.{line_next}
 use Rattle.cyc_select.proofs.Matches.{At, Reached, reached, reached_gives, result_register, within}
 use Rattle.cyc_select.proofs.Returns.{stored}
-use Rattle.cyc_select.proofs.Standing.{Standing, slot_cell, slot_word_is, laid_live, standing_registers, standing_at, standing_saved}
+use Rattle.cyc_select.proofs.Stores.{laid_live}
+use Rattle.cyc_select.proofs.Standing.{Standing, slot_cell, slot_word_is, standing_registers, standing_at, standing_saved}
 use Rattle.cyc_select.proofs.Views.{Contents, written, saved_in}
 use Rattle.cyc_select.proofs.Walks.{Stands, stands_first, stands_behind, after_r, after_w, Walk, now_at, now_is, walk_end, walk_few, walk_block, walk_load, walk_save}
 
@@ -216,7 +217,7 @@ module _ (program : Program) (well : IsWellFormed program) (frames : List Frame)
       walk_block code formed addresses globals_length (words_per_call * calls) js 0 (here + length is) (here + length is) hi c.output c.input _ q v e before (stands_behind code here is js stands) puts.0 (omega arith)
       (λ f later.
       walk_end code formed addresses globals_length (words_per_call * calls) (here + length is + length js) hi c.output _ (Running f) (omega (arith, long, also))
-      (reached program well frames fit code formed addresses pages calls few c zeros (plain.MoveWords destination source count) (states.Running d) (Running f) (zeros_allowed program (states.Running c)) at_i refl
+      (reached program well frames fit code formed addresses pages calls few c zeros (plain.MoveWords destination source count) (states.Running d) (Running f) (zeros_at program c (plain.MoveWords destination source count) at_i refl) at_i refl
       (within program well frames fit code formed addresses pages calls few d s.laid.paged s.deep)
       (inl (record {
         run = f;
@@ -264,7 +265,7 @@ module _ (program : Program) (well : IsWellFormed program) (frames : List Frame)
       walk_block code formed addresses globals_length (words_per_call * calls) put_one 0 (here + length is + 1) (suc (here + length is)) hi c.output c.input _ p v e later behind.1 (safe, tt) (omega arith)
       (λ f after.
       walk_end code formed addresses globals_length (words_per_call * calls) (here + length is + 1 + 1) hi c.output _ (Running f) (omega (arith, long))
-      (reached_gives program well frames fit code formed addresses pages calls few c (plain.Load destination address offset) at_i r w base s destination word c.input (here + length is + 1 + 1) f p (after_w put_one p v)
+      (reached_gives program well frames fit code formed addresses pages calls few c (plain.Load destination address offset) at_i refl r w base s destination word c.input (here + length is + 1 + 1) f p (after_w put_one p v)
       below (ap (loads c destination) found) s.input (omega (arith, long)) reaches.keeps.zero reaches.keeps.base reaches.keeps.left reaches.keeps.back puts after)))))
 
   pub load_goes : (destination : ℕ) (address : Operand) (offset : ℕ) → IsAt (plain.Load destination address offset) → destination < slots → IsThere address → IsWord offset
@@ -328,7 +329,7 @@ module _ (program : Program) (well : IsWellFormed program) (frames : List Frame)
       walk_save code formed addresses globals_length (words_per_call * calls) 0 (here + length is + length js) (here + length is + length js) hi c.output c.input _ p u f (register_of from) (register_of register) (near_half offset) old after at_last.0 (omega arith) live
       (λ g later.
       walk_end code formed addresses globals_length (words_per_call * calls) (suc (here + length is + length js)) hi c.output _ (Running g) (omega (arith, long, more))
-      (reached program well frames fit code formed addresses pages calls few c zeros (plain.Store address offset source) (states.Running d) (Running g) (zeros_allowed program (states.Running c)) at_i (ap (saves c a word) found)
+      (reached program well frames fit code formed addresses pages calls few c zeros (plain.Store address offset source) (states.Running d) (Running g) (zeros_at program c (plain.Store address offset source) at_i refl) at_i (ap (saves c a word) found)
       (within program well frames fit code formed addresses pages calls few d four.laid.paged s.deep)
       (inl (record {
         run = g;

@@ -17,7 +17,7 @@ use Rattle.cyc_plain.specs.State as states
 use Rattle.cyc_plain.specs.State.{Words, AreWords, put, copied, Configuration}
 use Rattle.cyc_plain.specs.Step.{Choice, instruction_at, performed, executed, advanced, step, is_within}
 use Rattle.cyc_plain.specs.WellFormed.{IsWellFormed, IsCallInRange}
-use Rattle.cyc_plain.proofs.RunLaws.{zeros, zeros_allowed, limited-full}
+use Rattle.cyc_plain.proofs.RunLaws.{zeros, zeros_at, limited-full}
 use Rattle.cyc_plain.proofs.SlotLaws.{put-same, copied-inside, copied-above}
 use Rattle.cyc_frame.specs.Layout.{AreFrames, frame_at, slot_word}
 use Rattle.cyc_frame.specs.declared.frame.Frame.{Frame}
@@ -106,7 +106,7 @@ module _ (program : Program) (well : IsWellFormed program) (frames : List Frame)
       let over : is_within pages calls (performed program zeros c (plain.Call callee arguments count result)) ≡ false = and_right (nat_le (demand c.store) pages) _ deep in
       let is : step program zeros (states.Running c) ≡ performed program zeros c (plain.Call callee arguments count result) = ap (executed program zeros c) at_i in (
         states.Ended Full c.output c.input,
-        (zeros, zeros_allowed program (states.Running c), sym (limited-full pages calls (states.Running c) (step program zeros (states.Running c)) (ap (is_within pages calls) is ∙ over))),
+        (zeros, zeros_at program c (plain.Call callee arguments count result) at_i refl, sym (limited-full pages calls (states.Running c) (step program zeros (states.Running c)) (ap (is_within pages calls) is ∙ over))),
         refl,
       )
 
@@ -191,7 +191,7 @@ module _ (program : Program) (well : IsWellFormed program) (frames : List Frame)
 
     -- what is in the new slots before they are written
     abbrev choice : Choice
-    choice = record { contents = λ (slot : ℕ). w2.words (low + slot_offset its slot) }
+    choice = record { contents = λ (slot : ℕ). w2.words (low + slot_offset its slot); serving = zeros.serving }
 
     abbrev entered : Configuration
     entered = record c {
@@ -258,7 +258,8 @@ module _ (program : Program) (well : IsWellFormed program) (frames : List Frame)
     enters : (d : labelled.Configuration) → AtLine (function_line program callee) r3 w2 d → Reached program well frames fit code formed addresses pages calls few c (Running d)
     enters d later =
         reached program well frames fit code formed addresses pages calls few c choice (plain.Call callee arguments count result) (states.Running entered) (Running d)
-        (λ slot. later.w_words (low + slot_offset its slot)) at_i refl
+        (let zero = zeros_at program c (plain.Call callee arguments count result) at_i refl in
+        record { contents = λ slot. later.w_words (low + slot_offset its slot); serves = zero.serves }) at_i refl
         (within program well frames fit code formed addresses pages calls few entered s.laid.paged deeper)
         (inl (record {
           run = d;

@@ -1,5 +1,5 @@
 -- How many lines operands, plans and tests have, as they are counted: so many, and few.
-use Rattle.std.proofs.Common.{◌≡◌, ℕ, zero, suc, ◌+◌, ◌%◌, ◌^◌, ◌≤◌, Bool, true, false, List, [], ◌∷◌, length, Option, None, Some, refl, ap, arith, length-append}
+use Rattle.std.proofs.Common.{◌≡◌, ℕ, zero, suc, ◌+◌, ◌%◌, ◌^◌, ◌≤◌, Bool, true, false, List, [], ◌∷◌, length, Option, None, Some, refl, ap, ◌∙◌, arith, length-append}
 use Rattle.std.specs.Prelude.{◌==◌, nat_lt, if◌then◌else◌}
 use Rattle.cyc_isa.specs.declared.instr.Instr.{Instr}
 use Rattle.cyc_isa.specs.declared.instr.ArithmeticOp.{ArithmeticOp}
@@ -11,6 +11,9 @@ use Rattle.cyc_plain.specs.declared.instruction.UnaryOperator.TheVariants as una
 use Rattle.cyc_plain.specs.declared.instruction.BinaryOperator.{BinaryOperator}
 use Rattle.cyc_plain.specs.declared.instruction.Operand.{Operand}
 use Rattle.cyc_plain.specs.declared.instruction.Operand.TheVariants as operands
+use Rattle.cyc_plain.specs.declared.instruction.Request.{Request}
+use Rattle.cyc_plain.specs.declared.instruction.Request.TheVariants as requests
+use Rattle.cyc_plain.specs.Requests.{answer_count, destination_of, operand_size}
 use Rattle.cyc_frame.specs.declared.frame.Frame.{Frame}
 use Rattle.cyc_select.specs.declared.constants.TheConstants.{FIRST, SECOND, THIRD, ZERO}
 use Rattle.cyc_select.specs.declared.plan.Operation.{Operation}
@@ -22,7 +25,7 @@ use Rattle.cyc_select.specs.declared.plan.Test.{Test}
 use Rattle.cyc_select.specs.declared.plan.Test.TheVariants as tests
 use Rattle.cyc_select.specs.Plans.{arithmetic_plan, immediate_plan, immediate_or, zero_plan, differs_plan, equal_plan, unary_plan, binary_plan}
 use Rattle.cyc_select.specs.Numbers.{fits_signed, negated_half, is_word, is_zero_word}
-use Rattle.cyc_select.specs.Selection.{load_all, store_all, result_registers, small, or_immediate, load_upper, constant, is_tested, word_code, load_code, operand_code, operand_register, operation_code, outcome_code, operands_code, operation_of, computed_code, plan_code, test_code, loads_code, divided_code, store_slot, add_immediate, minus, word_count, load_count, operand_count, far_plan, address_code, address_count, operation_count, outcome_count, count_of_operation, plan_count, test_count, operator_count}
+use Rattle.cyc_select.specs.Selection.{load_all, store_all, result_registers, argument_code, argument_count, service_number, answer_code, small, or_immediate, load_upper, constant, is_tested, word_code, load_code, operand_code, operand_register, operation_code, outcome_code, operands_code, operation_of, computed_code, plan_code, test_code, loads_code, divided_code, store_slot, add_immediate, minus, word_count, load_count, operand_count, far_plan, address_code, address_count, operation_count, outcome_count, count_of_operation, plan_count, test_count, operator_count}
 
 -- ---- few
 
@@ -113,6 +116,26 @@ operator_either false divided planned few small = omega (arith, small)
 pub operator_small : (operator : BinaryOperator) (left right : Operand) → operator_count operator left right ≤ 11
 operator_small operator left right =
     operator_either (is_tested operator right) (load_count left + load_count right + 7) (plan_count (binary_plan operator left right)) (omega (arith, load_small left, load_small right)) (plan_small (binary_plan operator left right))
+
+pub argument_small : (o : Option Operand) → argument_count o ≤ operand_size o
+argument_small None = omega arith
+argument_small (Some operand) = omega (arith, load_small operand)
+
+pub answer_few : (request : Request) → answer_count request ≤ 2
+answer_few (requests.OpenLexical destination) = omega arith
+answer_few (requests.CloseTo mark) = omega arith
+answer_few (requests.OpenDynamic destination) = omega arith
+answer_few (requests.CloseDynamic handle) = omega arith
+answer_few (requests.Allocate destination handle words) = omega arith
+answer_few (requests.Free address) = omega arith
+
+pub service_small : (request : Request) → service_number request ≤ 11
+service_small (requests.OpenLexical destination) = omega arith
+service_small (requests.CloseTo mark) = omega arith
+service_small (requests.OpenDynamic destination) = omega arith
+service_small (requests.CloseDynamic handle) = omega arith
+service_small (requests.Allocate destination handle words) = omega arith
+service_small (requests.Free address) = omega arith
 
 -- ---- so many
 
@@ -207,3 +230,14 @@ length_registers (suc zero) few_results = refl
 length_registers (suc (suc zero)) few_results = refl
 length_registers (suc (suc (suc zero))) few_results = refl
 length_registers (suc (suc (suc (suc count)))) few_results = absurd (omega (arith, few_results))
+
+-- ---- calls of the store
+
+pub length_argument : (frame : Frame) (register : ℕ) (o : Option Operand) → length (argument_code frame register o) ≡ argument_count o
+length_argument frame register None = refl
+length_argument frame register (Some operand) = length_load frame register operand
+
+pub length_answer : (frame : Frame) (request : Request) → length (answer_code frame request) ≡ answer_count request
+length_answer frame request =
+    length_stores frame (destination_of request) (result_registers (answer_count request))
+    ∙ length_registers (answer_count request) (omega (arith, answer_few request))

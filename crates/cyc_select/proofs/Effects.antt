@@ -14,6 +14,8 @@ use Rattle.cyc_isa.specs.declared.operand.Register.{Register}
 use Rattle.cyc_isa.specs.declared.operand.TrapCode.{TrapCode}
 use Rattle.cyc_isa.specs.Effect.{immediate_result, load_upper_result, arithmetic_result, shift_result, high_result, low_result, memory_address}
 use Rattle.cyc_store.specs.State.{StoreState, word_at}
+use Rattle.cyc_store.specs.Services as services
+use Rattle.cyc_store.specs.Services.{Call, Answer, refusal}
 use Rattle.cyc_machine.specs.declared.event.Cause.TheVariants as causes
 use Rattle.cyc_machine.specs.declared.event.End.TheVariants as ends
 use Rattle.cyc_machine.specs.declared.event.Event.{Event}
@@ -21,14 +23,17 @@ use Rattle.cyc_machine.specs.declared.event.Event.TheVariants.{Ran, WantsByte, P
 use Rattle.cyc_machine.specs.declared.phase.Phase.TheVariants as phases
 use Rattle.cyc_machine.specs.State as machines
 use Rattle.cyc_machine.specs.State.{Core, Place, InText, InGlobals, InStack, Nowhere, register, with_register, place_of, is_dead, loaded, stored, over, data_base, stack_base, word_number}
-use Rattle.cyc_machine.specs.Step.{Action, Does, Calls, Acts, Service, GetByte, PutByte, EndReturned, EndUncaught, EndFull, Serves, service_of, asked, calls, executes, after, cause_of, first_of, is_nowhere, is_text, is_aligned}
+use Rattle.cyc_machine.specs.Step.{Action, Does, Calls, Acts, Service, GetByte, PutByte, EndReturned, EndUncaught, EndFull, Asks, told_by, answered, with_store, Serves, service_of, asked, calls, executes, after, cause_of, first_of, is_nowhere, is_text, is_aligned}
 use Rattle.cyc_machine.specs.Run.{told}
 use Rattle.cyc_machine.proofs.StepLaws.{executes-performs}
 use Rattle.cyc_plain.specs.State.{Words, put}
+use Rattle.cyc_plain.specs.declared.instruction.Request.{Request}
+use Rattle.cyc_plain.specs.declared.instruction.Request.TheVariants as requests
+use Rattle.cyc_select.specs.Selection.{service_number}
 use Rattle.cyc_select.specs.Machine.{Configuration, State, Running, core_of, memory_of, machine_of, world_of, from_world, settled, Performs, word_in}
 use Rattle.cyc_select.specs.Machine as labelled
 use Rattle.cyc_select.proofs.Cells.{IsCell, IsLive, cell, place_of-data, place_of-stack}
-use Rattle.cyc_select.proofs.Views.{Contents, saved_in, View, does_r, does_w, IsSafe, IsWritable, moved, live_place, view_put, view_product, view_store, view_saved}
+use Rattle.cyc_select.proofs.Views.{Contents, saved_in, View, answered_registers, does_r, does_w, IsSafe, IsWritable, moved, live_place, view_put, view_product, view_store, view_saved}
 
 -- what is performed without an event leaves this
 performs_to : (c : Configuration) (i : Instr) (left : machines.State) (next : State) → executes (machine_of c) i ≡ Does Ran left → left.phase ≡ phases.Running
@@ -268,3 +273,70 @@ pub ends_full : (c : Configuration) (code : TrapCode) (next : State) → word_in
 ends_full c code next number goes =
     let (event, s, (same_event, same), is) = serves c code EndFull 11 next number refl goes in
     seen c next event (Ended ends.Full) s (over (machine_of c) ends.Full) same_event same is
+
+-- ---- calls of the store
+
+-- the call that registers ask for
+abbrev pub call_by : Request → (first second : ℕ) → Call
+call_by (requests.OpenLexical destination) first second = services.OpenLexical
+call_by (requests.CloseTo mark) first second = services.CloseTo first
+call_by (requests.OpenDynamic destination) first second = services.OpenDynamic
+call_by (requests.CloseDynamic handle) first second = services.CloseDynamic first
+call_by (requests.Allocate destination handle words) first second = services.Allocate first second
+call_by (requests.Free address) first second = services.Free first
+
+abbrev pub asked_call : Request → Configuration → Call
+asked_call request c = call_by request (word_in c 4) (word_in c 5)
+
+service_is : (c : Configuration) (request : Request) → service_of (core_of c) (service_number request) ≡ Some (Asks (asked_call request c))
+service_is c (requests.OpenLexical destination) = refl
+service_is c (requests.CloseTo mark) = refl
+service_is c (requests.OpenDynamic destination) = refl
+service_is c (requests.CloseDynamic handle) = refl
+service_is c (requests.Allocate destination handle words) = refl
+service_is c (requests.Free address) = refl
+
+-- the store's answer is in registers
+abbrev pub given_answer : Configuration → Answer → StoreState → Configuration
+given_answer c a store = record c { registers = answered_registers c a; store = store; line = c.line + 1 }
+
+-- the state that is seen behind an answer
+abbrev behind_answer : Configuration → Answer → StoreState → State
+behind_answer c a store =
+    settled (told (world_of c) (told_by a) (answered (with_store (machine_of c) store) a)) (c.line + 1)
+    (told (world_of c) (told_by a) (answered (with_store (machine_of c) store) a)).machine.phase
+
+goes_on : (c : Configuration) (old : StoreState) (call : Call) (choice : services.Choice) (store : StoreState)
+    → behind_answer c (services.answer old call choice) store ≡ Running (given_answer c (services.answer old call choice) store)
+goes_on c old services.OpenLexical choice store = refl
+goes_on c old (services.CloseTo mark) choice store = refl
+goes_on c old services.OpenDynamic choice store = refl
+goes_on c old (services.CloseDynamic handle) choice store = refl
+goes_on c old (services.Allocate handle words) choice store = refl
+goes_on c old (services.Free address) choice store = refl
+
+pub store_serves : (c : Configuration) (code : TrapCode) (next : State) (request : Request) → word_in c 2 ≡ service_number request → refusal c.store (asked_call request c) ≡ None → Performs c (Exception Syscall code) next
+    → (choice : services.Choice) × services.IsAllowed c.store (asked_call request c) choice
+    × (next ≡ Running (given_answer c (services.answer c.store (asked_call request c) choice) (services.served c.store (asked_call request c) choice)))
+store_serves c code next request number free goes =
+    let call : Call = asked_call request c in
+    let (event, s, (answer, store, serving, same_event, same), is) = serves c code (Asks (asked_call request c)) (service_number request) next number (service_is c request) goes in
+    let (choice, allowed, answer_is, store_is) = subst (λ (o : Option services.Refusal). services.ServesBy c.store (asked_call request c) o answer store) free serving in
+    let given : Answer = services.answer c.store (asked_call request c) choice in
+    let left : machines.State = answered (with_store (machine_of c) (services.served c.store (asked_call request c) choice)) (services.answer c.store (asked_call request c) choice) in
+    let left_is : s ≡ left =
+    same
+    ∙ (ap (λ (a : Answer). answered (with_store (machine_of c) store) a) answer_is
+    ∙ ap (λ (t : StoreState). answered (with_store (machine_of c) t) (services.answer c.store (asked_call request c) choice)) store_is) in (
+      choice,
+      allowed,
+      seen c next event (told_by (services.answer c.store (asked_call request c) choice)) s left (same_event ∙ ap told_by answer_is) left_is is
+          ∙ goes_on c c.store (asked_call request c) choice (services.served c.store (asked_call request c) choice),
+    )
+
+pub store_is_full : (c : Configuration) (code : TrapCode) (next : State) (request : Request) → word_in c 2 ≡ service_number request → refusal c.store (asked_call request c) ≡ Some services.Full → Performs c (Exception Syscall code) next
+    → next ≡ labelled.Ended ending.Full c.output c.input
+store_is_full c code next request number full goes =
+    let (event, s, (answer, store, serving, same_event, same), is) = serves c code (Asks (asked_call request c)) (service_number request) next number (service_is c request) goes in
+    let (answer_is, store_is) = subst (λ (o : Option services.Refusal). services.ServesBy c.store (asked_call request c) o answer store) full serving in
+    seen c next event (Ended ends.Full) s (over (with_store (machine_of c) store) ends.Full) (same_event ∙ ap told_by answer_is) (same ∙ ap (λ (a : Answer). answered (with_store (machine_of c) store) a) answer_is) is

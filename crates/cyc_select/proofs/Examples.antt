@@ -2,8 +2,9 @@
 use Rattle.std.proofs.Common.{◌≡◌, ℕ, List, [], ◌∷◌, refl}
 use Rattle.std.specs.Prelude.{sum_by, length}
 use Rattle.cyc_plain.specs.declared.instruction.Instruction.{Instruction}
-use Rattle.cyc_plain.specs.declared.instruction.Instruction.TheVariants.{Binary, Branch, Load, MoveWords}
+use Rattle.cyc_plain.specs.declared.instruction.Instruction.TheVariants.{Ask, Binary, Branch, Load, MoveWords}
 use Rattle.cyc_plain.specs.declared.instruction.Operand.TheVariants.{Slot, Word}
+use Rattle.cyc_plain.specs.declared.instruction.Request.TheVariants.{OpenLexical, CloseTo, Allocate}
 use Rattle.cyc_plain.specs.declared.instruction.Comparison.TheVariants.{Equal, GreaterOrEqualUnsigned}
 use Rattle.cyc_plain.specs.declared.instruction.BinaryOperator.TheVariants.{Add, ShiftLeft}
 use Rattle.cyc_plain.specs.Program.{Program}
@@ -45,3 +46,7 @@ far_store = refl
 
 three_words : lines_of (MoveWords 0 3 3 ∷ []) ≡ 6
 three_words = refl
+
+-- a region for a block of two words, from its handle and its mark in the slots 0 and 1 to its end
+block_in_a_region : lines_of (Ask (OpenLexical 0) ∷ Ask (Allocate 2 (Slot 0) (Word 2)) ∷ Ask (CloseTo (Slot 1)) ∷ []) ≡ 12
+block_in_a_region = refl

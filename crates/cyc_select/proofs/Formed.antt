@@ -1,5 +1,5 @@
 -- Each line of the code is formed, and each part has few words.
-use Rattle.std.proofs.Common.{◌≡◌, ℕ, zero, suc, ◌+◌, ◌*◌, ◌/◌, ◌%◌, ◌^◌, ◌<◌, ◌≤◌, Bool, true, false, List, [], ◌∷◌, ◌++◌, length, take, Some, slice_get, refl, sym, ap, subst, ◌∙◌, arith, inl, inr, length-append}
+use Rattle.std.proofs.Common.{◌≡◌, ℕ, zero, suc, ◌+◌, ◌*◌, ◌/◌, ◌%◌, ◌^◌, ◌<◌, ◌≤◌, Bool, true, false, List, [], ◌∷◌, ◌++◌, length, take, Option, None, Some, slice_get, refl, sym, ap, subst, ◌∙◌, arith, inl, inr, length-append}
 use Rattle.std.specs.Prelude.{All, sum_by, ◌==◌, nat_lt, if◌then◌else◌, slice_index_or}
 use Rattle.std.specs.List.{AllByRecursion}
 use Rattle.std.proofs.lemmas.Bool.{cases_lt, eqb-true, ltb-true}
@@ -21,7 +21,8 @@ use Rattle.cyc_isa.specs.declared.instr.MoveFromOp.{MoveFromOp}
 use Rattle.cyc_machine.specs.declared.constants.TheConstants.{ARGUMENT, END_UNCAUGHT, PUT_BYTE, SECOND_ARGUMENT, SERVICE}
 use Rattle.cyc_plain.specs.Program.{Routine, Program, CodePlace, no_routine, routine_at}
 use Rattle.cyc_plain.specs.Step.{instruction_at}
-use Rattle.cyc_plain.specs.WellFormed.{IsOperand, IsInRange, IsWellFormed, HasWords, IsOfWord, HasWord}
+use Rattle.cyc_plain.specs.Requests.{first_operand, second_operand, answer_count, destination_of}
+use Rattle.cyc_plain.specs.WellFormed.{IsOperand, IsArgument, IsInRange, IsWellFormed, HasWords, IsOfWord, IsArgumentOfWord, HasWord}
 use Rattle.cyc_plain.proofs.Placed.{holds_at, routine_in, below_of_get, has_code}
 use Rattle.cyc_plain.proofs.Steps.{function_known}
 use Rattle.cyc_frame.specs.Layout.{AreFrames, frame_at, slot_word}
@@ -40,10 +41,10 @@ use Rattle.cyc_select.specs.declared.plan.Test.TheVariants as tests
 use Rattle.cyc_select.specs.Plans.{unary_plan, binary_plan, test_of}
 use Rattle.cyc_select.specs.Labelled.{Labelled, IsFormed, IsFormedLine}
 use Rattle.cyc_select.specs.Numbers.{fits_signed, is_zero_word}
-use Rattle.cyc_select.specs.Selection.{slot_offset, ordinary, result_registers, far_plan, address_code, near_half, at_address, copies, load_all, store_all, store_slot, pop_frame, load_upper, constant, or_immediate, is_tested, part_of, plan_count, small, syscall, add_immediate, minus, upper_of_global, at_global, word_code, load_code, load_count, operand_code, operand_register, operands_code, operation_code, outcome_code, operation_of, computed_code, plan_code, test_code, branch_line, quotient_code, loads_code, divided_code, divide_code, ending_code, ending_count, operator_code, operator_count, body, behind, body_count, count_of, function_count, functions_count, function_line, instruction_line, code_lines, function_lines, start_lines, select_of}
+use Rattle.cyc_select.specs.Selection.{slot_offset, ordinary, result_registers, argument_code, service_number, answer_code, far_plan, address_code, near_half, at_address, copies, load_all, store_all, store_slot, pop_frame, load_upper, constant, or_immediate, is_tested, part_of, plan_count, small, syscall, add_immediate, minus, upper_of_global, at_global, word_code, load_code, load_count, operand_code, operand_register, operands_code, operation_code, outcome_code, operation_of, computed_code, plan_code, test_code, branch_line, quotient_code, loads_code, divided_code, divide_code, ending_code, ending_count, operator_code, operator_count, body, behind, body_count, count_of, function_count, functions_count, function_line, instruction_line, code_lines, function_lines, start_lines, select_of}
 use Rattle.cyc_select.proofs.Lines.{line_first}
 use Rattle.cyc_select.proofs.Plans.{AllOfTest, all_unary, all_binary, all_test}
-use Rattle.cyc_select.proofs.Counts.{length_registers}
+use Rattle.cyc_select.proofs.Counts.{length_registers, answer_few, service_small}
 use Rattle.cyc_select.proofs.Returns.{loaded}
 use Rattle.cyc_select.proofs.Structure.{length_body, stand}
 use Rattle.cyc_select.proofs.Walks.{Stands}
@@ -127,6 +128,7 @@ count_some program function (plain.StoreGlobal global source) in_range = omega a
 count_some program function (plain.MoveWords destination source count) in_range = omega (arith, length_registers count in_range.few, in_range.some)
 count_some program function (plain.Load destination address offset) in_range = omega arith
 count_some program function (plain.Store address offset source) in_range = omega arith
+count_some program function (plain.Ask request) in_range = omega arith
 count_some program function (plain.Uncaught tag value) in_range = omega arith
 
 module _ (program : Program) (well : IsWellFormed program) (words : HasWords program) (frames : List Frame) (fit : AreFrames program frames) where
@@ -225,6 +227,10 @@ module _ (program : Program) (well : IsWellFormed program) (words : HasWords pro
     load_formed : (target : ℕ) (o : Operand) → IsThere o → Formed (ordinary (load_code frame target o))
     load_formed target (operands.Slot number) (below, fits) = ((refl, slot_fits number below), tt)
     load_formed target (operands.Word word) (below, fits) = word_formed target word fits
+
+    argument_formed : (register : ℕ) (o : Option Operand) → IsArgument (routine_at program function) o → IsArgumentOfWord o → Formed (ordinary (argument_code frame register o))
+    argument_formed register None there fits = tt
+    argument_formed register (Some operand) there fits = load_formed register operand (there, fits)
 
     either_formed : (b : Bool) (is : List Instr) → Formed (ordinary is) → Formed (ordinary (if b then [] else is))
     either_formed true is all = tt
@@ -395,6 +401,13 @@ module _ (program : Program) (well : IsWellFormed program) (words : HasWords pro
         let last : List Instr = at_address StoreWord (operand_register SECOND source) address offset ∷ [] in
         formed_append (address_code frame address offset) (js ++ last) (address_formed address offset (a, fits) near)
         (formed_append js last (operand_formed SECOND source (b, also)) ((refl, near_fits offset), tt))
+    body_formed (plain.Ask request) n in_range (fits, also) long =
+        let js : List Instr = argument_code frame SECOND_ARGUMENT (second_operand request) in
+        let last : List Instr = small SERVICE (service_number request) ∷ syscall ∷ answer_code frame request in
+        let registers = length_registers (answer_count request) (omega (arith, answer_few request)) in
+        formed_append (argument_code frame ARGUMENT (first_operand request)) (js ++ last) (argument_formed ARGUMENT (first_operand request) in_range.first_in_range fits)
+        (formed_append js last (argument_formed SECOND_ARGUMENT (second_operand request) in_range.second_in_range also)
+        ((refl, omega (arith, service_small request)), ((refl, tt), stores_formed (destination_of request) (result_registers (answer_count request)) (omega (arith, registers, in_range.answer_in_range)))))
     body_formed (plain.Uncaught tag value) n below (tag_fits, value_fits) long =
         formed_append (word_code ARGUMENT tag) (load_code frame SECOND_ARGUMENT value ++ small SERVICE END_UNCAUGHT ∷ syscall ∷ []) (word_formed ARGUMENT tag tag_fits)
         (formed_append (load_code frame SECOND_ARGUMENT value) (small SERVICE END_UNCAUGHT ∷ syscall ∷ []) (load_formed SECOND_ARGUMENT value (below, value_fits)) ((refl, (omega arith)), ((refl, tt), tt)))
@@ -416,6 +429,7 @@ module _ (program : Program) (well : IsWellFormed program) (words : HasWords pro
     behind_formed (plain.MoveWords destination source count) in_range = tt
     behind_formed (plain.Load destination address offset) in_range = tt
     behind_formed (plain.Store address offset source) in_range = tt
+    behind_formed (plain.Ask request) in_range = tt
     behind_formed (plain.Uncaught tag value) in_range = tt
 
   function_formed : (function n : ℕ) → function < length program.functions → n ≡ function_line program function → Formed (code_lines program frames function n (routine_at program function).code)

@@ -11,10 +11,12 @@ pub mod Start
 pub mod Runs
 pub mod Simple
 pub mod Accesses
+pub mod Requests
 pub mod Calls
 pub mod Returns
 pub mod Matches
 pub mod Standing
+pub mod Stores
 -- what a few lines do
 pub mod Walks
 pub mod Lines

@@ -43,6 +43,7 @@ leaves_none program (plain.StoreGlobal global source) last = refl
 leaves_none program (plain.MoveWords destination source count) last = refl
 leaves_none program (plain.Load destination address offset) last = refl
 leaves_none program (plain.Store address offset source) last = refl
+leaves_none program (plain.Ask request) last = refl
 leaves_none program (plain.Uncaught tag value) last = refl
 
 some_last : (r : Routine) (i : Instruction) → IsSomeAnd (slice_get r.code (length r.code - 1)) (λ j. leaves j ≡ true) → slice_get r.code (length r.code - 1) ≡ Some i → leaves i ≡ true

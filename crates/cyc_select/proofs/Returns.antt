@@ -17,7 +17,7 @@ use Rattle.cyc_plain.specs.State as states
 use Rattle.cyc_plain.specs.State.{Words, AreWords, put, copied, Configuration}
 use Rattle.cyc_plain.specs.Step.{instruction_at, performed, returns}
 use Rattle.cyc_plain.specs.WellFormed.{IsWellFormed, HasSlots}
-use Rattle.cyc_plain.proofs.RunLaws.{zeros, zeros_allowed, over_within}
+use Rattle.cyc_plain.proofs.RunLaws.{zeros, zeros_at, over_within}
 use Rattle.cyc_plain.proofs.SlotLaws.{put-same, put-other, copied-inside, copied-above, copied-below}
 use Rattle.cyc_frame.specs.Layout.{AreFrames, frame_at}
 use Rattle.cyc_frame.specs.declared.frame.Frame.{Frame}
@@ -178,7 +178,7 @@ module _ (program : Program) (well : IsWellFormed program) (frames : List Frame)
       walk_returned code formed addresses globals_length (words_per_call * calls) (here + 1 + 2) (here + 1 + 2) hi c.output c.input _ (after_r ends r w) w e after
       (stands_back code (here + 1) (ordinary ends) (ordinary (syscall ∷ [])) stands_here).0 (omega arith) (omega (arith, far))
       (ap (λ (x : ℕ). add_of x (sign_extended 3)) s.zero_is ∙ add_small 0 3 (omega arith) (omega arith))
-      (reached program well frames fit code formed addresses pages calls few c zeros (plain.Return value) (states.Ended (Returned (signed (c.active.slots value))) c.output c.input) _ (zeros_allowed program (states.Running c)) at_i is_returned
+      (reached program well frames fit code formed addresses pages calls few c zeros (plain.Return value) (states.Ended (Returned (signed (c.active.slots value))) c.output c.input) _ (zeros_at program c (plain.Return value) at_i refl) at_i is_returned
       (over_within pages calls (Returned (signed (c.active.slots value))) c.output c.input)
       (ap (λ (x : ℕ). Ended (Returned (signed x)) c.output c.input) (word_is value below)))))
 
@@ -229,7 +229,7 @@ module _ (program : Program) (well : IsWellFormed program) (frames : List Frame)
       (omega arith) (inside f.caller.function index c.active.function arguments count f.result at) (load.back_same ∙ is_back)
       (λ g returned.
       walk_end code formed addresses globals_length (words_per_call * calls) (suc (line + size)) hi c.output _ (Running g) (omega (arith, far, same_size))
-      (reached program well frames fit code formed addresses pages calls few c zeros (plain.Return value) (states.Running next_state) (Running g) (zeros_allowed program (states.Running c)) at_i is_returned
+      (reached program well frames fit code formed addresses pages calls few c zeros (plain.Return value) (states.Running next_state) (Running g) (zeros_at program c (plain.Return value) at_i refl) at_i is_returned
       (within program well frames fit code formed addresses pages calls few next_state s.laid.paged (omega (arith, deep)))
       (inr (record {
         run = g;

@@ -23,11 +23,11 @@ use Rattle.cyc_words.specs.Simulation.{IsOnTheWay, Matching, IsMatchedStep, IsSt
 use Rattle.cyc_plain.specs.State as states
 use Rattle.cyc_plain.specs.State.{Words, Configuration}
 use Rattle.cyc_plain.specs.Step as steps
-use Rattle.cyc_plain.specs.Step.{instruction_at, operand_word, performed, executed, gives, step, is_within, Step}
+use Rattle.cyc_plain.specs.Step.{IsAllowed, call_of, instruction_at, operand_word, performed, executed, gives, step, is_within, Step}
 use Rattle.cyc_plain.specs.WellFormed.{IsOperand, IsWellFormed, IsInRange, HasWords, IsOfWord, HasWord}
 use Rattle.cyc_words.proofs.Matching.{way_before}
 use Rattle.cyc_plain.proofs.Placed.{holds_at, routine_in, below_of_get}
-use Rattle.cyc_plain.proofs.RunLaws.{limited-within, zeros, zeros_allowed, stuck_within}
+use Rattle.cyc_plain.proofs.RunLaws.{limited-within, zeros, zeros_allowed, zeros_at, stuck_within}
 use Rattle.cyc_plain.proofs.Steps.{function_known}
 use Rattle.cyc_frame.specs.Layout.{AreFrames, frame_at}
 use Rattle.cyc_frame.specs.declared.frame.Frame.{Frame}
@@ -47,6 +47,7 @@ use Rattle.cyc_select.proofs.Standing.{Standing, behind_line}
 use Rattle.cyc_select.proofs.Matches.{At, Ready, Matches, Reached}
 use Rattle.cyc_select.proofs.Simple.{move_goes, unary_goes, binary_goes, divide_goes, jump_goes, branch_goes, read_goes, write_goes, load_global_goes, store_global_goes, uncaught_goes}
 use Rattle.cyc_select.proofs.Accesses.{move_words_goes, load_goes, store_goes}
+use Rattle.cyc_select.proofs.Requests.{ask_goes}
 use Rattle.cyc_select.proofs.Calls.{call_goes}
 use Rattle.cyc_select.proofs.Returns.{return_goes, behind_goes}
 
@@ -123,16 +124,16 @@ module _ (program : Program) (well : IsWellFormed program) (words : HasWords pro
   abbrev Never : Configuration → Type 0
   Never c = (next : states.State) → Step program pages calls (states.Running c) next → states.status_of next ≡ simulation.Failed → ⊥
 
-  stuck_not : (c : Configuration) → Never c → step program zeros (states.Running c) ≡ states.Stuck c.output c.input → ⊥
-  stuck_not c never is =
+  stuck_not : (c : Configuration) → Never c → IsAllowed program (states.Running c) zeros → step program zeros (states.Running c) ≡ states.Stuck c.output c.input → ⊥
+  stuck_not c never allowed is =
       never (states.Stuck c.output c.input)
-      (zeros, zeros_allowed program (states.Running c), sym (limited-within pages calls (states.Running c) (step program zeros (states.Running c)) (ap (is_within pages calls) is ∙ stuck_within pages calls c.output c.input) ∙ is))
+      (zeros, allowed, sym (limited-within pages calls (states.Running c) (step program zeros (states.Running c)) (ap (is_within pages calls) is ∙ stuck_within pages calls c.output c.input) ∙ is))
       refl
 
   divides : (c : Configuration) → Never c → (operator : BinaryOperator) (destination : ℕ) (left right : Operand) → instruction_at program (states.place_of (states.Running c)) ≡ Some (plain.Binary operator destination left right)
       → ((b : ℕ) → b ≡ 0 → has_no_result operator b ≡ true) → operand_word c.active.slots right ≢ 0
   divides c never operator destination left right at none is_zero =
-      stuck_not c never
+      stuck_not c never (zeros_at program c (plain.Binary operator destination left right) at refl)
       (ap (executed program zeros c) at
       ∙ ap (λ (b : Bool). if b then states.Stuck c.output c.input else gives c destination (binary_result operator (operand_word c.active.slots left) (operand_word c.active.slots right))) (none (operand_word c.active.slots right) is_zero))
 
@@ -204,8 +205,8 @@ module _ (program : Program) (well : IsWellFormed program) (words : HasWords pro
             (ap (λ (x : Bool). if x then states.Stuck c.output c.input else gives c d (binary_result operator (operand_word c.active.slots l) (operand_word c.active.slots t))) (has_result operator t tested))
             (counted ∙ ap (λ (x : Bool). if x then load_count l + load_count t + 7 else plan_count (binary_plan operator l t)) tested) stands
 
-    stops_not : (i : Instruction) → IsAt i → performed program zeros c i ≡ states.Stuck c.output c.input → ⊥
-    stops_not i at stops = stuck_not c never (ap (executed program zeros c) at ∙ stops)
+    stops_not : (i : Instruction) → IsAt i → IsAllowed program (states.Running c) zeros → performed program zeros c i ≡ states.Stuck c.output c.input → ⊥
+    stops_not i at allowed stops = stuck_not c never allowed (ap (executed program zeros c) at ∙ stops)
 
     instruction_goes : (i : Instruction) → IsAt i → IsInRange program (routine_at program c.active.function) i → HasWord i → StandsHere i → Goes (body_count program c.active.function i)
     instruction_goes (plain.Move destination source) at (a, b) fits stands = move_goes program well frames fit code formed addresses pages calls few c run r w base now s destination source at a (b, fits) stands
@@ -223,9 +224,12 @@ module _ (program : Program) (well : IsWellFormed program) (words : HasWords pro
     instruction_goes (plain.StoreGlobal global source) at (a, b) fits stands = store_global_goes program well frames fit code formed addresses pages calls few c run r w base now s global source at a (b, fits) stands
     instruction_goes (plain.MoveWords destination source count) at in_range fits stands = move_words_goes program well frames fit code formed addresses pages calls few c run r w base now s destination source count at in_range stands
     instruction_goes (plain.Load destination address offset) at (a, b) (fits, near) stands =
-        load_goes program well frames fit code formed addresses pages calls few c run r w base now s destination address offset at a (b, fits) near (stops_not (plain.Load destination address offset) at) stands
+        load_goes program well frames fit code formed addresses pages calls few c run r w base now s destination address offset at a (b, fits) near (stops_not (plain.Load destination address offset) at (zeros_at program c (plain.Load destination address offset) at refl)) stands
     instruction_goes (plain.Store address offset source) at (a, b) (fits, near, also) stands =
-        store_goes program well frames fit code formed addresses pages calls few c run r w base now s address offset source at (a, fits) near (b, also) (stops_not (plain.Store address offset source) at) stands
+        store_goes program well frames fit code formed addresses pages calls few c run r w base now s address offset source at (a, fits) near (b, also) (stops_not (plain.Store address offset source) at (zeros_at program c (plain.Store address offset source) at refl)) stands
+    instruction_goes (plain.Ask request) at in_range fits stands =
+        ask_goes program well frames fit code formed addresses pages calls few c run r w base now s request at in_range fits stands
+        (λ stops allowed. stops_not (plain.Ask request) at allowed stops)
     instruction_goes (plain.Uncaught tag value) at below (tag_fits, value_fits) stands = uncaught_goes program well frames fit code formed addresses pages calls few c run r w base now s tag value at (below, value_fits) tag_fits stands
 
   -- ---- a step from a state that matches
@@ -316,6 +320,6 @@ module _ (program : Program) (well : IsWellFormed program) (words : HasWords pro
     where
       go : (o : Option Instruction) → instruction_at program (states.place_of (states.Running c)) ≡ o → IsStepped above below_machine matching (states.Running c) t
       go (Some i) at = known_goes c t matches never i at
-      go None at = absurd (stuck_not c never (ap (executed program zeros c) at))
+      go None at = absurd (stuck_not c never (zeros_allowed program (states.Running c) (ap (call_of c.active.slots) at)) (ap (executed program zeros c) at))
   all_steps (states.Ended ending out input) t matches running never = absurd (let e : simulation.Ended ending ≡ simulation.Running = running in cc)
   all_steps (states.Stuck out input) t matches running never = absurd matches

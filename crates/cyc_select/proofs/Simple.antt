@@ -1,5 +1,5 @@
 -- The instructions that neither call nor return.
-use Rattle.std.proofs.Common.{◌≡◌, ◌≢◌, ℕ, suc, slice_get, length-append, ◌+◌, ◌-◌, ◌*◌, ◌/◌, ◌%◌, ◌^◌, ◌<◌, ◌≤◌, Bool, true, false, not, List, [], ◌∷◌, ◌++◌, length, drop, Some, refl, sym, ap, subst, ◌∙◌, arith, inl, inr}
+use Rattle.std.proofs.Common.{◌≡◌, ◌≢◌, ℕ, suc, slice_get, length-append, ◌+◌, ◌-◌, ◌*◌, ◌/◌, ◌%◌, ◌^◌, ◌<◌, ◌≤◌, Bool, true, false, not, List, [], ◌∷◌, ◌++◌, length, drop, Some, None, refl, sym, ap, subst, ◌∙◌, arith, inl, inr}
 use Rattle.std.specs.Prelude.{◌==◌, if◌then◌else◌}
 use Rattle.std.specs.List.{AllByRecursion}
 use Rattle.std.proofs.lemmas.Bool.{cases_eq, eq-eqb, ne_eqb}
@@ -27,10 +27,10 @@ use Rattle.cyc_plain.specs.Operators.{unary_result, binary_result, compares}
 use Rattle.cyc_plain.specs.Program.{Program, routine_at}
 use Rattle.cyc_plain.specs.State as states
 use Rattle.cyc_plain.specs.State.{Words, AreWords, put, Configuration}
-use Rattle.cyc_plain.specs.Step.{instruction_at, operand_word, performed, gives, at}
+use Rattle.cyc_plain.specs.Step.{call_of, instruction_at, operand_word, performed, gives, at}
 use Rattle.cyc_plain.specs.WellFormed.{IsOperand, IsOfWord, IsWellFormed}
 use Rattle.cyc_plain.proofs.SlotLaws.{put-other}
-use Rattle.cyc_plain.proofs.RunLaws.{zeros, over_within, zeros_allowed}
+use Rattle.cyc_plain.proofs.RunLaws.{zeros, over_within, zeros_at}
 use Rattle.cyc_frame.specs.Layout.{AreFrames, frame_at}
 use Rattle.cyc_frame.specs.declared.frame.Frame.{Frame}
 use Rattle.cyc_machine.specs.declared.constants.TheConstants.{ARGUMENT, END_UNCAUGHT, PUT_BYTE, SECOND_ARGUMENT, SERVICE, RETURN_ADDRESS}
@@ -117,11 +117,15 @@ module _ (program : Program) (well : IsWellFormed program) (frames : List Frame)
   abbrev IsAt : Instruction → Type 0
   IsAt i = instruction_at program (states.place_of (states.Running c)) ≡ Some i
 
+  -- it does not call the store
+  abbrev IsFree : Instruction → Type 0
+  IsFree i = call_of c.active.slots (Some i) ≡ None
+
   -- a block that leaves a word in a register, and the store of it into a slot
-  gives_by : (i : Instruction) → IsAt i → (is : List Instr) (register destination word count : ℕ) → KeepsHere is → after_r is r w (register % 32) ≡ word
+  gives_by : (i : Instruction) → IsAt i → IsFree i → (is : List Instr) (register destination word count : ℕ) → KeepsHere is → after_r is r w (register % 32) ≡ word
       → destination < slots → performed program zeros c i ≡ gives c destination word → length is + 1 ≡ count → count_of program c.active.function i ≡ count
       → Stands code here (ordinary (is ++ store_slot frame register destination ∷ [])) → Goes 1 here (here + count) (Running run)
-  gives_by i at_i is register destination word count keeps result below does long counted stands =
+  gives_by i at_i free is register destination word count keeps result below does long counted stands =
       let store : List Instr = store_slot frame register destination ∷ [] in
       let all : List Instr = is ++ store in
       let enough : length (is ++ store) ≡ count = omega (arith, length-append is store, long) in
@@ -137,7 +141,7 @@ module _ (program : Program) (well : IsWellFormed program) (frames : List Frame)
       (walk_block code formed addresses globals_length (words_per_call * calls) all 0 here here (here + count) c.output c.input _ r w run now stands safe (omega arith)
       (λ d later.
       walk_end code formed addresses globals_length (words_per_call * calls) (here + length all) (here + count) c.output _ (Running d) (omega (arith, enough))
-      (reached_gives program well frames fit code formed addresses pages calls few c i at_i r w base s destination word c.input (here + length all) d (after_r all r w) (after_w all r w)
+      (reached_gives program well frames fit code formed addresses pages calls few c i at_i free r w base s destination word c.input (here + length all) d (after_r all r w) (after_w all r w)
       below does s.input (omega (arith, enough, counted)) (same 0 ∙ keeps.zero) (same FRAME ∙ keeps.base) (same CALLS ∙ keeps.left) (same RETURN_ADDRESS ∙ keeps.back) puts later)))
 
   -- ---- values
@@ -152,17 +156,17 @@ module _ (program : Program) (well : IsWellFormed program) (frames : List Frame)
   move_goes destination source at_i below there stands =
       let is : List Instr = operand_code frame FIRST source in
       let puts = operand_puts globals_length (words_per_call * calls) frame (r FRAME) w c.active.slots r w s.zero_is refl refl FIRST refl source (held source there) in
-      gives_by (plain.Move destination source) at_i is (operand_register FIRST source) destination (word_of source) (operand_count source + 1)
+      gives_by (plain.Move destination source) at_i refl is (operand_register FIRST source) destination (word_of source) (operand_count source + 1)
       (puts_keeps globals_length (words_per_call * calls) is r w FIRST _ _ (first_scratch globals_length (words_per_call * calls)) puts) puts.result
       below refl (omega (arith, length_operand frame FIRST source)) (omega arith) stands
 
   -- a word that is computed goes to a slot
-  plan_goes : (i : Instruction) → IsAt i → (plan : Plan) (destination word : ℕ) → Held plan.left × Held plan.right × IsComputable globals_length (words_per_call * calls) plan.operation (word_of plan.left) (word_of plan.right)
+  plan_goes : (i : Instruction) → IsAt i → IsFree i → (plan : Plan) (destination word : ℕ) → Held plan.left × Held plan.right × IsComputable globals_length (words_per_call * calls) plan.operation (word_of plan.left) (word_of plan.right)
       → plan_word c.active.slots plan ≡ word → destination < slots → performed program zeros c i ≡ gives c destination word → count_of program c.active.function i ≡ plan_count plan
       → Stands code here (ordinary (plan_code frame plan destination)) → Goes 1 here (here + plan_count plan) (Running run)
-  plan_goes i at_i plan destination word (l, t, fine) is below does counted stands =
+  plan_goes i at_i free plan destination word (l, t, fine) is below does counted stands =
       let leaves = plan_leaves globals_length (words_per_call * calls) frame (r FRAME) w c.active.slots r w s.zero_is refl refl plan l t fine in
-      gives_by i at_i (computed_code frame plan) FIRST destination word (plan_count plan) leaves.keeps (leaves.result ∙ is)
+      gives_by i at_i free (computed_code frame plan) FIRST destination word (plan_count plan) leaves.keeps (leaves.result ∙ is)
       below does (omega (arith, length_computed frame plan)) counted stands
 
   -- a plan whose operands are there, and which the machine computes of them
@@ -187,7 +191,7 @@ module _ (program : Program) (well : IsWellFormed program) (frames : List Frame)
   pub unary_goes : (operator : UnaryOperator) (destination : ℕ) (operand : Operand) → IsAt (plain.Unary operator destination operand) → destination < slots → IsThere operand
       → Stands code here (body program frames c.active.function here (plain.Unary operator destination operand)) → Goes 1 here (here + body_count program c.active.function (plain.Unary operator destination operand)) (Running run)
   unary_goes operator destination operand at_i below there stands =
-      plan_goes (plain.Unary operator destination operand) at_i (unary_plan operator operand) destination (unary_result operator (word_of operand))
+      plan_goes (plain.Unary operator destination operand) at_i refl (unary_plan operator operand) destination (unary_result operator (word_of operand))
       (unary_there operator operand (held operand there)) (unary_word c.active.slots operand (is_word operand there) operator) below refl (omega arith) stands
 
   -- an operator that has a plan
@@ -197,7 +201,7 @@ module _ (program : Program) (well : IsWellFormed program) (frames : List Frame)
       → count_of program c.active.function (plain.Binary operator destination left right) ≡ plan_count (binary_plan operator left right)
       → Stands code here (ordinary (plan_code frame (binary_plan operator left right) destination)) → Goes 1 here (here + plan_count (binary_plan operator left right)) (Running run)
   binary_goes operator destination left right at_i below l t has_plan does counted stands =
-      plan_goes (plain.Binary operator destination left right) at_i (binary_plan operator left right) destination (binary_result operator (word_of left) (word_of right))
+      plan_goes (plain.Binary operator destination left right) at_i refl (binary_plan operator left right) destination (binary_result operator (word_of left) (word_of right))
       (binary_there operator left right has_plan (held left l) (held right t)) (binary_word c.active.slots left right (is_word left l) (is_word right t) operator) below does counted stands
 
   -- ---- division
@@ -246,7 +250,7 @@ module _ (program : Program) (well : IsWellFormed program) (frames : List Frame)
         (omega arith)
         (λ e later.
         walk_end code formed addresses globals_length (words_per_call * calls) (here + loads + 4 + 3) (here + (loads + 7)) c.output _ (Running e) (omega arith)
-        (reached_gives program well frames fit code formed addresses pages calls few c (plain.Binary operator destination left right) at_i r w base s destination (result_of which (word_of left) (word_of right)) c.input (here + loads + 4 + 3) e (after_r (divides which destination) q w) (after_w (divides which destination) q w)
+        (reached_gives program well frames fit code formed addresses pages calls few c (plain.Binary operator destination left right) at_i refl r w base s destination (result_of which (word_of left) (word_of right)) c.input (here + loads + 4 + 3) e (after_r (divides which destination) q w) (after_w (divides which destination) q w)
         below does s.input (omega (arith, counted))
         (divides_kept which destination q 0 (omega arith) (λ x. absurd (omega (arith, x))) ∙ zero_same)
         (divides_kept which destination q FRAME (omega arith) (λ x. absurd (omega (arith, x))) ∙ base_same)
@@ -341,7 +345,7 @@ module _ (program : Program) (well : IsWellFormed program) (frames : List Frame)
       walk_jump code formed addresses globals_length (words_per_call * calls) 0 here here (here + 1) c.output c.input _ r w run (instruction_line program c.active.function target) now stands.0 (omega arith)
       (λ d later.
       walk_end code formed addresses globals_length (words_per_call * calls) (suc here) (here + 1) c.output _ (Running d) (omega arith)
-      (reached_at program well frames fit code formed addresses pages calls few c (plain.Jump target) at_i r w base s (at c target) (instruction_line program c.active.function target) d r w refl refl refl refl refl refl refl refl refl refl refl refl refl later))
+      (reached_at program well frames fit code formed addresses pages calls few c (plain.Jump target) at_i refl r w base s (at c target) (instruction_line program c.active.function target) d r w refl refl refl refl refl refl refl refl refl refl refl refl refl later))
 
   -- the line of the place that is taken
   line_taken : (b : Bool) (target other : ℕ) (line : ℕ → ℕ) (n : ℕ) → n ≡ line other → (if b then line target else n) ≡ line (if b then target else other)
@@ -349,11 +353,11 @@ module _ (program : Program) (well : IsWellFormed program) (frames : List Frame)
   line_taken false target other line n same = same
 
   -- a block that leaves what is tested in two registers, and the branch
-  branch_by : (i : Instruction) → IsAt i → (is : List Instr) (condition : Condition) (target count : ℕ) (taken : Bool) → KeepsHere is
+  branch_by : (i : Instruction) → IsAt i → IsFree i → (is : List Instr) (condition : Condition) (target count : ℕ) (taken : Bool) → KeepsHere is
       → holds_of (after_r is r w) condition ≡ taken → performed program zeros c i ≡ states.Running (at c (if taken then target else c.active.next + 1))
       → length is + 1 ≡ count → count_of program c.active.function i ≡ count
       → Stands code here (ordinary is ++ lines.Branch condition (instruction_line program c.active.function target) ∷ []) → Goes 1 here (here + count) (Running run)
-  branch_by i at_i is condition target count taken keeps takes does long counted stands =
+  branch_by i at_i free is condition target count taken keeps takes does long counted stands =
       let line : ℕ → ℕ = instruction_line program c.active.function in
       let last : Line = lines.Branch condition (line target) in
       let behind = stands_back code here (ordinary is) (last ∷ []) stands in
@@ -368,7 +372,7 @@ module _ (program : Program) (well : IsWellFormed program) (frames : List Frame)
       walk_branch code formed addresses globals_length (words_per_call * calls) 0 (here + length is) (here + length is) (here + count) c.output c.input _ (after_r is r w) (after_w is r w) d condition (line target) (line (if taken then target else c.active.next + 1)) later last_stands (omega arith) there
       (λ e after.
       walk_end code formed addresses globals_length (words_per_call * calls) (suc (here + length is)) (here + count) c.output _ (Running e) (omega (arith, long))
-      (reached_at program well frames fit code formed addresses pages calls few c i at_i r w base s (at c (if taken then target else c.active.next + 1)) (line (if taken then target else c.active.next + 1)) e (after_r is r w) (after_w is r w)
+      (reached_at program well frames fit code formed addresses pages calls few c i at_i free r w base s (at c (if taken then target else c.active.next + 1)) (line (if taken then target else c.active.next + 1)) e (after_r is r w) (after_w is r w)
       refl refl refl refl refl refl does refl keeps.zero keeps.base keeps.left keeps.back keeps.memory after))))
 
   abbrev IsTestThere : Test → Type 0
@@ -377,23 +381,23 @@ module _ (program : Program) (well : IsWellFormed program) (frames : List Frame)
   test_there : (comparison : Comparison) (left right : Operand) → Held left → Held right → IsTestThere (test_of comparison left right)
   test_there = all_test Held zero_held IsPlanThere (λ op left right outcome l t. (l, t, tt)) (λ op left half outcome fits l. (l, zero_held, tt))
 
-  test_goes_by : (i : Instruction) → IsAt i → (test : Test) (target : ℕ) (taken : Bool) → IsTestThere test → test_taken c.active.slots test ≡ taken
+  test_goes_by : (i : Instruction) → IsAt i → IsFree i → (test : Test) (target : ℕ) (taken : Bool) → IsTestThere test → test_taken c.active.slots test ≡ taken
       → performed program zeros c i ≡ states.Running (at c (if taken then target else c.active.next + 1)) → count_of program c.active.function i ≡ test_count test + 1
       → Stands code here (branch_code frame test (instruction_line program c.active.function target)) → Goes 1 here (here + (test_count test + 1)) (Running run)
-  test_goes_by i at_i (tests.Operands op left right) target taken (l, t) is does counted stands =
+  test_goes_by i at_i free (tests.Operands op left right) target taken (l, t) is does counted stands =
       let loaded = operands_put globals_length (words_per_call * calls) frame (r FRAME) w c.active.slots r w s.zero_is refl refl left right l t in
-      branch_by i at_i (operands_code frame left right) (conditions.Registers op (register_of (operand_register FIRST left)) (register_of (operand_register SECOND right))) target (test_count (tests.Operands op left right) + 1) taken loaded.keeps
+      branch_by i at_i free (operands_code frame left right) (conditions.Registers op (register_of (operand_register FIRST left)) (register_of (operand_register SECOND right))) target (test_count (tests.Operands op left right) + 1) taken loaded.keeps
       (ap (λ (x : ℕ). branch_taken op x (after_r (operands_code frame left right) r w (operand_register SECOND right % 32))) loaded.left_is ∙ (ap (branch_taken op (word_of left)) loaded.right_is ∙ is))
       does (omega (arith, length_test frame (tests.Operands op left right))) counted stands
-  test_goes_by i at_i (tests.Sign op operand) target taken o is does counted stands =
+  test_goes_by i at_i free (tests.Sign op operand) target taken o is does counted stands =
       let puts = operand_puts globals_length (words_per_call * calls) frame (r FRAME) w c.active.slots r w s.zero_is refl refl FIRST refl operand o in
-      branch_by i at_i (operand_code frame FIRST operand) (conditions.Sign op (register_of (operand_register FIRST operand))) target (test_count (tests.Sign op operand) + 1) taken
+      branch_by i at_i free (operand_code frame FIRST operand) (conditions.Sign op (register_of (operand_register FIRST operand))) target (test_count (tests.Sign op operand) + 1) taken
       (puts_keeps globals_length (words_per_call * calls) (operand_code frame FIRST operand) r w FIRST _ _ (first_scratch globals_length (words_per_call * calls)) puts)
       (ap (branch_zero_taken op) puts.result ∙ is)
       does (omega (arith, length_test frame (tests.Sign op operand))) counted stands
-  test_goes_by i at_i (tests.Computed plan) target taken (l, t, fine) is does counted stands =
+  test_goes_by i at_i free (tests.Computed plan) target taken (l, t, fine) is does counted stands =
       let leaves = operation_leaves globals_length (words_per_call * calls) frame (r FRAME) w c.active.slots r w s.zero_is refl refl plan l t fine in
-      branch_by i at_i (operation_of frame plan) (conditions.Registers (branch_on plan.outcome) (register_of FIRST) (register_of ZERO)) target (test_count (tests.Computed plan) + 1) taken leaves.keeps
+      branch_by i at_i free (operation_of frame plan) (conditions.Registers (branch_on plan.outcome) (register_of FIRST) (register_of ZERO)) target (test_count (tests.Computed plan) + 1) taken leaves.keeps
       (ap (λ (x : ℕ). branch_taken (branch_on plan.outcome) x (after_r (operation_of frame plan) r w ZERO)) leaves.result
       ∙ (ap (branch_taken (branch_on plan.outcome) (operation_word c.active.slots plan)) (leaves.keeps.zero ∙ s.zero_is) ∙ is))
       does (omega (arith, length_test frame (tests.Computed plan))) counted stands
@@ -401,7 +405,7 @@ module _ (program : Program) (well : IsWellFormed program) (frames : List Frame)
   pub branch_goes : (comparison : Comparison) (left right : Operand) (target : ℕ) → IsAt (plain.Branch comparison left right target) → IsThere left → IsThere right
       → Stands code here (body program frames c.active.function here (plain.Branch comparison left right target)) → Goes 1 here (here + body_count program c.active.function (plain.Branch comparison left right target)) (Running run)
   branch_goes comparison left right target at_i l t stands =
-      test_goes_by (plain.Branch comparison left right target) at_i (test_of comparison left right) target (compares comparison (word_of left) (word_of right))
+      test_goes_by (plain.Branch comparison left right target) at_i refl (test_of comparison left right) target (compares comparison (word_of left) (word_of right))
       (test_there comparison left right (held left l) (held right t))
       (test_goes c.active.slots left right (is_word left l) (is_word right t) comparison) refl (omega arith) stands
 
@@ -427,7 +431,7 @@ module _ (program : Program) (well : IsWellFormed program) (frames : List Frame)
       (walk_block code formed addresses globals_length (words_per_call * calls) (store_slot frame 2 destination ∷ []) 0 (here + 1 + 1) (suc (here + 1)) (here + 3) c.output (drop 1 c.input) _ (put (after_r (small 2 1 ∷ []) r w) 2 (byte_of c.input)) w e after behind.1 (cell destination below, tt) (omega arith)
       (λ f there.
       walk_end code formed addresses globals_length (words_per_call * calls) (here + 1 + 1 + 1) (here + 3) c.output _ (Running f) (omega arith)
-      (reached_gives program well frames fit code formed addresses pages calls few c (plain.ReadByte destination) at_i r w base s destination (byte_of c.input) (drop 1 c.input) (here + 1 + 1 + 1) f _ _ below refl (read_rest c.input s.input) (omega arith) refl refl refl refl refl there))))))
+      (reached_gives program well frames fit code formed addresses pages calls few c (plain.ReadByte destination) at_i refl r w base s destination (byte_of c.input) (drop 1 c.input) (here + 1 + 1 + 1) f _ _ below refl (read_rest c.input s.input) (omega arith) refl refl refl refl refl there))))))
 
   pub write_goes : (source : Operand) → IsAt (plain.WriteByte source) → IsThere source → Stands code here (body program frames c.active.function here (plain.WriteByte source)) → Goes 1 here (here + (load_count source + 2)) (Running run)
   write_goes source at_i there stands =
@@ -448,7 +452,7 @@ module _ (program : Program) (well : IsWellFormed program) (frames : List Frame)
       (λ e after.
       walk_put code formed addresses globals_length (words_per_call * calls) (here + length is + 1) (here + length is + 1) (here + (load_count source + 2)) c.output c.input _ (put (after_r is r w) 2 (add_of (after_r is r w 0) (sign_extended 2))) (after_w is r w) e after behind.1.0 (omega arith) (omega (arith, long)) service
       (λ f printed.
-      reached_at program well frames fit code formed addresses pages calls few c (plain.WriteByte source) at_i r w base s
+      reached_at program well frames fit code formed addresses pages calls few c (plain.WriteByte source) at_i refl r w base s
       (record c { active = record c.active { next = c.active.next + 1 }; output = c.output ++ word_of source % 256 ∷ [] }) (here + length is + 1 + 1) f (put (after_r is r w) 2 (add_of (after_r is r w 0) (sign_extended 2))) (after_w is r w) refl refl refl refl refl refl refl
       (omega (arith, line_next program c.active.function c.active.next (plain.WriteByte source) at_i, long)) keeps.zero keeps.base keeps.left keeps.back keeps.memory
       (subst (λ (x : ℕ). At program well frames fit code formed addresses pages calls few (here + length is + 1 + 1) (c.output ++ x % 256 ∷ []) c.input (put (after_r is r w) 2 (add_of (after_r is r w 0) (sign_extended 2))) (after_w is r w) f) puts.result printed)))))
@@ -466,7 +470,7 @@ module _ (program : Program) (well : IsWellFormed program) (frames : List Frame)
   pub load_global_goes : (destination global : ℕ) → IsAt (plain.LoadGlobal destination global) → destination < slots → global < length program.globals
       → Stands code here (body program frames c.active.function here (plain.LoadGlobal destination global)) → Goes 1 here (here + 3) (Running run)
   load_global_goes destination global at_i below global_below stands =
-      gives_by (plain.LoadGlobal destination global) at_i (upper_of_global global ∷ at_global LoadWord FIRST global ∷ []) FIRST destination (c.globals global) 3
+      gives_by (plain.LoadGlobal destination global) at_i refl (upper_of_global global ∷ at_global LoadWord FIRST global ∷ []) FIRST destination (c.globals global) 3
       (record { safe = (refl, ((refl, global_stands global global_below), tt)); memory = refl; zero = refl; base = refl; left = refl; back = refl })
       (ap w.words (global_memory global global_below) ∙ s.globals global global_below) below refl (omega arith) (omega arith) stands
 
@@ -505,7 +509,7 @@ module _ (program : Program) (well : IsWellFormed program) (frames : List Frame)
       (refl, (global_stands global global_below, tt)) (omega arith)
       (λ e later.
       walk_end code formed addresses globals_length (words_per_call * calls) (here + length is + 2) (here + (operand_count source + 2)) c.output _ (Running e) (omega (arith, long))
-      (reached program well frames fit code formed addresses pages calls few c zeros (plain.StoreGlobal global source) (states.Running d) (Running e) (zeros_allowed program (states.Running c)) at_i refl
+      (reached program well frames fit code formed addresses pages calls few c zeros (plain.StoreGlobal global source) (states.Running d) (Running e) (zeros_at program c (plain.StoreGlobal global source) at_i refl) at_i refl
       (within program well frames fit code formed addresses pages calls few d s.laid.paged s.deep)
       (inl (record {
         run = e;
@@ -546,6 +550,6 @@ module _ (program : Program) (well : IsWellFormed program) (frames : List Frame)
       walk_block code formed addresses globals_length (words_per_call * calls) (small SERVICE END_UNCAUGHT ∷ []) 1 (here + length is + length js) (here + length is + length js) hi c.output c.input _ q (after_w js (after_r is r w) (after_w is r w)) e after (at_last.0, tt) (refl, tt) (omega arith)
       (λ f prepared.
       walk_uncaught code formed addresses globals_length (words_per_call * calls) (here + length is + length js + 1) (here + length is + length js + 1) hi c.output c.input _ (put q 2 (add_of (q 0) (sign_extended 4))) (after_w js (after_r is r w) (after_w is r w)) f prepared at_last.1.0 (omega arith) (omega (arith, long, more)) service
-      (reached program well frames fit code formed addresses pages calls few c zeros (plain.Uncaught tag value) (states.Ended (Uncaught tag (signed (word_of value))) c.output c.input) _ (zeros_allowed program (states.Running c)) at_i refl
+      (reached program well frames fit code formed addresses pages calls few c zeros (plain.Uncaught tag value) (states.Ended (Uncaught tag (signed (word_of value))) c.output c.input) _ (zeros_at program c (plain.Uncaught tag value) at_i refl) at_i refl
       (over_within pages calls (Uncaught tag (signed (word_of value))) c.output c.input)
       (ap (λ (x : Ending). Ended x c.output c.input) same))))))

@@ -10,6 +10,7 @@ use Rattle.cyc_plain.specs.declared.instruction.Instruction.TheVariants as plain
 use Rattle.cyc_plain.specs.declared.instruction.BinaryOperator.{BinaryOperator}
 use Rattle.cyc_plain.specs.declared.instruction.BinaryOperator.TheVariants as binary
 use Rattle.cyc_plain.specs.declared.instruction.Operand.{Operand}
+use Rattle.cyc_plain.specs.Requests.{first_operand, second_operand}
 use Rattle.cyc_isa.specs.declared.instr.MemoryOp.TheVariants.{LoadWord, StoreWord}
 use Rattle.cyc_isa.specs.declared.instr.MoveFromOp.{MoveFromOp}
 use Rattle.cyc_machine.specs.declared.constants.TheConstants.{ARGUMENT, END_UNCAUGHT, PUT_BYTE, SECOND_ARGUMENT, SERVICE, RETURN_ADDRESS}
@@ -26,11 +27,11 @@ use Rattle.cyc_select.specs.declared.plan.Test.TheVariants as tests
 use Rattle.cyc_select.specs.Plans.{unary_plan, binary_plan, test_of}
 use Rattle.cyc_select.specs.Labelled.{Labelled, words_of, all_words}
 use Rattle.cyc_select.specs.Selected.{words_at}
-use Rattle.cyc_select.specs.Selection.{ordinary, address_code, at_address, copies, load_all, store_all, store_slot, upper_of_global, at_global, word_code, load_code, load_count, operand_code, operand_register, plan_code, test_code, branch_line, branch_code, quotient_code, divided_code, divide_code, is_tested, part_of, result_registers, ending_code, operator_code, body, behind, count_of, function_count, function_line, instruction_line, code_lines, function_lines, small, syscall, store, add_immediate, minus, push_frame, load}
+use Rattle.cyc_select.specs.Selection.{ordinary, argument_code, service_number, answer_code, address_code, at_address, copies, load_all, store_all, store_slot, upper_of_global, at_global, word_code, load_code, load_count, operand_code, operand_register, plan_code, test_code, branch_line, branch_code, quotient_code, divided_code, divide_code, is_tested, part_of, result_registers, ending_code, operator_code, body, behind, count_of, function_count, function_line, instruction_line, code_lines, function_lines, small, syscall, store, add_immediate, minus, push_frame, load}
 use Rattle.cyc_isa.specs.Decoding.{register_of}
 use Rattle.cyc_isa.specs.declared.instr.BranchOp.TheVariants as branch
 use Rattle.cyc_select.proofs.Calls.{length-copies}
-use Rattle.cyc_select.proofs.Counts.{length_loads, length_stores, length_registers, registers_few, word_small, load_small, operand_small, address_small, plan_small, unary_small, test_small, length_word, length_load, length_operand, length_address, length_plan, length_test, length_divided}
+use Rattle.cyc_select.proofs.Counts.{argument_small, length_argument, length_answer, length_loads, length_stores, length_registers, registers_few, word_small, load_small, operand_small, address_small, plan_small, unary_small, test_small, length_word, length_load, length_operand, length_address, length_plan, length_test, length_divided}
 use Rattle.cyc_select.proofs.Returns.{loaded, length_loaded}
 use Rattle.cyc_select.proofs.Walks.{Stands}
 
@@ -126,6 +127,11 @@ module _ (program : Program) (frames : List Frame) (few_results : (function : �
       let js : List Instr = operand_code (frame_at frames function) SECOND source in
       let last : List Instr = at_address StoreWord (operand_register SECOND source) address offset ∷ [] in
       omega (arith, words_ordinary (is ++ (js ++ last)), length-append is (js ++ last), length-append js last, length_address (frame_at frames function) address offset, address_small address offset, length_operand (frame_at frames function) SECOND source, operand_small source)
+  body_words function here (plain.Ask request) =
+      let is : List Instr = argument_code (frame_at frames function) ARGUMENT (first_operand request) in
+      let js : List Instr = argument_code (frame_at frames function) SECOND_ARGUMENT (second_operand request) in
+      let last : List Instr = small SERVICE (service_number request) ∷ syscall ∷ answer_code (frame_at frames function) request in
+      omega (arith, words_ordinary (is ++ (js ++ last)), length-append is (js ++ last), length-append js last, length_argument (frame_at frames function) ARGUMENT (first_operand request), length_argument (frame_at frames function) SECOND_ARGUMENT (second_operand request), length_answer (frame_at frames function) request, argument_small (first_operand request), argument_small (second_operand request))
   body_words function here (plain.Uncaught tag value) =
       let last : List Instr = small SERVICE END_UNCAUGHT ∷ syscall ∷ [] in
       let loads : List Instr = load_code (frame_at frames function) SECOND_ARGUMENT value ++ last in

@@ -1,29 +1,26 @@
 -- How a plain program's calls stand in the memory of the labelled machine: their frames lie one below another from the
 -- end of the stack on, each with its slots and, where it waits, its return address.
-use Rattle.std.proofs.Common.{◌≡◌, ◌≢◌, ℕ, suc, ◌+◌, ◌*◌, ◌%◌, ◌<◌, ◌≤◌, Bool, true, false, List, [], ◌∷◌, length, Option, None, Some, refl, sym, ap, subst, ◌∙◌, arith, inl, inr}
-use Rattle.std.specs.Prelude.{◌==◌, if◌then◌else◌}
+use Rattle.std.proofs.Common.{◌≡◌, ◌≢◌, ℕ, suc, ◌+◌, ◌*◌, ◌%◌, ◌<◌, ◌≤◌, List, [], ◌∷◌, length, Some, refl, sym, ap, subst, ◌∙◌, arith, inl, inr}
 use Rattle.std.specs.List.{AllByRecursion}
 use Rattle.cyc_select.specs.declared.constants.TheConstants.{CALLS, FRAME}
 use Rattle.cyc_words.specs.Word.{IsWord}
 use Rattle.cyc_isa.specs.Effect.{memory_address}
 use Rattle.cyc_machine.specs.State.{data_base, stack_end, globals_length, words_per_call}
-use Rattle.cyc_store.specs.State as stores
-use Rattle.cyc_store.specs.State.{StoreState, Holder, homes, holder, word_in, word_at, has_saved, saved, demand}
-use Rattle.cyc_store.specs.New.{IsNew}
-use Rattle.cyc_store.specs.declared.range.TheConstants.{STORE_BASE, PAGE_WORDS, MOST_PAGES}
+use Rattle.cyc_store.specs.State.{StoreState, saved}
 use Rattle.cyc_plain.specs.declared.instruction.Instruction.TheVariants as plain
 use Rattle.cyc_plain.specs.Program.{Program, routine_at}
 use Rattle.cyc_plain.specs.State as states
-use Rattle.cyc_plain.specs.State.{Words, AreWords, put, copied, Activation, Configuration}
+use Rattle.cyc_plain.specs.State.{Words, put, Configuration}
 use Rattle.cyc_plain.specs.Step.{instruction_at}
 use Rattle.cyc_plain.specs.WellFormed.{IsWellFormed}
 use Rattle.cyc_plain.proofs.SlotLaws.{put-same, put-other}
-use Rattle.std.proofs.lemmas.Bool.{cases_eq, eqb-true}
+use Rattle.std.proofs.lemmas.Bool.{cases_eq}
 use Rattle.cyc_frame.specs.Layout.{AreFrames, slot_word, frame_at}
 use Rattle.cyc_frame.specs.declared.frame.Frame.{Frame}
 use Rattle.cyc_select.specs.Selection.{slot_offset, instruction_line, body_count}
-use Rattle.cyc_select.proofs.Cells.{IsCell, IsLive}
+use Rattle.cyc_select.proofs.Cells.{IsCell}
 use Rattle.cyc_select.proofs.Operations.{address_at}
+use Rattle.cyc_select.proofs.Stores.{IsLaid, saved_laid}
 use Rattle.cyc_select.proofs.Views.{Contents, written, saved_in}
 
 -- the slots of a function's call whose frame lies at this address
@@ -87,59 +84,6 @@ module _ (program : Program) (frames : List Frame) (fit : AreFrames program fram
       let frame = fit.each function known in
       let lies = chain_lies w above (w.words (above + 4 * (frame_at frames f.caller.function).return_address)) f.caller.function waiting caller_known chain in
       record { below_end = omega (arith, lies.below_end); above_low = omega (arith, lies.above_low, frame.within, frame.small); aligned = omega (arith, lies.aligned) }
-
--- A store of these pages: what is live lies in them, its words are words, and its demand is within them.
-pub record IsLaid (pages : ℕ) (store : StoreState) : Type 0 where
-  pub has : store.pages ≡ pages
-  pub few : pages ≤ MOST_PAGES
-  pub low : (address : ℕ) (h : Holder) → holder (homes store) address ≡ Some h → STORE_BASE ≤ address
-  pub high : (address : ℕ) (h : Holder) → holder (homes store) address ≡ Some h → address < STORE_BASE + 4 * (PAGE_WORDS * pages)
-  pub words : stores.AreWords store.memory
-  pub paged : demand store ≤ pages
-
--- a new store
-pub new_laid : (pages : ℕ) (store : StoreState) → IsNew pages store → 1 ≤ pages → pages ≤ MOST_PAGES → IsLaid pages store
-new_laid pages store (memory, words, is) some few = subst (IsLaid pages) (sym is) (record {
-  has = refl;
-  few = few;
-  low = λ address h held. absurd (let e : None ≡ Some h = held in cc);
-  high = λ address h held. absurd (let e : None ≡ Some h = held in cc);
-  words = words;
-  paged = some;
-})
-
--- a word of a live block is written
-saved_laid : (pages : ℕ) (store : StoreState) (address word : ℕ) (found : Option ℕ) → IsWord word → IsLaid pages store → IsLaid pages (has_saved store address word found)
-saved_laid pages store address word None is_word laid = laid
-saved_laid pages store address word (Some old) is_word laid = record {
-  has = laid.has;
-  few = laid.few;
-  low = laid.low;
-  high = laid.high;
-  words = λ other. elim (cases_eq other address) [
-    | inl same ↦ subst IsWord (sym (ap (put store.memory address word) same ∙ put-same store.memory address word)) is_word
-    | inr apart ↦ subst IsWord (sym (put-other store.memory address other word apart)) (laid.words other)
-  ];
-  paged = laid.paged;
-}
-
--- where a word is found it is that of a live block of the store's pages
-pub laid_live : (pages : ℕ) (store : StoreState) (a word : ℕ) → IsLaid pages store → word_at store a ≡ Some word → IsLive store a word × IsWord word
-laid_live pages store a word laid found = go (a % 4 == 0) refl (holder (homes store) a) refl found
-  where
-    go : (b : Bool) → (a % 4 == 0) ≡ b → (o : Option Holder) → holder (homes store) a ≡ o → (if b then word_in o store.memory a else None) ≡ Some word → IsLive store a word × IsWord word
-    go false aligned o held is = absurd (let e : None ≡ Some word = is in cc)
-    go true aligned None held is = absurd (let e : None ≡ Some word = is in cc)
-    go true aligned (Some h) held is = (
-      record {
-        aligned = eqb-true (a % 4) 0 aligned;
-        low = laid.low a h held;
-        high = omega (arith, laid.high a h held, laid.has);
-        few = omega (arith, laid.few, laid.has);
-        there = found;
-      },
-      subst IsWord (let e : Some (store.memory a) ≡ Some word = is in let same : store.memory a ≡ word = cc in same) (laid.words a),
-    )
 
 -- a call under way, with these slots
 pub record Standing (program : Program) (frames : List Frame) (addresses : ℕ → ℕ) (pages calls : ℕ) (c : Configuration) (r : Words) (w : Contents) (base back depth : ℕ) (slots : Words) : Type 0 where
@@ -301,6 +245,23 @@ module _ (program : Program) (well : IsWellFormed program) (frames : List Frame)
       laid = s.laid;
     }
 
+    -- another store
+    pub standing_store : (store : StoreState) → IsLaid pages store
+        → Standing program frames addresses pages calls (record c { store = store }) r (record w { store = store }) base back depth slots
+    standing_store store laid = record {
+      known = s.known;
+      base_is = s.base_is;
+      zero_is = s.zero_is;
+      left = s.left;
+      deep = s.deep;
+      holds = s.holds;
+      chain = chain_kept program frames fit addresses w (record w { store = store }) base back c.active.function c.frames (λ a from. refl) s.chain;
+      globals = s.globals;
+      input = s.input;
+      store = refl;
+      laid = laid;
+    }
+
     -- a word of a live block written
     pub standing_saved : (address word : ℕ) → IsWord word
         → Standing program frames addresses pages calls (record c { store = saved c.store address word }) r (saved_in w address word) base back depth slots
@@ -315,7 +276,7 @@ module _ (program : Program) (well : IsWellFormed program) (frames : List Frame)
       globals = s.globals;
       input = s.input;
       store = ap (λ (x : StoreState). saved x address word) s.store;
-      laid = saved_laid pages c.store address word (word_at c.store address) is_word s.laid;
+      laid = saved_laid pages c.store address word is_word s.laid;
     }
 
     -- a global written

@@ -36,7 +36,8 @@ use Rattle.cyc_select.proofs.Lines.{line_first}
 use Rattle.cyc_select.proofs.Operations.{take_small}
 use Rattle.cyc_select.proofs.Views.{Contents, View}
 use Rattle.cyc_select.proofs.Walks.{Stands, stands_front, stands_back, Rises, comes_map, Quiet, Walk, Now, now_at, walk_end, walk_few, walk_block, walk_jump, after_r}
-use Rattle.cyc_select.proofs.Standing.{Standing, new_laid}
+use Rattle.cyc_select.proofs.Standing.{Standing}
+use Rattle.cyc_select.proofs.Stores.{new_laid}
 use Rattle.cyc_select.proofs.Matches.{Matches}
 use Rattle.cyc_select.proofs.Runs.{own_of, matching, all_steps}
 

@@ -6,6 +6,7 @@ use Rattle.cyc_plain.specs.declared.instruction.Instruction.{Instruction}
 use Rattle.cyc_plain.specs.declared.instruction.Instruction.TheVariants as plain
 use Rattle.cyc_plain.specs.declared.instruction.BinaryOperator.{BinaryOperator}
 use Rattle.cyc_plain.specs.declared.instruction.Operand.{Operand}
+use Rattle.cyc_plain.specs.Requests.{first_operand, second_operand}
 use Rattle.cyc_isa.specs.Decoding.{register_of}
 use Rattle.cyc_isa.specs.declared.instr.Instr.{Instr}
 use Rattle.cyc_isa.specs.declared.instr.BranchOp.TheVariants as branch
@@ -24,9 +25,9 @@ use Rattle.cyc_select.specs.declared.code.Line.TheVariants as lines
 use Rattle.cyc_select.specs.declared.plan.Plan.{Plan}
 use Rattle.cyc_select.specs.Labelled.{Labelled}
 use Rattle.cyc_select.specs.Plans.{unary_plan, binary_plan, test_of}
-use Rattle.cyc_select.specs.Selection.{ordinary, address_code, at_address, copies, load_all, store_all, store_slot, small, syscall, upper_of_global, at_global, word_code, load_code, load_count, operand_code, operand_register, plan_code, plan_count, test_code, branch_line, quotient_code, divided_code, divide_code, is_tested, part_of, result_registers, ending_code, ending_count, operator_code, operator_count, body, behind, body_count, behind_count, count_of, function_count, functions_count, function_line, instruction_line, code_lines, function_lines, start_lines, select_of}
+use Rattle.cyc_select.specs.Selection.{ordinary, argument_code, service_number, answer_code, address_code, at_address, copies, load_all, store_all, store_slot, small, syscall, upper_of_global, at_global, word_code, load_code, load_count, operand_code, operand_register, plan_code, plan_count, test_code, branch_line, quotient_code, divided_code, divide_code, is_tested, part_of, result_registers, ending_code, ending_count, operator_code, operator_count, body, behind, body_count, behind_count, count_of, function_count, functions_count, function_line, instruction_line, code_lines, function_lines, start_lines, select_of}
 use Rattle.cyc_select.proofs.Calls.{length_ordinary, length-copies}
-use Rattle.cyc_select.proofs.Counts.{length_loads, length_stores, length_registers, length_word, length_load, length_operand, length_address, length_plan, length_test, length_divided}
+use Rattle.cyc_select.proofs.Counts.{length_argument, length_answer, length_loads, length_stores, length_registers, length_word, length_load, length_operand, length_address, length_plan, length_test, length_divided}
 use Rattle.cyc_select.proofs.Returns.{loaded, length_loaded}
 use Rattle.cyc_select.proofs.Walks.{Stands, stands_front, stands_back}
 
@@ -101,6 +102,11 @@ module _ (program : Program) (frames : List Frame) (few_results : (function : �
       let js : List Instr = operand_code (frame_at frames function) SECOND source in
       let last : List Instr = at_address StoreWord (operand_register SECOND source) address offset ∷ [] in
       omega (arith, length_ordinary (is ++ (js ++ last)), length-append is (js ++ last), length-append js last, length_address (frame_at frames function) address offset, length_operand (frame_at frames function) SECOND source)
+  length_body function here (plain.Ask request) =
+      let is : List Instr = argument_code (frame_at frames function) ARGUMENT (first_operand request) in
+      let js : List Instr = argument_code (frame_at frames function) SECOND_ARGUMENT (second_operand request) in
+      let last : List Instr = small SERVICE (service_number request) ∷ syscall ∷ answer_code (frame_at frames function) request in
+      omega (arith, length_ordinary (is ++ (js ++ last)), length-append is (js ++ last), length-append js last, length_argument (frame_at frames function) ARGUMENT (first_operand request), length_argument (frame_at frames function) SECOND_ARGUMENT (second_operand request), length_answer (frame_at frames function) request)
   length_body function here (plain.Uncaught tag value) =
       let last : List Instr = small SERVICE END_UNCAUGHT ∷ syscall ∷ [] in
       let loads : List Instr = load_code (frame_at frames function) SECOND_ARGUMENT value ++ last in
@@ -126,6 +132,7 @@ module _ (program : Program) (frames : List Frame) (few_results : (function : �
   length_behind function (plain.MoveWords destination source count) = refl
   length_behind function (plain.Load destination address offset) = refl
   length_behind function (plain.Store address offset source) = refl
+  length_behind function (plain.Ask request) = refl
   length_behind function (plain.Uncaught tag value) = refl
 
   length_both : (function here : ℕ) (i : Instruction) → length (body program frames function here i ++ behind program frames function i) ≡ count_of program function i

@@ -10,6 +10,7 @@ use Rattle.cyc_isa.specs.declared.instr.MoveFromOp.TheVariants.{High, Low}
 use Rattle.cyc_isa.specs.declared.instr.MultiplyDivideOp.TheVariants.{Multiply, Divide}
 use Rattle.cyc_isa.specs.Effect.{immediate_result, load_upper_result, arithmetic_result, shift_result, high_result, low_result, memory_address}
 use Rattle.cyc_store.specs.State.{StoreState, saved}
+use Rattle.cyc_store.specs.Services.{Answer, Refused, Done, Opened, OpenedLexical, Allocated}
 use Rattle.cyc_machine.specs.State as machines
 use Rattle.cyc_machine.specs.State.{Core, Place, InText, InGlobals, InStack, InStore, Nowhere, register, with_register, place_of, loaded, stored, data_base, stack_base, word_number}
 use Rattle.cyc_machine.specs.Step.{after}
@@ -82,6 +83,22 @@ IsSafe globals stack (MultiplyDivide Divide left right) r =
     (r right.number ≢ 0) × (r left.number ≡ 2 ^ 31 → r right.number ≡ 2 ^ 32 - 1 → ⊥)
 IsSafe globals stack (Arithmetic op destination left right) r = IsWritable destination.number
 IsSafe globals stack i r = ⊥
+
+-- what the store answers is in registers
+abbrev pub answered_r : Answer → Words → Words
+answered_r (Refused why) r = r
+answered_r Done r = r
+answered_r (Opened handle) r = put r 2 handle
+answered_r (OpenedLexical handle mark) r = put (put r 2 handle) 3 mark
+answered_r (Allocated address) r = put r 2 address
+
+abbrev pub answered_registers : Configuration → Answer → List ℕ
+answered_registers c (Refused why) = c.registers
+answered_registers c Done = c.registers
+answered_registers c (Opened handle) = (with_register (core_of c) 2 handle).registers
+answered_registers c (OpenedLexical handle mark) =
+    (with_register (with_register (core_of c) 2 handle) 3 mark).registers
+answered_registers c (Allocated address) = (with_register (core_of c) 2 address).registers
 
 -- the configuration after an instruction that is performed
 abbrev pub moved : Configuration → Instr → Configuration
@@ -217,6 +234,24 @@ module _ (globals stack : ℕ) (c : Configuration) (r : Words) (w : Contents) (v
         | inr other ↦ put-other (cell (memory_of c)) a b word other ∙ (view.mem b b_at ∙ sym (put-other w.words a b word other))
       ]
 
+  -- the store is another
+  pub view_stored : (line : ℕ) (store other : StoreState) → other ≡ store → View globals stack (record c { store = other; line = line }) r (record w { store = store })
+  view_stored line store other same = record {
+    wide = view.wide;
+    data_words = view.data_words;
+    stack_words = view.stack_words;
+    few_globals = view.few_globals;
+    few_stack = view.few_stack;
+    reg = view.reg;
+    high = view.high;
+    low = view.low;
+    mem = λ a at.
+        cell-store c.globals c.stack c.store other a (omega (arith, view.data_words, view.few_globals)) (omega (arith, view.stack_words, view.few_stack))
+        (subst (λ (m : ℕ). IsCell m (length c.stack) a) (sym view.data_words) (subst (λ (m : ℕ). IsCell globals m a) (sym view.stack_words) at))
+        ∙ view.mem a at;
+    store = same;
+  }
+
   -- a word of a live block is written
   pub view_saved : (a old address v word line : ℕ) → IsLive w.store a old → address ≡ a → v ≡ word
       → View globals stack (record c {
@@ -248,3 +283,16 @@ module _ (globals stack : ℕ) (c : Configuration) (r : Words) (w : Contents) (v
           ap (λ (x : ℕ). stored (memory_of c) (place_of (memory_of c) x) v) same_address
           ∙ (ap (λ (p : Place). stored (memory_of c) p v) (live_place a old live)
           ∙ ap (λ (x : ℕ). let m : machines.Memory = record (memory_of c) { store = saved c.store a x } in m) same)
+
+-- the store answered a call
+pub view_answered : (globals stack : ℕ) (c : Configuration) (r : Words) (w : Contents) → View globals stack c r w → (a : Answer) (line : ℕ) (store other : StoreState) → other ≡ store
+    → View globals stack (record c { registers = answered_registers c a; store = other; line = line }) (answered_r a r) (record w { store = store })
+view_answered globals stack c r w view (Refused why) line store other same = view_stored globals stack c r w view line store other same
+view_answered globals stack c r w view Done line store other same = view_stored globals stack c r w view line store other same
+view_answered globals stack c r w view (Opened handle) line store other same =
+    view_put globals stack (record c { store = other; line = line }) r (record w { store = store }) (view_stored globals stack c r w view line store other same) 2 handle handle line (omega arith) refl refl
+view_answered globals stack c r w view (OpenedLexical handle mark) line store other same =
+    let first = view_put globals stack (record c { store = other; line = line }) r (record w { store = store }) (view_stored globals stack c r w view line store other same) 2 handle handle line (omega arith) refl refl in
+    view_put globals stack (record c { registers = (with_register (core_of c) 2 handle).registers; store = other; line = line }) (put r 2 handle) (record w { store = store }) first 3 mark mark line (omega arith) refl refl
+view_answered globals stack c r w view (Allocated address) line store other same =
+    view_put globals stack (record c { store = other; line = line }) r (record w { store = store }) (view_stored globals stack c r w view line store other same) 2 address address line (omega arith) refl refl

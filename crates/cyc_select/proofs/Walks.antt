@@ -1,5 +1,5 @@
 -- Walks: stretches of a run of labelled code through lines whose numbers rise.
-use Rattle.std.proofs.Common.{◌≡◌, ◌≢◌, ℕ, suc, ◌+◌, ◌-◌, ◌<◌, ◌≤◌, ◌%◌, drop, Bool, true, List, [], ◌∷◌, ◌++◌, length, Option, Some, slice_get, refl, sym, ap, subst, ◌∙◌, arith, inl, inr}
+use Rattle.std.proofs.Common.{◌≡◌, ◌≢◌, ℕ, suc, ◌+◌, ◌-◌, ◌<◌, ◌≤◌, ◌%◌, drop, Bool, true, List, [], ◌∷◌, ◌++◌, length, Option, Some, None, slice_get, refl, sym, ap, subst, ◌∙◌, arith, inl, inr}
 use Rattle.std.specs.Prelude.{if◌then◌else◌, Contains}
 use Rattle.std.specs.List.{AllByRecursion, range_with_len}
 use Rattle.std.proofs.lemmas.List.FromFn.{get_or-range_with_len, length-range_with_len}
@@ -12,7 +12,12 @@ use Rattle.cyc_isa.specs.declared.operand.Register.{Register}
 use Rattle.cyc_isa.specs.declared.instr.MoveFromOp.TheVariants.{High, Low}
 use Rattle.cyc_words.specs.Simulation as simulation
 use Rattle.cyc_words.specs.Simulation.{Machine, Comes, IsDistinct}
+use Rattle.cyc_store.specs.State.{StoreState}
+use Rattle.cyc_store.specs.Services as services
+use Rattle.cyc_store.specs.Services.{Call, Answer, refusal}
 use Rattle.cyc_plain.specs.State.{Words, AreWords, put}
+use Rattle.cyc_plain.specs.Step.{HasAnswerWords}
+use Rattle.cyc_plain.specs.declared.instruction.Request.{Request}
 use Rattle.cyc_plain.proofs.SlotLaws.{put-same, put-other}
 use Rattle.cyc_plain.proofs.Placed.{holds_at}
 use Rattle.cyc_isa.specs.Encoding.{IsEncodable}
@@ -27,10 +32,10 @@ use Rattle.cyc_words.specs.Ending.{Ending, Returned, Uncaught, Full}
 use Rattle.cyc_words.specs.Word.{IsWord, signed}
 use Rattle.cyc_isa.specs.Decoding.{trap_code_of}
 use Rattle.cyc_select.specs.Machine.{Configuration, State, Running, Ended, Step, Executes, ExecutesAt, Performs, PerformsOrdinary, machine, status_of, output_of, linked, at, word_in, holds_of}
-use Rattle.cyc_select.specs.Selection.{ordinary, syscall}
+use Rattle.cyc_select.specs.Selection.{ordinary, syscall, service_number}
 use Rattle.cyc_select.proofs.Cells.{IsLive}
-use Rattle.cyc_select.proofs.Views.{Contents, saved_in, View, does_r, does_w, IsSafe, IsWritable, moved, view_at, view_seen, view_put}
-use Rattle.cyc_select.proofs.Effects.{performed, moved_view, loads_live, stores_live, loaded_view, saved_view, byte_of, given_byte, gets_byte, printed_byte, puts_byte, ends_returned, ends_uncaught, ends_full}
+use Rattle.cyc_select.proofs.Views.{Contents, saved_in, View, does_r, does_w, IsSafe, IsWritable, moved, answered_r, view_at, view_seen, view_put, view_answered}
+use Rattle.cyc_select.proofs.Effects.{performed, moved_view, loads_live, stores_live, loaded_view, saved_view, call_by, asked_call, given_answer, store_serves, store_is_full, byte_of, given_byte, gets_byte, printed_byte, puts_byte, ends_returned, ends_uncaught, ends_full}
 
 -- ---- rising places
 
@@ -432,3 +437,107 @@ module _ (code : Labelled) (formed : IsFormed code) (addresses : ℕ → ℕ) (g
       ends_full c (trap_code_of 0) next (now.view.reg 2 (omega arith) ∙ number) (syscall_now k out input r w c next now stands step)
       ∙ ended_as k out input r w c _ _ now refl)
       (walk_end (suc c.line) hi out Goal _ (omega (arith, below, now.at_line)) goal)
+
+  -- ---- calls of the store
+
+  -- the lines of a block from one on
+  abbrev pub lines_from : ℕ → List Instr → List ℕ
+  lines_from k [] = []
+  lines_from k (i ∷ is) = k ∷ lines_from (k + 1) is
+
+  pub lines_rise : (is : List Instr) (lo k hi : ℕ) → lo ≤ k → k + length is ≤ hi → Rises lo hi (lines_from k is)
+  lines_rise [] lo k hi from below = omega (arith, from, below)
+  lines_rise (i ∷ is) lo k hi from below = (from, lines_rise is (suc k) (k + 1) hi (omega arith) (omega (arith, below)))
+
+  -- safe instructions at the end of a stretch
+  pub comes_block : (is : List Instr) (k : ℕ) (out input : List ℕ) (Goal : State → Type 0) (r : Words) (w : Contents) (c : Configuration)
+      → Now k out input r w c → Stands code k (ordinary is) → AreSafe globals stack is r w
+      → ((d : Configuration) → Now (k + length is) out input (after_r is r w) (after_w is r w) d → Goal (Running d))
+      → Comes (machine code addresses) (Quiet out) Goal (lines_from k is) (Running c)
+  comes_block [] k out input Goal r w c now stands safe goes = goes c (now_at k (k + 0) out input r w c (omega arith) now)
+  comes_block (i ∷ is) k out input Goal r w c now (stands, rest) (safe, others) goes =
+      let ordinary_one = safe_ordinary globals stack i r safe in
+      let view = moved_view globals stack c r w now.view i safe in
+      let fits = (holds_at (IsFormedLine (length code.lines)) code.lines k (lines.Ordinary i) formed stands).1 in (
+        now.at_line,
+        (refl, now.output),
+        λ next step.
+            subst (Comes (machine code addresses) (Quiet out) Goal (lines_from (k + 1) is))
+            (sym (performed globals stack c r w now.view i next safe (performs_now k out input r w c i next now stands ordinary_one step)))
+            (comes_block is (k + 1) out input Goal (does_r i r w) (does_w i r w) (moved c i) (moved_now k out input r w c i now fits view) rest others
+            (λ d later. goes d (now_at (k + 1 + length is) (k + suc (length is)) out input _ _ d (omega arith) later))),
+      )
+
+  answered_words : (a : Answer) (r : Words) → AreWords r → HasAnswerWords a → AreWords (answered_r a r)
+  answered_words (services.Refused why) r all words = all
+  answered_words services.Done r all words = all
+  answered_words (services.Opened handle) r all word = put_words r 2 handle all word
+  answered_words (services.OpenedLexical handle mark) r all (first, second) = put_words (put r 2 handle) 3 mark (put_words r 2 handle all first) second
+  answered_words (services.Allocated address) r all word = put_words r 2 address all word
+
+  module _ (request : Request) (k lo hi : ℕ) (out input : List ℕ) (Goal : State → Type 0) (r : Words) (w : Contents) (c : Configuration) (call : Call) (store : StoreState)
+      (now : Now k out input r w c) (stands : slice_get code.lines k ≡ Some (lines.Ordinary syscall)) (from : lo ≤ k)
+      (number : r 2 ≡ service_number request) (is_call : call_by request (r 4) (r 5) ≡ call) (store_is : w.store ≡ store) where
+    here : c.store ≡ store
+    here = now.view.store ∙ store_is
+
+    asks : asked_call request c ≡ call
+    asks =
+        ap (λ (x : ℕ). call_by request x (word_in c 5)) (now.view.reg 4 (omega arith))
+        ∙ (ap (call_by request (r 4)) (now.view.reg 5 (omega arith)) ∙ is_call)
+
+    refused : refusal c.store (asked_call request c) ≡ refusal store call
+    refused = ap (refusal c.store) asks ∙ ap (λ (s : StoreState). refusal s call) here
+
+    numbered : word_in c 2 ≡ service_number request
+    numbered = now.view.reg 2 (omega arith) ∙ number
+
+    -- The store serves the call. The places behind it do not depend on what it chooses.
+    pub walk_served : (n : ℕ) (places : List ℕ) → refusal store call ≡ None
+        → ((choice : services.Choice) → services.IsAllowed store call choice → HasAnswerWords (services.answer store call choice)) → n ≤ length places → Rises (suc k) hi places
+        → ((choice : services.Choice) → services.IsAllowed store call choice → (d : Configuration)
+        → Now (k + 1) out input (answered_r (services.answer store call choice) r) (record w { store = services.served store call choice }) d
+        → Comes (machine code addresses) (Quiet out) Goal places (Running d))
+        → Walk (suc n) lo hi out Goal (Running c)
+    walk_served n places free words enough rises rest = record {
+      places = k ∷ places;
+      enough = omega (arith, enough);
+      rises = (from, rises);
+      comes = (
+        now.at_line,
+        (refl, now.output),
+        λ next step.
+            let (choice, allowed, is) = store_serves c (trap_code_of 0) next request numbered (refused ∙ free) (syscall_now k out input r w c next now stands step) in
+            let may : services.IsAllowed store call choice =
+            subst (λ (s : StoreState). services.IsAllowed s call choice) here (subst (λ (a : Call). services.IsAllowed c.store a choice) asks allowed) in
+            let answer_is : services.answer c.store (asked_call request c) choice ≡ services.answer store call choice =
+            ap (λ (a : Call). services.answer c.store a choice) asks ∙ ap (λ (s : StoreState). services.answer s call choice) here in
+            let leaves : services.served c.store (asked_call request c) choice ≡ services.served store call choice =
+            ap (λ (a : Call). services.served c.store a choice) asks ∙ ap (λ (s : StoreState). services.served s call choice) here in
+            let given : Answer = services.answer c.store (asked_call request c) choice in
+            let left : Configuration = given_answer c (services.answer c.store (asked_call request c) choice) (services.served c.store (asked_call request c) choice) in
+            let behind : Now (k + 1) out input (answered_r (services.answer c.store (asked_call request c) choice) r) (record w { store = services.served store call choice })
+            (given_answer c (services.answer c.store (asked_call request c) choice) (services.served c.store (asked_call request c) choice)) =
+            record {
+              view = view_answered globals stack c r w now.view (services.answer c.store (asked_call request c) choice) (c.line + 1) (services.served store call choice) (services.served c.store (asked_call request c) choice) leaves;
+              r_words = answered_words (services.answer c.store (asked_call request c) choice) r now.r_words (subst HasAnswerWords (sym answer_is) (words choice may));
+              w_words = now.w_words;
+              at_line = ap (λ (x : ℕ). x + 1) now.at_line;
+              output = now.output;
+              input = now.input;
+            } in
+            subst (Comes (machine code addresses) (Quiet out) Goal places) (sym is)
+            (rest choice may left
+            (now_is (k + 1) out input (answered_r given r) (record w { store = services.served store call choice }) (answered_r (services.answer store call choice) r) (record w { store = services.served store call choice }) left
+            (ap (λ (a : Answer). answered_r a r) answer_is) refl behind)),
+      );
+    }
+
+    -- there is no room for what it would come to
+    pub walk_no_room : suc k ≤ hi → refusal store call ≡ Some services.Full → Goal (Ended Full out input) → Walk 1 lo hi out Goal (Running c)
+    walk_no_room below full goal =
+        walk_step 0 lo hi out Goal c (Ended Full out input) (omega (arith, from, now.at_line)) now.output
+        (λ next step.
+        store_is_full c (trap_code_of 0) next request numbered (refused ∙ full) (syscall_now k out input r w c next now stands step)
+        ∙ ended_as k out input r w c _ _ now refl)
+        (walk_end (suc c.line) hi out Goal _ (omega (arith, below, now.at_line)) goal)

@@ -1,11 +1,13 @@
 -- What the code that emits says of itself: what it adds to the lines made so far, and the tables of line numbers that it
 -- looks targets up in. This project's own choice.
-use Rattle.std.specs.Prelude.{◌≡◌, ℕ, suc, ◌+◌, ◌*◌, ◌<◌, ◌≤◌, ◌⊎◌, List, [], ◌∷◌, ◌++◌, length, sum_by, Result, OnOk}
+use Rattle.std.specs.Prelude.{◌≡◌, ℕ, suc, ◌+◌, ◌*◌, ◌<◌, ◌≤◌, ◌⊎◌, List, [], ◌∷◌, ◌++◌, length, sum_by, Option, Some, None, Result, OnOk}
 use Rattle.std.specs.declared.alloc.AllocError.{AllocError}
 use Rattle.cyc_machine.specs.declared.constants.TheConstants.{END_FULL, RETURN_ADDRESS, SERVICE}
 use Rattle.cyc_plain.specs.declared.instruction.Instruction.{Instruction}
 use Rattle.cyc_plain.specs.declared.instruction.Operand.{Operand}
 use Rattle.cyc_plain.specs.declared.instruction.Operand.TheVariants as operands
+use Rattle.cyc_plain.specs.declared.instruction.Request.{Request}
+use Rattle.cyc_plain.specs.Requests.{first_operand, second_operand, answer_count, destination_of}
 use Rattle.cyc_plain.specs.Program.{Routine, Program, routine_at, size}
 use Rattle.cyc_plain.specs.WellFormed.{IsWellFormed}
 use Rattle.cyc_plain.specs.declared.limits.TheConstants.{GREATEST_VALUE, MOST_SIZE}
@@ -49,6 +51,16 @@ AreReached frame first count = (count ≡ 0) ⊎ (slot_word frame first + count 
 abbrev pub IsFound : Frame → Operand → Type 0
 IsFound frame (operands.Slot number) = IsReached frame number
 IsFound frame (operands.Word word) = Unit {0}
+
+abbrev pub IsArgumentFound : Frame → Option Operand → Type 0
+IsArgumentFound frame (Some operand) = IsFound frame operand
+IsArgumentFound frame None = Unit {0}
+
+-- What a request takes is found, and the slots that get its answer are reached.
+pub record IsRequestFound (frame : Frame) (request : Request) : Type 0 where
+  pub first : IsArgumentFound frame (first_operand request)
+  pub second : IsArgumentFound frame (second_operand request)
+  pub answer : AreReached frame (destination_of request) (answer_count request)
 
 abbrev pub IsPlanFound : Frame → Plan → Type 0
 IsPlanFound frame plan = IsFound frame plan.left × IsFound frame plan.right

@@ -3,7 +3,7 @@
 --
 -- Frames grow downward from the end of the stack. The return address of the call that starts the program is 0. Which
 -- registers have what is in the module `constants`.
-use Rattle.std.specs.Prelude.{ℕ, zero, suc, ◌+◌, ◌-◌, ◌*◌, ◌/◌, ◌%◌, ◌^◌, ◌==◌, Bool, false, not, nat_lt, if◌then◌else◌, List, [], ◌∷◌, ◌++◌, length, map, sum_by, take}
+use Rattle.std.specs.Prelude.{ℕ, zero, suc, ◌+◌, ◌-◌, ◌*◌, ◌/◌, ◌%◌, ◌^◌, ◌==◌, Bool, false, not, nat_lt, if◌then◌else◌, List, [], ◌∷◌, ◌++◌, length, map, sum_by, take, Option, Some, None}
 use Rattle.cyc_isa.specs.Decoding.{register_of, shift_amount_of, trap_code_of}
 use Rattle.cyc_isa.specs.declared.instr.Instr.{Instr}
 use Rattle.cyc_isa.specs.declared.instr.Instr.TheVariants as machine
@@ -21,7 +21,7 @@ use Rattle.cyc_isa.specs.declared.instr.MultiplyDivideOp.{MultiplyDivideOp}
 use Rattle.cyc_isa.specs.declared.instr.MultiplyDivideOp.TheVariants.{Divide}
 use Rattle.cyc_isa.specs.declared.instr.ArithmeticOp.{ArithmeticOp}
 use Rattle.cyc_isa.specs.declared.instr.ArithmeticOp.TheVariants as arithmetic
-use Rattle.cyc_machine.specs.declared.constants.TheConstants.{ARGUMENT, END_FULL, END_RETURNED, END_UNCAUGHT, GET_BYTE, PUT_BYTE, RETURN_ADDRESS, SECOND_ARGUMENT, SERVICE}
+use Rattle.cyc_machine.specs.declared.constants.TheConstants.{ALLOCATE, ARGUMENT, CLOSE_DYNAMIC, CLOSE_LEXICAL, END_FULL, END_RETURNED, END_UNCAUGHT, FREE, GET_BYTE, OPEN_DYNAMIC, OPEN_LEXICAL, PUT_BYTE, RETURN_ADDRESS, SECOND_ARGUMENT, SERVICE}
 use Rattle.cyc_machine.specs.State.{data_base}
 use Rattle.cyc_plain.specs.declared.instruction.Instruction.{Instruction}
 use Rattle.cyc_plain.specs.declared.instruction.Instruction.TheVariants as plain
@@ -29,6 +29,9 @@ use Rattle.cyc_plain.specs.declared.instruction.BinaryOperator.{BinaryOperator}
 use Rattle.cyc_plain.specs.declared.instruction.BinaryOperator.TheVariants as binary
 use Rattle.cyc_plain.specs.declared.instruction.Operand.{Operand}
 use Rattle.cyc_plain.specs.declared.instruction.Operand.TheVariants as operands
+use Rattle.cyc_plain.specs.declared.instruction.Request.{Request}
+use Rattle.cyc_plain.specs.declared.instruction.Request.TheVariants as requests
+use Rattle.cyc_plain.specs.Requests.{first_operand, second_operand, answer_count, destination_of}
 use Rattle.cyc_plain.specs.Program.{Routine, Program, routine_at}
 use Rattle.cyc_frame.specs.Layout.{slot_word, frame_at}
 use Rattle.cyc_frame.specs.declared.frame.Frame.{Frame}
@@ -354,6 +357,15 @@ store_all frame slot (source ∷ sources) = store_slot frame source slot ∷ sto
 abbrev pub ending_count : Program → (function : ℕ) → ℕ
 ending_count program function = if function == program.main then 4 else 0
 
+-- the lines of a call of the store
+abbrev pub argument_count : Option Operand → ℕ
+argument_count None = 0
+argument_count (Some operand) = load_count operand
+
+abbrev pub ask_count : Request → ℕ
+ask_count request =
+    argument_count (first_operand request) + argument_count (second_operand request) + 2 + answer_count request
+
 -- the lines of an instruction up to what it does
 abbrev pub body_count : Program → (function : ℕ) → Instruction → ℕ
 body_count program function (plain.Move destination source) = operand_count source + 1
@@ -372,6 +384,7 @@ body_count program function (plain.StoreGlobal global source) = operand_count so
 body_count program function (plain.Load destination address offset) = address_count address offset + 2
 body_count program function (plain.Store address offset source) =
     address_count address offset + operand_count source + 1
+body_count program function (plain.Ask request) = ask_count request
 body_count program function (plain.Uncaught tag value) = word_count tag + load_count value + 2
 
 -- behind a call, the lines that are executed after it returned
@@ -443,6 +456,32 @@ store_word frame address offset source =
     ordinary (
     address_code frame address offset
     ++ (operand_code frame SECOND source ++ at_address StoreWord (operand_register SECOND source) address offset ∷ []))
+
+-- an operand into a register, where there is one
+abbrev pub argument_code : Frame → (register : ℕ) → Option Operand → List Instr
+argument_code frame register None = []
+argument_code frame register (Some operand) = load_code frame register operand
+
+-- which service a request is
+abbrev pub service_number : Request → ℕ
+service_number (requests.OpenLexical destination) = OPEN_LEXICAL
+service_number (requests.CloseTo mark) = CLOSE_LEXICAL
+service_number (requests.OpenDynamic destination) = OPEN_DYNAMIC
+service_number (requests.CloseDynamic handle) = CLOSE_DYNAMIC
+service_number (requests.Allocate destination handle words) = ALLOCATE
+service_number (requests.Free address) = FREE
+
+-- its answer comes to slots; a service answers in the registers of results
+abbrev pub answer_code : Frame → Request → List Instr
+answer_code frame request = store_all frame (destination_of request) (result_registers (answer_count request))
+
+-- a call of the store
+abbrev pub ask_code : Frame → Request → List Line
+ask_code frame request =
+    ordinary (
+    argument_code frame ARGUMENT (first_operand request)
+    ++ (argument_code frame SECOND_ARGUMENT (second_operand request)
+    ++ small SERVICE (service_number request) ∷ syscall ∷ answer_code frame request))
 
 -- the end of a run with an exception that nothing caught
 abbrev pub uncaught_code : Frame → (tag : ℕ) → Operand → List Line
@@ -517,6 +556,7 @@ body program frames function here (plain.Load destination address offset) =
     load_word (frame_at frames function) destination address offset
 body program frames function here (plain.Store address offset source) =
     store_word (frame_at frames function) address offset source
+body program frames function here (plain.Ask request) = ask_code (frame_at frames function) request
 body program frames function here (plain.Uncaught tag value) = uncaught_code (frame_at frames function) tag value
 
 -- behind a call, the lines that are executed after it returned

@@ -81,6 +81,7 @@ impl Emitter {
                 global,
             } => self.load_global(frame, destination, global),
             Instruction::StoreGlobal { global, source } => self.store_global(frame, global, source),
+            Instruction::Ask { request } => self.ask(frame, request),
             Instruction::Uncaught { tag, value } => self.uncaught(frame, tag, value),
             Instruction::MoveWords {
                 destination,

@@ -16,8 +16,8 @@ use cyc_machine::constants::{ARGUMENT, END_FULL, END_RETURNED, RETURN_ADDRESS, S
 use cyc_plain::GREATEST_VALUE;
 use std::alloc::AllocError;
 
-/// The registers of what a function returns.
-const RESULTS: [u8; 3] = [FIRST_RESULT, SECOND_RESULT, THIRD_RESULT];
+/// The registers of what a function returns, and of what a service answers.
+pub(crate) const RESULTS: [u8; 3] = [FIRST_RESULT, SECOND_RESULT, THIRD_RESULT];
 
 impl Emitter {
     /// One argument, from the caller's slot to the callee's, whose frame is the current one already.
@@ -97,7 +97,12 @@ impl Emitter {
     }
 
     /// Registers into the slots from one on.
-    fn store_all(&mut self, frame: Frame, slot: usize, sources: &[u8]) -> Result<(), AllocError>
+    pub(crate) fn store_all(
+        &mut self,
+        frame: Frame,
+        slot: usize,
+        sources: &[u8],
+    ) -> Result<(), AllocError>
         requires { AreReached frame slot (length sources.now) }
         ensures { AddsLines result self.old self.new (ordinary (store_all frame slot sources.now)) }
     {

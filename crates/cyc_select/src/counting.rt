@@ -5,6 +5,7 @@ ghost use Rattle.cyc_plain.specs.WellFormed.{IsPlain, IsInRange};
 ghost use Rattle.cyc_select.specs.Selection.{operator_count, ending_count, body_count, behind_count, count_of};
 ghost use Rattle.cyc_select.specs.Emission.{AreFew, most_lines, instruction_lines, function_starts};
 
+use crate::asking::ask_count;
 use crate::constants::START_LINES;
 use crate::memory::address_count;
 use crate::operands::{load_count, operand_count, word_count};
@@ -86,6 +87,7 @@ fn body_count(plain: &Plain, function: usize, instruction: Instruction) -> usize
         Instruction::ReadByte { .. } | Instruction::LoadGlobal { .. } => 3,
         Instruction::WriteByte { source } => load_count(source) + 2,
         Instruction::StoreGlobal { source, .. } => operand_count(source) + 2,
+        Instruction::Ask { request } => ask_count(request),
         Instruction::Uncaught { tag, value } => word_count(tag) + load_count(value) + 2,
     }
 }

@@ -1,6 +1,7 @@
 //! Instruction selection: the plain program as labelled code of the machine.
 #![tactic(auto)]
 
+mod asking;
 mod bodies;
 mod calling;
 mod code;

@@ -13,7 +13,7 @@ use Rattle.cyc_types.specs.flow.States.{Unreached, Vacant, Full, meet, with_full
 use Rattle.cyc_types.specs.flow.Statements.{Known, caught, rule_statement, rule_items}
 use Rattle.cyc_types.specs.flow.Statements as statements
 use Rattle.cyc_meaning.specs.Values as values
-use Rattle.cyc_meaning.specs.State.{World, opened, Environment, ConvertTo, Initialise, Choose, Test, ThrowWith, Entry, Needs, Discard, Rest, Handler, Focus, Evaluating, Executing, Proceeding, Breaking, Continuing, Returning, Throwing, State, Running}
+use Rattle.cyc_meaning.specs.State.{Stack, new_region, World, opened, Environment, ConvertTo, Initialise, Choose, Test, ThrowWith, Entry, Needs, Discard, Rest, Handler, Focus, Evaluating, Executing, Proceeding, Breaking, Continuing, Returning, Throwing, State, Running}
 use Rattle.cyc_meaning.specs.State as state
 use Rattle.cyc_meaning.specs.Parts.{inside, region_end}
 use Rattle.cyc_meaning.specs.Exceptions.{throws}
@@ -21,7 +21,7 @@ use Rattle.cyc_meaning.specs.Nesting.{ends_of, IsNested}
 use Rattle.cyc_meaning.specs.Step.{step_executing, returns, continues_with}
 use Rattle.cyc_soundness.specs.Lives.{Value, read}
 use Rattle.cyc_soundness.specs.Worlds.{Typing, IsTyped}
-use Rattle.cyc_soundness.specs.Frames.{Bound, IsBound, AreVariables, LiveIn, Within, itself, Holds, Implies, LoopExit, Exits, loop_of, around, AreBreaks, is_loop, IsContext, AreGlobals}
+use Rattle.cyc_soundness.specs.Frames.{InScope, IsBound, AreVariables, LiveIn, Within, itself, Holds, Implies, LoopExit, Exits, loop_of, around, AreBreaks, is_loop, IsContext, KnowsProgram}
 use Rattle.cyc_soundness.specs.Classes.{InStatement, InItems, InValue, InThrown}
 use Rattle.cyc_soundness.specs.Stacks.{Evaluates, Executes, Continues, Catches, IsLoop, Val, Go, IsReturn, IsStack, IsFocus, IsWell}
 use Rattle.cyc_soundness.specs.Stacks as stacks
@@ -29,29 +29,34 @@ use Rattle.cyc_soundness.proofs.TypeLemmas.{kind_read, kind_meant}
 use Rattle.cyc_soundness.proofs.FlowLemmas.{implies_self, implies_after, meet_first, meet_second, at_least_implies, emptied_implied, holds_implied}
 use Rattle.cyc_soundness.proofs.RuleLemmas.{breaks_statement, breaks_items, breaks_clauses, clauses_implied, no_locks}
 use Rattle.cyc_soundness.proofs.StackLemmas.{within_bound, within_variables, within_live, within_holds, below_more, live_more}
-use Rattle.cyc_soundness.proofs.Evaluation.{running}
+use Rattle.cyc_soundness.proofs.WorldLemmas.{opened_typed}
+use Rattle.cyc_soundness.proofs.Cells.{running}
 use Rattle.cyc_soundness.proofs.Supply.{declares_blank}
 use Rattle.cyc_types.specs.flow.Touched.{touched_statement}
 
 -- the same scope further on, where more numbers are given out
-pub context_after : (p : Program) (x : Exits) (bs : List Bound) (c : Context) (s : Statement) → IsContext p x bs c → IsContext p x bs (behind c s)
+pub context_after : (p : Program) (x : Exits) (bs : List InScope) (c : Context) (s : Statement) → IsContext p x bs c → IsContext p x bs (behind c s)
 context_after p x bs c s stands = record {
   globals = stands.globals;
   functions = stands.functions;
+  structs = stands.structs;
   result = stands.result;
   loop = stands.loop;
   scope = stands.scope;
   below = below_more c.next_local (c.next_local + length (declared_types s)) bs (let le : c.next_local ≤ c.next_local + length (declared_types s) = omega arith in le) stands.below;
+  counters = stands.counters;
 }
 
-pub context_inside : (p : Program) (x : Exits) (bs : List Bound) (c : Context) → IsContext p x bs c → IsContext p x bs (in_block c)
+pub context_inside : (p : Program) (x : Exits) (bs : List InScope) (c : Context) → IsContext p x bs c → IsContext p x bs (in_block c)
 context_inside p x bs c stands = record {
   globals = stands.globals;
   functions = stands.functions;
+  structs = stands.structs;
   result = stands.result;
   loop = stands.loop;
   scope = stands.scope;
   below = stands.below;
+  counters = stands.counters;
 }
 
 -- fewer breaks are known before
@@ -59,7 +64,7 @@ pub breaks_before : (l : Option LoopExit) (a b : flow.State) → Implies a b →
 breaks_before None a b i are = tt
 breaks_before (Some l) a b i are = implies_after a b l.breaks i are
 
-module _ (p : Program) (g : Typing) (x : Exits) (bs : List Bound) (e : Environment) (w : World) (typed' : IsTyped g w.objects) (globals : AreGlobals g p) (bound : IsBound e.locals bs) (variables : AreVariables g bs) where
+module _ (p : Program) (g : Typing) (x : Exits) (bs : List InScope) (e : Environment) (w : World) (typed' : IsTyped g w.regions w.objects) (globals : KnowsProgram g p) (bound : IsBound e.locals e.counters bs) (variables : AreVariables g bs) where
   on : (focus : Focus) (k : List Entry) → LiveIn (ends_of k) bs → IsFocus p g x bs focus k → IsWell p (Running focus k e w)
   on focus k live stands = running p g x bs e w typed' globals bound variables focus k live stands
 
@@ -119,7 +124,7 @@ module _ (p : Program) (g : Typing) (x : Exits) (bs : List Bound) (e : Environme
       let breaks : behind' ≡ l.breaks = ap (λ (z : Known). z.breaks) known in
       let continues : Continues x (in_block c) js f l.now =
       record { before = before; behind = l.breaks; typed = well; flows = d; breaks = subst (λ z. AreBreaks x.loop z) breaks are; kept = kept } in
-      running p g x bs (inside e w) (opened w) typed' globals bound variables Proceeding (Rest js ∷ region_end e w ∷ k) (live_more (length w.regions) (ends_of k) bs live)
+      running p g x bs (inside e w) (opened w) (opened_typed g w.regions (new_region Stack ∷ []) w.objects typed') globals bound variables Proceeding (Rest js ∷ region_end e w ∷ k) (live_more (length w.regions) (ends_of k) bs live)
       (f, holds, (bs, in_block c, l.now, itself bs, context_inside p x bs c stands, continues, (h, subst (λ z. Implies l.now z) (sym now) (implies_self l.now), live, stack)))
   execute Empty k c f h before behind' live stands holds well (u, known) are kept stack =
       on Proceeding k live (h, subst (λ z. Holds g z bs) (sym (ap (λ (z : Known). z.now) known)) holds, stack)
@@ -210,7 +215,7 @@ module _ (p : Program) (g : Typing) (x : Exits) (bs : List Bound) (e : Environme
 
   -- ---- items
 
-  pub continue_with : (js : Items) (k : List Entry) (cs : List Bound) (c : Context) (f h before behind' : flow.State) → IsNested k e w → LiveIn (ends_of k) bs → Within cs bs → IsContext p x bs c → Holds g f bs
+  pub continue_with : (js : Items) (k : List Entry) (cs : List InScope) (c : Context) (f h before behind' : flow.State) → IsNested k e w → LiveIn (ends_of k) bs → Within cs bs → IsContext p x bs c → Holds g f bs
       → WellTypedItems c js → Derives (rule_items (around x) js (record { now = f; breaks = before })) (record { now = h; breaks = behind' }) → AreBreaks x.loop behind' → InItems js
       → IsStack p g x cs (Go h) k → IsWell p (continues_with js k e w)
   continue_with NoItems k cs c f h before behind' nests live within stands holds well (u, known) are kept stack =

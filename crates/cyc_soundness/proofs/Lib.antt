@@ -6,9 +6,14 @@ mod RuleLemmas
 mod WorldLemmas
 mod StackLemmas
 mod ValueLemmas
+mod Cells
+mod Objects
+mod Places
 mod Evaluation
 mod Supply
 mod Execution
 mod Calls
 mod Unwinding
-mod Whole
+mod BuiltLemmas
+-- what `cyc_system` cites
+pub mod Whole

@@ -28,7 +28,7 @@ is_kind_self kinds.Key = refl
 pub is_kind_same : (k l : Kind) → k ≡ l → is_kind k l ≡ true
 is_kind_same k l e = subst (λ z. is_kind k z ≡ true) e (is_kind_self k)
 
-mark_kinds : (k : PointerKind) → values.kind_of_mark k ≡ tests.kind_of_mark k
+pub mark_kinds : (k : PointerKind) → values.kind_of_mark k ≡ tests.kind_of_mark k
 mark_kinds marks.Nullable = refl
 mark_kinds marks.NonNull = refl
 mark_kinds marks.Fat = refl

@@ -5,4 +5,4 @@ use Rattle.cyc_flow.proofs.States.{Compared}
 use Rattle.cyc_flow.proofs.state.are_as_full.Given as goal
 
 abbrev pub invariant-loop-i : goal.invariant-loop-i
-invariant-loop-i l = Compared l.one l.other l.i (are_as_full (map view_fullness l.one) (map view_fullness l.other))
+invariant-loop-i l = Compared l.one l.other l.i l.all (are_as_full (map view_fullness l.one) (map view_fullness l.other))

@@ -2,7 +2,7 @@ use Rattle.std.proofs.Common.{sym, subst}
 use Rattle.cyc_plain.specs.Program.{Routine, routine_at}
 use Rattle.cyc_plain.specs.WellFormed.{IsInRange}
 use Rattle.cyc_select.specs.Emission.{IsTestFound}
-use Rattle.cyc_select.proofs.Found.{operand_found, test_found}
+use Rattle.cyc_select.proofs.Found.{operand_found, test_found, request_found}
 use Rattle.cyc_select.proofs.emitter.Emitter.body.Goals as goal
 
 pub branch_where-requires : goal.branch_where-requires
@@ -15,3 +15,10 @@ branch_where-requires c =
     (test_found c.frame-frame.result c.in-Branch.comparison c.in-Branch.left c.in-Branch.right
     (operand_found c.frame-frame.result r c.in-Branch.left reached in_range.0)
     (operand_found c.frame-frame.result r c.in-Branch.right reached in_range.1))
+
+pub ask-requires : goal.ask-requires
+ask-requires c =
+    let program = c.args.tables.now.plain.now in
+    let r : Routine = routine_at program c.args.tables.now.function in
+    request_found c.frame-frame.result r c.in-Ask.request c.frame-frame.ensures.slots
+    (subst (IsInRange program r) c.in-Ask.is c.requires.in_range)

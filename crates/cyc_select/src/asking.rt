@@ -1,0 +1,112 @@
+//! The lines that call the store.
+ghost use Rattle.std.specs.Prelude.{◌≡◌, ◌≤◌, OnOk};
+ghost use Rattle.cyc_plain.specs.Requests.{first_operand, second_operand, answer_count, destination_of};
+ghost use Rattle.cyc_select.specs.Selection.{ordinary, argument_code, service_number, answer_code, ask_code, ask_count};
+ghost use Rattle.cyc_select.specs.Emission.{AddsLines, IsArgumentFound, AreReached, IsRequestFound};
+
+use crate::calling::RESULTS;
+use crate::emitter::Emitter;
+use crate::instructions::{small, syscall};
+use crate::operands::load_count;
+use cyc_frame::Frame;
+use cyc_machine::constants::{
+    ALLOCATE, ARGUMENT, CLOSE_DYNAMIC, CLOSE_LEXICAL, FREE, OPEN_DYNAMIC, OPEN_LEXICAL,
+    SECOND_ARGUMENT, SERVICE,
+};
+use cyc_plain::Request;
+use std::alloc::AllocError;
+
+/// Which service a request is.
+fn service_number(request: Request) -> u16
+    ensures { result ≡ service_number request }
+{
+    match request {
+        Request::OpenLexical { .. } => OPEN_LEXICAL as u16,
+        Request::CloseTo { .. } => CLOSE_LEXICAL as u16,
+        Request::OpenDynamic { .. } => OPEN_DYNAMIC as u16,
+        Request::CloseDynamic { .. } => CLOSE_DYNAMIC as u16,
+        Request::Allocate { .. } => ALLOCATE as u16,
+        Request::Free { .. } => FREE as u16,
+    }
+}
+
+/// The lines of a call of the store.
+pub(crate) fn ask_count(request: Request) -> usize
+    ensures value { result ≡ ask_count request }
+    ensures few { result ≤ 7 }
+{
+    match request {
+        Request::OpenLexical { .. } => 4,
+        Request::CloseTo { mark } => load_count(mark) + 2,
+        Request::OpenDynamic { .. } => 3,
+        Request::CloseDynamic { handle } => load_count(handle) + 2,
+        Request::Allocate { handle, words, .. } => load_count(handle) + load_count(words) + 3,
+        Request::Free { address } => load_count(address) + 2,
+    }
+}
+
+impl Emitter {
+    /// The first word that a request takes, where it takes one.
+    fn first_argument(&mut self, frame: Frame, request: Request) -> Result<(), AllocError>
+        requires { IsArgumentFound frame (first_operand request) }
+        ensures { AddsLines result self.old self.new (ordinary (argument_code frame ARGUMENT (first_operand request))) }
+    {
+        match request {
+            Request::OpenLexical { .. } => Ok(()),
+            Request::CloseTo { mark } => self.load(frame, ARGUMENT, mark),
+            Request::OpenDynamic { .. } => Ok(()),
+            Request::CloseDynamic { handle } => self.load(frame, ARGUMENT, handle),
+            Request::Allocate { handle, .. } => self.load(frame, ARGUMENT, handle),
+            Request::Free { address } => self.load(frame, ARGUMENT, address),
+        }
+    }
+
+    /// The second word that a request takes, where it takes one.
+    fn second_argument(&mut self, frame: Frame, request: Request) -> Result<(), AllocError>
+        requires { IsArgumentFound frame (second_operand request) }
+        ensures { AddsLines result self.old self.new (ordinary (argument_code frame SECOND_ARGUMENT (second_operand request))) }
+    {
+        match request {
+            Request::Allocate { words, .. } => self.load(frame, SECOND_ARGUMENT, words),
+            _ => Ok(()),
+        }
+    }
+
+    /// What the store answers comes into slots.
+    fn answer(&mut self, frame: Frame, request: Request) -> Result<(), AllocError>
+        requires { AreReached frame (destination_of request) (answer_count request) }
+        ensures { AddsLines result self.old self.new (ordinary (answer_code frame request)) }
+    {
+        match request {
+            Request::OpenLexical { destination } => self.store_all(
+                frame,
+                destination,
+                &RESULTS[..2],
+            ),
+            Request::CloseTo { .. } => Ok(()),
+            Request::OpenDynamic { destination } => self.store_all(
+                frame,
+                destination,
+                &RESULTS[..1],
+            ),
+            Request::CloseDynamic { .. } => Ok(()),
+            Request::Allocate { destination, .. } => self.store_all(
+                frame,
+                destination,
+                &RESULTS[..1],
+            ),
+            Request::Free { .. } => Ok(()),
+        }
+    }
+
+    /// The store is called.
+    pub(crate) fn ask(&mut self, frame: Frame, request: Request) -> Result<(), AllocError>
+        requires { IsRequestFound frame request }
+        ensures { AddsLines result self.old self.new (ask_code frame request) }
+    {
+        self.first_argument(frame, request)?;
+        self.second_argument(frame, request)?;
+        self.ordinary(&[small(SERVICE, service_number(request)), syscall()])?;
+        self.answer(frame, request)
+    }
+}
