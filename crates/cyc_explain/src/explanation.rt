@@ -30,17 +30,11 @@ pub fn explain(alloc: Global, tree: &Tree) -> Option<Explained>
     ensures { IfSome result (λ e. (e.fault ≡ memory_fault)
         ⊎ IsRefusedProgram tree.now.names (map view_declaration tree.now.declarations.items) e.fault) }
 {
-    match check(alloc, tree) {
-        Ok(_) => None,
-        Err(fault) => Some(explain_fault(alloc, tree, fault)),
-    }
-}
-
-fn explain_fault(alloc: Global, tree: &Tree, fault: Fault) -> Explained
-    ensures { result.fault ≡ fault }
-{
+    let Err(fault) = check(alloc, tree) else {
+        return None;
+    };
     let words = words_for(alloc, tree, fault);
-    Explained { fault, words }
+    Some(Explained { fault, words })
 }
 
 /// The words for a fault in a declaration.
