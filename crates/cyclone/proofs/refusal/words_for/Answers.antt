@@ -39,9 +39,14 @@ refused text t found fault explained has (inl memory) same =
     let e : is_explained memory_fault.code ≡ true = subst (λ (x : Fault). is_explained x.code ≡ true) (sym same ∙ memory) explained in
     cc
 refused text t found fault explained (tokens, is, tree, names) (inr r) same =
-    inr (inr (inl (tokens, declarations_of t, is, tree,
-    subst (IsRefusedProgram (names_in tokens) (declarations_of t)) same
-    (subst (λ ns. IsRefusedProgram ns (declarations_of t) found) names r))))
+    inr (inr (inl (
+      tokens,
+      declarations_of t,
+      is,
+      tree,
+      subst (IsRefusedProgram (names_in tokens) (declarations_of t)) same
+          (subst (λ ns. IsRefusedProgram ns (declarations_of t) found) names r),
+    )))
 
 said : {A P : Type 0} (words : Option A) → P → IfSome words (λ _. P)
 said None is = tt
