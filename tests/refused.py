@@ -46,6 +46,9 @@ int main() {
   return *shared;
 }
 """
+# Two that are refused and explained: by a region that does not outlive another, and by a variable that was moved.
+SHORTER = WHOLE.replace("shared = new 5;", "shared = &l->head;")
+MOVED = WHOLE.replace("free_ukey(key);", "ufree(u);")
 # 40 times a block of 1,000 words is made and its last word written, a region is opened and closed, and an A printed; then 7 is returned.
 STORE = """
 24100028 24020009 24040001 240503e8 0000000c ac500f9c 24020007 0000000c 00402021 24020008
@@ -71,11 +74,15 @@ def commands(program, folder):
     path = lambda name: os.path.join(folder, name)
     write(path("main.cyc"), SOURCE.encode("ascii"))
     write(path("whole.cyc"), WHOLE.encode("ascii"))
+    write(path("shorter.cyc"), SHORTER.encode("ascii"))
+    write(path("moved.cyc"), MOVED.encode("ascii"))
     write(path("store.elf"), run.image_of(STORE.split()))
     subprocess.run([program, "compile", path("main.cyc"), "-o", path("main.elf")], check=True, capture_output=True)
     return [
         ([program, "check", path("main.cyc")], None),
         ([program, "check", path("whole.cyc")], None),
+        ([program, "check", path("shorter.cyc")], None),
+        ([program, "check", path("moved.cyc")], None),
         ([program, "compile", path("main.cyc"), "-o", path("new.elf")], path("new.elf")),
         ([program, "run", path("main.elf")], None),
         ([program, "run", path("store.elf")], None),

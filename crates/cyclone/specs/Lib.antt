@@ -1,6 +1,7 @@
 -- what the program answers: its last line, its exit status, and what they stand for
 pub mod Answer
 pub mod Work
+pub mod Refusal
 -- what the functions inside the program promise each other
 pub mod Request
 pub mod Excerpt

@@ -1,20 +1,26 @@
 //! The message for a person who reads why a text was refused.
 use crate::advice::{hint, meaning};
 use crate::excerpt::{Shown, excerpt_at};
+use crate::flow_cause::Note;
 use crate::unbuilt::name_of;
+use cyc_flow::Cause;
 use cyc_types::Unbuilt;
 use cyc_words::{Fault, Span};
 use std::fmt;
 
 /// Why the text in the file `name` was refused: the place and what is wrong there, the line with a
-/// mark under the place, and what to do. Where the program has what is not built yet, the place is
-/// that of the function that has it, if one does.
+/// mark under the place, the types or regions at hand, and what to do. Where the program has what is
+/// not built yet, the place is that of the function that has it, if one does. Where a variable is
+/// empty or locked, where it came to be so.
 #[derive(Drop)]
 pub struct Message<'a> {
     pub name: &'a str,
     pub text: &'a [u8],
     pub fault: Fault,
     pub unbuilt: Option<Unbuilt>,
+    /// The types or regions at hand, in lines.
+    pub words: Option<Vec<u8>>,
+    pub cause: Option<Cause>,
 }
 
 impl Message<'_> {
@@ -48,6 +54,20 @@ impl fmt::Display for Message<'_> {
             None => write!(f, "{name}:{line}:{column}: {}\n", meaning(code))?,
         }
         write!(f, "{}", excerpt_at(self.text, line, column))?;
+        if let Some(words) = &self.words {
+            for line in words.split(|byte| *byte == b'\n') {
+                write!(f, "    {}\n", Shown(line))?;
+            }
+        }
+        if let Some(cause) = self.cause {
+            let note = Note {
+                name: self.name,
+                text: self.text,
+                code,
+                cause,
+            };
+            write!(f, "{note}")?;
+        }
         write!(f, "    hint: {}\n", hint(code))
     }
 }

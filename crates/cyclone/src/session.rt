@@ -1,4 +1,7 @@
 //! From the words of the command line to the answer, over files and the standard streams.
+ghost use Rattle.std.specs.Prelude.{◌≡◌};
+ghost use Rattle.cyclone.specs.Answer.{answer_of_fault};
+
 use crate::advice::explanation;
 use crate::answer::Answer;
 use crate::arguments;
@@ -6,7 +9,9 @@ use crate::arguments::Request;
 use crate::console::{Keyboard, Screen};
 use crate::excerpt::Shown;
 use crate::files::{read_image, read_text, write_image};
+use crate::flow_cause::cause_of;
 use crate::message::Message;
+use crate::refusal::words_for;
 use crate::unbuilt::first_unbuilt;
 use crate::work::{check, list_image, run_image};
 use clap::error::ErrorKind;
@@ -21,7 +26,10 @@ use std::{env, io};
 type Buffer = RefCell<BufWriter<Stdout>>;
 
 /// The answer to a refused program, whose message for a person goes to standard error.
-fn report_refusal(rt: &HostRuntime, name: &str, text: &[u8], fault: Fault) -> Answer {
+fn report_refusal(rt: &HostRuntime, name: &str, text: &[u8], fault: Fault) -> Answer
+    // What is said to a person changes nothing of it.
+    ensures { result ≡ answer_of_fault fault }
+{
     let answer = Answer::from(fault);
     if let Answer::Refused(fault) = answer {
         let unbuilt = match fault.code {
@@ -33,6 +41,8 @@ fn report_refusal(rt: &HostRuntime, name: &str, text: &[u8], fault: Fault) -> An
             text,
             fault,
             unbuilt,
+            words: words_for(rt.alloc(), text, fault),
+            cause: cause_of(rt.alloc(), text, fault),
         };
         let _ = rt.eprint(message);
     }

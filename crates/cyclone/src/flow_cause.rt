@@ -1,0 +1,76 @@
+//! What a person reads of a variable that is empty or locked where it is used: where it came to be so.
+use crate::excerpt::{Shown, excerpt_at};
+use crate::refusal::tree_of;
+use cyc_check::check;
+use cyc_flow::{Cause, Change, explain};
+use cyc_words::{Code, Fault, Span};
+use std::alloc::Global;
+use std::fmt;
+
+/// Where the variable of a text's first fault came to be as it is, if the fault is one of flow and
+/// there is such a place. Where memory runs out, there is none to name.
+pub fn cause_of(alloc: Global, text: &[u8], fault: Fault) -> Option<Cause> {
+    match fault.code {
+        Code::EmptyVariable | Code::LockedVariable | Code::LoopEmptiesVariable => {}
+        _ => return None,
+    }
+    let tree = tree_of(alloc, text).ok()?;
+    let typed = check(alloc, &tree).ok()?;
+    let explained = explain(alloc, &typed)?;
+    if explained.fault != fault {
+        return None;
+    }
+    explained.cause
+}
+
+/// What was done to the variable, in words. One that is empty although it was assigned or locked is
+/// so by a `try`, whose body did that.
+fn words_of(change: Change, code: Code) -> &'static str {
+    match (change, code) {
+        (Change::Moved, _) => "is moved here",
+        (Change::Peeked, _) => "is looked at here",
+        (Change::Locked, Code::LockedVariable) => "is locked here",
+        (Change::Locked, _) => "is locked here, in the body of a try",
+        (Change::Assigned, _) => "is assigned here, in the body of a try",
+    }
+}
+
+fn is_in_name(byte: u8) -> bool {
+    byte.is_ascii_alphanumeric() || byte == b'_'
+}
+
+/// The name that stands at a place, as far as it is shown.
+fn name_at(text: &[u8], span: Span) -> &[u8] {
+    let after = excerpt_at(text, span.line, span.column).after;
+    match after.iter().position(|byte| !is_in_name(*byte)) {
+        Some(end) => &after[..end],
+        None => after,
+    }
+}
+
+/// A line on where the variable came to be as it is, and that place.
+#[derive(Drop)]
+pub struct Note<'a> {
+    /// The name of the file.
+    pub name: &'a str,
+    pub text: &'a [u8],
+    pub code: Code,
+    pub cause: Cause,
+}
+
+impl fmt::Display for Note<'_> {
+    fn fmt<W: fmt::Write>(&self, f: &mut fmt::Formatter<W>) -> fmt::Result {
+        let span = self.cause.span;
+        let variable = name_at(self.text, span);
+        write!(
+            f,
+            "{}:{}:{}: `{}` {}\n",
+            Shown(self.name.as_bytes()),
+            span.line,
+            span.column,
+            Shown(variable),
+            words_of(self.cause.change, self.code)
+        )?;
+        write!(f, "{}", excerpt_at(self.text, span.line, span.column))
+    }
+}

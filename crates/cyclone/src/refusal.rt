@@ -1,0 +1,54 @@
+//! What a person reads of a refusal by types or regions, beside what its code says.
+ghost use Rattle.std.specs.Prelude.{◌≡◌, IfOk, IfSome};
+ghost use Rattle.cyc_system.specs.Front.{IsRefusedText};
+ghost use Rattle.cyclone.specs.Refusal.{HasTree, is_explained};
+
+use cyc_explain::explain;
+use cyc_lex::lex;
+use cyc_parse::parse;
+use cyc_syntax::Tree;
+use cyc_words::{Code, Fault};
+use std::alloc::Global;
+
+/// Whether a refusal is of two types or regions.
+fn is_explained(code: Code) -> bool
+    ensures { result ≡ is_explained code }
+{
+    match code {
+        Code::TypeMismatch
+        | Code::NullForNonNull
+        | Code::RegionNotLive
+        | Code::NotOutlived
+        | Code::EffectNotCovered => true,
+        _ => false,
+    }
+}
+
+/// The tree of a text.
+pub fn tree_of(alloc: Global, text: &[u8]) -> Result<Tree, Fault>
+    ensures { IfOk result (HasTree text.now) }
+{
+    let tokens = lex(alloc, text)?;
+    parse(alloc, &tokens, text)
+}
+
+/// The types or regions at hand where a text is refused with this fault, in lines. Where memory runs
+/// out there is nothing to say.
+pub fn words_for(alloc: Global, text: &[u8], fault: Fault) -> Option<Vec<u8>>
+    // There are words only for what the text is refused for.
+    ensures { IfSome result (λ words. IsRefusedText text.now fault) }
+{
+    if !is_explained(fault.code) {
+        return None;
+    }
+    let Ok(tree) = tree_of(alloc, text) else {
+        return None;
+    };
+    let Some(explained) = explain(alloc, &tree) else {
+        return None;
+    };
+    if explained.fault != fault {
+        return None;
+    }
+    explained.words
+}
