@@ -10,7 +10,7 @@ use Rattle.cyc_types.specs.declared.typed.UnaryOperator.TheVariants as unary
 use Rattle.cyc_types.specs.declared.typed.Operator.{Operator}
 use Rattle.cyc_types.specs.declared.typed.Operator.TheVariants as operators
 use Rattle.cyc_types.specs.Types.{Ty, words_of}
-use Rattle.cyc_types.specs.TypedTrees.{Lvalue, Local, Global, Expression, Number, Copy, Call, Unary, Binary, Assign, Converted, Convert, Arguments, NoArguments, MoreArguments, Operations, NoOperations, ThenCompute, ThenTest, Statement, Block, Empty, Evaluate, If, While, Return, Break, Continue, Items, NoItems, MoreItems, Execute, Declare, Signature, Function, Program}
+use Rattle.cyc_types.specs.TypedTrees.{Lvalue, Local, Global, Expression, Number, NullPointer, Copy, Call, Unary, Binary, Assign, Converted, Convert, Arguments, NoArguments, MoreArguments, Operations, NoOperations, ThenCompute, ThenTest, Statement, Block, Empty, Evaluate, If, While, Return, Break, Continue, Items, NoItems, MoreItems, Execute, Declare, Signature, Function, Program}
 use Rattle.cyc_types.specs.Numbered.{Numbering, argument_count, numbering_of, signatures_of}
 use Rattle.cyc_plain.specs.declared.instruction.Comparison.{Comparison}
 use Rattle.cyc_plain.specs.declared.instruction.Operand.{Operand}
@@ -143,6 +143,7 @@ module _ (code : List Instruction) (b : Numbering) (types : List Ty) where
   mutual
     expression_stands : (a : Expression) (d t p q : ℕ) → Fits b types a → p + length (expression_code (starts_of types) a p d t) ≡ q → HasAt code p (expression_code (starts_of types) a p d t) → ExpressionAt code b types a d t p q
     expression_stands (Number n) d t p q numbered end (here, none) = (here, end)
+    expression_stands NullPointer d t p q numbered end (here, none) = (here, end)
     expression_stands (Copy l ty) d t p q numbered end has = load_stands l (kind_of ty) (words_of ty) d p q numbered end has
     expression_stands (Call callees.Putchar cs ty) d t p q (s, signature, many, passed, result, numbered) end has =
         let front = printed_code (starts_of types) cs p t in

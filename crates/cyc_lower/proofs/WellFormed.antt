@@ -11,7 +11,7 @@ use Rattle.cyc_types.specs.declared.typed.Operator.TheVariants as operators
 use Rattle.cyc_types.specs.declared.typed.LogicalOperator.{LogicalOperator}
 use Rattle.cyc_types.specs.declared.typed.LogicalOperator.TheVariants as logical
 use Rattle.cyc_types.specs.Types.{Ty, words_of, ValueType, Void, Null, Value, result_type}
-use Rattle.cyc_types.specs.TypedTrees.{Lvalue, Local, Global, Expression, Number, Copy, Call, Unary, Binary, Assign, Converted, Convert, Arguments, NoArguments, MoreArguments, Operations, NoOperations, ThenCompute, ThenTest, type_of, Statement, Block, Empty, Evaluate, If, While, Return, Break, Continue, Items, NoItems, MoreItems, Execute, Declare, GlobalVariable, Signature, Function, Program}
+use Rattle.cyc_types.specs.TypedTrees.{Lvalue, Local, Global, Expression, Number, NullPointer, Copy, Call, Unary, Binary, Assign, Converted, Convert, Arguments, NoArguments, MoreArguments, Operations, NoOperations, ThenCompute, ThenTest, type_of, Statement, Block, Empty, Evaluate, If, While, Return, Break, Continue, Items, NoItems, MoreItems, Execute, Declare, GlobalVariable, Signature, Function, Program}
 use Rattle.cyc_types.specs.typing.WellTyped.{signature_of}
 use Rattle.cyc_types.specs.Numbered.{Numbering, signatures_of, numbering_of}
 use Rattle.cyc_plain.specs.declared.instruction.Comparison.{Comparison}
@@ -129,6 +129,7 @@ module _ (program : PlainProgram) (r : Routine) (b : Numbering) (types : List Ty
   -- what is given has as many words as are needed for it, or one
   given_needs : (a : Expression) → Fits b types a → words_of_kind (kind_at a) ≤ max 1 (expression_need a)
   given_needs (Number n) numbered = omega arith
+  given_needs NullPointer numbered = omega arith
   given_needs (Copy l t) numbered = omega (arith, type_words t)
   given_needs (Call callees.Putchar cs t) numbered = omega arith
   given_needs (Call callees.Getchar cs t) numbered = omega arith
@@ -148,6 +149,7 @@ module _ (program : PlainProgram) (r : Routine) (b : Numbering) (types : List Ty
 
   value_room : (a : Expression) (t : ℕ) → Fits b types a → t + words_of_kind (kind_at a) ≤ r.slots → HasOperand (value_operand (starts_of types) a t) (words_of_kind (kind_at a))
   value_room (Number n) t numbered few = tt
+  value_room NullPointer t numbered few = tt
   value_room (Copy (Local w n) ty) t (within, room) few = omega (arith, locals n within, room)
   value_room (Assign (Local w n) (Convert from to a) ty) t ((within, room), numbered) few = omega (arith, locals n within, room)
   value_room a t numbered few = few
@@ -300,6 +302,7 @@ module _ (program : PlainProgram) (r : Routine) (b : Numbering) (types : List Ty
   mutual
     expression_in : (a : Expression) (p d t : ℕ) → Fits b types a → d + words_of_kind (kind_at a) ≤ r.slots → t + expression_need a ≤ r.slots → p + length (expression_code (starts_of types) a p d t) < length r.code → AreIn (expression_code (starts_of types) a p d t)
     expression_in (Number n) p d t numbered room few short = ((omega (arith, room), tt), tt)
+    expression_in NullPointer p d t numbered room few short = ((omega (arith, room), tt), tt)
     expression_in (Copy l ty) p d t numbered room few short = load_in l ty d numbered room
     expression_in (Call callees.Putchar cs ty) p d t (s, signature, many, passed, result, numbered) room few short =
         let o = printed_operand (starts_of types) cs (operands.Slot t) t in

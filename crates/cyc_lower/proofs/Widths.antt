@@ -10,7 +10,7 @@ use Rattle.cyc_types.specs.declared.typed.Callee.{Callee}
 use Rattle.cyc_types.specs.declared.typed.Callee.TheVariants as callees
 use Rattle.cyc_types.specs.Types.{Ty, words_of, words_of_mark}
 use Rattle.cyc_types.specs.Types as types
-use Rattle.cyc_types.specs.TypedTrees.{Expression, Copy, Call, Binary, Assign, Converted, Convert, NoOperations, Signature}
+use Rattle.cyc_types.specs.TypedTrees.{Expression, NullPointer, Copy, Call, Binary, Assign, Converted, Convert, NoOperations, Signature}
 use Rattle.cyc_meaning.specs.Values.{kind_of, kind_of_mark, number_of_kind, is_kind, words_of_kind}
 
 -- ---- kinds and their words
@@ -78,6 +78,7 @@ module _ (signatures : List Signature) where
   called_kind (callees.Function n) = result_kind (slice_get signatures n)
 
   abbrev pub given : Expression → Kind
+  given NullPointer = kinds.Nullable
   given (Copy l t) = kind_of t
   given (Call f cs t) = called_kind f
   given (Binary a NoOperations t) = given a

@@ -11,7 +11,7 @@ use Rattle.cyc_types.specs.declared.typed.Operator.{Operator}
 use Rattle.cyc_types.specs.declared.typed.Operator.TheVariants as operators
 use Rattle.cyc_types.specs.declared.typed.LogicalOperator.{LogicalOperator}
 use Rattle.cyc_types.specs.declared.typed.LogicalOperator.TheVariants as logical
-use Rattle.cyc_types.specs.TypedTrees.{Lvalue, Local, Global, Expression, Number, Copy, Call, Unary, Binary, Assign, Converted, Convert, Arguments, NoArguments, MoreArguments, Operations, NoOperations, ThenCompute, ThenTest, Statement, Block, Empty, Evaluate, If, While, Return, Break, Continue, Items, NoItems, MoreItems, Execute, Declare, Constant, Word, Null, GlobalVariable, Function, Program}
+use Rattle.cyc_types.specs.TypedTrees.{Lvalue, Local, Global, Expression, Number, NullPointer, Copy, Call, Unary, Binary, Assign, Converted, Convert, Arguments, NoArguments, MoreArguments, Operations, NoOperations, ThenCompute, ThenTest, Statement, Block, Empty, Evaluate, If, While, Return, Break, Continue, Items, NoItems, MoreItems, Execute, Declare, Constant, Word, Null, GlobalVariable, Function, Program}
 use Rattle.cyc_plain.specs.declared.instruction.Comparison.{Comparison}
 use Rattle.cyc_plain.specs.declared.instruction.Operand.{Operand}
 use Rattle.cyc_plain.specs.declared.instruction.Operand.TheVariants as operands
@@ -96,6 +96,7 @@ test_words logical.OrElse operand p d t all = ((tt, omega arith), append operand
 module _ (starts : List ℕ) where
   known_word : (a : Expression) (slot : ℕ) → IsOfWords a → IsOfWord (operand_or (operand_of starts a) slot)
   known_word (Number n) slot word = word
+  known_word NullPointer slot words = omega arith
   known_word (Copy (Local w n) ty) slot words = tt
   known_word a slot words = tt
 
@@ -126,6 +127,7 @@ module _ (starts : List ℕ) where
   mutual
     expression_words : (a : Expression) (p d t : ℕ) → IsOfWords a → HaveWords (expression_code starts a p d t)
     expression_words (Number n) p d t word = (word, tt)
+    expression_words NullPointer p d t words = (omega arith, tt)
     expression_words (Copy l ty) p d t words = load_words (words_of ty) l d
     expression_words (Call callees.Putchar cs ty) p d t words =
         let byte = printed_word cs (operands.Slot t) t words tt in

@@ -17,7 +17,7 @@ use Rattle.cyc_types.specs.declared.typed.Operator.TheVariants as operators
 use Rattle.cyc_types.specs.declared.typed.LogicalOperator.{LogicalOperator}
 use Rattle.cyc_types.specs.declared.typed.LogicalOperator.TheVariants as logical
 use Rattle.cyc_types.specs.Types.{Ty, words_of}
-use Rattle.cyc_types.specs.TypedTrees.{Lvalue, Local, Global, Expression, Number, Copy, Call, Unary, Binary, Assign, Converted, Convert, Arguments, NoArguments, MoreArguments, Operations, NoOperations, ThenCompute, ThenTest, ThenPointer, ThenPointerPeek, Statement, Block, Empty, Evaluate, If, While, Return, Break, Continue, Items, NoItems, MoreItems, Execute, Declare, Constant, Word, Null, GlobalVariable, Function, Program}
+use Rattle.cyc_types.specs.TypedTrees.{Lvalue, Local, Global, Expression, Number, NullPointer, Copy, Call, Unary, Binary, Assign, Converted, Convert, Arguments, NoArguments, MoreArguments, Operations, NoOperations, ThenCompute, ThenTest, ThenPointer, ThenPointerPeek, Statement, Block, Empty, Evaluate, If, While, Return, Break, Continue, Items, NoItems, MoreItems, Execute, Declare, Constant, Word, Null, GlobalVariable, Function, Program}
 use Rattle.cyc_plain.specs.declared.instruction.UnaryOperator.{UnaryOperator as PlainUnary}
 use Rattle.cyc_plain.specs.declared.instruction.UnaryOperator.TheVariants as plain_unary
 use Rattle.cyc_plain.specs.declared.instruction.BinaryOperator.{BinaryOperator as PlainBinary}
@@ -261,9 +261,10 @@ while_code condition jump body p =
 module _ (starts : List ℕ) where
   -- ---- where values stand
 
-  -- what an expression is without code: a number, or a local
+  -- what an expression is without code: a number, null, or a local
   abbrev pub operand_of : Expression → Option Operand
   operand_of (Number n) = Some (operands.Word n)
+  operand_of NullPointer = Some (operands.Word 0)
   operand_of (Copy (Local p n) t) = Some (operands.Slot (slot_of starts n))
   operand_of a = None
 
@@ -316,6 +317,7 @@ module _ (starts : List ℕ) where
   abbrev mutual
     pub expression_code : Expression → (p d t : ℕ) → List Instruction
     expression_code (Number n) p d t = instructions.Move d (operands.Word n) ∷ []
+    expression_code NullPointer p d t = instructions.Move d (operands.Word 0) ∷ []
     expression_code (Copy l ty) p d t = load_code (words_of ty) l d
     expression_code (Call callees.Putchar cs ty) p d t =
         printed_code cs p t
