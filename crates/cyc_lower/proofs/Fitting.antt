@@ -10,15 +10,17 @@ use Rattle.cyc_types.specs.declared.typed.Kind.TheVariants as kinds
 use Rattle.cyc_types.specs.declared.typed.Callee.{Callee}
 use Rattle.cyc_types.specs.declared.typed.Callee.TheVariants as callees
 use Rattle.cyc_types.specs.declared.typed.UnaryOperator.TheVariants as unary
+use Rattle.cyc_types.specs.declared.typed.PointerOperator.{PointerOperator}
+use Rattle.cyc_types.specs.declared.typed.PointerOperator.TheVariants as pointers
 use Rattle.cyc_types.specs.Types.{Ty, words_of, substituted_ty, ValueType, Void, Value, result_type}
 use Rattle.cyc_types.specs.Types as type_forms
-use Rattle.cyc_types.specs.TypedTrees.{Lvalue, Local, Global, Expression, Number, NullPointer, Copy, Peek, Call, Unary, Binary, Assign, Converted, Convert, Arguments, NoArguments, MoreArguments, Operations, NoOperations, ThenCompute, ThenTest, Statement, Block, Empty, Evaluate, If, While, Return, Break, Continue, Items, NoItems, MoreItems, Execute, Declare, GlobalVariable, Signature, Function, Program}
+use Rattle.cyc_types.specs.TypedTrees.{Lvalue, Local, Global, Expression, Number, NullPointer, Copy, Peek, Call, Unary, Binary, Assign, Converted, Convert, Arguments, NoArguments, MoreArguments, Operations, NoOperations, ThenCompute, ThenTest, ThenPointer, Statement, Block, Empty, Evaluate, If, While, Return, Break, Continue, Items, NoItems, MoreItems, Execute, Declare, GlobalVariable, Signature, Function, Program}
 use Rattle.cyc_types.specs.typing.Scopes.{signature_of_ints}
 use Rattle.cyc_types.specs.typing.Tests as tests
 use Rattle.cyc_types.specs.typing.Expressions.{instantiated}
-use Rattle.cyc_types.specs.typing.WellTyped.{Context, IsVariable, IsPlace, IsCallee, Converts, IsPeek, IsLeft, WellTyped, IsConverted, ArePassed, IsChain, IsCondition, IsReturned, IsInitial, WellTypedStatement, WellTypedItems, behind, in_block, in_body, with_local, signature_of, body_context, AreWellTypedFunctions, AreWellTypedGlobals, IsWellTypedProgram}
+use Rattle.cyc_types.specs.typing.WellTyped.{Context, PointerOperation, thin_null, thin_there, fat_null, fat_there, IsVariable, IsPlace, IsCallee, Converts, IsPeek, IsLeft, WellTyped, IsConverted, ArePassed, IsChain, IsCondition, IsReturned, IsInitial, WellTypedStatement, WellTypedItems, behind, in_block, in_body, with_local, signature_of, body_context, AreWellTypedFunctions, AreWellTypedGlobals, IsWellTypedProgram}
 use Rattle.cyc_types.specs.Numbered.{Numbering, signatures_of, IsSignature, argument_count, numbering_of}
-use Rattle.cyc_lower.specs.Lowerable.{IsLowerable, IsLowerableConverted, AreLowerableArguments, AreLowerableOperations, IsLowerableReturn, IsLowerableInitial, IsLowerableStatement, AreLowerableItems, AreLowerableFunctions, IsLowerableProgram}
+use Rattle.cyc_lower.specs.Lowerable.{is_null_test, IsLowerable, IsLowerableConverted, AreLowerableArguments, AreLowerableOperations, IsLowerableReturn, IsLowerableInitial, IsLowerableStatement, AreLowerableItems, AreLowerableFunctions, IsLowerableProgram}
 use Rattle.cyc_meaning.specs.Values.{kind_of, words_of_kind}
 use Rattle.cyc_meaning.specs.FrameCount.{result_words, words_of_all}
 use Rattle.cyc_lower.specs.Lowering.{slot_types, passed_words, all_passed, results_of}
@@ -57,6 +59,7 @@ module _ (b : Numbering) (types : List Ty) where
     FitOperations NoOperations = Unit {0}
     FitOperations (ThenCompute o a os) = Fits a × FitOperations os
     FitOperations (ThenTest o a os) = Fits a × FitOperations os
+    FitOperations (ThenPointer o NullPointer os) = (is_null_test o ≡ true) × FitOperations os
     FitOperations os = ⊥
 
   abbrev pub FitsReturn : Option Ty → Option Converted → Type 0
@@ -174,12 +177,28 @@ module _ (b : Numbering) (types : List Ty) where
   left_well NoOperations a c v numbered all well = well
   left_well (ThenCompute o x os) a c v numbered all well = well
   left_well (ThenTest o x os) a c v numbered all well = looked a c v numbered well
+  left_well (ThenPointer o NullPointer os) a c v numbered all well = well
   left_well os a c v numbered all well = absurd all
+
+  -- a comparison with null gives an int
+  null_gives : (o : PointerOperator) (c : Context) (left right result : ValueType) → is_null_test o ≡ true → PointerOperation c o left right result → result ≡ Value type_forms.Int
+  null_gives pointers.ThinIsNull c left right result test (thin_null k t r is) = refl
+  null_gives pointers.ThinIsNotNull c left right result test (thin_there k t r is) = refl
+  null_gives pointers.FatIsNull c left right result test (fat_null k t r is) = refl
+  null_gives pointers.FatIsNotNull c left right result test (fat_there k t r is) = refl
+  null_gives pointers.AddFat c left right result test operation = absurd (let f : false ≡ true = test in cc)
+  null_gives pointers.SubtractFat c left right result test operation = absurd (let f : false ≡ true = test in cc)
+  null_gives pointers.EqualThin c left right result test operation = absurd (let f : false ≡ true = test in cc)
+  null_gives pointers.NotEqualThin c left right result test operation = absurd (let f : false ≡ true = test in cc)
+  null_gives pointers.NullIs c left right result test operation = absurd (let f : false ≡ true = test in cc)
+  null_gives pointers.NullIsNot c left right result test operation = absurd (let f : false ≡ true = test in cc)
 
   chain_int : (os : Operations) (c : Context) (u : Ty) → AreLowerableOperations b os → IsChain c (Value type_forms.Int) os u → Value type_forms.Int ≡ Value u
   chain_int NoOperations c u all is = is
   chain_int (ThenCompute o x os) c u (one, all) (left, right, rest) = chain_int os c u all rest
   chain_int (ThenTest o x os) c u (one, all) (left, right, rest) = chain_int os c u all rest
+  chain_int (ThenPointer o NullPointer os) c u (test, all) (v, w, right, operation, rest) =
+      chain_int os c u all (subst (λ (x : ValueType). IsChain c x os u) (null_gives o c (Value type_forms.Int) v w test operation) rest)
   chain_int os c u all is = absurd all
 
   int_given : (u : Ty) (v : ValueType) → Value type_forms.Int ≡ Value u → v ≡ Value u → IsGiven kinds.Int v
@@ -232,6 +251,9 @@ module _ (b : Numbering) (types : List Ty) where
         ((fits x c y suits one (looked x c y one right)).1, fit_operations os c (Value type_forms.Int) u suits all rest),
       ),
     )
+    fits (Binary a (ThenPointer o NullPointer os) u) c v suits (numbered, (test, all)) (w, well, (x, y, right, operation, rest), is) =
+        let int = subst (λ (z : ValueType). IsChain c z os u) (null_gives o c w x y test operation) rest in
+        (int_given u v (chain_int os c u all int) is, ((fits a c w suits numbered well).1, (test, fit_operations os c (Value type_forms.Int) u suits all int)))
     fits (Binary a os u) c v suits (numbered, all) well = absurd all
     fits (Assign (Local p n) d u) c v suits (few, numbered) (t, r, (m, place, home, there), converted, u_is, is) =
         let (kind, fitting) = fits_converted d c t suits numbered converted in
@@ -264,6 +286,8 @@ module _ (b : Numbering) (types : List Ty) where
     fit_operations NoOperations c left u suits all is = tt
     fit_operations (ThenCompute o x os) c left u suits (one, all) (is, right, rest) = ((fits x c (Value type_forms.Int) suits one right).1, fit_operations os c (Value type_forms.Int) u suits all rest)
     fit_operations (ThenTest o x os) c left u suits (one, all) (is, (y, right, tested), rest) = ((fits x c y suits one (looked x c y one right)).1, fit_operations os c (Value type_forms.Int) u suits all rest)
+    fit_operations (ThenPointer o NullPointer os) c left u suits (test, all) (v, w, right, operation, rest) =
+        (test, fit_operations os c (Value type_forms.Int) u suits all (subst (λ (x : ValueType). IsChain c x os u) (null_gives o c left v w test operation) rest))
     fit_operations os c left u suits all is = absurd all
 
   fits_condition : (a : Expression) (c : Context) → Suits c → IsLowerable b a → IsCondition c a → Fits b types a

@@ -1,10 +1,20 @@
 -- Which typed trees are lowered: those whose forms have code. Each number that such a tree has names something that is there, each call passes
 -- as many arguments as its function has parameters, and a break or a continue stands in a loop. A tree of the int language is one.
 use Rattle.std.specs.Prelude.{◌≡◌, ℕ, ◌+◌, ◌<◌, Bool, true, false, List, [], ◌∷◌, Option, Some, None, length, slice_get}
+use Rattle.cyc_types.specs.declared.typed.PointerOperator.{PointerOperator}
+use Rattle.cyc_types.specs.declared.typed.PointerOperator.TheVariants as pointers
 use Rattle.cyc_types.specs.Types.{Ty}
-use Rattle.cyc_types.specs.TypedTrees.{Expression, Number, NullPointer, Copy, Call, Unary, Binary, Assign, Converted, Convert, Arguments, NoArguments, MoreArguments, Operations, NoOperations, ThenCompute, ThenTest, Statement, Block, Empty, Evaluate, If, While, Return, Break, Continue, Items, NoItems, MoreItems, Execute, Declare, Signature, Function, Program}
+use Rattle.cyc_types.specs.TypedTrees.{Expression, Number, NullPointer, Copy, Call, Unary, Binary, Assign, Converted, Convert, Arguments, NoArguments, MoreArguments, Operations, NoOperations, ThenCompute, ThenTest, ThenPointer, Statement, Block, Empty, Evaluate, If, While, Return, Break, Continue, Items, NoItems, MoreItems, Execute, Declare, Signature, Function, Program}
 use Rattle.cyc_types.specs.typing.Scopes.{signature_of_ints}
 use Rattle.cyc_types.specs.Numbered.{Numbering, IsSignature, IsWithin, argument_count, numbering_of, signatures_of}
+
+-- a pointer is compared with `NULL`, which stands on the right
+abbrev pub is_null_test : PointerOperator → Bool
+is_null_test pointers.ThinIsNull = true
+is_null_test pointers.ThinIsNotNull = true
+is_null_test pointers.FatIsNull = true
+is_null_test pointers.FatIsNotNull = true
+is_null_test o = false
 
 abbrev mutual
   pub IsLowerable : Numbering → Expression → Type 0
@@ -28,6 +38,7 @@ abbrev mutual
   AreLowerableOperations b NoOperations = Unit {0}
   AreLowerableOperations b (ThenCompute o a os) = IsLowerable b a × AreLowerableOperations b os
   AreLowerableOperations b (ThenTest o a os) = IsLowerable b a × AreLowerableOperations b os
+  AreLowerableOperations b (ThenPointer o NullPointer os) = (is_null_test o ≡ true) × AreLowerableOperations b os
   AreLowerableOperations b os = ⊥
 
 -- a value is returned exactly by a function with a result
