@@ -2,12 +2,13 @@
 -- computation.
 use Rattle.std.proofs.Common.{◌≡◌, ℕ, List, [], ◌∷◌, None, pos, refl}
 use Rattle.cyc_words.specs.Ending.{Returned}
+use Rattle.cyc_syntax.specs.declared.tree.PointerKind.TheVariants as marks
 use Rattle.cyc_types.specs.declared.region.Region.TheVariants.{Heap}
 use Rattle.cyc_types.specs.declared.typed.Kind.TheVariants as kinds
 use Rattle.cyc_types.specs.declared.typed.Callee.TheVariants as callees
 use Rattle.cyc_types.specs.declared.typed.PointerOperator.TheVariants as pointers
-use Rattle.cyc_types.specs.Types.{Int, Handle, Key, Value}
-use Rattle.cyc_types.specs.TypedTrees.{Expression, Number, NullPointer, Counter, Call, MoreArguments, NoArguments, Load, AddressOf, FreeUnique, FreeKey, AsUnique, OnHeap, ByHandle, Placement, Swap, CellSide, Execute, Declare, DeclareRegion, DeclareAlias, OpenRegion, DeclareKey, Program}
+use Rattle.cyc_types.specs.Types.{Int, Pointer, Handle, Key, Value}
+use Rattle.cyc_types.specs.TypedTrees.{Expression, Number, NullPointer, Counter, Call, MoreArguments, NoArguments, Load, AddressOf, AddressOfCell, FreeUnique, FreeKey, AsUnique, OnHeap, ByHandle, Placement, Swap, CellSide, Execute, Declare, DeclareRegion, DeclareAlias, OpenRegion, DeclareKey, Program}
 use Rattle.cyc_types.specs.TypedTrees as typed
 use Rattle.cyc_meaning.specs.State.{HasEnded, IsDead, IsWrong}
 use Rattle.cyc_meaning.proofs.ExampleTrees.{here, local, execute, return, declare, block, while, function, procedure, call_void, program, program_with, end, long_end, star, at, fat, own, own_fat, convert, null_as, variable, move, peek, target, element, put, set, new, array, apply, define, side}
@@ -185,6 +186,16 @@ wrong_kind_of_variable = refl
 
 wrong_kind_followed : end (program (define 0 at (convert at at (new OnHeap at (Number 1))) ∷ return (Load (typed.Target kinds.Fat (variable 0 at) Int)) ∷ [])) ≡ IsWrong
 wrong_kind_followed = refl
+
+-- `&*p`, and a conversion of a fat pointer, where the tree says that there is a pointer and there is an int
+wrong_kind_of_target : end (program (define 0 at (convert at at (new OnHeap at (Number 1))) ∷ execute (AddressOfCell (typed.Target kinds.NonNull (variable 0 at) star) at) ∷ [])) ≡ IsWrong
+wrong_kind_of_target = refl
+
+wrong_kind_of_element : end (program (
+    define 0 fat (convert at fat (new OnHeap at (Number 1)))
+    ∷ define 1 at (convert fat at (variable 0 (Pointer marks.Fat star Heap)))
+    ∷ [])) ≡ IsWrong
+wrong_kind_of_element = refl
 
 -- int ?q = .. as the left operand of a comparison of thin pointers
 wrong_kind_compared : end (program (define 0 fat (null_as fat) ∷ return (apply (variable 0 fat) pointers.EqualThin NullPointer Int) ∷ [])) ≡ IsWrong

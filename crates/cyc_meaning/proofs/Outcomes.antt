@@ -1,6 +1,6 @@
 -- All that a step may come to, told apart once: each law of the step follows from this.
 use Rattle.std.proofs.Common.{◌≡◌, ℕ, suc, Bool, true, false, List, [], ◌∷◌, length, reverse, Option, Some, None, refl, subst}
-use Rattle.std.specs.Prelude.{◌==◌, ◌*◌, nat_le, if◌then◌else◌, slice_get}
+use Rattle.std.specs.Prelude.{◌==◌, ◌*◌, ◌&&◌, nat_le, if◌then◌else◌, slice_get}
 use Rattle.cyc_words.specs.Ending.{Ending, Returned, Uncaught, Full}
 use Rattle.cyc_types.specs.declared.typed.Kind.{Kind}
 use Rattle.cyc_types.specs.declared.typed.Kind.TheVariants as kinds
@@ -18,7 +18,7 @@ use Rattle.cyc_meaning.specs.Pointers.{element_count, pointer_result, result_kin
 use Rattle.cyc_meaning.specs.Conversion.{conversion}
 use Rattle.cyc_meaning.specs.State.{Sort, Stack, Lexical, Dynamic, Region, Owner, InRegion, Unique, Object, World, Access, Found, Closed, Missing, region_at, Located, cell_at, Environment, no_locals, Awaiting, ConvertTo, Operate, Chain, Apply, ApplyPointer, Decide, Store, StoreCell, Pass, Follow, FollowMember, Index, Advance, CountElements, FreeObject, CloseByKey, PlaceBy, MakePlain, MakeFields, MakeArray, FillElement, Initialise, Choose, Test, Return, ThrowWith, OpenBy, AliasOf, LoadFrom, TakeAddress, StoreTo, SwapLeft, SwapRight, Entry, Needs, NeedsPlace, Discard, Rest, Join, Loop, CloseRegion, CloseLexical, EndLoan, Handler, Caller, Main, Write, Focus, Evaluating, Locating, Given, GivenPlace, Executing, Proceeding, Calling, Entering, Binding, Naming, Writing, Beginning, Repeating, Swapping, Breaking, Continuing, Returning, Throwing, Catching, State, Running, Ended, Dead, Wrong, calls_in, closed}
 use Rattle.cyc_meaning.specs.Objects.{compared, created_in}
-use Rattle.cyc_meaning.specs.Parts.{gives, computed, object_of, read, loaded, loaded_from, stored, stored_at, step_writing, declared, inside, region_end, closing}
+use Rattle.cyc_meaning.specs.Parts.{gives, computed, leads_to, object_of, read, loaded, loaded_from, stored, stored_at, step_writing, declared, inside, region_end, closing}
 use Rattle.cyc_meaning.specs.Parts as parts
 use Rattle.cyc_meaning.specs.Places.{arrives, follows, follows_member, member_of, indexes, locates_member, step_locating, loaded_at, step_given_place}
 use Rattle.cyc_meaning.specs.Swaps.{finds_right_object, finds_right, finds_left_object, swaps, swap_content, swap_loaded, swap_loaded_at, step_swapping}
@@ -135,14 +135,14 @@ arriving (At object offset) stack e w = Goes refl Keeps (λ h. h)
 arriving (Stops tag) stack e w = Goes refl Keeps (λ h. h)
 arriving Nowhere stack e w = Fails
 
-following : {access : Bool} (pointer : Kind) (value : Operand) (stack : List Entry) (e : Environment) (w : World) → Silent access stack e w (follows pointer value stack e w)
-following pointer value stack e w = either (is_kind value.kind pointer) _ _ (arriving (followed value.value) stack e w) Fails
+following : {access : Bool} (pointer : Kind) (target : Option Kind) (value : Operand) (stack : List Entry) (e : Environment) (w : World) → Silent access stack e w (follows pointer target value stack e w)
+following pointer target value stack e w = either (is_kind value.kind pointer && leads_to w target (followed value.value)) _ _ (arriving (followed value.value) stack e w) Fails
 
 following_member : {access : Bool} (pointer : Kind) (fields : List Kind) (field : ℕ) (value : Operand) (stack : List Entry) (e : Environment) (w : World) → Silent access stack e w (follows_member pointer fields field value stack e w)
 following_member pointer fields field value stack e w = either (is_kind value.kind pointer) _ _ (arriving (member_of w (followed value.value) fields field) stack e w) Fails
 
-indexing : {access : Bool} (peek : Option ℕ) (index : Expression) (base : Operand) (stack : List Entry) (e : Environment) (w : World) → Silent access stack e w (indexes peek index base stack e w)
-indexing peek index base stack e w = either (is_kind base.kind kinds.Fat) _ _ (Goes refl Keeps (λ h. h)) Fails
+indexing : {access : Bool} (peek : Option ℕ) (target : Option Kind) (index : Expression) (base : Operand) (stack : List Entry) (e : Environment) (w : World) → Silent access stack e w (indexes peek target index base stack e w)
+indexing peek target index base stack e w = either (is_kind base.kind kinds.Fat) _ _ (Goes refl Keeps (λ h. h)) Fails
 
 locating_member : {access : Bool} (o : Option StructType) (pointer : Kind) (a : Expression) (field : ℕ) (stack : List Entry) (e : Environment) (w : World) → Silent access stack e w (locates_member o pointer a field stack e w)
 locating_member (Some s) pointer a field stack e w = Goes refl Keeps (λ h. h)
@@ -403,7 +403,7 @@ placing initial (Handle region) stack e w = placing_at initial region stack e w
 placing initial value stack e w = Fails
 
 supplying : (a : Awaiting) (value : Operand) (stack : List Entry) (e : Environment) (w : World) → Silent (is_access_of a) stack e w (supplied a value stack e w)
-supplying (ConvertTo from to) value stack e w = either (is_kind value.kind from) _ _ (computes to (conversion to value.value) stack e w) Fails
+supplying (ConvertTo from to target) value stack e w = either (is_kind value.kind from && leads_to w target (followed value.value)) _ _ (computes to (conversion to value.value) stack e w) Fails
 supplying (Operate operator) value stack e w = computes kinds.Int (unary_result operator value.value) stack e w
 supplying (Chain rest) value stack e w = chaining rest value stack e w
 supplying (Apply operator left) value stack e w = computes kinds.Int (binary_result operator left.value value.value) stack e w
@@ -412,10 +412,10 @@ supplying Decide value stack e w = computes kinds.Int (truth_of (is_zero value.v
 supplying (Store place) value stack e w = stores_at place value (Given value) stack e w
 supplying (StoreCell peek place) value stack e w = stores_at place value (Given value) stack e w
 supplying (Pass callee before arguments) value stack e w = passing callee (value ∷ before) arguments stack e w
-supplying (Follow pointer) value stack e w = following pointer value stack e w
+supplying (Follow pointer target) value stack e w = following pointer target value stack e w
 supplying (FollowMember pointer fields field) value stack e w = following_member pointer fields field value stack e w
-supplying (Index peek index) value stack e w = indexing peek index value stack e w
-supplying (Advance peek base) value stack e w = computes kinds.Fat (pointer_result pointers.AddFat base.value value.value) (Needs (Follow kinds.Fat) ∷ stack) e w
+supplying (Index peek target index) value stack e w = indexing peek target index value stack e w
+supplying (Advance peek target base) value stack e w = computes kinds.Fat (pointer_result pointers.AddFat base.value value.value) (Needs (Follow kinds.Fat target) ∷ stack) e w
 supplying CountElements value stack e w = computes kinds.Int (element_count value.value) stack e w
 supplying FreeObject value stack e w = freeing value.value stack e w
 supplying CloseByKey value stack e w = closing_with value.value stack e w

@@ -9,7 +9,7 @@ use Rattle.cyc_meaning.specs.Values.{Value, Int, Thin, Fat, Handle, Operand, Cel
 use Rattle.cyc_meaning.specs.Operators.{array_size}
 use Rattle.cyc_meaning.specs.State.{Owner, InRegion, Unique, World, Access, Found, Closed, Missing, heap_number, cell_at, Environment, with_counter, ConvertTo, PlaceBy, MakePlain, MakeFields, MakeArray, FillElement, Entry, Needs, Write, Evaluating, Writing, Beginning, Repeating, Throwing, State, Running}
 use Rattle.cyc_meaning.specs.Objects.{created}
-use Rattle.cyc_meaning.specs.Parts.{dead, wrong, gives, stored}
+use Rattle.cyc_meaning.specs.Parts.{dead, wrong, gives, stored, target_by}
 
 -- ---- a value in each cell
 
@@ -39,7 +39,7 @@ makes_plain owner kind value stack e w = if is_kind value.kind kind then makes_o
 abbrev pub makes_fields : Owner → (before : List Operand) → Arguments → List Entry → Environment → World → State
 makes_fields owner before NoArguments stack e w = makes_of owner (reverse before) stack e w
 makes_fields owner before (MoreArguments (Convert from to a) fields) stack e w =
-    Running (Evaluating a) (Needs (ConvertTo from to) ∷ Needs (MakeFields owner before fields) ∷ stack) e w
+    Running (Evaluating a) (Needs (ConvertTo from to (target_by a)) ∷ Needs (MakeFields owner before fields) ∷ stack) e w
 
 -- ---- arrays
 

@@ -1,13 +1,16 @@
 -- Parts of which steps are made: what a step comes to, and reads, writes and makings with their checks. Shapes are checked as a program
 -- goes: a cell that is read or written has the kind that the tree says, and so has what is stored in it. Where no case applies the
 -- outcome is `Wrong`, and where something closed or freed is touched it is `Dead`.
-use Rattle.std.specs.Prelude.{ℕ, if◌then◌else◌, List, [], ◌∷◌, length, Option, Some, None}
+use Rattle.std.specs.Prelude.{ℕ, ◌==◌, Bool, true, false, if◌then◌else◌, List, [], ◌∷◌, length, Option, Some, None, slice_get}
 use Rattle.cyc_words.specs.Ending.{Ending}
 use Rattle.cyc_types.specs.declared.typed.Kind.{Kind}
-use Rattle.cyc_types.specs.TypedTrees.{Lvalue, Local, Global}
-use Rattle.cyc_meaning.specs.Values.{Value, Thin, Operand, is_kind}
+use Rattle.cyc_types.specs.Types.{Ty, ValueType}
+use Rattle.cyc_types.specs.Types as types
+use Rattle.cyc_types.specs.TypedTrees.{Lvalue, Local, Global, Expression, type_of}
+use Rattle.cyc_meaning.specs.Values.{Value, Thin, Operand, Cell, kind_of, is_kind}
 use Rattle.cyc_meaning.specs.Operators.{Result, Gives, Raises, Misfits}
-use Rattle.cyc_meaning.specs.State.{Region, World, Access, Found, Closed, Missing, Located, cell_at, closed, variable, made, written, Environment, with_local, Entry, CloseRegion, Write, Focus, Given, Proceeding, Writing, Throwing, State, Running, Ended, Dead, Wrong}
+use Rattle.cyc_meaning.specs.Pointers.{Reach, At}
+use Rattle.cyc_meaning.specs.State.{Region, Object, World, Access, Found, Closed, Missing, Located, cell_at, closed, variable, made, written, Environment, with_local, Entry, CloseRegion, Write, Focus, Given, Proceeding, Writing, Throwing, State, Running, Ended, Dead, Wrong}
 
 -- ---- outcomes
 
@@ -70,6 +73,36 @@ abbrev pub step_writing : List Write → Option Operand → List Entry → Envir
 step_writing [] (Some operand) stack e w = Running (Given operand) stack e w
 step_writing [] None stack e w = Running Proceeding stack e w
 step_writing (x ∷ writes) result stack e w = stored_at x.place x.operand (Writing writes result) stack e w
+
+-- ---- what a pointer leads to
+
+-- A pointer to this type leads to a cell of a kind, or to a struct, which it leads to the first cell of.
+abbrev pub target_of : Ty → Option Kind
+target_of (types.Struct number regions) = None
+target_of t = Some (kind_of t)
+
+-- what a value of this type leads to, where it is a pointer
+abbrev pub target_of_value : ValueType → Option Kind
+target_of_value (types.Value (types.Pointer mark t region)) = target_of t
+target_of_value v = None
+
+abbrev pub target_by : Expression → Option Kind
+target_by a = target_of_value (type_of a)
+
+abbrev pub is_target : (target : Option Kind) → (offset : ℕ) → Option Cell → Bool
+is_target (Some kind) offset (Some c) = is_kind c.kind kind
+is_target (Some kind) offset None = false
+is_target None offset found = offset == 0
+
+abbrev pub cell_of : Option Object → (offset : ℕ) → Option Cell
+cell_of None offset = None
+cell_of (Some x) offset = slice_get x.cells offset
+
+-- Whether what is reached is what the tree says, also where its object is no more: an index is counted in elements, and so nothing
+-- but the tree tells how far apart they are.
+abbrev pub leads_to : World → (target : Option Kind) → Reach → Bool
+leads_to w target (At object offset) = is_target target offset (cell_of (slice_get w.objects object) offset)
+leads_to w target reach = true
 
 -- ---- locals
 

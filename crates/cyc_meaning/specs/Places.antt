@@ -8,7 +8,7 @@ use Rattle.cyc_types.specs.TypedTrees.{Expression, Dereference, Target, Member, 
 use Rattle.cyc_meaning.specs.Values.{Value, Thin, Operand, kind_of, kinds_of, is_kind, are_kinds}
 use Rattle.cyc_meaning.specs.Pointers.{pointer_result, Reach, At, Stops, Nowhere, followed}
 use Rattle.cyc_meaning.specs.State.{Object, World, cell_at, Environment, ConvertTo, StoreCell, Follow, FollowMember, Index, Advance, AwaitingPlace, LoadFrom, TakeAddress, StoreTo, SwapLeft, SwapRight, Entry, Needs, NeedsPlace, Evaluating, GivenPlace, Throwing, State, Running}
-use Rattle.cyc_meaning.specs.Parts.{wrong, gives, computed, loaded}
+use Rattle.cyc_meaning.specs.Parts.{wrong, gives, computed, loaded, target_of, target_by, leads_to}
 use Rattle.cyc_meaning.specs.Swaps.{finds_right, both_places}
 
 -- ---- a place is found
@@ -19,8 +19,9 @@ arrives (Stops tag) stack e w = Running (Throwing tag 0) stack e w
 arrives Nowhere stack e w = wrong w
 
 -- `*e`: an access through null raises an exception, and so does one through a fat pointer out of its bounds
-abbrev pub follows : (pointer : Kind) → Operand → List Entry → Environment → World → State
-follows pointer operand stack e w = if is_kind operand.kind pointer then arrives (followed operand.value) stack e w else wrong w
+abbrev pub follows : (pointer : Kind) → (target : Option Kind) → Operand → List Entry → Environment → World → State
+follows pointer target operand stack e w =
+    if is_kind operand.kind pointer && leads_to w target (followed operand.value) then arrives (followed operand.value) stack e w else wrong w
 
 -- `e->f`: the field of this number of an object with the kinds of the struct's fields
 abbrev pub field_of : Option Object → (object offset : ℕ) → (fields : List Kind) → (field : ℕ) → Reach
@@ -36,13 +37,13 @@ follows_member pointer fields field operand stack e w =
     if is_kind operand.kind pointer then arrives (member_of w (followed operand.value) fields field) stack e w else wrong w
 
 -- `e[i]`: the access to the sum of both, so first the operands are evaluated, then the index moves, then the access is checked
-abbrev pub indexes : (peek : Option ℕ) → (index : Expression) → Operand → List Entry → Environment → World → State
-indexes peek index base stack e w =
-    if is_kind base.kind kinds.Fat then Running (Evaluating index) (Needs (Advance peek base) ∷ stack) e w else wrong w
+abbrev pub indexes : (peek : Option ℕ) → (target : Option Kind) → (index : Expression) → Operand → List Entry → Environment → World → State
+indexes peek target index base stack e w =
+    if is_kind base.kind kinds.Fat then Running (Evaluating index) (Needs (Advance peek target base) ∷ stack) e w else wrong w
 
-abbrev pub advances : (base index : Operand) → List Entry → Environment → World → State
-advances base index stack e w =
-    computed kinds.Fat (pointer_result operators.AddFat base.value index.value) (Needs (Follow kinds.Fat) ∷ stack) e w
+abbrev pub advances : (target : Option Kind) → (base index : Operand) → List Entry → Environment → World → State
+advances target base index stack e w =
+    computed kinds.Fat (pointer_result operators.AddFat base.value index.value) (Needs (Follow kinds.Fat target) ∷ stack) e w
 
 abbrev pub locates_member : Option StructType → (pointer : Kind) → Expression → (field : ℕ) → List Entry → Environment → World → State
 locates_member (Some s) pointer a field stack e w =
@@ -50,9 +51,9 @@ locates_member (Some s) pointer a field stack e w =
 locates_member None pointer a field stack e w = wrong w
 
 abbrev pub step_locating : Program → Dereference → List Entry → Environment → World → State
-step_locating program (Target pointer a t) stack e w = Running (Evaluating a) (Needs (Follow pointer) ∷ stack) e w
+step_locating program (Target pointer a t) stack e w = Running (Evaluating a) (Needs (Follow pointer (target_of t)) ∷ stack) e w
 step_locating program (Member pointer a s field t) stack e w = locates_member (slice_get program.structs s) pointer a field stack e w
-step_locating program (Element a i t) stack e w = Running (Evaluating a) (Needs (Index (peeked (Element a i t)) i) ∷ stack) e w
+step_locating program (Element a i t) stack e w = Running (Evaluating a) (Needs (Index (peeked (Element a i t)) (target_of t) i) ∷ stack) e w
 
 -- ---- what waits for a place gets it
 
@@ -64,7 +65,7 @@ abbrev pub placed : AwaitingPlace → (place : Value) → List Entry → Environ
 placed (LoadFrom kind) place stack e w = loaded_at kind place stack e w
 placed TakeAddress place stack e w = gives kinds.NonNull place stack e w
 placed (StoreTo peek (Convert from to a)) place stack e w =
-    Running (Evaluating a) (Needs (ConvertTo from to) ∷ Needs (StoreCell peek place) ∷ stack) e w
+    Running (Evaluating a) (Needs (ConvertTo from to (target_by a)) ∷ Needs (StoreCell peek place) ∷ stack) e w
 placed (SwapLeft kind peek right) place stack e w = finds_right kind peek place right stack e w
 placed (SwapRight kind peek left) place stack e w = both_places kind left place stack e w
 

@@ -160,8 +160,8 @@ with_counter e level index = record e {
 -- What waits for a value. Operands that were computed before are inside. Where `peek` is a local, a place or an operand was reached
 -- by a peek of it, and it must stay as it is while what is awaited is evaluated.
 pub data Awaiting : Type 0 where
-  -- the value, of the first kind, is converted to the second
-  ConvertTo : (from to : Kind) → Awaiting
+  -- the value, of the first kind, is converted to the second; where it is a pointer, with what it leads to
+  ConvertTo : (from to : Kind) → (target : Option Kind) → Awaiting
   Operate : UnaryOperator → Awaiting
   -- what follows in a chain of operators; the value is that of all before
   Chain : Operations → Awaiting
@@ -175,13 +175,13 @@ pub data Awaiting : Type 0 where
   StoreCell : (peek : Option ℕ) → (place : Value) → Awaiting
   -- an argument, with those before it, newest first, and the arguments after it
   Pass : Callee → (before : List Operand) → Arguments → Awaiting
-  -- the pointer of `*e`, of this kind
-  Follow : (pointer : Kind) → Awaiting
+  -- the pointer of `*e`, of this kind, with what it leads to: a cell of a kind, or a struct
+  Follow : (pointer : Kind) → (target : Option Kind) → Awaiting
   -- that of `e->f`, with the kinds of the struct's fields and the number of this one
   FollowMember : (pointer : Kind) → (fields : List Kind) → (field : ℕ) → Awaiting
   -- the fat pointer of `e[i]`, and then the index
-  Index : (peek : Option ℕ) → (index : Expression) → Awaiting
-  Advance : (peek : Option ℕ) → (base : Operand) → Awaiting
+  Index : (peek : Option ℕ) → (target : Option Kind) → (index : Expression) → Awaiting
+  Advance : (peek : Option ℕ) → (target : Option Kind) → (base : Operand) → Awaiting
   -- what `numelts`, `ufree` and `free_ukey` work on
   CountElements : Awaiting
   FreeObject : Awaiting

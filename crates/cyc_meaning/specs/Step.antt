@@ -2,7 +2,7 @@
 -- operation, a check, a conversion, a read or a write of one value, the making of one object, the opening or closing of one
 -- region, one call or return, one byte read or printed. Evaluation is left to right (this project's own choice,
 -- where C leaves it open), and a value is converted as soon as it is evaluated.
-use Rattle.std.specs.Prelude.{ℕ, suc, ◌-◌, ◌%◌, ◌^◌, ◌==◌, Bool, true, false, if◌then◌else◌, List, [], ◌∷◌, ◌++◌, map, reverse, drop, length, Option, Some, None, slice_get, unwrap_or}
+use Rattle.std.specs.Prelude.{ℕ, suc, ◌-◌, ◌%◌, ◌^◌, ◌==◌, ◌&&◌, Bool, true, false, if◌then◌else◌, List, [], ◌∷◌, ◌++◌, map, reverse, drop, length, Option, Some, None, slice_get, unwrap_or}
 use Rattle.cyc_words.specs.Word.{signed}
 use Rattle.cyc_words.specs.Ending.{Returned, Uncaught}
 use Rattle.cyc_types.specs.declared.typed.Kind.{Kind}
@@ -17,7 +17,7 @@ use Rattle.cyc_types.specs.TypedTrees.{Lvalue, Local, Global, Expression, Number
 use Rattle.cyc_types.specs.TypedTrees as typed
 use Rattle.cyc_meaning.specs.Values.{Value, Int, Null, Thin, Handle, Operand, kind_of, is_kind}
 use Rattle.cyc_meaning.specs.Operators.{is_zero, truth, binary_result, unary_result, truth_of, decides}
-use Rattle.cyc_meaning.specs.Pointers.{element_count, pointer_result, result_kind, takes_kind}
+use Rattle.cyc_meaning.specs.Pointers.{followed, element_count, pointer_result, result_kind, takes_kind}
 use Rattle.cyc_meaning.specs.Conversion.{conversion}
 use Rattle.cyc_meaning.specs.State.{World, Access, Found, Closed, Missing, heap_number, region_at, opened, Environment, no_locals, Awaiting, ConvertTo, Operate, Chain, Apply, ApplyPointer, Decide, Store, StoreCell, Pass, Follow, FollowMember, Index, Advance, CountElements, FreeObject, CloseByKey, PlaceBy, MakePlain, MakeFields, MakeArray, FillElement, Initialise, Choose, Test, Return, ThrowWith, OpenBy, AliasOf, LoadFrom, TakeAddress, StoreTo, Entry, Needs, NeedsPlace, Discard, Rest, Join, Loop, CloseRegion, CloseLexical, EndLoan, Handler, Caller, Main, Focus, Evaluating, Locating, Given, GivenPlace, Executing, Proceeding, Calling, Entering, Binding, Naming, Writing, Beginning, Repeating, Swapping, Breaking, Continuing, Returning, Throwing, Catching, State, Running, Ended, Dead, Wrong}
 use Rattle.cyc_meaning.specs.Objects.{compared}
@@ -26,7 +26,7 @@ use Rattle.cyc_meaning.specs.Swaps.{swaps, step_swapping}
 use Rattle.cyc_meaning.specs.Allocation.{makes_plain, makes_fields, step_beginning, step_repeating, makes_array, fills_element, allocates, makes_by}
 use Rattle.cyc_meaning.specs.Exceptions.{throws, throws_value, tries, step_catching}
 use Rattle.cyc_meaning.specs.Regions.{step_naming, opens_lexical, closing_lexical, opens_dynamic, opens_by_key, opens_with, closes_with, aliases, aliased, frees}
-pub use Rattle.cyc_meaning.specs.Parts.{dead, wrong, ends, gives, computed, object_of, read, loaded, loaded_from, stored, stored_at, step_writing, declared, inside, region_end, closing}
+pub use Rattle.cyc_meaning.specs.Parts.{dead, wrong, ends, gives, computed, target_of, target_by, leads_to, object_of, read, loaded, loaded_from, stored, stored_at, step_writing, declared, inside, region_end, closing}
 
 -- ---- calls
 
@@ -77,12 +77,12 @@ step_binding number types arguments body stack e w = wrong w
 abbrev pub passes : Callee → (before : List Operand) → Arguments → List Entry → Environment → World → State
 passes callee before NoArguments stack e w = Running (Calling callee before) stack e w
 passes callee before (MoreArguments (Convert from to a) arguments) stack e w =
-    Running (Evaluating a) (Needs (ConvertTo from to) ∷ Needs (Pass callee before arguments) ∷ stack) e w
+    Running (Evaluating a) (Needs (ConvertTo from to (target_by a)) ∷ Needs (Pass callee before arguments) ∷ stack) e w
 
 -- A place is found before the right side is evaluated.
 abbrev pub assigned : Option ℕ → Converted → List Entry → Environment → World → State
 assigned (Some object) (Convert from to a) stack e w =
-    Running (Evaluating a) (Needs (ConvertTo from to) ∷ Needs (Store (Thin object 0)) ∷ stack) e w
+    Running (Evaluating a) (Needs (ConvertTo from to (target_by a)) ∷ Needs (Store (Thin object 0)) ∷ stack) e w
 assigned None c stack e w = wrong w
 
 -- the address of a variable
@@ -170,9 +170,10 @@ looped (Some true) condition body stack e w = Running Proceeding stack e w
 looped (Some false) condition body stack e w = Running (Executing body) (Loop condition body ∷ stack) e w
 looped None condition body stack e w = wrong w
 
--- a value of the kind that the tree says is converted
-abbrev pub converts : (from to : Kind) → Operand → List Entry → Environment → World → State
-converts from to value stack e w = if is_kind value.kind from then computed to (conversion to value.value) stack e w else wrong w
+-- a value of the kind that the tree says is converted, where it leads to what the tree says
+abbrev pub converts : (from to : Kind) → (target : Option Kind) → Operand → List Entry → Environment → World → State
+converts from to target value stack e w =
+    if is_kind value.kind from && leads_to w target (followed value.value) then computed to (conversion to value.value) stack e w else wrong w
 
 -- A local gets its initial value. What is left of its block stands behind it.
 abbrev pub initialises : (number : ℕ) → Kind → Items → Operand → List Entry → Environment → World → State
@@ -183,7 +184,7 @@ initialises number kind items value stack e w =
 
 -- what waits for a value gets it
 abbrev pub supplied : Awaiting → Operand → List Entry → Environment → World → State
-supplied (ConvertTo from to) value stack e w = converts from to value stack e w
+supplied (ConvertTo from to target) value stack e w = converts from to target value stack e w
 supplied (Operate operator) value stack e w = computed kinds.Int (unary_result operator value.value) stack e w
 supplied (Chain rest) value stack e w = chained rest value stack e w
 supplied (Apply operator left) value stack e w = computed kinds.Int (binary_result operator left.value value.value) stack e w
@@ -192,10 +193,10 @@ supplied Decide value stack e w = computed kinds.Int (truth_of (is_zero value.va
 supplied (Store place) value stack e w = stored_at place value (Given value) stack e w
 supplied (StoreCell peek place) value stack e w = stored_at place value (Given value) stack e w
 supplied (Pass callee before arguments) value stack e w = passes callee (value ∷ before) arguments stack e w
-supplied (Follow pointer) value stack e w = follows pointer value stack e w
+supplied (Follow pointer target) value stack e w = follows pointer target value stack e w
 supplied (FollowMember pointer fields field) value stack e w = follows_member pointer fields field value stack e w
-supplied (Index peek index) value stack e w = indexes peek index value stack e w
-supplied (Advance peek base) value stack e w = advances base value stack e w
+supplied (Index peek target index) value stack e w = indexes peek target index value stack e w
+supplied (Advance peek target base) value stack e w = advances target base value stack e w
 supplied CountElements value stack e w = computed kinds.Int (element_count value.value) stack e w
 supplied FreeObject value stack e w = frees value.value stack e w
 supplied CloseByKey value stack e w = closes_with value.value stack e w
@@ -227,7 +228,7 @@ tests condition body stack e w = Running (Evaluating condition) (Needs (Test con
 abbrev pub returns : Option Converted → List Entry → Environment → World → State
 returns None stack e w = Running (Returning None) stack e w
 returns (Some (Convert from to a)) stack e w =
-    Running (Evaluating a) (Needs (ConvertTo from to) ∷ Needs Return ∷ stack) e w
+    Running (Evaluating a) (Needs (ConvertTo from to (target_by a)) ∷ Needs Return ∷ stack) e w
 
 abbrev pub step_executing : Statement → List Entry → Environment → World → State
 step_executing (Block region items) stack e w =
@@ -249,7 +250,7 @@ abbrev pub declares : (number : ℕ) → Ty → Option Converted → Items → L
 declares number t None items stack e w =
     declared (region_at w e.home) Proceeding number (kind_of t) None (Rest items ∷ stack) e w
 declares number t (Some (Convert from to a)) items stack e w =
-    Running (Evaluating a) (Needs (ConvertTo from to) ∷ Needs (Initialise number (kind_of t) items) ∷ stack) e w
+    Running (Evaluating a) (Needs (ConvertTo from to (target_by a)) ∷ Needs (Initialise number (kind_of t) items) ∷ stack) e w
 
 abbrev pub continues_with : Items → List Entry → Environment → World → State
 continues_with NoItems stack e w = Running Proceeding stack e w

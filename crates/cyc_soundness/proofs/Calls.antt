@@ -2,7 +2,6 @@
 use Rattle.std.proofs.Common.{◌≡◌, ℕ, suc, ◌+◌, ◌<◌, ◌≤◌, ◌%◌, Bool, true, false, List, [], ◌∷◌, ◌++◌, length, map, reverse, Option, Some, None, refl, sym, ap, subst, ◌∙◌, arith}
 use Rattle.std.specs.Prelude.{if◌then◌else◌, ◌==◌}
 use Rattle.std.proofs.lemmas.Bool.{eq-eqb}
-use mathlib.Core.List.{reverse_aux}
 use Rattle.cyc_types.specs.declared.typed.Kind.TheVariants as kinds
 use Rattle.cyc_types.specs.declared.typed.Callee.{Callee}
 use Rattle.cyc_types.specs.declared.typed.Callee.TheVariants as callees
@@ -19,7 +18,7 @@ use Rattle.cyc_types.specs.flow.Statements as statements
 use Rattle.cyc_types.specs.flow.Programs.{start_of}
 use Rattle.cyc_meaning.specs.Values.{Operand}
 use Rattle.cyc_meaning.specs.Values as values
-use Rattle.cyc_meaning.specs.State.{World, opened, Environment, no_locals, region_at, Entry, Rest, Caller, Given, Proceeding, Entering, Binding, Naming, Throwing, Catching, State, Running}
+use Rattle.cyc_meaning.specs.State.{Stack, new_region, World, opened, Environment, no_locals, region_at, Entry, Rest, Caller, Given, Proceeding, Entering, Binding, Naming, Throwing, Catching, Running}
 use Rattle.cyc_meaning.specs.Parts.{wrong, inside, region_end, declared}
 use Rattle.cyc_meaning.specs.Exceptions.{catches, step_catching}
 use Rattle.cyc_meaning.specs.Nesting.{ends_of, IsNested}
@@ -27,15 +26,16 @@ use Rattle.cyc_meaning.specs.Step.{called, values_of, prints, reads, step_callin
 use Rattle.cyc_soundness.specs.Lives.{RunTy, RunValue, Value, read}
 use Rattle.cyc_soundness.specs.Lives as lives
 use Rattle.cyc_soundness.specs.Worlds.{Typing, HasType, AreOperands, IsTyped, Grows}
-use Rattle.cyc_soundness.specs.Frames.{Bound, IsScope, AreBelow, IsBound, AreVariables, LiveIn, Within, itself, older, AreSet, Holds, Implies, Exits, loop_of, around, AreBreaks, IsContext, AreGlobals}
+use Rattle.cyc_soundness.specs.Frames.{InScope, Variable, Level, IsScope, AreBelow, IsBound, AreVariables, LiveIn, Within, itself, older, AreSet, Holds, Implies, Exits, loop_of, around, AreBreaks, IsContext, KnowsProgram}
 use Rattle.cyc_soundness.specs.Classes.{InItems, InClauses}
 use Rattle.cyc_soundness.specs.Stacks.{Continues, Catches, IsAccepted, Val, Go, turned, IsCalled, IsBlocked, AreFull, IsBody, IsStack, IsWell}
 use Rattle.cyc_soundness.proofs.TypeLemmas.{is_kind_same, kind_meant}
 use Rattle.cyc_soundness.proofs.FlowLemmas.{implies_self, implies_after, meet_second}
 use Rattle.cyc_soundness.proofs.RuleLemmas.{breaks_clauses, clauses_implied, no_locks}
-use Rattle.cyc_soundness.proofs.WorldLemmas.{operands_grown}
+use Rattle.cyc_soundness.proofs.WorldLemmas.{type_grown, operands_grown, opened_typed}
 use Rattle.cyc_soundness.proofs.StackLemmas.{AreAccepted, stack_grown, below_more, live_more}
-use Rattle.cyc_soundness.proofs.Evaluation.{running}
+use Rattle.cyc_soundness.proofs.Cells.{running}
+use Rattle.cyc_soundness.proofs.Objects.{operands_reversed}
 use Rattle.cyc_soundness.proofs.Supply.{declares}
 use Rattle.cyc_soundness.proofs.Execution.{context_inside, breaks_before}
 
@@ -48,15 +48,6 @@ turned_length (a ∷ as') bs =
     let r : length (turned as' (a ∷ bs)) ≡ suc (length as') + length bs = omega (arith, e) in
     r
 
-operands_turned : (g : Typing) (ts us : List RunTy) (vs ws : List Operand) → AreOperands g ts vs → AreOperands g us ws → AreOperands g (turned ts us) (reverse_aux vs ws)
-operands_turned g [] us [] ws are more = more
-operands_turned g [] us (v ∷ vs) ws are more = absurd are
-operands_turned g (t ∷ ts) us [] ws are more = absurd are
-operands_turned g (t ∷ ts) us (v ∷ vs) ws (is, are) more = operands_turned g ts (t ∷ us) vs (v ∷ ws) are (is, more)
-
-operands_reversed : (g : Typing) (ts : List RunTy) (vs : List Operand) → AreOperands g ts vs → AreOperands g (turned ts []) (reverse vs)
-operands_reversed g ts vs are = operands_turned g ts [] vs [] are tt
-
 operands_count : (g : Typing) (ts : List Ty) (vs : List Operand) → AreOperands g (map read ts) vs → length vs ≡ length ts
 operands_count g [] [] are = refl
 operands_count g [] (v ∷ vs) are = absurd are
@@ -67,16 +58,18 @@ pub blocked_of : (o : Option Ty) (f : flow.State) → ((t : Ty) → o ≡ Some t
 blocked_of None f ends = tt
 blocked_of (Some t) f ends = ends t refl
 
-all_set : (g : Typing) (f : flow.State) (bs : List Bound) → AreFull g bs → AreSet g f bs
+all_set : (g : Typing) (f : flow.State) (bs : List InScope) → AreFull g bs → AreSet g f bs
 all_set g f [] are = tt
-all_set g f (b ∷ bs) (is, are) = (λ s. is, all_set g f bs are)
+all_set g f (Variable b ∷ bs) (is, are) = (λ s. is, all_set g f bs are)
+all_set g f (Level l ∷ bs) (is, are) = (tt, all_set g f bs are)
 
-full_grown : (g h : Typing) → Grows g h → (bs : List Bound) → AreFull g bs → AreFull h bs
+full_grown : (g h : Typing) → Grows g h → (bs : List InScope) → AreFull g bs → AreFull h bs
 full_grown g h grows [] are = tt
-full_grown g h grows (b ∷ bs) (is, are) = (grows.full b.object is, full_grown g h grows bs are)
+full_grown g h grows (Variable b ∷ bs) (is, are) = (grows.filled b.object 1 is, full_grown g h grows bs are)
+full_grown g h grows (Level l ∷ bs) (is, are) = (tt, full_grown g h grows bs are)
 
 module _ (p : Program) (accepted : AreAccepted p) where
-  module _ (g : Typing) (x : Exits) (bs : List Bound) (e : Environment) (w : World) (typed : IsTyped g w.objects) (globals : AreGlobals g p) (bound : IsBound e.locals bs) (variables : AreVariables g bs) where
+  module _ (g : Typing) (x : Exits) (bs : List InScope) (e : Environment) (w : World) (typed : IsTyped g w.regions w.objects) (globals : KnowsProgram g p) (bound : IsBound e.locals e.counters bs) (variables : AreVariables g bs) where
     -- ---- calls
 
     printed_on : (ts : List RunTy) (vs : List Operand) (k : List Entry) (f : flow.State) → LiveIn (ends_of k) bs → Holds g f bs → turned ts [] ≡ lives.Int ∷ [] → AreOperands g ts vs
@@ -126,10 +119,10 @@ module _ (p : Program) (accepted : AreAccepted p) where
         → IsWell p (step_entering h vs k e w)
     enter h vs k end ok body none are stack =
         let count : 0 + length h.parameters ≡ length h.parameters = omega arith in
-        running p g x [] (inside e w) (opened w) typed globals tt tt (Binding 0 h.parameters vs h.body) (region_end e w ∷ k) tt
-        (h, end, [], [], itself [], ok, body, refl, refl, count, are, tt, tt, tt, (end, implies_self end, tt, subst (λ cs. IsStack p g x cs (Go end) k) none stack))
+        running p g x [] (inside e w) (opened w) (opened_typed g w.regions (new_region Stack ∷ []) w.objects typed) globals tt tt (Binding 0 h.parameters vs h.body) (region_end e w ∷ k) tt
+        (h, end, [], [], itself [], ok, body, refl, refl, count, are, refl, tt, tt, (end, implies_self end, tt, subst (λ cs. IsStack p g x cs (Go end) k) none stack))
 
-    begin : (h : Function) (number : ℕ) (js : Items) (k : List Entry) (end : flow.State) (vs : List LocalInScope) (cs : List Bound) → LiveIn (ends_of k) bs → Within cs bs → IsAccepted p h end → IsBody x h → js ≡ h.body
+    begin : (h : Function) (number : ℕ) (js : Items) (k : List Entry) (end : flow.State) (vs : List LocalInScope) (cs : List InScope) → LiveIn (ends_of k) bs → Within cs bs → IsAccepted p h end → IsBody x h → js ≡ h.body
         → vs ≡ parameters_in_scope h.parameters 0 [] → number + 0 ≡ length h.parameters → IsScope vs bs → AreBelow number bs → AreFull g bs → IsStack p g x cs (Go end) k
         → IsWell p (Running Proceeding (Rest js ∷ k) e w)
     begin h number js k end vs cs live within ok (loop, result) body scope_is count scope below full stack =
@@ -140,16 +133,18 @@ module _ (p : Program) (accepted : AreAccepted p) where
         let stands : IsContext p x bs (body_context p h) = record {
           globals = refl;
           functions = refl;
+          structs = refl;
           result = sym result;
           loop = λ no. (let z : false ≡ true = no in absurd (cc));
           scope = subst (λ z. IsScope z bs) scope_is scope;
           below = below_more number (length h.parameters) bs last below;
+          counters = λ l less. absurd (omega (arith, less));
         } in
         subst (λ z. IsWell p (Running Proceeding (Rest z ∷ k) e w)) (sym body)
         (running p g x bs e w typed globals bound variables Proceeding (Rest h.body ∷ k) live
         (start_of h, (refl, all_set g (start_of h) bs full), (cs, body_context p h, end, within, stands, rest, stack)))
 
-    pub bind : (number : ℕ) (ts : List Ty) (arguments : List Operand) (js : Items) (k : List Entry) (h : Function) (end : flow.State) (vs : List LocalInScope) (cs : List Bound) → IsNested k e w → LiveIn (ends_of k) bs
+    pub bind : (number : ℕ) (ts : List Ty) (arguments : List Operand) (js : Items) (k : List Entry) (h : Function) (end : flow.State) (vs : List LocalInScope) (cs : List InScope) → IsNested k e w → LiveIn (ends_of k) bs
         → Within cs bs → IsAccepted p h end → IsBody x h → js ≡ h.body → parameters_in_scope ts number vs ≡ parameters_in_scope h.parameters 0 [] → number + length ts ≡ length h.parameters
         → AreOperands g (map read ts) arguments → IsScope vs bs → AreBelow number bs → AreFull g bs → IsStack p g x cs (Go end) k → IsWell p (step_binding number ts arguments js k e w)
     bind number [] [] js k h end vs cs nests live within ok body body_is scope_is count are scope below full stack = begin h number js k end vs cs live within ok body body_is scope_is count scope below full stack
@@ -159,7 +154,8 @@ module _ (p : Program) (accepted : AreAccepted p) where
         let more : suc number + length ts ≡ length h.parameters = omega (arith, count) in
         subst (λ (b : Bool). IsWell p (if b then declared (region_at w e.home) (Binding (suc number) ts arguments js) number (values.kind_of t) (Some v.value) k e w else wrong w))
         (sym (is_kind_same v.kind (values.kind_of t) (is.0 ∙ kind_meant t)))
-        (declares p g x bs e w typed globals bound variables number (values.kind_of t) t (Some v.value) true (Binding (suc number) ts arguments js) k nests live below (sym (kind_meant t)) is.1
+        (declares p g x bs e w typed globals bound variables number (values.kind_of t) t (Some v.value) 1 (Binding (suc number) ts arguments js) k nests live below
+        (λ grows. ((sym (kind_meant t), type_grown g _ grows (read t) v.value is.1), tt))
         (λ grows filled. (
           h,
           end,
@@ -172,9 +168,9 @@ module _ (p : Program) (accepted : AreAccepted p) where
           scope_is,
           more,
           operands_grown g _ grows (map read ts) arguments are,
-          ((refl, refl), scope),
+          (vs, (_, refl, refl, refl), scope),
           ((let less : number < suc number = omega arith in less), below_more number (suc number) bs (let le : number ≤ suc number = omega arith in le) below),
-          (filled refl, full_grown g _ grows bs full),
+          (filled, full_grown g _ grows bs full),
           stack_grown p g _ grows x cs (Go end) k stack,
         )))
 
@@ -185,7 +181,7 @@ module _ (p : Program) (accepted : AreAccepted p) where
         → IsWell p (Running Proceeding (Rest js ∷ region_end e w ∷ k) (inside e w) (opened w))
     begin_clause js k c start h before l live stands holds well flows are kept implies stack =
         let rest : Continues x (in_block c) js start l.now = record { before = before; behind = l.breaks; typed = well; flows = flows; breaks = are; kept = kept } in
-        running p g x bs (inside e w) (opened w) typed globals bound variables Proceeding (Rest js ∷ region_end e w ∷ k) (live_more _ (ends_of k) bs live)
+        running p g x bs (inside e w) (opened w) (opened_typed g w.regions (new_region Stack ∷ []) w.objects typed) globals bound variables Proceeding (Rest js ∷ region_end e w ∷ k) (live_more _ (ends_of k) bs live)
         (start, holds, (bs, in_block c, l.now, itself bs, context_inside p x bs c stands, rest, (h, implies, live, stack)))
 
     caught : (value : ℕ) (v : Option ℕ) (js : Items) (k : List Entry) (c : Context) (start h before : flow.State) (has : Bool) (l : Known) → LiveIn (ends_of k) bs → IsContext p x bs c → Holds g start bs → IsCaught c has v
@@ -195,7 +191,7 @@ module _ (p : Program) (accepted : AreAccepted p) where
     caught value (Some n) js k c start h before false l live stands holds is well flows are kept implies stack = absurd is
     caught value (Some n) js k c start h before true l live stands holds (number, there) well flows are kept implies stack =
         let rest : Continues x (with_local true types.Int (in_block c)) js (with_fullness Full start n) l.now = record { before = before; behind = l.breaks; typed = well; flows = flows; breaks = are; kept = kept } in
-        running p g x bs (inside e w) (opened w) typed globals bound variables (Naming n (record { kind = kinds.Int; value = values.Int value }) js) (region_end e w ∷ k) (live_more _ (ends_of k) bs live)
+        running p g x bs (inside e w) (opened w) (opened_typed g w.regions (new_region Stack ∷ []) w.objects typed) globals bound variables (Naming n (record { kind = kinds.Int; value = values.Int value }) js) (region_end e w ∷ k) (live_more _ (ends_of k) bs live)
         (in_block c, types.Int, start, l.now, context_inside p x bs c stands, holds, number, (refl, tt), rest, (h, implies, live, stack))
 
     pub catch : (tag value : ℕ) (ds : Clauses) (k : List Entry) (c : Context) (start f h before behind : flow.State) → LiveIn (ends_of k) bs → IsContext p x bs c → Holds g start bs → WellTypedClauses c ds
@@ -223,11 +219,13 @@ module _ (p : Program) (accepted : AreAccepted p) where
         behind_stands = record {
           globals = stands.globals;
           functions = stands.functions;
+          structs = stands.structs;
           result = stands.result;
           loop = stands.loop;
           scope = stands.scope;
           below = below_more c.next_local (c.next_local + (length (caught_types v) + length (item_types js))) bs
               (let le : c.next_local ≤ c.next_local + (length (caught_types v) + length (item_types js)) = omega arith in le) stands.below;
+          counters = stands.counters;
         }
 
         next : Catches x (behind_clause c v js) start ds (or_clause f js l).now h

@@ -1,58 +1,55 @@
 -- EVALUATION of a typed expression, and what waits for its value: each step leads to a typed state.
-use Rattle.std.proofs.Common.{◌≡◌, ◌⊎◌, inl, inr, ℕ, zero, suc, Bool, true, false, not, List, [], ◌∷◌, map, Option, Some, None, slice_get, refl, sym, ap, subst, ◌∙◌}
+use Rattle.std.proofs.Common.{◌≡◌, ◌⊎◌, inl, inr, ℕ, ◌≤◌, zero, suc, Bool, true, false, not, List, [], ◌∷◌, map, Option, Some, None, slice_get, refl, sym, ap, subst, ◌∙◌, arith}
 use Rattle.std.specs.Prelude.{if◌then◌else◌, option_map}
+use Rattle.cyc_syntax.specs.declared.tree.PointerKind.TheVariants as marks
 use Rattle.cyc_types.specs.declared.typed.Kind.{Kind}
 use Rattle.cyc_types.specs.declared.typed.Kind.TheVariants as kinds
+use Rattle.cyc_types.specs.declared.typed.PointerOperator.{PointerOperator}
 use Rattle.cyc_types.specs.declared.typed.Callee.{Callee}
 use Rattle.cyc_types.specs.declared.typed.Callee.TheVariants as callees
 use Rattle.cyc_types.specs.declared.typed.UnaryOperator.TheVariants as unary
 use Rattle.cyc_types.specs.declared.region.Region.{Region}
 use Rattle.cyc_types.specs.Types.{Ty, ValueType, result_type, substituted_ty}
 use Rattle.cyc_types.specs.Types as types
-use Rattle.cyc_types.specs.TypedTrees.{Local, Global, Expression, Number, NullPointer, HeapRegion, Copy, Move, Peek, Call, Unary, Binary, Assign, Convert, Arguments, NoArguments, MoreArguments, Operations, NoOperations, ThenCompute, ThenTest, ThenPointer, ThenPointerPeek, GlobalVariable, Signature, Function, Program}
+use Rattle.cyc_types.specs.TypedTrees.{Local, Global, Expression, Number, NullPointer, HeapRegion, Counter, Copy, Move, Peek, Load, AddressOf, AddressOfCell, NumberOfElements, Call, Unary, Binary, Assign, New, OnHeap, AsUnique, ByHandle, type_of_place, peeked, Convert, Arguments, NoArguments, MoreArguments, Operations, NoOperations, ThenCompute, ThenTest, ThenPointer, ThenPointerPeek, GlobalVariable, Signature, Function, Program}
+use Rattle.cyc_types.specs.TypedTrees as typed'
 use Rattle.cyc_types.specs.Rules.{Derives}
 use Rattle.cyc_types.specs.typing.Tests.{is_moved, is_tested}
 use Rattle.cyc_types.specs.typing.Tests as tests
 use Rattle.cyc_types.specs.typing.Expressions.{assigned_type}
-use Rattle.cyc_types.specs.typing.WellTyped.{Context, HasLocal, IsCallee, WellTyped, IsPeek, IsLeft, ArePassed, Converts, IsChain, signature_of}
+use Rattle.cyc_types.specs.typing.WellTyped.{Context, HasLocal, IsCallee, WellTyped, IsPeek, IsLeft, ArePassed, Converts, PointerOperation, IsChain, signature_of}
 use Rattle.cyc_types.specs.flow.States as flow
 use Rattle.cyc_types.specs.flow.States.{Full, meet, fullness, with_fullness, is_vacant}
-use Rattle.cyc_types.specs.flow.Expressions.{rule, rule_arguments, rule_operations}
-use Rattle.cyc_meaning.specs.Values.{Operand}
+use Rattle.cyc_types.specs.flow.Expressions.{and_peeked, peek_behind, rule, rule_arguments, rule_operations}
+use Rattle.cyc_meaning.specs.Values.{Operand, is_kind}
 use Rattle.cyc_meaning.specs.Values as values
-use Rattle.cyc_meaning.specs.Operators.{Result, Gives, Raises, Misfits, is_zero, truth, truth_result, truth_of, decides}
+use Rattle.cyc_meaning.specs.Operators.{Gives, is_zero, truth, truth_result, truth_of, decides}
 use Rattle.cyc_meaning.specs.Conversion.{conversion}
-use Rattle.cyc_meaning.specs.State.{World, cell_at, written, Environment, ConvertTo, Operate, Chain, Apply, Decide, Store, Pass, Entry, Needs, Focus, Evaluating, Given, Calling, Throwing, State, Running}
-use Rattle.cyc_meaning.specs.Parts.{wrong, computed, read, loaded, loaded_from, stored}
+use Rattle.cyc_meaning.specs.Pointers.{takes_kind, followed}
+use Rattle.cyc_meaning.specs.State.{InRegion, Unique, World, heap_number, cell_at, Environment, ConvertTo, Operate, Chain, Apply, ApplyPointer, Decide, Store, Pass, CountElements, PlaceBy, LoadFrom, TakeAddress, StoreTo, Entry, Needs, NeedsPlace, Focus, Evaluating, Locating, Given, Calling, Running}
+use Rattle.cyc_meaning.specs.Parts.{target_of_value, target_by, leads_to, wrong, computed, loaded_from, stored}
 use Rattle.cyc_meaning.specs.Nesting.{ends_of, AreOpen}
-use Rattle.cyc_meaning.specs.Step.{step_evaluating, passes, assigned, decided, tested, awaits_right, chained, converts}
+use Rattle.cyc_meaning.specs.Step.{step_evaluating, counts, passes, assigned, decided, tested, awaits_right, chained, converts}
 use Rattle.cyc_soundness.specs.Lives.{RunTy, RunValue, Value, kind_at, read_value, OfRegion}
 use Rattle.cyc_soundness.specs.Lives as lives
-use Rattle.cyc_soundness.specs.Worlds.{ObjectType, Typing, IsFull, variable_type, HasType, IsResult, Fits, AreOperands, IsContent, IsTyped}
-use Rattle.cyc_soundness.specs.Frames.{IsAmong, Bound, IsBound, AreVariables, LiveIn, IsSet, Holds, Implies, Exits, IsContext, AreGlobals}
-use Rattle.cyc_soundness.specs.Classes.{KeepsToVariables, InArguments, InOperations}
-use Rattle.cyc_soundness.specs.Stacks.{Val, turned, IsCalled, IsStack, IsFocus, IsWell}
+use Rattle.cyc_soundness.specs.Worlds.{Typing, IsFull, variable_type, global_type, globals as with_globals, IsResult, AreOperands, IsTyped}
+use Rattle.cyc_soundness.specs.Frames.{IsAmong, Bound, InScope, Variable, IsBound, AreVariables, LiveIn, IsSet, Holds, Implies, Exits, IsContext, KnowsProgram}
+use Rattle.cyc_soundness.specs.Classes.{KeepsToHeap, InArguments, InOperations}
+use Rattle.cyc_soundness.specs.Stacks.{Evaluates, Val, turned, IsCalled, pointer, null, IsStack, IsFocus, IsWell}
 use Rattle.cyc_soundness.specs.Stacks as stacks
-use Rattle.cyc_soundness.proofs.Numbers.{some_same, slice_get-set_same}
-use Rattle.cyc_soundness.proofs.TypeLemmas.{is_kind_same, kind_read, kind_meant, instances_read, result_read}
+use Rattle.cyc_soundness.proofs.Numbers.{some_same, both}
+use Rattle.cyc_soundness.proofs.TypeLemmas.{place_type, target_typed, is_kind_same, kind_read, kind_meant, instances_read, result_read}
 use Rattle.cyc_soundness.proofs.FlowLemmas.{implies_self, meet_first, meet_second, vacant_implied, holds_implied, reached_with}
-use Rattle.cyc_soundness.proofs.WorldLemmas.{cell_there, with_full, full_grows, cell_written, result_grown, globals_grown, variables_grown, holds_grown}
-use Rattle.cyc_soundness.proofs.StackLemmas.{stack_grown, bound_of, place_local, among_bound, among_variable, among_live, among_set, set_stored, open_of, globals_among}
+use Rattle.cyc_soundness.proofs.WorldLemmas.{risen, with_filled, result_grown, holds_grown}
+use Rattle.cyc_soundness.proofs.StackLemmas.{stack_grown, pointer_left, bound_of, place_local, among_bound, among_variable, among_live, among_level, among_set, set_stored, open_of, globals_among}
 use Rattle.cyc_soundness.proofs.ValueLemmas.{zero_is, converted, kind_given}
-
--- a typed state, by its parts
-pub running : (p : Program) (g : Typing) (x : Exits) (bs : List Bound) (e : Environment) (w : World) → IsTyped g w.objects → AreGlobals g p → IsBound e.locals bs → AreVariables g bs
-    → (focus : Focus) (k : List Entry) → LiveIn (ends_of k) bs → IsFocus p g x bs focus k → IsWell p (Running focus k e w)
-running p g x bs e w typed globals bound variables focus k live stands =
-    record { typing = g; exits = x; locals = bs; objects = typed; globals = globals; bound = bound; variables = variables; live = live; stands = stands }
+use Rattle.cyc_soundness.proofs.Cells.{running, part_at, reads, writes}
+use Rattle.cyc_soundness.proofs.Objects.{makes_on}
+use Rattle.cyc_soundness.proofs.Places.{takes, gives, converted_leads}
 
 pub not_true : (b : Bool) → not b ≡ true → b ≡ false
 not_true true e = absurd (let k : false ≡ true = e in cc)
 not_true false e = refl
-
-content_there : (g : Typing) (full : Bool) (t : RunTy) (o : Option values.Value) → full ≡ true → IsContent g full t o → (v : values.Value) × (o ≡ Some v) × HasType g t v
-content_there g full t None is content = absurd (let k : true ≡ false = sym is ∙ content in cc)
-content_there g full t (Some v) is content = (v, refl, content)
 
 pub of_map : {A B : Type 0} (f : A → B) (xs : List A) (i : ℕ) (y : B) → slice_get (map f xs) i ≡ Some y → (x : A) × (slice_get xs i ≡ Some x) × (f x ≡ y)
 of_map f [] i y found = absurd (let e : None ≡ Some y = found in cc)
@@ -63,8 +60,8 @@ left_typed : (well : Type 0) (c : Context) (a : Expression) (v : ValueType) (os 
 left_typed well c a v NoOperations kept is = inl is
 left_typed well c a v (ThenCompute o b os) kept is = inl is
 left_typed well c a v (ThenTest o b os) kept is = is
-left_typed well c a v (ThenPointer o b os) kept is = absurd kept
-left_typed well c a v (ThenPointerPeek n o b os) kept is = absurd kept
+left_typed well c a v (ThenPointer o b os) kept is = inl is
+left_typed well c a v (ThenPointerPeek n o b os) kept is = inr is.0
 
 module _ (p : Program) where
   called_is : (c : Context) (callee : Callee) (s : Signature) (m : List Region) → c.functions ≡ map signature_of p.functions → IsCallee c callee s
@@ -80,7 +77,7 @@ module _ (p : Program) where
           let (h, at, same) = of_map signature_of p.functions n s (ap (λ ss. slice_get ss n) (sym functions) ∙ is) in
           subst (λ (z : Signature). IsCalled p (callees.Function n) (map lives.read z.parameters) (read_value (result_type z.result))) same (h, at, refl, refl)
 
-  module _ (g : Typing) (x : Exits) (bs : List Bound) (e : Environment) (w : World) (typed : IsTyped g w.objects) (globals : AreGlobals g p) (bound : IsBound e.locals bs) (variables : AreVariables g bs) where
+  module _ (g : Typing) (x : Exits) (bs : List InScope) (e : Environment) (w : World) (typed : IsTyped g w.regions w.objects) (globals : KnowsProgram g p) (bound : IsBound e.locals e.counters bs) (variables : AreVariables g bs) where
     on : (focus : Focus) (k : List Entry) → LiveIn (ends_of k) bs → IsFocus p g x bs focus k → IsWell p (Running focus k e w)
     on focus k live stands = running p g x bs e w typed globals bound variables focus k live stands
 
@@ -90,26 +87,7 @@ module _ (p : Program) where
     hands k r s v f h live holds same_flow same_type is stack =
         on (Given v) k live (r, h, subst (λ z. Holds g z bs) (sym same_flow) holds, subst (λ z. IsResult g z v) (sym same_type) is, stack)
 
-    -- what was computed
-    pub gives : (k : List Entry) (kind : Kind) (t : RunTy) (f : flow.State) (r : Result) → LiveIn (ends_of k) bs → Holds g f bs → kind ≡ kind_at t → Fits g t r → IsStack p g x bs (Val (Value t) f) k
-        → IsWell p (computed kind r k e w)
-    gives k kind t f (Gives v) live holds same fits stack = on (Given (record { kind = kind; value = v })) k live (Value t, f, holds, (same, fits), stack)
-    gives k kind t f (Raises tag) live holds same fits stack = on (Throwing tag 0) k live (Val (Value t) f, stack)
-    gives k kind t f Misfits live holds same fits stack = absurd fits
-
     -- ---- variables
-
-    reads : (k : List Entry) (kind : Kind) (number region : ℕ) (t : RunTy) (y : ObjectType) (f : flow.State) → AreOpen w.regions (ends_of k) → LiveIn (ends_of k) bs → Holds g f bs
-        → slice_get g.objects number ≡ Some y → y.cells ≡ t ∷ [] → y.life ≡ OfRegion region → IsAmong region (ends_of k) → IsFull g number → kind_at t ≡ kind
-        → IsStack p g x bs (Val (Value t) f) k → IsWell p (loaded kind (cell_at w number 0) k e w)
-    reads k kind number region t y f opens live holds at cells life among full same stack =
-        let c = cell_there g w number region t y typed at cells life (open_of w.regions among opens) in
-        let is_full : c.full ≡ true = some_same c.full true (sym c.flag ∙ full) in
-        let (v, content, has) = content_there g c.full t c.cell.content is_full c.is.1 in
-        subst (λ a. IsWell p (loaded kind a k e w)) (sym c.found)
-        (subst (λ (b : Bool). IsWell p (if b then read kind c.cell.content k e w else wrong w)) (sym (is_kind_same c.cell.kind kind (c.is.0 ∙ same)))
-        (subst (λ o. IsWell p (read kind o k e w)) (sym content)
-        (on (Given (record { kind = kind; value = v })) k live (Value t, f, holds, (sym same, has), stack))))
 
     from_local : (k : List Entry) (c : Context) (n : ℕ) (u : Ty) (t : ValueType) (f h : flow.State) → AreOpen w.regions (ends_of k) → LiveIn (ends_of k) bs → IsContext p x bs c → Holds g f bs
         → (r : ℕ) × HasLocal c.locals n u r → IsSet f n → Implies f h → t ≡ types.Value u → IsStack p g x bs (Val (read_value t) h) k
@@ -119,16 +97,16 @@ module _ (p : Program) where
         let full : IsFull g b.object = among_set g f among holds.1 (subst (λ m. IsSet f m) (sym number) is_set) in
         let there : e.locals n ≡ Some b.object = ap e.locals (sym number) ∙ among_bound e among bound in
         subst (λ o. IsWell p (loaded_from (values.kind_of u) o k e w)) (sym there)
-        (reads k (values.kind_of u) b.object b.region b.of_type (variable_type b.of_type b.region) h opens live (holds_implied g f h bs implies holds)
-        (among_variable g among variables) refl refl (among_live (ends_of k) among live) full (ap kind_at of_type ∙ kind_meant u)
+        (reads p g x bs e w typed globals bound variables k (values.kind_of u) b.object 0 b.region b.of_type (variable_type b.of_type b.region) h live (holds_implied g f h bs implies holds)
+        (among_variable g among variables) refl refl (open_of w.regions (among_live (ends_of k) among live) opens) full (ap kind_at of_type ∙ kind_meant u)
         (subst (λ z. IsStack p g x bs (Val z h) k) (ap read_value same ∙ ap Value (sym of_type)) stack))
 
     from_global : (k : List Entry) (n : ℕ) (u : Ty) (t : ValueType) (f : flow.State) → AreOpen w.regions (ends_of k) → LiveIn (ends_of k) bs → Holds g f bs
         → slice_get (map (λ (v : GlobalVariable). v.of_type) p.globals) n ≡ Some u → t ≡ types.Value u → IsStack p g x bs (Val (read_value t) f) k
         → IsWell p (loaded_from (values.kind_of u) (Some n) k e w)
     from_global k n u t f opens live holds there same stack =
-        let (at, full) = globals n u there in
-        reads k (values.kind_of u) n 1 (lives.read u) _ f opens live holds at refl refl (globals_among k) full (kind_meant u) (subst (λ z. IsStack p g x bs (Val z f) k) (ap read_value same) stack)
+        let (at, full) = globals.globals n u there in
+        reads p g x bs e w typed globals bound variables k (values.kind_of u) n 0 1 (lives.read u) (global_type (lives.read u)) f live holds at refl refl (open_of w.regions (globals_among k) opens) full (kind_meant u) (subst (λ z. IsStack p g x bs (Val z f) k) (ap read_value same) stack)
 
     -- ---- arguments
 
@@ -140,7 +118,7 @@ module _ (p : Program) where
     pass_on k callee before done NoArguments (t ∷ ts) c r f h q live stands holds passed flows kept operands called stack = absurd passed
     pass_on k callee before done (MoreArguments d as') [] c r f h q live stands holds passed flows kept operands called stack = absurd passed
     pass_on k callee before done (MoreArguments (Convert from to a) as') (t ∷ ts) c r f h q live stands holds ((v, well, conv, from_is, to_is), passed) (f1, d, ds) (one, kept) operands called stack =
-        on (Evaluating a) (Needs (ConvertTo from to) ∷ Needs (Pass callee before as') ∷ k) live (
+        on (Evaluating a) (Needs (ConvertTo from to (target_by a)) ∷ Needs (Pass callee before as') ∷ k) live (
           c,
           v,
           f,
@@ -152,7 +130,7 @@ module _ (p : Program) where
             [],
             bs,
             Val (Value (lives.read t)) f1,
-            stacks.converts c v t f1 conv from_is to_is,
+            stacks.converts c v t f1 conv from_is to_is (target_typed c a v (inl well)),
             tt,
             (done, bs, Val (read_value r) h, stacks.passes c done t ts r f1 h stands (record { waiting = q; typed = passed; flows = ds; kept = kept }) called, operands, stack),
           ),
@@ -161,13 +139,17 @@ module _ (p : Program) where
     -- ---- expressions
 
     pub evaluate : (a : Expression) (k : List Entry) (c : Context) (t : ValueType) (f h : flow.State) (q : List ℕ) → AreOpen w.regions (ends_of k) → LiveIn (ends_of k) bs → IsContext p x bs c → Holds g f bs
-        → WellTyped c a t ⊎ IsPeek c a t → Derives (rule q a f) h → KeepsToVariables a → IsStack p g x bs (Val (read_value t) h) k → IsWell p (step_evaluating a k e w)
+        → WellTyped c a t ⊎ IsPeek c a t → Derives (rule q a f) h → KeepsToHeap a → IsStack p g x bs (Val (read_value t) h) k → IsWell p (step_evaluating a k e w)
     evaluate (Number n) k c t f h q opens live stands holds (inl is) (u, same) kept stack =
         hands k (read_value t) (Value lives.Int) (record { kind = kinds.Int; value = values.Int n }) f h live holds same (ap read_value is) (refl, tt) stack
     evaluate NullPointer k c t f h q opens live stands holds (inl is) (u, same) kept stack =
         hands k (read_value t) lives.Null (record { kind = kinds.Nullable; value = values.Null }) f h live holds same (ap read_value is) (refl, refl) stack
     evaluate HeapRegion k c t f h q opens live stands holds (inl is) (u, same) kept stack =
         hands k (read_value t) (Value (lives.Handle (OfRegion 0))) (record { kind = kinds.Handle; value = values.Handle 0 }) f h live holds same (ap read_value is) (refl, refl) stack
+    evaluate (Counter l) k c t f h q opens live stands holds (inl (less, is)) (u, same) kept stack =
+        let (index, counted) = among_level e (stands.counters l less) bound in
+        subst (λ o. IsWell p (counts o k e w)) (sym counted)
+        (hands k (read_value t) (Value lives.Int) (record { kind = kinds.Int; value = values.Int index }) f h live holds same (ap read_value is) (refl, tt) stack)
     evaluate (Copy (Local place n) u) k c t f h q opens live stands holds (inl ((has, there), moved, same)) (demands, known) kept stack =
         from_local k c n u t f h opens live stands holds has (not_true (is_vacant (fullness f n)) demands.0) (subst (λ z. Implies f z) (sym known) (implies_self f)) same stack
     evaluate (Copy (Global n) u) k c t f h q opens live stands holds (inl (there, moved, same)) (demands, known) kept stack =
@@ -235,7 +217,7 @@ module _ (p : Program) where
         let at : e.locals n ≡ Some b.object = ap e.locals (sym number) ∙ among_bound e among bound in
         let known_is : h ≡ with_fullness Full f1 b.number = known ∙ ap (λ i. with_fullness Full f1 i) (sym number) in
         subst (λ o. IsWell p (assigned o (Convert from to a) k e w)) (sym at) (
-        on (Evaluating a) (Needs (ConvertTo from to) ∷ Needs (Store (values.Thin b.object 0)) ∷ k) live (
+        on (Evaluating a) (Needs (ConvertTo from to (target_by a)) ∷ Needs (Store (values.Thin b.object 0)) ∷ k) live (
           c,
           s,
           f,
@@ -247,7 +229,7 @@ module _ (p : Program) where
             [],
             bs,
             Val (Value (lives.read v)) f1,
-            stacks.converts c s v f1 conv from_is to_is,
+            stacks.converts c s v f1 conv from_is to_is (target_typed c a s (inl well)),
             tt,
             (
               [],
@@ -260,7 +242,7 @@ module _ (p : Program) where
           ),
         ))
     evaluate (Assign (Global n) (Convert from to a) u) k c t f h q opens live stands holds (inl (v, r, (region, there), (s, well, conv, from_is, to_is), gives_u, same)) (f1, d, (demands, known)) kept stack =
-        on (Evaluating a) (Needs (ConvertTo from to) ∷ Needs (Store (values.Thin n 0)) ∷ k) live (
+        on (Evaluating a) (Needs (ConvertTo from to (target_by a)) ∷ Needs (Store (values.Thin n 0)) ∷ k) live (
           c,
           s,
           f,
@@ -272,7 +254,7 @@ module _ (p : Program) where
             [],
             bs,
             Val (Value (lives.read v)) f1,
-            stacks.converts c s v f1 conv from_is to_is,
+            stacks.converts c s v f1 conv from_is to_is (target_typed c a s (inl well)),
             tt,
             (
               [],
@@ -284,11 +266,121 @@ module _ (p : Program) where
             ),
           ),
         )
+    evaluate (Load d) k c t f h q opens live stands holds (inl (u, r, cell, plain, unique, same)) flows kept stack =
+        on (Locating d) (NeedsPlace (LoadFrom (values.kind_of (type_of_place d))) ∷ k) live (
+          c,
+          u,
+          f,
+          h,
+          stands,
+          holds,
+          record { waiting = q; region = r; typed = cell; flows = flows; kept = kept },
+          (
+            Val (Value (lives.read u)) h,
+            stacks.loads_from u h plain (ap values.kind_of (sym (place_type c d u r cell))),
+            tt,
+            subst (λ z. IsStack p g x bs (Val (read_value z) h) k) same stack,
+          ),
+        )
+    evaluate (AddressOf (Global n) u) k c t f h q opens live stands holds (inl (v, r, (region, there), plain, u_is, same)) (unit, known) kept stack =
+        let (at, full) = globals.globals n v (ap (λ ts. slice_get ts n) (sym stands.globals) ∙ there) in
+        let part = part_at g w typed n (global_type (lives.read v)) (lives.read v) 0 1 at refl refl (open_of w.regions (globals_among k) opens) full in
+        hands k (read_value t) (Value (pointer marks.NonNull (lives.read v))) (record { kind = kinds.NonNull; value = values.Thin n 0 }) f h live holds known
+        (ap read_value (same ∙ ap types.Value u_is)) (refl, (global_type (lives.read v), at, refl, with_globals (OfRegion 0), part)) stack
+    evaluate (AddressOfCell d u) k c t f h q opens live stands holds (inl (v, r, cell, plain, other, u_is, same)) flows kept stack =
+        on (Locating d) (NeedsPlace TakeAddress ∷ k) live (
+          c,
+          v,
+          f,
+          h,
+          stands,
+          holds,
+          record { waiting = q; region = r; typed = cell; flows = flows; kept = kept },
+          (
+            Val (Value (pointer marks.NonNull (lives.read v))) h,
+            stacks.takes_address (lives.read v) h,
+            tt,
+            subst (λ z. IsStack p g x bs (Val (read_value z) h) k) (same ∙ ap types.Value u_is) stack,
+          ),
+        )
+    evaluate (NumberOfElements a) k c t f h q opens live stands holds (inl (u, r, well, same)) flows kept stack =
+        on (Evaluating a) (Needs CountElements ∷ k) live (
+          c,
+          types.Value (types.Pointer marks.Fat u r),
+          f,
+          h,
+          stands,
+          holds,
+          record { waiting = q; typed = well; flows = flows; kept = kept },
+          ([], bs, Val (Value lives.Int) h, stacks.counts_elements u h, tt, subst (λ z. IsStack p g x bs (Val (read_value z) h) k) same stack),
+        )
+    evaluate (typed'.Store d (Convert from to a) u) k c t f h q opens live stands holds (inl (v, r, cell, (s, well, conv, from_is, to_is), gives_u, same)) (f1, dp, dc) (kd, kc) stack =
+        on (Locating d) (NeedsPlace (StoreTo (peeked d) (Convert from to a)) ∷ k) live (
+          c,
+          v,
+          f,
+          f1,
+          stands,
+          holds,
+          record { waiting = q; region = r; typed = cell; flows = dp; kept = kd },
+          (
+            Val (read_value (assigned_type v)) h,
+            stacks.stores_to c s v f1 h stands (record { waiting = and_peeked (peek_behind d) q; typed = inl well; flows = dc; kept = kc }) conv from_is to_is,
+            tt,
+            subst (λ z. IsStack p g x bs (Val (read_value z) h) k) (same ∙ gives_u) stack,
+          ),
+        )
+    evaluate (New OnHeap i u) k c t f h q opens live stands holds (inl (m, v, r, region, made, u_is, same)) (f1, (unit, known), di) kept stack =
+        makes_on p g x bs e w typed globals bound variables i (InRegion heap_number) k c m v f1 h q live stands (subst (λ z. Holds g z bs) (sym known) holds) refl made di kept.1
+        (subst (λ z. IsStack p g x bs (Val (read_value z) h) k) (same ∙ ap types.Value u_is) stack)
+    evaluate (New AsUnique i u) k c t f h q opens live stands holds (inl (m, v, r, region, made, u_is, same)) (f1, (unit, known), di) kept stack =
+        makes_on p g x bs e w typed globals bound variables i (Unique true) k c m v f1 h q live stands (subst (λ z. Holds g z bs) (sym known) holds) (refl, refl) made di kept.1
+        (subst (λ z. IsStack p g x bs (Val (read_value z) h) k) (same ∙ ap types.Value u_is) stack)
+    evaluate (New (ByHandle a) i u) k c t f h q opens live stands holds (inl (m, v, r, (well, alive), made, u_is, same)) (f1, d, di) (ka, ki) stack =
+        on (Evaluating a) (Needs (PlaceBy i) ∷ k) live (
+          c,
+          types.Value (types.Handle r),
+          f,
+          f1,
+          stands,
+          holds,
+          record { waiting = q; typed = inl well; flows = d; kept = ka },
+          (
+            [],
+            bs,
+            Val (Value (pointer m (lives.read v))) h,
+            stacks.places_by c m v f1 h stands (record { waiting = q; typed = made; flows = di; kept = ki }),
+            tt,
+            subst (λ z. IsStack p g x bs (Val (read_value z) h) k) (same ∙ ap types.Value u_is) stack,
+          ),
+        )
     evaluate (Peek place n u) k c t f h q opens live stands holds (inl is) flows kept stack = absurd is
     evaluate a k c t f h q opens live stands holds (inr is) flows kept stack = absurd is
     evaluate a k c t f h q opens live stands holds typed' flows kept stack = absurd kept
 
     -- ---- what waits for a value
+
+    -- a right operand of pointers
+    null_on : {o : PointerOperator} (peek : Option ℕ) (q : List ℕ) (kind : Kind) (value : values.Value) (b : Expression) (os : Operations) (k : List Entry) (c : Context) (v w' : ValueType) (f f1 : flow.State) → LiveIn (ends_of k) bs
+        → kind ≡ kinds.Nullable → value ≡ values.Null → IsContext p x bs c → Holds g f bs → PointerOperation c o types.Null v w' → Evaluates c b f v f1
+        → IsStack p g x bs (Val (read_value w') f1) (Needs (Chain os) ∷ k) → IsWell p (Running (Evaluating b) (Needs (ApplyPointer peek o (record { kind = kind; value = value })) ∷ Needs (Chain os) ∷ k) e w)
+    null_on {o} peek q kind value b os k c v w' f f1 live kind_is value_is stands holds op evaluates stack =
+        subst (λ z. IsWell p (Running (Evaluating b) (Needs (ApplyPointer peek o (record { kind = z; value = value })) ∷ Needs (Chain os) ∷ k) e w)) (sym kind_is)
+        (subst (λ z. IsWell p (Running (Evaluating b) (Needs (ApplyPointer peek o (record { kind = kinds.Nullable; value = z })) ∷ Needs (Chain os) ∷ k) e w)) (sym value_is)
+        (on (Evaluating b) (Needs (ApplyPointer peek o null) ∷ Needs (Chain os) ∷ k) live
+        (c, v, f, f1, stands, holds, evaluates, (pointer marks.Nullable lives.Int ∷ [], bs, Val (read_value w') f1, stacks.null_points c v w' f1 op, ((refl, tt), tt), stack))))
+
+    pointed : (o : PointerOperator) (peek : Option ℕ) (q : List ℕ) (left : Operand) (b : Expression) (os : Operations) (k : List Entry) (c : Context) (s v w' : ValueType) (f f1 : flow.State) → LiveIn (ends_of k) bs → IsContext p x bs c → Holds g f bs
+        → IsResult g (read_value s) left → PointerOperation c o s v w' → Evaluates c b f v f1 → IsStack p g x bs (Val (read_value w') f1) (Needs (Chain os) ∷ k)
+        → IsWell p (awaits_right (takes_kind o left.kind) (ApplyPointer peek o left) b os k e w)
+    pointed o peek q left b os k c s v w' f f1 live stands holds is op evaluates stack =
+        subst (λ z. IsWell p (awaits_right z (ApplyPointer peek o left) b os k e w)) (sym (takes g left op is)) (go s is op)
+      where
+        go : (s : ValueType) → IsResult g (read_value s) left → PointerOperation c o s v w' → IsWell p (Running (Evaluating b) (Needs (ApplyPointer peek o left) ∷ Needs (Chain os) ∷ k) e w)
+        go types.Void is op = absurd (pointer_left op refl)
+        go types.Null is op = null_on {o = o} peek q left.kind left.value b os k c v w' f f1 live is.0 is.1 stands holds op evaluates stack
+        go (types.Value t) is op = on (Evaluating b) (Needs (ApplyPointer peek o left) ∷ Needs (Chain os) ∷ k) live
+            (c, v, f, f1, stands, holds, evaluates, (lives.read t ∷ [], bs, Val (read_value w') f1, stacks.points c t v w' f1 op, (is, tt), stack))
 
     -- a left operand stands before what is left of its chain
     pub chain_on : (os : Operations) (v : Operand) (k : List Entry) (c : Context) (s : ValueType) (u : Ty) (f h : flow.State) (q : List ℕ) → LiveIn (ends_of k) bs → IsContext p x bs c → Holds g f bs
@@ -334,62 +426,69 @@ module _ (p : Program) where
           record { waiting = q; typed = well; flows = d; kept = one },
           ([], bs, Val (Value lives.Int) (meet f f1), stacks.decides s2 f1 (meet f f1) tested2 (meet_second f f1), tt, waits),
         )
-    chain_on (ThenPointer o b os) v k c s u f h q live stands holds is chain flows kept stack = absurd kept
-    chain_on (ThenPointerPeek n o b os) v k c s u f h q live stands holds is chain flows kept stack = absurd kept
+    chain_on (ThenPointer o b os) v k c s u f h q live stands holds is (v2, w2, well, op, chain) (f1, d, ds) (one, kept) stack =
+        pointed o None q v b os k c s v2 w2 f f1 live stands holds is op (record { waiting = q; typed = well; flows = d; kept = one })
+        ([], bs, Val (Value (lives.read u)) h, stacks.chains c w2 u f1 h stands (record { waiting = q; typed = chain; flows = ds; kept = kept }), tt, stack)
+    chain_on (ThenPointerPeek n o b os) v k c s u f h q live stands holds is (v2, w2, well, op, chain) (f1, d, ds) (one, kept) stack =
+        pointed o (Some n) q v b os k c s v2 w2 f f1 live stands holds is op (record { waiting = and_peeked (Some n) q; typed = well; flows = d; kept = one })
+        ([], bs, Val (Value (lives.read u)) h, stacks.chains c w2 u f1 h stands (record { waiting = q; typed = chain; flows = ds; kept = kept }), tt, stack)
 
-    pub converted_on : (from to : Kind) (v : Operand) (k : List Entry) (c : Context) (s : ValueType) (t : Ty) (f : flow.State) → LiveIn (ends_of k) bs → Holds g f bs → IsResult g (read_value s) v → Converts c s t
-        → from ≡ tests.kind_of_value s → to ≡ tests.kind_of t → IsStack p g x bs (Val (Value (lives.read t)) f) k → IsWell p (converts from to v k e w)
-    converted_on from to v k c s t f live holds is conv from_is to_is stack =
-        subst (λ (b : Bool). IsWell p (if b then computed to (conversion to v.value) k e w else wrong w)) (sym (is_kind_same v.kind from (kind_given g c s t v conv is ∙ sym from_is)))
+    pub converted_on : (from to : Kind) (target : Option Kind) (v : Operand) (k : List Entry) (c : Context) (s : ValueType) (t : Ty) (f : flow.State) → LiveIn (ends_of k) bs → Holds g f bs → IsResult g (read_value s) v → Converts c s t
+        → from ≡ tests.kind_of_value s → to ≡ tests.kind_of t → target ≡ target_of_value s → IsStack p g x bs (Val (Value (lives.read t)) f) k → IsWell p (converts from to target v k e w)
+    converted_on from to target v k c s t f live holds is conv from_is to_is same stack =
+        let leads_so : leads_to w target (followed v.value) ≡ true = ap (λ z. leads_to w z (followed v.value)) same ∙ converted_leads g w typed c s t v conv is in
+        subst (λ (b : Bool). IsWell p (if b then computed to (conversion to v.value) k e w else wrong w))
+        (sym (both (is_kind v.kind from) (leads_to w target (followed v.value)) (is_kind_same v.kind from (kind_given g c s t v conv is ∙ sym from_is)) leads_so))
         (subst (λ z. IsWell p (computed z (conversion z v.value) k e w)) (sym to_is)
-        (gives k (tests.kind_of t) (lives.read t) f (conversion (tests.kind_of t) v.value) live holds (sym (kind_read t)) (converted g c s t v conv is) stack))
+        (gives p g x bs e w typed globals bound variables k (tests.kind_of t) (lives.read t) f (conversion (tests.kind_of t) v.value) live holds (sym (kind_read t)) (converted g c s t v conv is) stack))
 
     pub denied_on : (v : Operand) (k : List Entry) (s : ValueType) (f : flow.State) → LiveIn (ends_of k) bs → Holds g f bs → is_tested s ≡ true → IsResult g (read_value s) v
         → IsStack p g x bs (Val (Value lives.Int) f) k → IsWell p (computed kinds.Int (truth_result (is_zero v.value)) k e w)
     denied_on v k s f live holds is_tested' is stack =
         let (b, at_zero) = zero_is g s v is_tested' is in
-        subst (λ z. IsWell p (computed kinds.Int (truth_result z) k e w)) (sym at_zero) (gives k kinds.Int lives.Int f (Gives (values.Int (truth b))) live holds refl tt stack)
+        subst (λ z. IsWell p (computed kinds.Int (truth_result z) k e w)) (sym at_zero) (gives p g x bs e w typed globals bound variables k kinds.Int lives.Int f (Gives (values.Int (truth b))) live holds refl tt stack)
 
     pub decided_on : (v : Operand) (k : List Entry) (s : ValueType) (f h : flow.State) → LiveIn (ends_of k) bs → Holds g f bs → is_tested s ≡ true → Implies f h → IsResult g (read_value s) v
         → IsStack p g x bs (Val (Value lives.Int) h) k → IsWell p (computed kinds.Int (truth_of (is_zero v.value)) k e w)
     decided_on v k s f h live holds is_tested' implies is stack =
         let (b, at_zero) = zero_is g s v is_tested' is in
-        subst (λ z. IsWell p (computed kinds.Int (truth_of z) k e w)) (sym at_zero) (gives k kinds.Int lives.Int h (Gives (values.Int (truth (not b)))) live (holds_implied g f h bs implies holds) refl tt stack)
+        subst (λ z. IsWell p (computed kinds.Int (truth_of z) k e w)) (sym at_zero) (gives p g x bs e w typed globals bound variables k kinds.Int lives.Int h (Gives (values.Int (truth (not b)))) live (holds_implied g f h bs implies holds) refl tt stack)
 
-    -- a variable is written, and then its value is handed on
-    writes : (v : Operand) (k : List Entry) (number region : ℕ) (t : Ty) (y : ObjectType) (f : flow.State) → AreOpen w.regions (ends_of k) → LiveIn (ends_of k) bs
-        → slice_get g.objects number ≡ Some y → y.cells ≡ lives.read t ∷ [] → y.life ≡ OfRegion region → IsAmong region (ends_of k) → IsResult g (Value (lives.read t)) v
-        → Holds (with_full g number) f bs → IsStack p g x bs (Val (read_value (assigned_type t)) f) k
-        → IsWell p (stored (cell_at w number 0) number 0 v (Given v) k e w)
-    writes v k number region t y f opens live at cells life among is holds stack =
-        let c = cell_there g w number region (lives.read t) y typed at cells life (open_of w.regions among opens) in
-        let new = with_full g number in
-        let grows = full_grows g number in
-        subst (λ a. IsWell p (stored a number 0 v (Given v) k e w)) (sym c.found)
-        (subst (λ (b : Bool). IsWell p (if b then Running (Given v) k e (written w number 0 (record { object = c.object; cell = c.cell }) v.value) else wrong w))
-        (sym (is_kind_same c.cell.kind v.kind (c.is.0 ∙ sym is.0)))
-        (running p new x bs e (written w number 0 (record { object = c.object; cell = c.cell }) v.value)
-        (cell_written g w number (lives.read t) y v.value typed at cells c is.1) (globals_grown g new grows p globals) bound (variables_grown g new grows bs variables)
-        (Given v) k live
-        (read_value (assigned_type t), f, holds, handed (is_moved t) (result_grown g new grows (Value (lives.read t)) v is), stack_grown p g new grows x bs (Val (read_value (assigned_type t)) f) k stack)))
-      where
-        handed : (b : Bool) → IsResult (with_full g number) (Value (lives.read t)) v → IsResult (with_full g number) (read_value (if b then types.Void else types.Value t)) v
-        handed true h = tt
-        handed false h = h
+    handed : (h : Typing) (t : Ty) (v : Operand) (b : Bool) → IsResult h (Value (lives.read t)) v → IsResult h (read_value (if b then types.Void else types.Value t)) v
+    handed h t v true is = tt
+    handed h t v false is = is
 
-    pub writes_local : (v : Operand) (k : List Entry) (b : Bound) (t : Ty) (f : flow.State) → AreOpen w.regions (ends_of k) → LiveIn (ends_of k) bs → IsAmong b bs → b.of_type ≡ lives.read t
+    pub writes_local : (v : Operand) (k : List Entry) (b : Bound) (t : Ty) (f : flow.State) → AreOpen w.regions (ends_of k) → LiveIn (ends_of k) bs → IsAmong (Variable b) bs → b.of_type ≡ lives.read t
         → Holds g f bs → IsResult g (Value (lives.read t)) v → IsStack p g x bs (Val (read_value (assigned_type t)) (with_fullness Full f b.number)) k
         → IsWell p (stored (cell_at w b.object 0) b.object 0 v (Given v) k e w)
     writes_local v k b t f opens live among of_type (reached, are) is stack =
-        let new = with_full g b.object in
-        let grows = full_grows g b.object in
-        let c = cell_there g w b.object b.region b.of_type (variable_type b.of_type b.region) typed (among_variable g among variables) refl refl (open_of w.regions (among_live (ends_of k) among live) opens) in
-        let full : IsFull new b.object = slice_get-set_same g.full b.object c.full true c.flag in
-        writes v k b.object b.region t (variable_type b.of_type b.region) (with_fullness Full f b.number) opens live (among_variable g among variables) (ap (λ u. u ∷ []) of_type) refl (among_live (ends_of k) among live) is
-        (reached_with Full f b.number reached, set_stored new e f b.number b.object bs bound (among_bound e among bound) full (holds_grown g new grows f bs (reached, are)).1) stack
+        let there = among_variable g among variables in
+        let (y, m, stands, flag, typed_is) = typed.each b.object (variable_type b.of_type b.region) there in
+        writes p g x bs e w typed globals bound variables v (Given v) k b.object 0 b.region m (lives.read t) (variable_type b.of_type b.region) live there
+        (ap (λ u. Some u) of_type) refl (open_of w.regions (among_live (ends_of k) among live) opens) flag (let few : 0 ≤ m = omega arith in few) is
+        (λ grows now. (
+          read_value (assigned_type t),
+          with_fullness Full f b.number,
+          (
+            reached_with Full f b.number reached,
+            set_stored (with_filled g b.object (risen 0 m)) e f b.number b.object bs bound (among_bound e among bound) now (holds_grown g (with_filled g b.object (risen 0 m)) grows f bs (reached, are)).1,
+          ),
+          handed (with_filled g b.object (risen 0 m)) t v (is_moved t) (result_grown g (with_filled g b.object (risen 0 m)) grows (Value (lives.read t)) v is),
+          stack_grown p g (with_filled g b.object (risen 0 m)) grows x bs (Val (read_value (assigned_type t)) (with_fullness Full f b.number)) k stack,
+        ))
 
     pub writes_global : (v : Operand) (k : List Entry) (n : ℕ) (t : Ty) (f : flow.State) → AreOpen w.regions (ends_of k) → LiveIn (ends_of k) bs
         → slice_get (map (λ (v : GlobalVariable). v.of_type) p.globals) n ≡ Some t → Holds g f bs → IsResult g (Value (lives.read t)) v → IsStack p g x bs (Val (read_value (assigned_type t)) f) k
         → IsWell p (stored (cell_at w n 0) n 0 v (Given v) k e w)
     writes_global v k n t f opens live there holds is stack =
-        writes v k n 1 t _ f opens live (globals n t there).0 refl refl (globals_among k) is (holds_grown g (with_full g n) (full_grows g n) f bs holds) stack
+        let (at, full) = globals.globals n t there in
+        let (y, m, stands, flag, typed_is) = typed.each n (global_type (lives.read t)) at in
+        writes p g x bs e w typed globals bound variables v (Given v) k n 0 1 m (lives.read t) (global_type (lives.read t)) live at
+        refl refl (open_of w.regions (globals_among k) opens) flag (let few : 0 ≤ m = omega arith in few) is
+        (λ grows now. (
+          read_value (assigned_type t),
+          f,
+          holds_grown g (with_filled g n (risen 0 m)) grows f bs holds,
+          handed (with_filled g n (risen 0 m)) t v (is_moved t) (result_grown g (with_filled g n (risen 0 m)) grows (Value (lives.read t)) v is),
+          stack_grown p g (with_filled g n (risen 0 m)) grows x bs (Val (read_value (assigned_type t)) f) k stack,
+        ))

@@ -3,55 +3,62 @@ use Rattle.std.proofs.Common.{◌≡◌, inl, ℕ, ◌+◌, ◌≤◌, Bool, tru
 use Rattle.cyc_types.specs.declared.typed.Kind.{Kind}
 use Rattle.cyc_types.specs.Types.{Ty}
 use Rattle.cyc_types.specs.Types as types
-use Rattle.cyc_types.specs.TypedTrees.{Expression, Convert, Statement, Block, Empty, Evaluate, If, While, Break, Continue, Throw, Try, Items, NoItems, MoreItems, Execute, Declare, DeclareRegion, OpenRegion, DeclareAlias, DeclareKey, Program}
+use Rattle.cyc_types.specs.TypedTrees.{Expression, Convert, Statement, Block, Empty, Evaluate, Swap, If, While, Break, Continue, Throw, Try, Items, NoItems, MoreItems, Execute, Declare, DeclareRegion, OpenRegion, DeclareAlias, DeclareKey, Program}
 use Rattle.cyc_types.specs.TypedTrees as typed
 use Rattle.cyc_types.specs.Rules.{AllKept, Derives}
 use Rattle.cyc_types.specs.Declarations.{declared_types}
 use Rattle.cyc_types.specs.typing.WellTyped.{Context, IsReturned, IsThrown, in_block, behind, with_local, WellTypedStatement, WellTypedItems}
 use Rattle.cyc_types.specs.flow.States as flow
 use Rattle.cyc_types.specs.flow.States.{Unreached, Vacant, Full, meet, with_fullness, with_each}
-use Rattle.cyc_types.specs.flow.Statements.{Known, caught, rule_statement, rule_items}
+use Rattle.cyc_types.specs.flow.Expressions.{and_peeked}
+use Rattle.cyc_types.specs.flow.Statements.{peeked_side, side_demanded, Known, caught, rule_statement, rule_items}
 use Rattle.cyc_types.specs.flow.Statements as statements
 use Rattle.cyc_meaning.specs.Values as values
-use Rattle.cyc_meaning.specs.State.{World, opened, Environment, ConvertTo, Initialise, Choose, Test, ThrowWith, Entry, Needs, Discard, Rest, Handler, Focus, Evaluating, Executing, Proceeding, Breaking, Continuing, Returning, Throwing, State, Running}
+use Rattle.cyc_meaning.specs.State.{Stack, new_region, World, opened, Environment, ConvertTo, Initialise, Choose, Test, ThrowWith, Entry, Needs, Discard, Rest, Handler, Focus, Evaluating, Executing, Proceeding, Breaking, Continuing, Returning, Throwing, State, Running}
 use Rattle.cyc_meaning.specs.State as state
-use Rattle.cyc_meaning.specs.Parts.{inside, region_end}
+use Rattle.cyc_meaning.specs.Parts.{target_by, inside, region_end}
 use Rattle.cyc_meaning.specs.Exceptions.{throws}
 use Rattle.cyc_meaning.specs.Nesting.{ends_of, IsNested}
 use Rattle.cyc_meaning.specs.Step.{step_executing, returns, continues_with}
 use Rattle.cyc_soundness.specs.Lives.{Value, read}
 use Rattle.cyc_soundness.specs.Worlds.{Typing, IsTyped}
-use Rattle.cyc_soundness.specs.Frames.{Bound, IsBound, AreVariables, LiveIn, Within, itself, Holds, Implies, LoopExit, Exits, loop_of, around, AreBreaks, is_loop, IsContext, AreGlobals}
+use Rattle.cyc_soundness.specs.Frames.{InScope, IsBound, AreVariables, LiveIn, Within, itself, Holds, Implies, LoopExit, Exits, loop_of, around, AreBreaks, is_loop, IsContext, KnowsProgram}
 use Rattle.cyc_soundness.specs.Classes.{InStatement, InItems, InValue, InThrown}
 use Rattle.cyc_soundness.specs.Stacks.{Evaluates, Executes, Continues, Catches, IsLoop, Val, Go, IsReturn, IsStack, IsFocus, IsWell}
 use Rattle.cyc_soundness.specs.Stacks as stacks
-use Rattle.cyc_soundness.proofs.TypeLemmas.{kind_read, kind_meant}
+use Rattle.cyc_soundness.proofs.TypeLemmas.{target_typed, kind_read, kind_meant}
 use Rattle.cyc_soundness.proofs.FlowLemmas.{implies_self, implies_after, meet_first, meet_second, at_least_implies, emptied_implied, holds_implied}
 use Rattle.cyc_soundness.proofs.RuleLemmas.{breaks_statement, breaks_items, breaks_clauses, clauses_implied, no_locks}
 use Rattle.cyc_soundness.proofs.StackLemmas.{within_bound, within_variables, within_live, within_holds, below_more, live_more}
-use Rattle.cyc_soundness.proofs.Evaluation.{running}
+use Rattle.cyc_soundness.proofs.WorldLemmas.{opened_typed}
+use Rattle.cyc_soundness.proofs.Cells.{running}
 use Rattle.cyc_soundness.proofs.Supply.{declares_blank}
+use Rattle.cyc_soundness.proofs.Swapping.{kept_both, swap_on}
 use Rattle.cyc_types.specs.flow.Touched.{touched_statement}
 
 -- the same scope further on, where more numbers are given out
-pub context_after : (p : Program) (x : Exits) (bs : List Bound) (c : Context) (s : Statement) → IsContext p x bs c → IsContext p x bs (behind c s)
+pub context_after : (p : Program) (x : Exits) (bs : List InScope) (c : Context) (s : Statement) → IsContext p x bs c → IsContext p x bs (behind c s)
 context_after p x bs c s stands = record {
   globals = stands.globals;
   functions = stands.functions;
+  structs = stands.structs;
   result = stands.result;
   loop = stands.loop;
   scope = stands.scope;
   below = below_more c.next_local (c.next_local + length (declared_types s)) bs (let le : c.next_local ≤ c.next_local + length (declared_types s) = omega arith in le) stands.below;
+  counters = stands.counters;
 }
 
-pub context_inside : (p : Program) (x : Exits) (bs : List Bound) (c : Context) → IsContext p x bs c → IsContext p x bs (in_block c)
+pub context_inside : (p : Program) (x : Exits) (bs : List InScope) (c : Context) → IsContext p x bs c → IsContext p x bs (in_block c)
 context_inside p x bs c stands = record {
   globals = stands.globals;
   functions = stands.functions;
+  structs = stands.structs;
   result = stands.result;
   loop = stands.loop;
   scope = stands.scope;
   below = stands.below;
+  counters = stands.counters;
 }
 
 -- fewer breaks are known before
@@ -59,7 +66,7 @@ pub breaks_before : (l : Option LoopExit) (a b : flow.State) → Implies a b →
 breaks_before None a b i are = tt
 breaks_before (Some l) a b i are = implies_after a b l.breaks i are
 
-module _ (p : Program) (g : Typing) (x : Exits) (bs : List Bound) (e : Environment) (w : World) (typed' : IsTyped g w.objects) (globals : AreGlobals g p) (bound : IsBound e.locals bs) (variables : AreVariables g bs) where
+module _ (p : Program) (g : Typing) (x : Exits) (bs : List InScope) (e : Environment) (w : World) (typed' : IsTyped g w.regions w.objects) (globals : KnowsProgram g p) (bound : IsBound e.locals e.counters bs) (variables : AreVariables g bs) where
   on : (focus : Focus) (k : List Entry) → LiveIn (ends_of k) bs → IsFocus p g x bs focus k → IsWell p (Running focus k e w)
   on focus k live stands = running p g x bs e w typed' globals bound variables focus k live stands
 
@@ -72,7 +79,7 @@ module _ (p : Program) (g : Typing) (x : Exits) (bs : List Bound) (e : Environme
       → IsWell p (returns (Some (Convert from to a)) k e w)
   return_on a from to k c f h None live stands holds result is flows kept stack = absurd is
   return_on a from to k c f h (Some t) live stands holds result (s, well, conv, from_is, to_is) flows kept stack =
-      on (Evaluating a) (Needs (ConvertTo from to) ∷ Needs state.Return ∷ k) live (
+      on (Evaluating a) (Needs (ConvertTo from to (target_by a)) ∷ Needs state.Return ∷ k) live (
         c,
         s,
         f,
@@ -80,7 +87,7 @@ module _ (p : Program) (g : Typing) (x : Exits) (bs : List Bound) (e : Environme
         stands,
         holds,
         record { waiting = []; typed = inl well; flows = flows; kept = kept },
-        ([], bs, Val (Value (read t)) h, stacks.converts c s t h conv from_is to_is, tt, ([], bs, Go Unreached, stacks.returns t h Unreached (sym result), tt, stack)),
+        ([], bs, Val (Value (read t)) h, stacks.converts c s t h conv from_is to_is (target_typed c a s (inl well)), tt, ([], bs, Go Unreached, stacks.returns t h Unreached (sym result), tt, stack)),
       )
 
   break_on : (k : List Entry) (c : Context) (f h before behind' : flow.State) (o : Option LoopExit) → x.loop ≡ o → is_loop o ≡ true → LiveIn (ends_of k) bs → Holds g f bs → behind' ≡ meet before f
@@ -119,7 +126,7 @@ module _ (p : Program) (g : Typing) (x : Exits) (bs : List Bound) (e : Environme
       let breaks : behind' ≡ l.breaks = ap (λ (z : Known). z.breaks) known in
       let continues : Continues x (in_block c) js f l.now =
       record { before = before; behind = l.breaks; typed = well; flows = d; breaks = subst (λ z. AreBreaks x.loop z) breaks are; kept = kept } in
-      running p g x bs (inside e w) (opened w) typed' globals bound variables Proceeding (Rest js ∷ region_end e w ∷ k) (live_more (length w.regions) (ends_of k) bs live)
+      running p g x bs (inside e w) (opened w) (opened_typed g w.regions (new_region Stack ∷ []) w.objects typed') globals bound variables Proceeding (Rest js ∷ region_end e w ∷ k) (live_more (length w.regions) (ends_of k) bs live)
       (f, holds, (bs, in_block c, l.now, itself bs, context_inside p x bs c stands, continues, (h, subst (λ z. Implies l.now z) (sym now) (implies_self l.now), live, stack)))
   execute Empty k c f h before behind' live stands holds well (u, known) are kept stack =
       on Proceeding k live (h, subst (λ z. Holds g z bs) (sym (ap (λ (z : Known). z.now) known)) holds, stack)
@@ -134,6 +141,11 @@ module _ (p : Program) (g : Typing) (x : Exits) (bs : List Bound) (e : Environme
         record { waiting = []; typed = inl well; flows = d; kept = kept },
         subst (λ z. IsStack p g x bs (Go z) k) (ap (λ (z : Known). z.now) known) stack,
       )
+  execute (Swap y z) k c f h before behind' live stands holds (t, ty, tz, plain) (f1, (f2, dy, (f3, dz, (demands, same))), (u, known)) are (ky, kz) stack =
+      let now : h ≡ f3 = ap (λ (z : Known). z.now) known ∙ same in
+      let (first, second) = kept_both (side_demanded [] y f3) (side_demanded (and_peeked (peeked_side y) []) z f3) demands in
+      swap_on p g x bs e w typed' globals bound variables y z c t k f f2 f3 (and_peeked (peeked_side y) []) live stands holds plain ty dy first ky
+      (record { waiting = and_peeked (peeked_side y) []; typed = tz; flows = dz; used = second; kept = kz }) (subst (λ i. IsStack p g x bs (Go i) k) now stack)
   execute (If a s t) k c f h before behind' live stands holds ((v, well, tested), ws, wt) (f1, d, (l, ds, (m, dt, (u, known)))) are (ka, ks, kt) stack =
       let now : h ≡ meet l.now m.now = ap (λ (z : Known). z.now) known in
       let breaks : behind' ≡ m.breaks = ap (λ (z : Known). z.breaks) known in
@@ -206,11 +218,10 @@ module _ (p : Program) (g : Typing) (x : Exits) (bs : List Bound) (e : Environme
           stack,
         ),
       )
-  execute s k c f h before behind' live stands holds well flows are kept stack = absurd kept
 
   -- ---- items
 
-  pub continue_with : (js : Items) (k : List Entry) (cs : List Bound) (c : Context) (f h before behind' : flow.State) → IsNested k e w → LiveIn (ends_of k) bs → Within cs bs → IsContext p x bs c → Holds g f bs
+  pub continue_with : (js : Items) (k : List Entry) (cs : List InScope) (c : Context) (f h before behind' : flow.State) → IsNested k e w → LiveIn (ends_of k) bs → Within cs bs → IsContext p x bs c → Holds g f bs
       → WellTypedItems c js → Derives (rule_items (around x) js (record { now = f; breaks = before })) (record { now = h; breaks = behind' }) → AreBreaks x.loop behind' → InItems js
       → IsStack p g x cs (Go h) k → IsWell p (continues_with js k e w)
   continue_with NoItems k cs c f h before behind' nests live within stands holds well (u, known) are kept stack =
@@ -231,7 +242,7 @@ module _ (p : Program) (g : Typing) (x : Exits) (bs : List Bound) (e : Environme
       let l_is : l ≡ record { now = with_fullness Full f1 n; breaks = before } = known2 ∙ ap (λ z. record { now = z; breaks = before }) known1 in
       let flows = subst (λ (z : Known). Derives (rule_items (around x) js z) (record { now = h; breaks = behind' })) l_is djs in
       let rest : Continues x (with_local true t c) js (with_fullness Full f1 n) h = record { before = before; behind = behind'; typed = wjs; flows = flows; breaks = are; kept = kjs } in
-      on (Evaluating a) (Needs (ConvertTo from to) ∷ Needs (Initialise n (values.kind_of t) js) ∷ k) live (
+      on (Evaluating a) (Needs (ConvertTo from to (target_by a)) ∷ Needs (Initialise n (values.kind_of t) js) ∷ k) live (
         c,
         s,
         f,
@@ -243,7 +254,7 @@ module _ (p : Program) (g : Typing) (x : Exits) (bs : List Bound) (e : Environme
           [],
           bs,
           Val (Value (read t)) f1,
-          stacks.converts c s t f1 conv from_is to_is,
+          stacks.converts c s t f1 conv from_is to_is (target_typed c a s (inl well)),
           tt,
           ([], cs, Go h, stacks.initialises cs c t f1 h within stands number (sym (kind_meant t) ∙ kind_read t) rest, tt, stack),
         ),

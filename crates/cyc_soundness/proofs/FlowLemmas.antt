@@ -1,10 +1,10 @@
 -- What is known of locals: what implies what, and what the rules only lower.
-use Rattle.std.proofs.Common.{◌≡◌, ℕ, zero, suc, Bool, true, false, List, [], ◌∷◌, refl, sym, subst, ◌∙◌}
+use Rattle.std.proofs.Common.{◌≡◌, ℕ, zero, suc, Bool, true, false, not, List, [], ◌∷◌, refl, sym, subst, ◌∙◌}
 use Rattle.std.specs.Prelude.{◌≢◌, get_or, slice_set, if◌then◌else◌}
 use Rattle.std.proofs.lemmas.List.{get_or-set_other}
 use Rattle.cyc_types.specs.flow.States.{Fullness, Vacant, Locked, Full, State, Unreached, Reached, lower, lower_each, meet, is_as_full, are_as_full, is_at_least, is_reached, fullness, with_fullness, is_vacant, is_locked, emptied}
 use Rattle.cyc_soundness.specs.Worlds.{Typing}
-use Rattle.cyc_soundness.specs.Frames.{Bound, IsSet, AreSet, Holds, Implies}
+use Rattle.cyc_soundness.specs.Frames.{InScope, Variable, Level, HoldsIts, IsSet, AreSet, Holds, Implies}
 use Rattle.cyc_soundness.proofs.Numbers.{both_true}
 
 pub implies_self : (f : State) → Implies f f
@@ -100,11 +100,15 @@ emptied_implied (n ∷ ns) f =
 
 -- ---- what holds
 
-are_set_implied : (g : Typing) (f h : State) (bs : List Bound) → Implies f h → AreSet g f bs → AreSet g h bs
-are_set_implied g f h [] i s = tt
-are_set_implied g f h (b ∷ bs) i (first, s) = (λ e. first (i.set b.number e), are_set_implied g f h bs i s)
+one_implied : (g : Typing) (f h : State) (b : InScope) → Implies f h → HoldsIts g f b → HoldsIts g h b
+one_implied g f h (Variable b) i is = λ e. is (i.set b.number e)
+one_implied g f h (Level l) i is = tt
 
-pub holds_implied : (g : Typing) (f h : State) (bs : List Bound) → Implies f h → Holds g f bs → Holds g h bs
+are_set_implied : (g : Typing) (f h : State) (bs : List InScope) → Implies f h → AreSet g f bs → AreSet g h bs
+are_set_implied g f h [] i s = tt
+are_set_implied g f h (b ∷ bs) i (first, s) = (one_implied g f h b i first, are_set_implied g f h bs i s)
+
+pub holds_implied : (g : Typing) (f h : State) (bs : List InScope) → Implies f h → Holds g f bs → Holds g h bs
 holds_implied g f h bs i (reached, s) = (i.reached reached, are_set_implied g f h bs i s)
 
 -- a local that was just declared without a value is known to hold nothing
@@ -116,3 +120,8 @@ now_vacant (a ∷ as') (suc n) = now_vacant as' n
 pub vacant_now : (f : State) (n : ℕ) → is_reached f ≡ true → IsSet (with_fullness Vacant f n) n → ⊥
 vacant_now Unreached n reached s = let k : false ≡ true = reached in absurd (cc)
 vacant_now (Reached as') n reached s = let k : true ≡ false = sym (now_vacant as' n) ∙ s in absurd (cc)
+
+-- what a rule asks of a local that is used
+pub not_vacant : (b : Bool) → not b ≡ true → b ≡ false
+not_vacant true e = absurd (let k : false ≡ true = e in cc)
+not_vacant false e = refl

@@ -6,9 +6,17 @@ mod RuleLemmas
 mod WorldLemmas
 mod StackLemmas
 mod ValueLemmas
+mod Cells
+mod Objects
+mod Swapping
+mod Places
 mod Evaluation
 mod Supply
 mod Execution
 mod Calls
 mod Unwinding
-mod Whole
+mod BuiltLemmas
+-- what `cyc_system` cites
+pub mod Whole
+-- texts
+mod Examples

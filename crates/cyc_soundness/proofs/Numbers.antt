@@ -1,6 +1,15 @@
 -- Numbered lists, and numbers that are equal or not.
-use Rattle.std.proofs.Common.{◌≡◌, ℕ, zero, suc, Bool, true, false, List, [], ◌∷◌, ◌++◌, length, set, Some, None, refl, ap, inl, inr}
+use Rattle.std.proofs.Common.{◌≡◌, ℕ, zero, suc, ◌<◌, Bool, true, false, List, [], ◌∷◌, ◌++◌, length, map, set, Some, None, refl, ap, inl, inr, arith}
 use Rattle.std.specs.Prelude.{◌≢◌, ◌⊎◌, ◌&&◌, slice_get}
+
+pub less_or_same : (l n : ℕ) → l < suc n → (l < n) ⊎ (l ≡ n)
+less_or_same zero zero less = inr refl
+less_or_same zero (suc n) less = inl (omega arith)
+less_or_same (suc l) zero less = absurd (omega (arith, less))
+less_or_same (suc l) (suc n) less = elim (less_or_same l n (let e : l < suc n = omega (arith, less) in e)) [
+  | inl is ↦ inl (let e : suc l < suc n = omega (arith, is) in e)
+  | inr same ↦ inr (ap suc same)
+]
 
 pub same_or_other : (i j : ℕ) → (i ≡ j) ⊎ (i ≢ j)
 same_or_other zero zero = inl refl
@@ -21,8 +30,24 @@ module _ {A : Type 0} where
   appended (a ∷ xs) y zero x found = inl found
   appended (a ∷ xs) y (suc i) x found = elim (appended xs y i x found) [ inl old ↦ inl old | inr new ↦ inr (ap suc new.0, new.1) ]
 
+  -- what is found stands inside
+  pub inside : (xs : List A) (i : ℕ) (x : A) → slice_get xs i ≡ Some x → i < length xs
+  inside [] i x found = absurd (let e : None ≡ Some x = found in cc)
+  inside (a ∷ xs) zero x found = omega arith
+  inside (a ∷ xs) (suc i) x found = let less : i < length xs = inside xs i x found in omega (arith, less)
+
   pub some_same : (x y : A) → Some x ≡ Some y → x ≡ y
   some_same x y e = let k : Some x ≡ Some y = e in cc
+
+pub mapped : {A B : Type 0} (f : A → B) (xs : List A) (i : ℕ) (x : A) → slice_get xs i ≡ Some x → slice_get (map f xs) i ≡ Some (f x)
+mapped f [] i x found = absurd (let e : None ≡ Some x = found in cc)
+mapped f (a ∷ xs) zero x found = ap (λ y. Some (f y)) (some_same a x found)
+mapped f (a ∷ xs) (suc i) x found = mapped f xs i x found
+
+pub both : (a b : Bool) → a ≡ true → b ≡ true → (a && b) ≡ true
+both true true one two = refl
+both true false one two = two
+both false b one two = one
 
 pub both_true : (a b : Bool) → (a && b) ≡ true → (a ≡ true) × (b ≡ true)
 both_true true true e = (refl, refl)

@@ -1,18 +1,22 @@
 -- A VALUE COMES: what waits for it goes on, in a typed state.
-use Rattle.std.proofs.Common.{◌≡◌, ℕ, suc, ◌<◌, ◌≤◌, Bool, true, false, List, ◌∷◌, length, Option, Some, None, slice_get, refl, sym, ap, subst, ◌∙◌, arith}
+use Rattle.std.proofs.Common.{◌≡◌, ℕ, suc, ◌<◌, ◌≤◌, Bool, true, false, List, [], ◌∷◌, length, Option, Some, None, slice_get, refl, sym, subst, ◌∙◌, arith}
 use Rattle.std.specs.Prelude.{if◌then◌else◌}
 use Rattle.cyc_types.specs.declared.typed.Kind.{Kind}
+use Rattle.cyc_syntax.specs.declared.tree.PointerKind.{PointerKind}
 use Rattle.cyc_types.specs.declared.typed.Kind.TheVariants as kinds
 use Rattle.cyc_types.specs.Types.{Ty, ValueType}
-use Rattle.cyc_types.specs.TypedTrees.{Expression, Statement, Items, Program}
-use Rattle.cyc_types.specs.typing.WellTyped.{Context, with_local, in_body}
+use Rattle.cyc_types.specs.TypedTrees.{Expression, Initial, Statement, Items, Program}
+use Rattle.cyc_types.specs.Rules.{Derives}
+use Rattle.cyc_types.specs.typing.WellTyped.{Context, IsMade, with_local, in_body}
 use Rattle.cyc_types.specs.flow.States as flow
 use Rattle.cyc_types.specs.flow.States.{Vacant, Full, with_fullness}
+use Rattle.cyc_types.specs.flow.Expressions.{rule_initial}
 use Rattle.cyc_meaning.specs.Values.{Operand}
 use Rattle.cyc_meaning.specs.Values as values
 use Rattle.cyc_meaning.specs.Operators.{unary_result, binary_result}
 use Rattle.cyc_types.specs.declared.typed.UnaryOperator.TheVariants as unary
-use Rattle.cyc_meaning.specs.State.{World, region_at, variable, made, Environment, Awaiting, Entry, Rest, Join, Loop, Focus, Executing, Proceeding, Returning, Throwing, State, Running}
+use Rattle.cyc_meaning.specs.Allocation.{makes_by}
+use Rattle.cyc_meaning.specs.State.{InRegion, World, region_at, variable, made, Environment, Awaiting, Entry, Rest, Join, Loop, Focus, Executing, Proceeding, Returning, Throwing, State, Running}
 use Rattle.cyc_meaning.specs.State as state
 use Rattle.cyc_meaning.specs.Parts.{wrong, declared}
 use Rattle.cyc_meaning.specs.Exceptions.{throws_value}
@@ -20,31 +24,37 @@ use Rattle.cyc_meaning.specs.Nesting.{ends_of, IsNested}
 use Rattle.cyc_meaning.specs.Step.{chosen, looped, supplied}
 use Rattle.cyc_meaning.proofs.ListLemmas.{slice_get-end}
 use Rattle.cyc_meaning.proofs.NestingLemmas.{home_found}
-use Rattle.cyc_soundness.specs.Lives.{RunTy, RunValue, Value, kind_at, read}
+use Rattle.cyc_soundness.specs.Lives.{OfRegion, RunTy, RunValue, Value, kind_at, read}
 use Rattle.cyc_soundness.specs.Lives as lives
-use Rattle.cyc_soundness.specs.Worlds.{Typing, IsFull, variable_type, HasType, IsResult, AreOperands, IsContent, IsObject, IsTyped, Grows}
-use Rattle.cyc_soundness.specs.Frames.{Bound, AreBelow, IsBound, AreVariables, LiveIn, Within, older, Holds, Implies, LoopExit, Exits, IsContext, AreGlobals}
-use Rattle.cyc_soundness.specs.Stacks.{Executes, Continues, IsLoop, Want, Go, held, inside, Waits, IsReturn, IsStack, IsFocus, IsWell}
+use Rattle.cyc_soundness.specs.Worlds.{Typing, IsFilled, variable_type, HasType, IsResult, AreCells, IsObject, IsTyped, Grows}
+use Rattle.cyc_soundness.specs.Frames.{later, Bound, InScope, Variable, AreBelow, IsBound, AreVariables, LiveIn, Within, older, Holds, Implies, LoopExit, Exits, IsContext, KnowsProgram}
+use Rattle.cyc_soundness.specs.Stacks.{Executes, Continues, IsLoop, Want, Val, Go, held, Keeps, pointer, inside, Waits, IsReturn, IsStack, IsFocus, IsWell}
 use Rattle.cyc_soundness.specs.Stacks as stacks
 use Rattle.cyc_soundness.proofs.TypeLemmas.{is_kind_same, kind_read}
 use Rattle.cyc_soundness.proofs.FlowLemmas.{holds_implied, reached_with, vacant_now}
-use Rattle.cyc_soundness.proofs.WorldLemmas.{with_object, object_grows, object_typed, content_grown, globals_grown, variables_grown, set_grown}
+use Rattle.cyc_soundness.proofs.WorldLemmas.{type_grown, with_object, object_grows, object_typed, globals_grown, variables_grown, set_grown}
 use Rattle.cyc_soundness.proofs.StackLemmas.{stack_grown, below_more, local_new, bound_more, set_more, home_among, found_is}
 use Rattle.cyc_soundness.proofs.ValueLemmas.{negated, complemented, combined, zero_is}
-use Rattle.cyc_soundness.proofs.Evaluation.{running, gives, pass_on, chain_on, converted_on, denied_on, decided_on, writes_local, writes_global}
+use Rattle.cyc_soundness.specs.Classes.{InInitial}
+use Rattle.cyc_soundness.proofs.Cells.{running}
+use Rattle.cyc_soundness.proofs.Objects.{plain_on, fields_on, array_on, fill_on, makes_on}
+use Rattle.cyc_soundness.proofs.Places.{gives, follow_on, member_on, index_on, advance_on, count_on, cell_stored, point_on, null_point_on}
+use Rattle.cyc_soundness.proofs.Evaluation.{pass_on, chain_on, converted_on, denied_on, decided_on, writes_local, writes_global}
 
 -- a scope with one local more
-pub context_more : (p : Program) (x : Exits) (bs : List Bound) (c : Context) (t : Ty) (b : Bound) → IsContext p x bs c → b.number ≡ c.next_local → b.of_type ≡ read t → IsContext p x (b ∷ bs) (with_local true t c)
+pub context_more : (p : Program) (x : Exits) (bs : List InScope) (c : Context) (t : Ty) (b : Bound) → IsContext p x bs c → b.number ≡ c.next_local → b.of_type ≡ read t → IsContext p x (Variable b ∷ bs) (with_local true t c)
 context_more p x bs c t b stands number of_type = record {
   globals = stands.globals;
   functions = stands.functions;
+  structs = stands.structs;
   result = stands.result;
   loop = stands.loop;
-  scope = ((sym number, sym of_type), stands.scope);
+  scope = (c.locals, (_, refl, sym number, sym of_type), stands.scope);
   below = ((let less : b.number < suc c.next_local = omega (arith, number) in less), below_more c.next_local (suc c.next_local) bs (let le : c.next_local ≤ suc c.next_local = omega arith in le) stands.below);
+  counters = λ l less. later (Variable b) bs (stands.counters l less);
 }
 
-module _ (p : Program) (g : Typing) (x : Exits) (bs : List Bound) (e : Environment) (w : World) (typed : IsTyped g w.objects) (globals : AreGlobals g p) (bound : IsBound e.locals bs) (variables : AreVariables g bs) where
+module _ (p : Program) (g : Typing) (x : Exits) (bs : List InScope) (e : Environment) (w : World) (typed : IsTyped g w.regions w.objects) (globals : KnowsProgram g p) (bound : IsBound e.locals e.counters bs) (variables : AreVariables g bs) where
   on : (focus : Focus) (k : List Entry) → LiveIn (ends_of k) bs → IsFocus p g x bs focus k → IsWell p (Running focus k e w)
   on focus k live stands = running p g x bs e w typed globals bound variables focus k live stands
 
@@ -54,66 +64,66 @@ module _ (p : Program) (g : Typing) (x : Exits) (bs : List Bound) (e : Environme
   abbrev new_local : (number : ℕ) → Ty → Bound
   new_local number t = record { number = number; object = length w.objects; of_type = read t; region = e.home }
 
-  abbrev new_typing : Ty → (full : Bool) → Typing
-  new_typing t full = with_object g (variable_type (read t) e.home) full
+  abbrev new_typing : Ty → (filled : ℕ) → Typing
+  new_typing t n = with_object g (variable_type (read t) e.home) n
 
-  pub declares : (number : ℕ) (kind : Kind) (t : Ty) (content : Option values.Value) (full : Bool) (focus : Focus) (stack : List Entry) → IsNested stack e w → LiveIn (ends_of stack) bs
-      → AreBelow number bs → kind ≡ kind_at (read t) → IsContent g full (read t) content
-      → (Grows g (new_typing t full) → (full ≡ true → IsFull (new_typing t full) (length w.objects)) → IsFocus p (new_typing t full) x (new_local number t ∷ bs) focus stack)
+  pub declares : (number : ℕ) (kind : Kind) (t : Ty) (content : Option values.Value) (n : ℕ) (focus : Focus) (stack : List Entry) → IsNested stack e w → LiveIn (ends_of stack) bs → AreBelow number bs
+      → (Grows g (new_typing t n) → AreCells (new_typing t n) (read t ∷ []) (record { kind = kind; content = content } ∷ []) n)
+      → (Grows g (new_typing t n) → IsFilled (new_typing t n) (length w.objects) n → IsFocus p (new_typing t n) x (Variable (new_local number t) ∷ bs) focus stack)
       → IsWell p (declared (region_at w e.home) focus number kind content stack e w)
-  declares number kind t content full focus stack nests live below kind_is content_is goes =
-      let h = new_typing t full in
-      let grows : Grows g h = object_grows g (variable_type (read t) e.home) full in
-      let is : IsObject h full (variable_type (read t) e.home) (variable e.home kind content) = record { owner = refl; cells = ((kind_is, content_grown g h grows full (read t) content content_is), tt) } in
+  declares number kind t content n focus stack nests live below cells goes =
+      let h = new_typing t n in
+      let grows : Grows g h = object_grows g (variable_type (read t) e.home) n in
+      let is : IsObject h n (variable_type (read t) e.home) (variable e.home kind content) = record { owner = refl; cells = cells grows } in
       let (r, found) = found_is (region_at w e.home) (home_found w.regions e.home stack nests.2 nests.0) in
-      let there = subst (λ n. slice_get h.objects n ≡ Some (variable_type (read t) e.home)) (sym typed.count) (slice_get-end g.objects (variable_type (read t) e.home)) in
-      let flag = subst (λ n. slice_get h.full n ≡ Some full) (sym typed.flags) (slice_get-end g.full full) in
+      let there = subst (λ i. slice_get h.objects i ≡ Some (variable_type (read t) e.home)) (sym typed.count) (slice_get-end g.objects (variable_type (read t) e.home)) in
+      let flag = subst (λ i. slice_get h.filled i ≡ Some n) (sym typed.counts) (slice_get-end g.filled n) in
       subst (λ a. IsWell p (declared a focus number kind content stack e w)) (sym found)
-      (running p h x (new_local number t ∷ bs) (state.with_local e number (length w.objects)) (made w (variable e.home kind content))
-      (object_typed g w.objects (variable_type (read t) e.home) full (variable e.home kind content) typed is) (globals_grown g h grows p globals)
+      (running p h x (Variable (new_local number t) ∷ bs) (state.with_local e number (length w.objects)) (made w (variable e.home kind content))
+      (object_typed g w.regions w.objects (variable_type (read t) e.home) n (variable e.home kind content) typed is) (globals_grown g h grows p globals)
       (local_new e number (length w.objects), bound_more e number (length w.objects) bs below bound) (there, variables_grown g h grows bs variables)
       focus stack (home_among e.home stack nests.2, live)
-      (goes grows (λ is_full. flag ∙ ap (λ (b : Bool). Some b) is_full)))
+      (goes grows (n, flag, (let most : n ≤ n = omega arith in most))))
 
   -- with a value, and the rest of its block goes on
-  pub declares_full : (number : ℕ) (kind : Kind) (v : values.Value) (t : Ty) (js : Items) (cs : List Bound) (c : Context) (f h : flow.State) (k : List Entry) → IsNested k e w → LiveIn (ends_of k) bs
+  pub declares_full : (number : ℕ) (kind : Kind) (v : values.Value) (t : Ty) (js : Items) (cs : List InScope) (c : Context) (f h : flow.State) (k : List Entry) → IsNested k e w → LiveIn (ends_of k) bs
       → Within cs bs → IsContext p x bs c → Holds g f bs → number ≡ c.next_local → kind ≡ kind_at (read t) → HasType g (read t) v → Continues x (with_local true t c) js (with_fullness Full f number) h
       → IsStack p g x cs (Go h) k → IsWell p (declared (region_at w e.home) Proceeding number kind (Some v) (Rest js ∷ k) e w)
   declares_full number kind v t js cs c f h k nests live within stands (reached, are) number_is kind_is has continues stack =
       let below : AreBelow number bs = subst (λ n. AreBelow n bs) (sym number_is) stands.below in
-      declares number kind t (Some v) true Proceeding (Rest js ∷ k) nests live below kind_is has
+      declares number kind t (Some v) 1 Proceeding (Rest js ∷ k) nests live below (λ grows. ((kind_is, type_grown g (new_typing t 1) grows (read t) v has), tt))
       (λ grows full. (
         with_fullness Full f number,
-        (reached_with Full f number reached, (λ s. full refl, set_more (new_typing t true) Full f number bs below (set_grown g (new_typing t true) grows f bs are))),
+        (reached_with Full f number reached, (λ s. full, set_more (new_typing t 1) Full f number bs below (set_grown g (new_typing t 1) grows f bs are))),
         (
           cs,
           with_local true t c,
           h,
-          older (new_local number t) cs bs within,
+          older (Variable (new_local number t)) cs bs within,
           context_more p x bs c t (new_local number t) stands number_is refl,
           continues,
-          stack_grown p g (new_typing t true) grows x cs (Go h) k stack,
+          stack_grown p g (new_typing t 1) grows x cs (Go h) k stack,
         ),
       ))
 
   -- without one
-  pub declares_blank : (number : ℕ) (kind : Kind) (t : Ty) (js : Items) (cs : List Bound) (c : Context) (f h : flow.State) (k : List Entry) → IsNested k e w → LiveIn (ends_of k) bs
+  pub declares_blank : (number : ℕ) (kind : Kind) (t : Ty) (js : Items) (cs : List InScope) (c : Context) (f h : flow.State) (k : List Entry) → IsNested k e w → LiveIn (ends_of k) bs
       → Within cs bs → IsContext p x bs c → Holds g f bs → number ≡ c.next_local → kind ≡ kind_at (read t) → Continues x (with_local true t c) js (with_fullness Vacant f number) h
       → IsStack p g x cs (Go h) k → IsWell p (declared (region_at w e.home) Proceeding number kind None (Rest js ∷ k) e w)
   declares_blank number kind t js cs c f h k nests live within stands (reached, are) number_is kind_is continues stack =
       let below : AreBelow number bs = subst (λ n. AreBelow n bs) (sym number_is) stands.below in
-      declares number kind t None false Proceeding (Rest js ∷ k) nests live below kind_is refl
+      declares number kind t None 0 Proceeding (Rest js ∷ k) nests live below (λ grows. ((kind_is, refl), tt))
       (λ grows full. (
         with_fullness Vacant f number,
-        (reached_with Vacant f number reached, (λ s. absurd (vacant_now f number reached s), set_more (new_typing t false) Vacant f number bs below (set_grown g (new_typing t false) grows f bs are))),
+        (reached_with Vacant f number reached, (λ s. absurd (vacant_now f number reached s), set_more (new_typing t 0) Vacant f number bs below (set_grown g (new_typing t 0) grows f bs are))),
         (
           cs,
           with_local true t c,
           h,
-          older (new_local number t) cs bs within,
+          older (Variable (new_local number t)) cs bs within,
           context_more p x bs c t (new_local number t) stands number_is refl,
           continues,
-          stack_grown p g (new_typing t false) grows x cs (Go h) k stack,
+          stack_grown p g (new_typing t 0) grows x cs (Go h) k stack,
         ),
       ))
 
@@ -135,10 +145,12 @@ module _ (p : Program) (g : Typing) (x : Exits) (bs : List Bound) (e : Environme
         record {
           globals = loop.stands.globals;
           functions = loop.stands.functions;
+          structs = loop.stands.structs;
           result = loop.stands.result;
           loop = λ u. refl;
           scope = loop.stands.scope;
           below = loop.stands.below;
+          counters = loop.stands.counters;
         },
         holds,
         loop.again,
@@ -149,12 +161,20 @@ module _ (p : Program) (g : Typing) (x : Exits) (bs : List Bound) (e : Environme
   thrown_on tag (values.Int word) k h live is stack = on (Throwing tag word) k live (Go h, stack)
   thrown_on tag v k h live is stack = absurd is
 
+  -- by a handle of the heap
+  placed_by : (i : Initial) (v : values.Value) (k : List Entry) (c : Context) (m : PointerKind) (t : Ty) (f h : flow.State) (q : List ℕ) → LiveIn (ends_of k) bs → IsContext p x bs c → Holds g f bs → IsMade c i m t
+      → Derives (rule_initial q i f) h → InInitial i → HasType g (lives.Handle (OfRegion 0)) v → IsStack p g x bs (Val (Value (pointer m (read t))) h) k → IsWell p (makes_by i v k e w)
+  placed_by i (values.Handle region) k c m t f h q live stands holds made flows kept has stack =
+      let same : 0 ≡ region = (let z : OfRegion 0 ≡ OfRegion region = has in cc) in
+      makes_on p g x bs e w typed globals bound variables i (InRegion region) k c m t f h q live stands holds same made flows kept stack
+  placed_by i v k c m t f h q live stands holds made flows kept has stack = absurd has
+
   -- ---- all that waits
 
-  pub given : {a : Awaiting} {ts : List RunTy} {r : RunValue} {f : flow.State} {cs : List Bound} {next : Want} (v : Operand) (k : List Entry) → IsNested k e w → LiveIn (ends_of k) bs → Holds g f bs → IsResult g r v
-      → Waits p x bs a ts r f cs next → AreOperands g ts (held a) → IsStack p g x cs next k → IsWell p (supplied a v k e w)
-  given v k nests live holds is (stacks.converts {from} {to} c s t f conv from_is to_is) are stack =
-      converted_on p g x bs e w typed globals bound variables from to v k c s t f live holds is conv from_is to_is stack
+  pub given : {a : Awaiting} {ts : List RunTy} {r : RunValue} {f : flow.State} {cs : List InScope} {next : Want} (v : Operand) (k : List Entry) → IsNested k e w → LiveIn (ends_of k) bs → Holds g f bs → IsResult g r v
+      → Waits p x bs a ts r f cs next → Keeps g a ts → IsStack p g x cs next k → IsWell p (supplied a v k e w)
+  given v k nests live holds is (stacks.converts {from} {to} {target} c s t f conv from_is to_is same) are stack =
+      converted_on p g x bs e w typed globals bound variables from to target v k c s t f live holds is conv from_is to_is same stack
   given v k nests live holds is (stacks.negates f) are stack =
       gives p g x bs e w typed globals bound variables k kinds.Int lives.Int f (unary_result unary.Negate v.value) live holds refl (negated g v.value is.1) stack
   given v k nests live holds is (stacks.complements f) are stack =
@@ -169,6 +189,26 @@ module _ (p : Program) (g : Typing) (x : Exits) (bs : List Bound) (e : Environme
       writes_local p g x bs e w typed globals bound variables v k b t f nests.0 live among same holds is stack
   given v k nests live holds is (stacks.stores_global number t f there) are stack =
       writes_global p g x bs e w typed globals bound variables v k number t f nests.0 live there holds is stack
+  given v k nests live holds is (stacks.points {peek} {o} {left} c t s u f op) (left_is, unit) stack =
+      point_on p g x bs e w typed globals bound variables left v k f nests.0 live holds op left_is is stack
+  given v k nests live holds is (stacks.null_points c s u f op) are stack = null_point_on p g x bs e w typed globals bound variables v k f live holds op is stack
+  given v k nests live holds is (stacks.stores_cell {peek} {place} t f) ((kind, to), unit) stack =
+      cell_stored p g x bs e w typed globals bound variables place v t k f nests.0 live holds to is stack
+  given v k nests live holds is (stacks.follows {k = pk} {target} m t f kind same) are stack = follow_on p g x bs e w typed globals bound variables m pk target t v k f live holds kind same is stack
+  given v k nests live holds is (stacks.follows_member {k = pk} {fields} {field} m n ls s t f kind struct fields_are there) are stack =
+      member_on p g x bs e w typed globals bound variables m pk fields n ls s t field v k f nests.0 live holds kind fields_are struct there is stack
+  given v k nests live holds is (stacks.indexes {peek} {target} {index} c t f h stands evaluates same) are stack =
+      index_on p g x bs e w typed globals bound variables peek target index c t v k f h live holds stands evaluates same is stack
+  given v k nests live holds is (stacks.advances {peek} {target} {base} t f same) (base_is, unit) stack = advance_on p g x bs e w typed globals bound variables t target base v k f live holds same base_is is stack
+  given v k nests live holds is (stacks.counts_elements t f) are stack = count_on p g x bs e w typed globals bound variables t v k f live holds is stack
+  given v k nests live holds is (stacks.places_by {i} c m t f h stands makes) are stack = placed_by i v.value k c m t f h makes.waiting live stands holds makes.typed makes.flows makes.kept is.1 stack
+  given v k nests live holds is (stacks.makes_plain {owner} {kind} t f owned kind_is) are stack = plain_on p g x bs e w typed globals bound variables owner kind v t k f live holds owned kind_is is stack
+  given v k nests live holds is (stacks.makes_fields {owner} {before} {rest} c done t ts n ls f h owned stands passes fields) are stack =
+      fields_on p g x bs e w typed globals bound variables k owner (v ∷ before) (read t ∷ done) rest ts c n ls f h passes.waiting live stands holds owned passes.typed passes.flows passes.kept (is, are) fields stack
+  given v k nests live holds is (stacks.makes_array {owner} {level} {kind} {element} c t f owned stands repeats) are stack =
+      array_on p g x bs e w typed globals bound variables owner level kind element v.value k c t f live stands holds owned repeats is.1 stack
+  given v k nests live holds is (stacks.fills {object} {count} {index} {level} {kind} {element} cs c t f h within stands repeats back) (less, array) stack =
+      fill_on p g x bs e w typed globals bound variables object count index level kind element v k cs c t f h live within stands holds repeats back less array is stack
   given v k nests live holds is (stacks.passes {callee} {before} {rest} c done t ts r f h stands passes called) are stack =
       pass_on p g x bs e w typed globals bound variables k callee (v ∷ before) (read t ∷ done) rest ts c r f h passes.waiting live stands holds passes.typed passes.flows passes.kept (is, are) called stack
   given v k nests live holds is (stacks.initialises {number} {kind} {js} cs c t f h within stands number_is kind_is continues) are stack =

@@ -1,5 +1,5 @@
 -- Types in two readings, their kinds, and conversions.
-use Rattle.std.proofs.Common.{◌≡◌, true, List, [], ◌∷◌, map, Option, Some, None, refl, ap, subst, ◌∙◌}
+use Rattle.std.proofs.Common.{◌≡◌, ◌⊎◌, inl, inr, true, List, [], ◌∷◌, map, Option, Some, None, refl, sym, ap, subst, ◌∙◌}
 use Rattle.std.specs.Prelude.{option_map}
 use Rattle.cyc_syntax.specs.declared.tree.PointerKind.{PointerKind}
 use Rattle.cyc_syntax.specs.declared.tree.PointerKind.TheVariants as marks
@@ -7,11 +7,14 @@ use Rattle.cyc_types.specs.declared.region.Region.{Region}
 use Rattle.cyc_types.specs.declared.typed.Kind.{Kind}
 use Rattle.cyc_types.specs.declared.typed.Kind.TheVariants as kinds
 use Rattle.cyc_types.specs.Regions.{substituted_region}
-use Rattle.cyc_types.specs.Types.{Ty, substituted_ty, result_type}
+use Rattle.cyc_types.specs.Types.{Ty, ValueType, substituted_ty, result_type}
 use Rattle.cyc_types.specs.Types as types
+use Rattle.cyc_types.specs.TypedTrees.{Expression, Number, NullPointer, HeapRegion, Counter, Copy, Move, Peek, Load, AddressOf, AddressOfCell, NumberOfElements, FreeUnique, FreeKey, Call, Unary, Binary, Assign, Store, New, Dereference, Target, Member, Element, type_of, type_of_place}
 use Rattle.cyc_types.specs.typing.Tests as tests
+use Rattle.cyc_types.specs.typing.WellTyped.{Context, WellTyped, IsPeek, IsCell}
 use Rattle.cyc_meaning.specs.Values.{is_kind}
 use Rattle.cyc_meaning.specs.Values as values
+use Rattle.cyc_meaning.specs.Parts.{target_of_value, target_by}
 use Rattle.cyc_soundness.specs.Lives.{Value, kind_at, as_heap, read, read_value}
 use Rattle.cyc_soundness.specs.Lives as lives
 
@@ -28,7 +31,7 @@ is_kind_self kinds.Key = refl
 pub is_kind_same : (k l : Kind) → k ≡ l → is_kind k l ≡ true
 is_kind_same k l e = subst (λ z. is_kind k z ≡ true) e (is_kind_self k)
 
-mark_kinds : (k : PointerKind) → values.kind_of_mark k ≡ tests.kind_of_mark k
+pub mark_kinds : (k : PointerKind) → values.kind_of_mark k ≡ tests.kind_of_mark k
 mark_kinds marks.Nullable = refl
 mark_kinds marks.NonNull = refl
 mark_kinds marks.Fat = refl
@@ -67,3 +70,41 @@ instances_read m (t ∷ ts) = ap (λ u. u ∷ map read (map (substituted_ty m) t
 pub result_read : (m : List Region) (t : Option Ty) → read_value (result_type (option_map (substituted_ty m) t)) ≡ read_value (result_type t)
 result_read m None = refl
 result_read m (Some t) = ap Value (instance_read m t)
+
+-- ---- the types of trees
+
+pub place_type : (c : Context) (d : Dereference) (t : Ty) (r : Region) → IsCell c d t r → t ≡ type_of_place d
+place_type c (Target k a u) t r (m, well, alive, kind, same) = same
+place_type c (Member k a n field u) t r (m, rs, s, v, well, thin, alive, kind, at, there, of, same) = same
+place_type c (Element a i u) t r (well, index, alive, same) = same
+
+well_type : (c : Context) (a : Expression) (t : ValueType) → WellTyped c a t → t ≡ type_of a
+well_type c (Number n) t is = is
+well_type c NullPointer t is = is
+well_type c HeapRegion t is = is
+well_type c (Counter l) t (less, is) = is
+well_type c (Copy l u) t (variable, plain, same) = same
+well_type c (Move p n u) t (variable, plain, same) = same
+well_type c (Peek p n u) t is = absurd is
+well_type c (Load d) t (u, r, cell, plain, unique, same) = same ∙ ap types.Value (place_type c d u r cell)
+well_type c (AddressOf l u) t (v, r, place, plain, u_is, same) = same
+well_type c (AddressOfCell d u) t (v, r, cell, plain, other, u_is, same) = same
+well_type c (NumberOfElements a) t (u, r, well, same) = same
+well_type c (FreeUnique a) t (k, u, well, same) = same
+well_type c (FreeKey a) t (r, well, same) = same
+well_type c (Call f as' u) t (s, m, is, count, apart, passed, alive, outlive, gives_u, same) = same
+well_type c (Unary o a) t (v, operand, same) = same
+well_type c (Binary a os u) t (v, left, chain, same) = same
+well_type c (Assign l d u) t (v, r, place, converted, gives_u, same) = same
+well_type c (Store d e u) t (v, r, cell, converted, gives_u, same) = same
+well_type c (New w i u) t (k, v, r, placement, made, u_is, same) = same
+
+-- a peek too
+seen_type : (c : Context) (a : Expression) (t : ValueType) → WellTyped c a t ⊎ IsPeek c a t → t ≡ type_of a
+seen_type c a t (inl well) = well_type c a t well
+seen_type c (Peek p n u) t (inr (variable, unique, same)) = same
+seen_type c a t (inr is) = absurd is
+
+-- what the tree of a value says that it leads to
+pub target_typed : (c : Context) (a : Expression) (t : ValueType) → WellTyped c a t ⊎ IsPeek c a t → target_by a ≡ target_of_value t
+target_typed c a t is = ap target_of_value (sym (seen_type c a t is))

@@ -7,27 +7,28 @@ use Rattle.cyc_types.specs.flow.States as flow
 use Rattle.cyc_types.specs.flow.States.{is_reached}
 use Rattle.cyc_meaning.specs.Values.{Operand}
 use Rattle.cyc_meaning.specs.Values as values
-use Rattle.cyc_meaning.specs.State.{World, closed, region_at, Environment, Test, Entry, Needs, Discard, Rest, Join, Loop, CloseRegion, Handler, Caller, Main, Focus, Evaluating, Given, Proceeding, Breaking, Continuing, Returning, Throwing, Catching, State, Running}
+use Rattle.cyc_meaning.specs.State.{World, closed, region_at, Environment, Test, Entry, Needs, NeedsPlace, Discard, Rest, Join, Loop, CloseRegion, Handler, Caller, Main, Focus, Evaluating, Given, Proceeding, Breaking, Continuing, Returning, Throwing, Catching, Running}
 use Rattle.cyc_meaning.specs.Parts.{closing}
 use Rattle.cyc_meaning.specs.Nesting.{ends_of, IsNested}
 use Rattle.cyc_meaning.specs.Step.{step_proceeding, step_breaking, step_continuing, returned, main_returned, step_returning, step_throwing}
 use Rattle.cyc_soundness.specs.Lives.{Value, read, read_value}
 use Rattle.cyc_soundness.specs.Lives as lives
 use Rattle.cyc_soundness.specs.Worlds.{Typing, HasType, IsTyped}
-use Rattle.cyc_soundness.specs.Frames.{Bound, IsBound, AreVariables, LiveIn, Holds, LoopExit, Exits, is_loop, AreGlobals}
-use Rattle.cyc_soundness.specs.Stacks.{IsLoop, Want, Nothing, Val, Go, IsBlocked, IsReturn, IsStack, IsFocus, IsWell}
+use Rattle.cyc_soundness.specs.Frames.{InScope, IsBound, AreVariables, LiveIn, Holds, LoopExit, Exits, is_loop, KnowsProgram}
+use Rattle.cyc_soundness.specs.Stacks.{IsLoop, Want, Nothing, Val, PlaceOf, Go, IsBlocked, IsReturn, IsStack, IsFocus, IsWell}
 use Rattle.cyc_soundness.specs.Stacks as stacks
 use Rattle.cyc_soundness.proofs.Numbers.{some_same}
 use Rattle.cyc_soundness.proofs.FlowLemmas.{holds_implied}
-use Rattle.cyc_soundness.proofs.StackLemmas.{void_goes, within_bound, within_variables, within_live, within_holds, found_is, waits_within}
-use Rattle.cyc_soundness.proofs.Evaluation.{running}
+use Rattle.cyc_soundness.proofs.StackLemmas.{void_goes, not_heap, within_bound, within_variables, within_live, within_holds, found_is, waits_within}
+use Rattle.cyc_soundness.proofs.WorldLemmas.{closed_typed}
+use Rattle.cyc_soundness.proofs.Cells.{running}
 use Rattle.cyc_soundness.proofs.Execution.{continue_with}
 
 never_loop : (o : Option LoopExit) (l : LoopExit) → is_loop o ≡ false → o ≡ Some l → ⊥
 never_loop o l none same = let z : true ≡ false = subst (λ u. is_loop u ≡ false) same none in absurd (cc)
 
-module _ (p : Program) (g : Typing) (e : Environment) (w : World) (typed : IsTyped g w.objects) (globals : AreGlobals g p) where
-  module _ (x : Exits) (bs : List Bound) (bound : IsBound e.locals bs) (variables : AreVariables g bs) where
+module _ (p : Program) (g : Typing) (e : Environment) (w : World) (typed : IsTyped g w.regions w.objects) (globals : KnowsProgram g p) where
+  module _ (x : Exits) (bs : List InScope) (bound : IsBound e.locals e.counters bs) (variables : AreVariables g bs) where
     on : (focus : Focus) (k : List Entry) → LiveIn (ends_of k) bs → IsFocus p g x bs focus k → IsWell p (Running focus k e w)
     on focus k live stands = running p g x bs e w typed globals bound variables focus k live stands
 
@@ -36,7 +37,7 @@ module _ (p : Program) (g : Typing) (e : Environment) (w : World) (typed : IsTyp
     closes focus region home k nests live stands =
         let (r, found) = found_is (region_at w region) nests.0.0 in
         subst (λ a. IsWell p (closing a focus region home k e w)) (sym found)
-        (running p g x bs (record e { home = home }) (closed w region r) typed globals bound variables focus k live stands)
+        (running p g x bs (record e { home = home }) (closed w region r) (closed_typed g w.regions region (record r { is_open = false }) w.objects (not_heap region home k e w nests) typed) globals bound variables focus k live stands)
 
     -- a loop's condition is evaluated again
     tests_again : (condition : Expression) (body : Statement) (k : List Entry) (y : Exits) (l : LoopExit) (v : ValueType) (u h : flow.State) → LiveIn (ends_of k) bs → IsLoop p y bs l condition body v u h → Holds g l.head bs → IsStack p g y bs (Go h) k
@@ -134,6 +135,7 @@ module _ (p : Program) (g : Typing) (e : Environment) (w : World) (typed : IsTyp
     throws_on (Needs a ∷ k) tag value (Val r f) nests live (ts, cs, next, waits, are, stack) =
         let within = waits_within waits in
         running p g x cs e w typed globals (within_bound e cs bs within bound) (within_variables g cs bs within variables) (Throwing tag value) k (within_live (ends_of k) cs bs within live) (next, stack)
+    throws_on (NeedsPlace a ∷ k) tag value (PlaceOf t f) nests live (next, waits, keeps, stack) = on (Throwing tag value) k live (next, stack)
     throws_on (Discard ∷ k) tag value (Val r f) nests live stack = on (Throwing tag value) k live (Go f, stack)
     throws_on (Discard ∷ k) tag value (Go f) nests live stack = on (Throwing tag value) k live (Go f, stack)
     throws_on (Rest js ∷ k) tag value (Go f) nests live (cs, c, h, within, stands, rest, stack) =
@@ -148,4 +150,5 @@ module _ (p : Program) (g : Typing) (e : Environment) (w : World) (typed : IsTyp
     throws_on (Main ∷ k) tag value (Go f) nests live (loop, int, blocked, stack) = on (Throwing tag value) k live (Nothing, stack)
     throws_on k tag value Nothing nests live stack = absurd stack
     throws_on k tag value (Val r f) nests live stack = absurd stack
+    throws_on k tag value (PlaceOf t f) nests live stack = absurd stack
     throws_on k tag value (Go f) nests live stack = absurd stack

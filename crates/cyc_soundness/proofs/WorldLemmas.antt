@@ -1,24 +1,31 @@
--- The typing of a world grows: an object is made, a cell of a variable is written, and what was typed stays so.
-use Rattle.std.proofs.Common.{◌≡◌, ℕ, ◌+◌, Bool, true, List, [], ◌∷◌, ◌++◌, length, set, Option, Some, None, refl, sym, ap, subst, ◌∙◌, inl, inr, length-append}
+-- The typing of a world grows: an object is made, a cell is written, and what was typed stays so.
+use Rattle.std.proofs.Common.{◌≡◌, ◌≢◌, ℕ, zero, suc, ◌+◌, ◌≤◌, ◌<◌, Bool, true, false, List, [], ◌∷◌, ◌++◌, length, map, set, Option, Some, None, refl, sym, ap, subst, ◌∙◌, inl, inr, arith, length-append}
 use Rattle.std.specs.Prelude.{if◌then◌else◌, slice_get}
 use Rattle.std.proofs.lemmas.List.{length-set}
 use Rattle.cyc_syntax.specs.declared.tree.PointerKind.TheVariants as marks
 use Rattle.cyc_types.specs.TypedTrees.{Program}
 use Rattle.cyc_meaning.specs.Values.{Operand, Cell}
 use Rattle.cyc_meaning.specs.Values as values
-use Rattle.cyc_meaning.specs.State.{Owner, InRegion, Unique, Object, World, Found, Closed, located, is_open, is_live, cell_in, cell_at, written}
+use Rattle.cyc_meaning.specs.State.{Region, Owner, InRegion, Unique, Object, World, Found, Closed, located, heap_number, is_open, is_live, cell_in, cell_at, written}
 use Rattle.cyc_meaning.proofs.ListLemmas.{slice_get-append, slice_get-end, slice_get-set_other}
-use Rattle.cyc_soundness.specs.Lives.{Life, OfRegion, RunTy, Int, Pointer, Handle, Key, RunValue, Void, Null, Value}
-use Rattle.cyc_soundness.specs.Worlds.{ObjectType, Typing, IsTarget, HasType, IsResult, AreOperands, IsContent, IsCell, AreCells, IsOwner, IsObject, IsTyped, Grows}
-use Rattle.cyc_soundness.specs.Frames.{Bound, AreVariables, AreSet, Holds, AreGlobals}
+use Rattle.cyc_soundness.specs.Lives.{Life, OfRegion, RunTy, Int, Pointer, Handle, Key, Struct, RunValue, Void, Null, Value, kind_at, read}
+use Rattle.cyc_soundness.specs.Worlds.{ObjectType, Typing, IsFilled, IsPart, IsTarget, HasType, IsResult, AreOperands, IsContent, AreCells, IsOwner, IsObject, IsTyped, Grows}
+use Rattle.cyc_soundness.specs.Frames.{InScope, Variable, Level, IsOfVariable, HoldsIts, AreVariables, AreSet, Holds, KnowsProgram}
 use Rattle.cyc_types.specs.flow.States as flow
 use Rattle.cyc_soundness.proofs.Numbers.{same_or_other, slice_get-set_same, appended, some_same}
 
 -- ---- what was typed stays so
 
 module _ (g h : Typing) (grows : Grows g h) where
+  part_grown : (object : ℕ) (x : ObjectType) (t : RunTy) (offset : ℕ) → IsPart g object x t offset → IsPart h object x t offset
+  part_grown object x Int offset (at, filled) = (at, grows.filled object (suc offset) filled)
+  part_grown object x (Pointer k t l) offset (at, filled) = (at, grows.filled object (suc offset) filled)
+  part_grown object x (Handle l) offset (at, filled) = (at, grows.filled object (suc offset) filled)
+  part_grown object x (Key l) offset (at, filled) = (at, grows.filled object (suc offset) filled)
+  part_grown object x (Struct n ls) offset (first, fields, filled) = (first, grows.fields n ls x.cells fields, grows.filled object (length x.cells) filled)
+
   target_grown : (t : RunTy) (l : Life) (object offset : ℕ) → IsTarget g t l object offset → IsTarget h t l object offset
-  target_grown t l object offset (x, there, full, shown, outlasts, part) = (x, grows.objects object x there, grows.full object full, shown, outlasts, part)
+  target_grown t l object offset (x, there, shown, outlasts, part) = (x, grows.objects object x there, shown, outlasts, part_grown object x t offset part)
 
   pub type_grown : (t : RunTy) (v : values.Value) → HasType g t v → HasType h t v
   type_grown Int (values.Int word) is = tt
@@ -42,42 +49,55 @@ module _ (g h : Typing) (grows : Grows g h) where
   operands_grown (t ∷ ts) [] are = absurd are
   operands_grown (t ∷ ts) (v ∷ vs) (is, are) = (result_grown (Value t) v is, operands_grown ts vs are)
 
-  pub content_grown : (full : Bool) (t : RunTy) (o : Option values.Value) → IsContent g full t o → IsContent h full t o
+  content_grown : (full : Bool) (t : RunTy) (o : Option values.Value) → IsContent g full t o → IsContent h full t o
   content_grown full t None is = is
   content_grown full t (Some v) is = type_grown t v is
 
-  cells_grown : (full : Bool) (ts : List RunTy) (cs : List Cell) → AreCells g full ts cs → AreCells h full ts cs
-  cells_grown full [] [] are = tt
-  cells_grown full [] (c ∷ cs) are = absurd are
-  cells_grown full (t ∷ ts) [] are = absurd are
-  cells_grown full (t ∷ ts) (c ∷ cs) ((kind, is), are) = ((kind, content_grown full t c.content is), cells_grown full ts cs are)
+  pub cells_grown : (ts : List RunTy) (cs : List Cell) (n : ℕ) → AreCells g ts cs n → AreCells h ts cs n
+  cells_grown [] [] n are = tt
+  cells_grown [] (c ∷ cs) n are = absurd are
+  cells_grown (t ∷ ts) [] n are = absurd are
+  cells_grown (t ∷ ts) (c ∷ cs) zero ((kind, is), are) = ((kind, content_grown false t c.content is), cells_grown ts cs zero are)
+  cells_grown (t ∷ ts) (c ∷ cs) (suc n) ((kind, is), are) = ((kind, content_grown true t c.content is), cells_grown ts cs n are)
 
-  pub object_grown : (full : Bool) (t : ObjectType) (x : Object) → IsObject g full t x → IsObject h full t x
-  object_grown full t x is = record { owner = is.owner; cells = cells_grown full t.cells x.cells is.cells }
+  pub object_grown : (n : ℕ) (t : ObjectType) (x : Object) → IsObject g n t x → IsObject h n t x
+  object_grown n t x is = record { owner = is.owner; cells = cells_grown t.cells x.cells n is.cells }
 
-  pub variables_grown : (bs : List Bound) → AreVariables g bs → AreVariables h bs
+  variable_grown : (b : InScope) → IsOfVariable g b → IsOfVariable h b
+  variable_grown (Variable b) is = grows.objects b.object _ is
+  variable_grown (Level l) is = tt
+
+  pub variables_grown : (bs : List InScope) → AreVariables g bs → AreVariables h bs
   variables_grown [] are = tt
-  variables_grown (b ∷ bs) (is, are) = (grows.objects b.object _ is, variables_grown bs are)
+  variables_grown (b ∷ bs) (is, are) = (variable_grown b is, variables_grown bs are)
 
-  pub set_grown : (f : flow.State) (bs : List Bound) → AreSet g f bs → AreSet h f bs
+  one_set_grown : (f : flow.State) (b : InScope) → HoldsIts g f b → HoldsIts h f b
+  one_set_grown f (Variable b) is = λ s. grows.filled b.object 1 (is s)
+  one_set_grown f (Level l) is = tt
+
+  pub set_grown : (f : flow.State) (bs : List InScope) → AreSet g f bs → AreSet h f bs
   set_grown f [] are = tt
-  set_grown f (b ∷ bs) (is, are) = (λ s. grows.full b.object (is s), set_grown f bs are)
+  set_grown f (b ∷ bs) (is, are) = (one_set_grown f b is, set_grown f bs are)
 
-  pub holds_grown : (f : flow.State) (bs : List Bound) → Holds g f bs → Holds h f bs
+  pub holds_grown : (f : flow.State) (bs : List InScope) → Holds g f bs → Holds h f bs
   holds_grown f bs (reached, are) = (reached, set_grown f bs are)
 
-  pub globals_grown : (p : Program) → AreGlobals g p → AreGlobals h p
-  globals_grown p are = λ number t there. (grows.objects number _ (are number t there).0, grows.full number (are number t there).1)
+  pub globals_grown : (p : Program) → KnowsProgram g p → KnowsProgram h p
+  globals_grown p knows = record {
+    globals = λ number t there. (grows.objects number _ (knows.globals number t there).0, grows.filled number 1 (knows.globals number t there).1);
+    structs = λ number s ls there. grows.fields number ls (map read s.fields) (knows.structs number s ls there);
+  }
 
 -- ---- an object more
 
-abbrev pub with_object : Typing → ObjectType → (full : Bool) → Typing
-with_object g t full = record { objects = g.objects ++ t ∷ []; full = g.full ++ full ∷ [] }
+abbrev pub with_object : Typing → ObjectType → (filled : ℕ) → Typing
+with_object g t n = record g { objects = g.objects ++ t ∷ []; filled = g.filled ++ n ∷ [] }
 
-pub object_grows : (g : Typing) (t : ObjectType) (full : Bool) → Grows g (with_object g t full)
-object_grows g t full = record {
+pub object_grows : (g : Typing) (t : ObjectType) (n : ℕ) → Grows g (with_object g t n)
+object_grows g t n = record {
   objects = λ number u there. slice_get-append g.objects (t ∷ []) number u there;
-  full = λ number is. slice_get-append g.full (full ∷ []) number true is;
+  filled = λ number count. λ (m, is, enough). (m, slice_get-append g.filled (n ∷ []) number m is, enough);
+  fields = λ number ls ts is. is;
 }
 
 longer : {A B : Type 0} (xs : List A) (ys : List B) (x : A) (y : B) → length xs ≡ length ys → length (xs ++ x ∷ []) ≡ length (ys ++ y ∷ [])
@@ -86,118 +106,207 @@ longer xs ys x y same =
     let b : length (ys ++ y ∷ []) ≡ length ys + length (y ∷ []) = length-append ys (y ∷ []) in
     a ∙ ap (λ n. n + 1) same ∙ sym b
 
-pub object_typed : (g : Typing) (objects : List Object) (t : ObjectType) (full : Bool) (x : Object) → IsTyped g objects → IsObject (with_object g t full) full t x → IsTyped (with_object g t full) (objects ++ x ∷ [])
-object_typed g objects t full x typed is = record {
+pub object_typed : (g : Typing) (regions : List Region) (objects : List Object) (t : ObjectType) (n : ℕ) (x : Object) → IsTyped g regions objects → IsObject (with_object g t n) n t x
+    → IsTyped (with_object g t n) regions (objects ++ x ∷ [])
+object_typed g regions objects t n x typed is = record {
   count = longer objects g.objects x t typed.count;
-  flags = longer objects g.full x full typed.flags;
+  counts = longer objects g.filled x n typed.counts;
   each = each;
+  heap = typed.heap;
 }
   where
     each : (number : ℕ) (u : ObjectType) → slice_get (g.objects ++ t ∷ []) number ≡ Some u
-        → (y : Object) × (b : Bool) × (slice_get (objects ++ x ∷ []) number ≡ Some y) × (slice_get (g.full ++ full ∷ []) number ≡ Some b) × IsObject (with_object g t full) b u y
+        → (y : Object) × (m : ℕ) × (slice_get (objects ++ x ∷ []) number ≡ Some y) × (slice_get (g.filled ++ n ∷ []) number ≡ Some m) × IsObject (with_object g t n) m u y
     each number u there = elim (appended g.objects t number u there) [
-      | inl old ↦ (let (y, b, at, flag, was) = typed.each number u old in
-          (y, b, slice_get-append objects (x ∷ []) number y at, slice_get-append g.full (full ∷ []) number b flag, object_grown g (with_object g t full) (object_grows g t full) b u y was))
+      | inl old ↦ (let (y, m, at, flag, was) = typed.each number u old in
+          (y, m, slice_get-append objects (x ∷ []) number y at, slice_get-append g.filled (n ∷ []) number m flag, object_grown g (with_object g t n) (object_grows g t n) m u y was))
       | inr new ↦ (
         x,
-        full,
-        subst (λ n. slice_get (objects ++ x ∷ []) n ≡ Some x) (typed.count ∙ sym new.0) (slice_get-end objects x),
-        subst (λ n. slice_get (g.full ++ full ∷ []) n ≡ Some full) (sym typed.flags ∙ typed.count ∙ sym new.0) (slice_get-end g.full full),
-        subst (λ z. IsObject (with_object g t full) full z x) new.1 is,
+        n,
+        subst (λ i. slice_get (objects ++ x ∷ []) i ≡ Some x) (typed.count ∙ sym new.0) (slice_get-end objects x),
+        subst (λ i. slice_get (g.filled ++ n ∷ []) i ≡ Some n) (sym typed.counts ∙ typed.count ∙ sym new.0) (slice_get-end g.filled n),
+        subst (λ z. IsObject (with_object g t n) n z x) new.1 is,
       )
     ]
 
--- ---- the cell of a variable
+-- ---- regions
 
-one_cell : (g : Typing) (full : Bool) (t : RunTy) (cells : List Cell) → AreCells g full (t ∷ []) cells → (c : Cell) × (cells ≡ c ∷ []) × IsCell g full t c
-one_cell g full t [] are = absurd are
-one_cell g full t (c ∷ []) are = (c, refl, are.0)
-one_cell g full t (c ∷ d ∷ cs) are = absurd are.1
+-- the heap is open, whatever else is opened or closed
+pub typed_beside : (g : Typing) (regions others : List Region) (objects : List Object) → IsTyped g regions objects → is_open (slice_get others heap_number) ≡ true → IsTyped g others objects
+typed_beside g regions others objects typed heap = record { count = typed.count; counts = typed.counts; each = typed.each; heap = heap }
 
-live_owner : (w : World) (region : ℕ) (o : Owner) → IsOwner (OfRegion region) o → is_open (slice_get w.regions region) ≡ true → is_live w o ≡ true
-live_owner w region (InRegion number) same opens = subst (λ n. is_open (slice_get w.regions n) ≡ true) same opens
-live_owner w region (Unique live) same opens = absurd same
+pub open_region : (o : Option Region) → is_open o ≡ true → (r : Region) × (o ≡ Some r) × (r.is_open ≡ true)
+open_region None opens = absurd (let e : false ≡ true = opens in cc)
+open_region (Some r) opens = (r, refl, opens)
 
--- what stands at a number that is a variable's, or a global's
-pub record HasCell (g : Typing) (w : World) (number : ℕ) (t : RunTy) : Type 0 where
-  pub object : Object
+pub opened_typed : (g : Typing) (regions more : List Region) (objects : List Object) → IsTyped g regions objects → IsTyped g (regions ++ more) objects
+opened_typed g regions more objects typed =
+    let (r, at, opens) = open_region (slice_get regions heap_number) typed.heap in
+    typed_beside g regions (regions ++ more) objects typed (ap is_open (slice_get-append regions more heap_number r at) ∙ opens)
+
+pub closed_typed : (g : Typing) (regions : List Region) (number : ℕ) (r : Region) (objects : List Object) → heap_number ≢ number → IsTyped g regions objects → IsTyped g (set regions number r) objects
+closed_typed g regions number r objects apart typed =
+    typed_beside g regions (set regions number r) objects typed (ap is_open (slice_get-set_other regions number heap_number r apart) ∙ typed.heap)
+
+-- ---- cells
+
+content_there : (g : Typing) (t : RunTy) (o : Option values.Value) → IsContent g true t o → (v : values.Value) × (o ≡ Some v) × HasType g t v
+content_there g t None is = absurd (let e : true ≡ false = is in cc)
+content_there g t (Some v) is = (v, refl, is)
+
+-- what is found of a cell of an object whose first so many cells hold something
+pub record CellAt (g : Typing) (n : ℕ) (t : RunTy) (offset : ℕ) (cells : List Cell) : Type 0 where
   pub cell : Cell
-  pub full : Bool
-  pub there : slice_get w.objects number ≡ Some object
-  pub flag : slice_get g.full number ≡ Some full
-  pub only : object.cells ≡ cell ∷ []
-  pub is : IsCell g full t cell
-  pub found : cell_at w number 0 ≡ Found (record { object = object; cell = cell })
+  pub at : slice_get cells offset ≡ Some cell
+  pub kind : cell.kind ≡ kind_at t
+  pub content : offset < n → (v : values.Value) × (cell.content ≡ Some v) × HasType g t v
 
-pub cell_there : (g : Typing) (w : World) (number region : ℕ) (t : RunTy) (x : ObjectType) → IsTyped g w.objects → slice_get g.objects number ≡ Some x → x.cells ≡ t ∷ [] → x.life ≡ OfRegion region
-    → is_open (slice_get w.regions region) ≡ true → HasCell g w number t
-cell_there g w number region t x typed at cells life opens =
-    let (y, full, there, flag, is) = typed.each number x at in
-    let (c, only, fits) = one_cell g full t y.cells (subst (λ ts. AreCells g full ts y.cells) cells is.cells) in
+never_less : {A : Type 0} (i : ℕ) → i < 0 → A
+never_less i less = absurd (omega (arith, less))
+
+pub typed_cell : (g : Typing) (ts : List RunTy) (cs : List Cell) (n i : ℕ) (t : RunTy) → AreCells g ts cs n → slice_get ts i ≡ Some t → CellAt g n t i cs
+typed_cell g [] cs n i t are found = absurd (let e : None ≡ Some t = found in cc)
+typed_cell g (u ∷ ts) [] n i t are found = absurd are
+typed_cell g (u ∷ ts) (c ∷ cs) zero zero t ((kind, is), are) found =
+    record { cell = c; at = refl; kind = kind ∙ ap kind_at (some_same u t found); content = λ less. never_less 0 less }
+typed_cell g (u ∷ ts) (c ∷ cs) (suc n) zero t ((kind, is), are) found =
+    let same = some_same u t found in
+    record { cell = c; at = refl; kind = kind ∙ ap kind_at same; content = λ less. content_there g t c.content (subst (λ z. IsContent g true z c.content) same is) }
+typed_cell g (u ∷ ts) (c ∷ cs) zero (suc i) t (one, are) found =
+    let rest = typed_cell g ts cs zero i t are found in
+    record { cell = rest.cell; at = rest.at; kind = rest.kind; content = λ less. never_less (suc i) less }
+typed_cell g (u ∷ ts) (c ∷ cs) (suc n) (suc i) t (one, are) found =
+    let rest = typed_cell g ts cs n i t are found in
+    record { cell = rest.cell; at = rest.at; kind = rest.kind; content = λ less. rest.content (let e : i < n = omega (arith, less) in e) }
+
+pub live_owner : (w : World) (region : ℕ) (o : Owner) → IsOwner (OfRegion region) o → is_open (slice_get w.regions region) ≡ true → is_live w o ≡ true
+live_owner w region (InRegion number) same opens = subst (λ n. is_open (slice_get w.regions n) ≡ true) same opens
+live_owner w region (Unique live) (heap, same) opens = same
+
+-- what stands at a number, and its cell of this type
+pub record HasCell (g : Typing) (w : World) (number offset : ℕ) (x : ObjectType) (t : RunTy) : Type 0 where
+  pub object : Object
+  pub filled : ℕ
+  pub there : slice_get w.objects number ≡ Some object
+  pub flag : slice_get g.filled number ≡ Some filled
+  pub is : IsObject g filled x object
+  pub live : is_live w object.owner ≡ true
+  pub of : CellAt g filled t offset object.cells
+  pub found : cell_at w number offset ≡ Found (record { object = object; cell = of.cell })
+
+pub cell_there : (g : Typing) (w : World) (number offset region : ℕ) (t : RunTy) (x : ObjectType) → IsTyped g w.regions w.objects → slice_get g.objects number ≡ Some x → slice_get x.cells offset ≡ Some t
+    → x.life ≡ OfRegion region → is_open (slice_get w.regions region) ≡ true → HasCell g w number offset x t
+cell_there g w number offset region t x typed at cells life opens =
+    let (y, n, there, flag, is) = typed.each number x at in
+    let c = typed_cell g x.cells y.cells n offset t is.cells cells in
     let live : is_live w y.owner ≡ true = live_owner w region y.owner (subst (λ l. IsOwner l y.owner) life is.owner) opens in
     record {
       object = y;
-      cell = c;
-      full = full;
+      filled = n;
       there = there;
       flag = flag;
-      only = only;
-      is = fits;
-      found = ap (λ o. cell_in w o 0) there
-          ∙ ap (λ (b : Bool). if b then located y (slice_get y.cells 0) else Closed) live
-          ∙ ap (λ cs. located y (slice_get cs 0)) only;
+      is = is;
+      live = live;
+      of = c;
+      found = ap (λ o. cell_in w o offset) there
+          ∙ ap (λ (b : Bool). if b then located y (slice_get y.cells offset) else Closed) live
+          ∙ ap (λ o. located y o) c.at;
     }
 
--- ---- a variable is written
+-- ---- a cell is written
 
-abbrev pub with_full : Typing → (number : ℕ) → Typing
-with_full g number = record g { full = set g.full number true }
+-- how many cells hold something once this one does
+abbrev pub risen : (offset filled : ℕ) → ℕ
+risen zero zero = 1
+risen zero (suc n) = suc n
+risen (suc i) zero = zero
+risen (suc i) (suc n) = suc (risen i n)
 
-pub full_grows : (g : Typing) (number : ℕ) → Grows g (with_full g number)
-full_grows g number = record {
-  objects = λ other u there. there;
-  full = λ other is. elim (same_or_other other number) [
-    | inl same ↦ subst (λ n. slice_get (set g.full number true) n ≡ Some true) (sym same) (slice_get-set_same g.full number true true (subst (λ n. slice_get g.full n ≡ Some true) same is))
-    | inr apart ↦ slice_get-set_other g.full number other true apart ∙ is
-  ];
-}
+risen_keeps : (i n : ℕ) → n ≤ risen i n
+risen_keeps zero zero = omega arith
+risen_keeps zero (suc n) = omega arith
+risen_keeps (suc i) zero = omega arith
+risen_keeps (suc i) (suc n) = let e : n ≤ risen i n = risen_keeps i n in omega (arith, e)
 
--- an object of one cell that holds this
-abbrev with_content : Object → Cell → values.Value → Object
-with_content x c v = record x { cells = set x.cells 0 (record c { content = Some v }) }
+pub risen_past : (i n : ℕ) → i ≤ n → suc i ≤ risen i n
+risen_past zero zero few = omega arith
+risen_past zero (suc n) few = omega arith
+risen_past (suc i) zero few = absurd (omega (arith, few))
+risen_past (suc i) (suc n) few = let less : i ≤ n = omega (arith, few) in let e : suc i ≤ risen i n = risen_past i n less in omega (arith, e)
 
-pub cell_written : (g : Typing) (w : World) (number : ℕ) (t : RunTy) (x : ObjectType) (v : values.Value) → IsTyped g w.objects → slice_get g.objects number ≡ Some x → x.cells ≡ t ∷ [] → (c : HasCell g w number t) → HasType g t v
-    → IsTyped (with_full g number) (written w number 0 (record { object = c.object; cell = c.cell }) v).objects
-cell_written g w number t x v typed at cells c has = record {
-  count = length-set w.objects number (with_content c.object c.cell v) ∙ typed.count;
-  flags = length-set w.objects number (with_content c.object c.cell v) ∙ typed.flags ∙ sym (length-set g.full number true);
-  each = each;
-}
+abbrev pub with_filled : Typing → (number count : ℕ) → Typing
+with_filled g number n = record g { filled = set g.filled number n }
+
+pub filled_grows : (g : Typing) (number m n : ℕ) → slice_get g.filled number ≡ Some m → m ≤ n → Grows g (with_filled g number n)
+filled_grows g number m n flag more = record { objects = λ other u there. there; filled = filled; fields = λ struct ls ts is. is }
   where
-    written_one : (other : ℕ) (u : ObjectType) → slice_get g.objects other ≡ Some u → other ≡ number
-        → (y : Object) × (b : Bool) × (slice_get (set w.objects number (with_content c.object c.cell v)) other ≡ Some y) × (slice_get (set g.full number true) other ≡ Some b) × IsObject (with_full g number) b u y
-    written_one other u there same =
-        let (y, b, stands, flag, was) = typed.each other u there in
-        let y_is : y ≡ c.object = some_same y c.object (sym stands ∙ ap (λ n. slice_get w.objects n) same ∙ c.there) in
-        let u_is : u ≡ x = some_same u x (sym there ∙ ap (λ n. slice_get g.objects n) same ∙ at) in
-        let owner : IsOwner u.life c.object.owner = subst (λ (z : Object). IsOwner u.life z.owner) y_is was.owner in
-        let one : IsCell (with_full g number) true t (record c.cell { content = Some v }) = (c.is.0, type_grown g (with_full g number) (full_grows g number) t v has) in
-        let all : AreCells (with_full g number) true (t ∷ []) (record c.cell { content = Some v } ∷ []) = (one, tt) in
-        let those : AreCells (with_full g number) true u.cells (with_content c.object c.cell v).cells =
-        subst (λ ts. AreCells (with_full g number) true ts (with_content c.object c.cell v).cells) (sym cells ∙ ap (λ (z : ObjectType). z.cells) (sym u_is))
-        (subst (λ cs. AreCells (with_full g number) true (t ∷ []) (set cs 0 (record c.cell { content = Some v }))) (sym c.only) all) in
-        let is : IsObject (with_full g number) true u (with_content c.object c.cell v) = record { owner = owner; cells = those } in (
-          (with_content c.object c.cell v),
-          true,
-          subst (λ n. slice_get (set w.objects number (with_content c.object c.cell v)) n ≡ Some (with_content c.object c.cell v)) (sym same) (slice_get-set_same w.objects number c.object (with_content c.object c.cell v) c.there),
-          subst (λ n. slice_get (set g.full number true) n ≡ Some true) (sym same) (slice_get-set_same g.full number c.full true c.flag),
-          is,
-        )
-
-    each : (other : ℕ) (u : ObjectType) → slice_get g.objects other ≡ Some u
-        → (y : Object) × (b : Bool) × (slice_get (set w.objects number (with_content c.object c.cell v)) other ≡ Some y) × (slice_get (set g.full number true) other ≡ Some b) × IsObject (with_full g number) b u y
-    each other u there = elim (same_or_other other number) [
-      | inl same ↦ written_one other u there same
-      | inr apart ↦ (let (y, b, stands, flag, was) = typed.each other u there in
-          (y, b, slice_get-set_other w.objects number other (with_content c.object c.cell v) apart ∙ stands, slice_get-set_other g.full number other true apart ∙ flag, object_grown g (with_full g number) (full_grows g number) b u y was))
+    filled : (other count : ℕ) → IsFilled g other count → IsFilled (with_filled g number n) other count
+    filled other count (k, is, enough) = elim (same_or_other other number) [
+      | inl same ↦ (let k_is : k ≡ m = some_same k m (sym is ∙ ap (λ i. slice_get g.filled i) same ∙ flag) in (
+        n,
+        subst (λ i. slice_get (set g.filled number n) i ≡ Some n) (sym same) (slice_get-set_same g.filled number m n flag),
+        (let le : count ≤ n = omega (arith, enough, k_is, more) in le),
+      ))
+      | inr apart ↦ (k, slice_get-set_other g.filled number other n apart ∙ is, enough)
     ]
+
+-- a cell with this in it
+abbrev filled_with : Cell → values.Value → Cell
+filled_with c v = record c { content = Some v }
+
+cells_written : (g : Typing) (ts : List RunTy) (cs : List Cell) (n i : ℕ) (t : RunTy) (c : Cell) (v : values.Value) → AreCells g ts cs n → slice_get ts i ≡ Some t → slice_get cs i ≡ Some c → c.kind ≡ kind_at t → i ≤ n → HasType g t v
+    → AreCells g ts (set cs i (filled_with c v)) (risen i n)
+cells_written g [] cs n i t c v are found at kind few has = absurd (let e : None ≡ Some t = found in cc)
+cells_written g (u ∷ ts) [] n i t c v are found at kind few has = absurd are
+cells_written g (u ∷ ts) (d ∷ cs) zero zero t c v (one, are) found at kind few has =
+    let same = sym (some_same u t found) in ((kind ∙ ap kind_at same, subst (λ z. HasType g z v) same has), are)
+cells_written g (u ∷ ts) (d ∷ cs) (suc n) zero t c v (one, are) found at kind few has =
+    let same = sym (some_same u t found) in ((kind ∙ ap kind_at same, subst (λ z. HasType g z v) same has), are)
+cells_written g (u ∷ ts) (d ∷ cs) zero (suc i) t c v (one, are) found at kind few has = absurd (omega (arith, few))
+cells_written g (u ∷ ts) (d ∷ cs) (suc n) (suc i) t c v (one, are) found at kind few has =
+    (one, cells_written g ts cs n i t c v are found at kind (let e : i ≤ n = omega (arith, few) in e) has)
+
+module _ (g : Typing) (w : World) (number offset : ℕ) (x : ObjectType) (t : RunTy) (v : values.Value) (typed : IsTyped g w.regions w.objects) (at : slice_get g.objects number ≡ Some x) (here : slice_get x.cells offset ≡ Some t)
+    (c : HasCell g w number offset x t) (few : offset ≤ c.filled) (has : HasType g t v) where
+  pub written_grows : Grows g (with_filled g number (risen offset c.filled))
+  written_grows = filled_grows g number c.filled (risen offset c.filled) c.flag (risen_keeps offset c.filled)
+
+  abbrev with_value : Object
+  with_value = record c.object { cells = set c.object.cells offset (filled_with c.of.cell v) }
+
+  is_with_value : IsObject (with_filled g number (risen offset c.filled)) (risen offset c.filled) x with_value
+  is_with_value = record {
+    owner = c.is.owner;
+    cells = cells_written (with_filled g number (risen offset c.filled)) x.cells c.object.cells c.filled offset t c.of.cell v
+        (cells_grown g (with_filled g number (risen offset c.filled)) written_grows x.cells c.object.cells c.filled c.is.cells) here c.of.at c.of.kind few
+        (type_grown g (with_filled g number (risen offset c.filled)) written_grows t v has);
+  }
+
+  pub cell_written : IsTyped (with_filled g number (risen offset c.filled)) w.regions (written w number offset (record { object = c.object; cell = c.of.cell }) v).objects
+  cell_written = record {
+    count = length-set w.objects number with_value ∙ typed.count;
+    counts = length-set w.objects number with_value ∙ typed.counts ∙ sym (length-set g.filled number (risen offset c.filled));
+    each = each;
+    heap = typed.heap;
+  }
+    where
+      each : (other : ℕ) (u : ObjectType) → slice_get g.objects other ≡ Some u
+          → (y : Object) × (m : ℕ) × (slice_get (set w.objects number with_value) other ≡ Some y) × (slice_get (set g.filled number (risen offset c.filled)) other ≡ Some m)
+          × IsObject (with_filled g number (risen offset c.filled)) m u y
+      each other u there = elim (same_or_other other number) [
+        | inl same ↦ (
+          with_value,
+          risen offset c.filled,
+          subst (λ n. slice_get (set w.objects number with_value) n ≡ Some with_value) (sym same) (slice_get-set_same w.objects number c.object with_value c.there),
+          subst (λ n. slice_get (set g.filled number (risen offset c.filled)) n ≡ Some (risen offset c.filled)) (sym same) (slice_get-set_same g.filled number c.filled (risen offset c.filled) c.flag),
+          subst (λ z. IsObject (with_filled g number (risen offset c.filled)) (risen offset c.filled) z with_value)
+              (some_same x u (sym at ∙ ap (λ n. slice_get g.objects n) (sym same) ∙ there)) is_with_value,
+        )
+        | inr apart ↦ (let (y, m, stands, flag, was) = typed.each other u there in (
+          y,
+          m,
+          slice_get-set_other w.objects number other with_value apart ∙ stands,
+          slice_get-set_other g.filled number other (risen offset c.filled) apart ∙ flag,
+          object_grown g (with_filled g number (risen offset c.filled)) written_grows m u y was,
+        ))
+      ]

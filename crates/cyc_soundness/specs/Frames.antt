@@ -2,12 +2,12 @@
 use Rattle.std.specs.Prelude.{◌≡◌, ℕ, ◌<◌, Bool, true, false, List, [], ◌∷◌, map, Option, Some, None, slice_get}
 use Rattle.cyc_syntax.specs.Symbols.{Place}
 use Rattle.cyc_types.specs.Types.{Ty}
-use Rattle.cyc_types.specs.TypedTrees.{GlobalVariable, Program}
+use Rattle.cyc_types.specs.TypedTrees.{StructType, GlobalVariable, Program}
 use Rattle.cyc_types.specs.typing.WellTyped.{LocalInScope, Context, signature_of}
 use Rattle.cyc_types.specs.flow.States as flow
 use Rattle.cyc_types.specs.flow.States.{fullness, is_vacant, is_reached}
 use Rattle.cyc_types.specs.flow.Statements.{Loop, Around}
-use Rattle.cyc_soundness.specs.Lives.{RunTy, read}
+use Rattle.cyc_soundness.specs.Lives.{Life, RunTy, read}
 use Rattle.cyc_soundness.specs.Worlds.{Typing, IsFull, variable_type, global_type}
 
 pub data IsAmong {A : Type 0} (a : A) : List A → Type 0 where
@@ -21,37 +21,61 @@ pub record Bound : Type 0 where
   pub of_type : RunTy
   pub region : ℕ
 
+-- what is in scope: a local, or the counter of a `for` around
+pub data InScope : Type 0 where
+  Variable : Bound → InScope
+  Level : (level : ℕ) → InScope
+
+-- the newest in scope, and then the rest of the locals
+abbrev pub IsNewest : List LocalInScope → InScope → (rest : List LocalInScope) → Type 0
+IsNewest vs (Variable b) rest = (v : LocalInScope) × (vs ≡ v ∷ rest) × (v.number ≡ b.number) × (read v.of_type ≡ b.of_type)
+IsNewest vs (Level l) rest = vs ≡ rest
+
 -- the scope of a tree, as this run has it
-abbrev pub IsScope : List LocalInScope → List Bound → Type 0
-IsScope [] [] = Unit {0}
-IsScope [] (b ∷ bs) = ⊥
-IsScope (v ∷ vs) [] = ⊥
-IsScope (v ∷ vs) (b ∷ bs) = ((v.number ≡ b.number) × (read v.of_type ≡ b.of_type)) × IsScope vs bs
+abbrev pub IsScope : List LocalInScope → List InScope → Type 0
+IsScope vs [] = vs ≡ []
+IsScope vs (b ∷ bs) = (rest : List LocalInScope) × IsNewest vs b rest × IsScope rest bs
 
 -- the numbers of locals in scope were given out before this one
-abbrev pub AreBelow : ℕ → List Bound → Type 0
+abbrev pub IsBelow : ℕ → InScope → Type 0
+IsBelow n (Variable b) = b.number < n
+IsBelow n (Level l) = Unit {0}
+
+abbrev pub AreBelow : ℕ → List InScope → Type 0
 AreBelow n [] = Unit {0}
-AreBelow n (b ∷ bs) = (b.number < n) × AreBelow n bs
+AreBelow n (b ∷ bs) = IsBelow n b × AreBelow n bs
 
--- the locals lead to their objects
-abbrev pub IsBound : (locals : ℕ → Option ℕ) → List Bound → Type 0
-IsBound locals [] = Unit {0}
-IsBound locals (b ∷ bs) = (locals b.number ≡ Some b.object) × IsBound locals bs
+-- locals lead to their objects, and counters have values
+abbrev pub HasMeaning : (locals counters : ℕ → Option ℕ) → InScope → Type 0
+HasMeaning locals counters (Variable b) = locals b.number ≡ Some b.object
+HasMeaning locals counters (Level l) = (index : ℕ) × (counters l ≡ Some index)
 
--- which are variables of their types
-abbrev pub AreVariables : Typing → List Bound → Type 0
+abbrev pub IsBound : (locals counters : ℕ → Option ℕ) → List InScope → Type 0
+IsBound locals counters [] = Unit {0}
+IsBound locals counters (b ∷ bs) = HasMeaning locals counters b × IsBound locals counters bs
+
+-- the objects of locals are variables of their types
+abbrev pub IsOfVariable : Typing → InScope → Type 0
+IsOfVariable g (Variable b) = slice_get g.objects b.object ≡ Some (variable_type b.of_type b.region)
+IsOfVariable g (Level l) = Unit {0}
+
+abbrev pub AreVariables : Typing → List InScope → Type 0
 AreVariables g [] = Unit {0}
-AreVariables g (b ∷ bs) = (slice_get g.objects b.object ≡ Some (variable_type b.of_type b.region)) × AreVariables g bs
+AreVariables g (b ∷ bs) = IsOfVariable g b × AreVariables g bs
 
 -- in regions that will end, and have not yet
-abbrev pub LiveIn : List ℕ → List Bound → Type 0
+abbrev pub IsLiveIn : List ℕ → InScope → Type 0
+IsLiveIn regions (Variable b) = IsAmong b.region regions
+IsLiveIn regions (Level l) = Unit {0}
+
+abbrev pub LiveIn : List ℕ → List InScope → Type 0
 LiveIn regions [] = Unit {0}
-LiveIn regions (b ∷ bs) = IsAmong b.region regions × LiveIn regions bs
+LiveIn regions (b ∷ bs) = IsLiveIn regions b × LiveIn regions bs
 
 -- an outer scope
-pub data Within : (outer inner : List Bound) → Type 0 where
-  itself : (bs : List Bound) → Within bs bs
-  older : (b : Bound) (bs cs : List Bound) → Within bs cs → Within bs (b ∷ cs)
+pub data Within : (outer inner : List InScope) → Type 0 where
+  itself : (bs : List InScope) → Within bs bs
+  older : (b : InScope) (bs cs : List InScope) → Within bs cs → Within bs (b ∷ cs)
 
 -- ---- flow
 
@@ -59,12 +83,16 @@ pub data Within : (outer inner : List Bound) → Type 0 where
 abbrev pub IsSet : flow.State → ℕ → Type 0
 IsSet f n = is_vacant (fullness f n) ≡ false
 
-abbrev pub AreSet : Typing → flow.State → List Bound → Type 0
+abbrev pub HoldsIts : Typing → flow.State → InScope → Type 0
+HoldsIts g f (Variable b) = IsSet f b.number → IsFull g b.object
+HoldsIts g f (Level l) = Unit {0}
+
+abbrev pub AreSet : Typing → flow.State → List InScope → Type 0
 AreSet g f [] = Unit {0}
-AreSet g f (b ∷ bs) = (IsSet f b.number → IsFull g b.object) × AreSet g f bs
+AreSet g f (b ∷ bs) = HoldsIts g f b × AreSet g f bs
 
 -- what is known here holds, and so code that is never run is not reached
-abbrev pub Holds : Typing → flow.State → List Bound → Type 0
+abbrev pub Holds : Typing → flow.State → List InScope → Type 0
 Holds g f bs = (is_reached f ≡ true) × AreSet g f bs
 
 -- where the first holds, so does the second
@@ -102,16 +130,18 @@ is_loop None = false
 is_loop (Some l) = true
 
 -- the context of a tree in a function of this program, where control may go there and these locals are in scope
-pub record IsContext (p : Program) (x : Exits) (bs : List Bound) (c : Context) : Type 0 where
+pub record IsContext (p : Program) (x : Exits) (bs : List InScope) (c : Context) : Type 0 where
   pub globals : c.globals ≡ map (λ (g : GlobalVariable). g.of_type) p.globals
   pub functions : c.functions ≡ map signature_of p.functions
+  pub structs : c.structs ≡ p.structs
   pub result : c.result ≡ x.result
   pub loop : c.in_loop ≡ true → is_loop x.loop ≡ true
   pub scope : IsScope c.locals bs
   pub below : AreBelow c.next_local bs
+  pub counters : (level : ℕ) → level < c.counters → IsAmong (Level level) bs
 
--- the globals are the first objects
-abbrev pub AreGlobals : Typing → Program → Type 0
-AreGlobals g p =
-    (number : ℕ) (t : Ty) → slice_get (map (λ (v : GlobalVariable). v.of_type) p.globals) number ≡ Some t
-    → (slice_get g.objects number ≡ Some (global_type (read t))) × IsFull g number
+-- what is known of a program: its globals are the first objects, and its structs have the cells of their fields
+pub record KnowsProgram (g : Typing) (p : Program) : Type 0 where
+  pub globals : (number : ℕ) (t : Ty) → slice_get (map (λ (v : GlobalVariable). v.of_type) p.globals) number ≡ Some t
+      → (slice_get g.objects number ≡ Some (global_type (read t))) × IsFull g number
+  pub structs : (number : ℕ) (s : StructType) (ls : List Life) → slice_get p.structs number ≡ Some s → g.fields number ls ≡ Some (map read s.fields)

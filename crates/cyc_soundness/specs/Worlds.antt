@@ -1,18 +1,16 @@
 -- THE TYPING OF A WORLD: what is known of each object that was ever made, which nothing takes back. Values are typed against it, and never
 -- against what is open: a pointer keeps its type when its region closes, and that it may be followed is shown where it is followed.
-use Rattle.std.specs.Prelude.{◌≡◌, ℕ, ◌+◌, ◌<◌, Bool, true, false, List, [], ◌∷◌, length, Option, Some, None, slice_get}
+use Rattle.std.specs.Prelude.{◌≡◌, ℕ, zero, suc, ◌+◌, ◌<◌, ◌≤◌, Bool, true, false, List, [], ◌∷◌, length, Option, Some, None, slice_get}
 use Rattle.cyc_syntax.specs.declared.tree.PointerKind.TheVariants as marks
 use Rattle.cyc_types.specs.declared.typed.Kind.TheVariants as kinds
 use Rattle.cyc_meaning.specs.Values.{Operand, Cell}
 use Rattle.cyc_meaning.specs.Values as values
 use Rattle.cyc_meaning.specs.Operators.{Result, Gives, Raises, Misfits}
-use Rattle.cyc_meaning.specs.State.{Owner, InRegion, Unique, Object, globals_number}
+use Rattle.cyc_meaning.specs.State.{Region, Owner, InRegion, Unique, Object, heap_number, globals_number, is_open}
 use Rattle.cyc_soundness.specs.Lives.{Life, OfRegion, OfObject, RunTy, Int, Pointer, Handle, Key, Struct, RunValue, Void, Null, Value, kind_at}
 
 pub record ObjectType : Type 0 where
   pub cells : List RunTy
-  -- the type of the whole, where it is a struct
-  pub whole : Option RunTy
   pub life : Life
   -- no pointer leads to it
   pub is_hidden : Bool
@@ -20,18 +18,25 @@ pub record ObjectType : Type 0 where
 pub record Typing : Type 0 where
   -- by number
   pub objects : List ObjectType
-  -- of each, whether all its cells hold something, which stays so
-  pub full : List Bool
+  -- of each, how many of its cells hold something, from the first on: they do so for good
+  pub filled : List ℕ
+  -- the types of a struct's cells, by its number and what its regions stand for
+  pub fields : ℕ → List Life → Option (List RunTy)
 
+-- at least so many cells of an object hold something
+abbrev pub IsFilled : Typing → (object count : ℕ) → Type 0
+IsFilled g object count = (filled : ℕ) × (slice_get g.filled object ≡ Some filled) × (count ≤ filled)
+
+-- a variable holds something
 abbrev pub IsFull : Typing → (object : ℕ) → Type 0
-IsFull g object = slice_get g.full object ≡ Some true
+IsFull g object = IsFilled g object 1
 
 -- an object of one cell in a region, to which no pointer leads
 abbrev pub variable_type : RunTy → (region : ℕ) → ObjectType
-variable_type t region = record { cells = t ∷ []; whole = None; life = OfRegion region; is_hidden = true }
+variable_type t region = record { cells = t ∷ []; life = OfRegion region; is_hidden = true }
 
 abbrev pub global_type : RunTy → ObjectType
-global_type t = record { cells = t ∷ []; whole = None; life = OfRegion globals_number; is_hidden = false }
+global_type t = record { cells = t ∷ []; life = OfRegion globals_number; is_hidden = false }
 
 -- what is there as long as the first is there as long as the second: the heap and the globals are for ever
 pub data Outlasts : Life → Life → Type 0 where
@@ -41,15 +46,15 @@ pub data Outlasts : Life → Life → Type 0 where
 
 -- ---- values
 
--- an object has something of this type at this cell
-abbrev pub IsPart : ObjectType → RunTy → (offset : ℕ) → Type 0
-IsPart x (Struct n ls) offset = (offset ≡ 0) × (x.whole ≡ Some (Struct n ls))
-IsPart x t offset = slice_get x.cells offset ≡ Some t
+-- An object of this type holds something of that type at this cell: a value, or a struct, which is all of the object.
+abbrev pub IsPart : Typing → (object : ℕ) → ObjectType → RunTy → (offset : ℕ) → Type 0
+IsPart g object x (Struct n ls) offset = (offset ≡ 0) × (g.fields n ls ≡ Some x.cells) × IsFilled g object (length x.cells)
+IsPart g object x t offset = (slice_get x.cells offset ≡ Some t) × IsFilled g object (suc offset)
 
 -- a pointer of this type may lead to this cell
 abbrev pub IsTarget : Typing → RunTy → Life → (object offset : ℕ) → Type 0
 IsTarget g t l object offset =
-    (x : ObjectType) × (slice_get g.objects object ≡ Some x) × IsFull g object × (x.is_hidden ≡ false) × Outlasts x.life l × IsPart x t offset
+    (x : ObjectType) × (slice_get g.objects object ≡ Some x) × (x.is_hidden ≡ false) × Outlasts x.life l × IsPart g object x t offset
 
 -- a value of this type
 abbrev pub HasType : Typing → RunTy → values.Value → Type 0
@@ -84,7 +89,7 @@ AreOperands g (t ∷ ts) (v ∷ vs) = IsResult g (Value t) v × AreOperands g ts
 
 -- ---- objects
 
--- a cell holds nothing only where its object is not known to be full
+-- a cell holds nothing only where it is not known to hold something
 abbrev pub IsContent : Typing → (full : Bool) → RunTy → Option values.Value → Type 0
 IsContent g full t None = full ≡ false
 IsContent g full t (Some v) = HasType g t v
@@ -92,31 +97,37 @@ IsContent g full t (Some v) = HasType g t v
 abbrev pub IsCell : Typing → (full : Bool) → RunTy → Cell → Type 0
 IsCell g full t c = (c.kind ≡ kind_at t) × IsContent g full t c.content
 
-abbrev pub AreCells : Typing → (full : Bool) → List RunTy → List Cell → Type 0
-AreCells g full [] [] = Unit {0}
-AreCells g full [] (c ∷ cs) = ⊥
-AreCells g full (t ∷ ts) [] = ⊥
-AreCells g full (t ∷ ts) (c ∷ cs) = IsCell g full t c × AreCells g full ts cs
+-- cells of these types, the first so many of which hold something
+abbrev pub AreCells : Typing → List RunTy → List Cell → (filled : ℕ) → Type 0
+AreCells g [] [] n = Unit {0}
+AreCells g [] (c ∷ cs) n = ⊥
+AreCells g (t ∷ ts) [] n = ⊥
+AreCells g (t ∷ ts) (c ∷ cs) zero = IsCell g false t c × AreCells g ts cs zero
+AreCells g (t ∷ ts) (c ∷ cs) (suc n) = IsCell g true t c × AreCells g ts cs n
 
+-- where nothing is given back, a unique object is there as long as the heap
 abbrev pub IsOwner : Life → Owner → Type 0
 IsOwner (OfRegion region) (InRegion number) = region ≡ number
+IsOwner (OfRegion region) (Unique live) = (region ≡ heap_number) × (live ≡ true)
 IsOwner (OfObject object) (Unique live) = Unit {0}
 IsOwner l o = ⊥
 
-pub record IsObject (g : Typing) (full : Bool) (t : ObjectType) (x : Object) : Type 0 where
+pub record IsObject (g : Typing) (filled : ℕ) (t : ObjectType) (x : Object) : Type 0 where
   pub owner : IsOwner t.life x.owner
-  pub cells : AreCells g full t.cells x.cells
+  pub cells : AreCells g t.cells x.cells filled
 
--- each object has its type, and there are no others
-pub record IsTyped (g : Typing) (objects : List Object) : Type 0 where
+-- each object has its type, and there are no others; the heap is open
+pub record IsTyped (g : Typing) (regions : List Region) (objects : List Object) : Type 0 where
   pub count : length objects ≡ length g.objects
-  pub flags : length objects ≡ length g.full
+  pub counts : length objects ≡ length g.filled
   pub each : (number : ℕ) (t : ObjectType) → slice_get g.objects number ≡ Some t
-      → (x : Object) × (full : Bool) × (slice_get objects number ≡ Some x) × (slice_get g.full number ≡ Some full) × IsObject g full t x
+      → (x : Object) × (filled : ℕ) × (slice_get objects number ≡ Some x) × (slice_get g.filled number ≡ Some filled) × IsObject g filled t x
+  pub heap : is_open (slice_get regions heap_number) ≡ true
 
 -- ---- growth
 
 -- what was known stays known
 pub record Grows (g h : Typing) : Type 0 where
   pub objects : (number : ℕ) (t : ObjectType) → slice_get g.objects number ≡ Some t → slice_get h.objects number ≡ Some t
-  pub full : (number : ℕ) → IsFull g number → IsFull h number
+  pub filled : (number count : ℕ) → IsFilled g number count → IsFilled h number count
+  pub fields : (struct : ℕ) (ls : List Life) (ts : List RunTy) → g.fields struct ls ≡ Some ts → h.fields struct ls ≡ Some ts

@@ -1,9 +1,10 @@
 //! Laws of the definitions in `specs/`. Each function does nothing: its contract is the law, and so it is proved with
 //! the crate.
 
-ghost use Rattle.std.specs.Prelude.{List};
+ghost use Rattle.std.specs.Prelude.{◌≡◌, true, List};
 ghost use Rattle.cyc_types.specs.Types.{Ty, ValueType};
 ghost use Rattle.cyc_types.specs.TypedTrees.{Program};
+ghost use Rattle.cyc_types.specs.Built.{is_built};
 ghost use Rattle.cyc_types.specs.typing.Tests.{kind_of};
 ghost use Rattle.cyc_types.specs.typing.WellTyped.{Context, Converts, IsWellTypedProgram};
 ghost use Rattle.cyc_types.specs.flow.Programs.{IsAllowedProgram};
@@ -12,16 +13,16 @@ ghost use Rattle.cyc_meaning.specs.Conversion.{conversion};
 ghost use Rattle.cyc_meaning.specs.State.{Entry};
 ghost use Rattle.cyc_soundness.specs.Lives.{RunTy, read, read_value};
 ghost use Rattle.cyc_soundness.specs.Worlds.{Typing, HasType, IsResult, Fits, Grows};
-ghost use Rattle.cyc_soundness.specs.Frames.{Bound, Exits};
+ghost use Rattle.cyc_soundness.specs.Frames.{InScope, Exits};
 ghost use Rattle.cyc_soundness.specs.Stacks.{Want, IsStack};
-ghost use Rattle.cyc_soundness.specs.Classes.{IsOfVariables};
-ghost use Rattle.cyc_soundness.specs.Sound.{HaveValues, IsSound};
+ghost use Rattle.cyc_soundness.specs.Classes.{IsOfTheHeap};
+ghost use Rattle.cyc_soundness.specs.Sound.{IsSound};
 
 /// What is known of a world only grows, and what was typed stays so: a value keeps its type for good, and so does a
 /// control stack.
 pub fn typings_stay()
     ensures values { (g h : Typing) → Grows g h → (t : RunTy) (v : Value) → HasType g t v → HasType h t v }
-    ensures stacks { (p : Program) (g h : Typing) → Grows g h → (x : Exits) (locals : List Bound) (want : Want) (stack : List Entry)
+    ensures stacks { (p : Program) (g h : Typing) → Grows g h → (x : Exits) (locals : List InScope) (want : Want) (stack : List Entry)
         → IsStack p g x locals want stack → IsStack p h x locals want stack }
 {}
 
@@ -31,8 +32,13 @@ pub fn conversions_fit()
         → Fits g (read t) (conversion (kind_of t) v.value) }
 {}
 
-/// No run of a program whose values live in variables alone is ever dead or wrong, where the typing rules and the flow
-/// rules accept it.
-pub fn variables_are_sound()
-    ensures { (p : Program) → IsWellTypedProgram p → HaveValues p.globals → IsAllowedProgram p → IsOfVariables p → IsSound p }
+/// No run of a program in which nothing ends that can be reached, but its calls and blocks, is ever dead or wrong, where
+/// the typing rules and the flow rules accept it.
+pub fn heap_programs_are_sound()
+    ensures { (p : Program) → IsWellTypedProgram p → IsAllowedProgram p → IsOfTheHeap p → IsSound p }
+{}
+
+/// No run of a program that is built and that both sets of rules accept is ever dead or wrong.
+pub fn built_programs_are_sound()
+    ensures { (p : Program) → IsWellTypedProgram p → IsAllowedProgram p → is_built p ≡ true → IsSound p }
 {}

@@ -17,6 +17,7 @@ use Rattle.cyc_types.specs.TypedTrees.{Program}
 use Rattle.cyc_meaning.specs.Run.{start}
 use Rattle.cyc_words.specs.Simulation.{Preserves}
 use Rattle.cyc_plain.specs.Program.{Program as PlainProgram}
+use Rattle.cyc_soundness.specs.Sound.{IsSound}
 use Rattle.cyc_lower.specs.Lowered.{IsLowered}
 use Rattle.cyc_meaning.specs.SourceMachine.{source_machine}
 use Rattle.cyc_select.specs.Labelled.{Labelled, IsCode}
@@ -66,7 +67,7 @@ text_has_words code addresses words some text = first_line code.lines refl some
 -- ---- it does what the program means
 
 module _ (p : Program) (lowered : PlainProgram) (code : Labelled) (addresses : ℕ → ℕ) (words : List ℕ)
-    (is : IsLowered p lowered) (selected : IsCodeOf lowered code) (globals : code.globals ≡ lowered.globals) (text : IsTextOf code addresses words) (runs : Runs code addresses words)
+    (sound : IsSound p) (is : IsLowered p lowered) (selected : IsCodeOf lowered code) (globals : code.globals ≡ lowered.globals) (text : IsTextOf code addresses words) (runs : Runs code addresses words)
     (is_code : IsCode code) (fit : AllByRecursion IsWord words) (fit_globals : AllByRecursion IsWord code.globals) where
   few : length code.globals ≤ globals_length
   few = is_code.few_globals
@@ -75,11 +76,11 @@ module _ (p : Program) (lowered : PlainProgram) (code : Labelled) (addresses : �
   some = text_has_words code addresses words is_code.some text
 
   does : DoesTheSame p (program_image words code.globals)
-  does limits store input allowed new bytes never =
+  does limits store input allowed new bytes =
       let pages = limits.pages in
       let calls = limits.calls in
       let together = chain_preserves p lowered code addresses words pages calls store input
-      (is.follows pages calls store input new (omega (arith, allowed.enough_pages)) allowed.enough_calls) selected text runs allowed new bytes (never_fails p limits input never) in
+      (is.follows pages calls store input new (omega (arith, allowed.enough_pages)) allowed.enough_calls) selected text runs allowed new bytes (never_fails p limits input sound) in
       subst (λ each. Preserves (source_machine p pages calls) world_machine each (start p input) (start_world (program_image words code.globals) limits store input))
       (sym (text_words-image words code.globals some text.inside few fit fit_globals))
       (subst (λ (w : World). Preserves (source_machine p pages calls) world_machine (length words) (start p input) w)
@@ -97,10 +98,10 @@ module _ (p : Program) (lowered : PlainProgram) (code : Labelled) (addresses : �
 
 -- the same, for words and globals that the image was made of
 pub image_made : (p : Program) (lowered : PlainProgram) (code : Labelled) (addresses : ℕ → ℕ) (words there globals : List ℕ) (file : List ℕ)
-    → there ≡ words → globals ≡ code.globals → IsLowered p lowered → IsCodeOf lowered code → code.globals ≡ lowered.globals → IsTextOf code addresses words → Runs code addresses words
+    → there ≡ words → globals ≡ code.globals → IsSound p → IsLowered p lowered → IsCodeOf lowered code → code.globals ≡ lowered.globals → IsTextOf code addresses words → Runs code addresses words
     → IsCode code → AllByRecursion IsWord there → AllByRecursion IsWord globals → reading file ≡ Ok (program_image there globals)
     → file ≡ layout (program_image there globals) → IsImageOf p file
-image_made p lowered code addresses words there globals file same same_globals is selected are text runs is_code fit fit_globals read written =
-    image_of_chain p lowered code addresses words is selected are text runs is_code (subst (AllByRecursion IsWord) same fit) (subst (AllByRecursion IsWord) same_globals fit_globals) file
+image_made p lowered code addresses words there globals file same same_globals sound is selected are text runs is_code fit fit_globals read written =
+    image_of_chain p lowered code addresses words sound is selected are text runs is_code (subst (AllByRecursion IsWord) same fit) (subst (AllByRecursion IsWord) same_globals fit_globals) file
     (subst (λ (ws : List ℕ). reading file ≡ Ok (program_image ws code.globals)) same (subst (λ (gs : List ℕ). reading file ≡ Ok (program_image there gs)) same_globals read))
     (subst (λ (ws : List ℕ). file ≡ layout (program_image ws code.globals)) same (subst (λ (gs : List ℕ). file ≡ layout (program_image there gs)) same_globals written))

@@ -22,7 +22,7 @@ use Rattle.cyc_system.specs.declared.report.RunFault.TheVariants.{Elf, Load, Rea
 use Rattle.cyc_system.specs.declared.report.Stop.{Stop}
 use Rattle.cyc_system.specs.declared.report.Stop.TheVariants as stops
 use Rattle.cyc_system.specs.Engine.{Devices, Rests, Tells, Executes, Stops, Runs, Refuses, Starts, Answers, AnswersAnew}
-use Rattle.cyc_system.specs.FullPreservation.{text_words, limited, NeverGoesWrong, AreAlike, IsImageOf}
+use Rattle.cyc_system.specs.FullPreservation.{text_words, limited, AreAlike, IsImageOf}
 use Rattle.cyc_system.specs.CompiledRuns.{IsEndOf, IsAsFar, AnswersAs, RunsAs}
 use Rattle.cyc_system.proofs.Engines.{counted_run}
 use Rattle.cyc_system.proofs.Preservation.{are_alike}
@@ -122,8 +122,8 @@ module _ (p : Program) (image : ImageContents) (limits : Bounds) (store : StoreS
       (subst (λ (b : Bool). MatchBool b (Refuses (Load load.Outside) old new result) (Starts grows (start_world image limits store) budget old new result)) loads answers)
 
 pub compiled_runs : (p : Program) (file : List ℕ) (is : IsImageOf p file) (limits : Bounds) (input : List ℕ) → AreAllowed limits.pages limits.calls → AllByRecursion (λ b. b < 256) input
-    → NeverGoesWrong p limits input → (grows : Bool) (budget : ℕ) (old new : Devices) (result : Result Report RunFault) → old.remaining ≡ Some input
+    → (grows : Bool) (budget : ℕ) (old new : Devices) (result : Result Report RunFault) → old.remaining ≡ Some input
     → AnswersAnew grows (reading file) limits budget old new result → RunsAs p limits input (text_words is.image) budget old new result
-compiled_runs p file is limits input allowed bytes never grows budget old new result tells (store, new_store, answers) =
-    answers_as p is.image limits store input (are_alike p is.image is.does limits store input allowed new_store bytes never) grows budget old new tells is.loads result
+compiled_runs p file is limits input allowed bytes grows budget old new result tells (store, new_store, answers) =
+    answers_as p is.image limits store input (are_alike p is.image is.does limits store input allowed new_store bytes) grows budget old new tells is.loads result
     (subst (λ (read : Result ImageContents ElfFault). Answers grows store read limits budget old new result) is.read answers)

@@ -1,7 +1,7 @@
 -- Full preservation in the words of the two runs: the program's limited run, and the machine's runs.
 use Rattle.std.proofs.Common.{◌≡◌, ◌≢◌, ℕ, zero, suc, ◌+◌, ◌*◌, ◌<◌, List, Option, Some, None, refl, sym, ap, subst, ◌∙◌}
 use Rattle.std.specs.List.{AllByRecursion}
-use Rattle.cyc_words.specs.Ending.{Ending}
+use Rattle.cyc_words.specs.Ending.{Ending, Full}
 use Rattle.cyc_elf.specs.Image.{ImageContents}
 use Rattle.cyc_machine.specs.Bounds.{Bounds, AreAllowed}
 use Rattle.cyc_machine.specs.Run.{World, Run, end_in, ending_of}
@@ -16,11 +16,13 @@ use Rattle.cyc_machine.specs.declared.phase.Phase.TheVariants as phases
 use Rattle.cyc_types.specs.TypedTrees.{Program}
 use Rattle.cyc_meaning.specs.State as meaning
 use Rattle.cyc_meaning.specs.Run.{start, limited_steps}
+use Rattle.cyc_meaning.proofs.RunLaws.{limited_comes_to}
+use Rattle.cyc_soundness.specs.Sound.{IsSound}
 use Rattle.cyc_words.specs.Simulation as simulation
 use Rattle.cyc_words.specs.Simulation.{NeverFails, Preserves}
 use Rattle.cyc_meaning.specs.SourceMachine.{source_machine, status_in as source_status}
 use Rattle.cyc_machine.specs.WorldMachine.{world_machine, status_at, status_in as world_status}
-use Rattle.cyc_system.specs.FullPreservation.{text_words, limited, NeverGoesWrong, DoesTheSame, IsAhead, IsBehind, AreAlike}
+use Rattle.cyc_system.specs.FullPreservation.{text_words, limited, DoesTheSame, IsAhead, IsBehind, AreAlike}
 
 -- ---- the runs
 
@@ -72,13 +74,22 @@ trap_fails phases.Running cause over = absurd (let e : None ≡ Some (Trap cause
 trap_fails phases.Waiting cause over = absurd (let e : None ≡ Some (Trap cause) = over in cc)
 trap_fails (phases.Over end) cause over = ap (λ (e : End). status_at (ending_of e)) (let same : end ≡ Trap cause = cc in same)
 
--- ---- a program that never goes wrong never fails
+-- ---- a sound program never fails, whatever its limits
 
-pub never_fails : (p : Program) (limits : Bounds) (input : List ℕ) → NeverGoesWrong p limits input → NeverFails (source_machine p limits.pages limits.calls) (start p input)
-never_fails p limits input never n s run failed =
+dead_not_full : meaning.IsDead ≢ meaning.HasEnded Full
+dead_not_full same = cc
+
+wrong_not_full : meaning.IsWrong ≢ meaning.HasEnded Full
+wrong_not_full same = cc
+
+pub never_fails : (p : Program) (limits : Bounds) (input : List ℕ) → IsSound p → NeverFails (source_machine p limits.pages limits.calls) (start p input)
+never_fails p limits input sound n s run failed =
     let is = source_run p limits.pages limits.calls n (start p input) s run in
-    let (alive, right) = never n in
-    not_failed (meaning.status_of (limited p limits input n)) alive right (sym (ap (λ (t : meaning.State). source_status (meaning.status_of t)) is) ∙ failed)
+    let (alive, right) = sound input n in
+    not_failed (meaning.status_of (limited p limits input n))
+    (λ dead. alive (limited_comes_to p limits.pages limits.calls n (start p input) meaning.IsDead dead_not_full dead))
+    (λ wrong. right (limited_comes_to p limits.pages limits.calls n (start p input) meaning.IsWrong wrong_not_full wrong))
+    (sym (ap (λ (t : meaning.State). source_status (meaning.status_of t)) is) ∙ failed)
 
 -- ---- and the two runs
 
@@ -121,6 +132,6 @@ module _ (p : Program) (image : ImageContents) (limits : Bounds) (store : StoreS
 
 pub are_alike : (p : Program) (image : ImageContents) → DoesTheSame p image
     → (limits : Bounds) (store : StoreState) (input : List ℕ) → AreAllowed limits.pages limits.calls → IsNew limits.pages store
-    → AllByRecursion (λ b. b < 256) input → NeverGoesWrong p limits input → AreAlike p image limits store input
-are_alike p image does limits store input allowed new bytes never =
-    alike_of p image limits store input (does limits store input allowed new bytes never)
+    → AllByRecursion (λ b. b < 256) input → AreAlike p image limits store input
+are_alike p image does limits store input allowed new bytes =
+    alike_of p image limits store input (does limits store input allowed new bytes)

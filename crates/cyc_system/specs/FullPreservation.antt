@@ -3,7 +3,7 @@
 -- The program has one limited run for each input. The machine has many runs from an image, since its services may
 -- choose; each of them does what the program does. This project's own choice: the form of the promise, and its bound of
 -- so many instructions for each step of the program.
-use Rattle.std.specs.Prelude.{◌≡◌, ◌≢◌, ℕ, ◌+◌, ◌*◌, ◌/◌, ◌<◌, false, List, length, Some, Ok, sum_by, if◌then◌else◌}
+use Rattle.std.specs.Prelude.{◌≡◌, ℕ, ◌+◌, ◌*◌, ◌/◌, ◌<◌, false, List, length, Some, Ok, sum_by, if◌then◌else◌}
 use Rattle.std.specs.List.{AllByRecursion}
 use Rattle.cyc_words.specs.Ending.{Ending}
 use Rattle.cyc_words.specs.Prefix.{IsPrefix}
@@ -20,7 +20,7 @@ use Rattle.cyc_machine.specs.declared.event.End.{End}
 use Rattle.cyc_machine.specs.declared.event.End.TheVariants.{Trap}
 use Rattle.cyc_types.specs.TypedTrees.{Program}
 use Rattle.cyc_meaning.specs.State as meaning
-use Rattle.cyc_meaning.specs.State.{State, HasEnded, IsDead, IsWrong}
+use Rattle.cyc_meaning.specs.State.{State, HasEnded}
 use Rattle.cyc_meaning.specs.Run.{start, limited_run}
 use Rattle.cyc_words.specs.Simulation.{Preserves}
 use Rattle.cyc_meaning.specs.SourceMachine.{source_machine}
@@ -39,19 +39,12 @@ IsLoadable image = has_outside image ≡ false
 abbrev pub limited : Program → Bounds → (input : List ℕ) → ℕ → State
 limited p limits input n = limited_run p limits.pages limits.calls input n
 
--- With these limits and this input the program never reads or writes what is no more, and never comes to a state where
--- no case of its meaning applies.
-abbrev pub NeverGoesWrong : Program → Bounds → (input : List ℕ) → Type 0
-NeverGoesWrong p limits input =
-    (n : ℕ) → (meaning.status_of (limited p limits input n) ≢ IsDead)
-    × (meaning.status_of (limited p limits input n) ≢ IsWrong)
-
--- The image does what the program means: for all limits that are allowed, a new store with any words, and each input on which the
--- program never goes wrong. With T words of text, T instructions are enough for each step of the program, and T before the first.
+-- The image does what the program means: for all limits that are allowed, a new store with any words, and each input of bytes. With T
+-- words of text, T instructions are enough for each step of the program, and T before the first.
 abbrev pub DoesTheSame : Program → ImageContents → Type 0
 DoesTheSame p image =
     (limits : Bounds) (store : StoreState) (input : List ℕ) → AreAllowed limits.pages limits.calls → IsNew limits.pages store
-    → AllByRecursion (λ b. b < 256) input → NeverGoesWrong p limits input
+    → AllByRecursion (λ b. b < 256) input
     → Preserves (source_machine p limits.pages limits.calls) world_machine (text_words image)
     (start p input) (start_world image limits store input)
 

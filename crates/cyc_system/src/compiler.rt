@@ -8,6 +8,7 @@ ghost use Rattle.cyc_types.specs.TypedTrees.{Program};
 ghost use Rattle.cyc_types.specs.TypedTreeView.{view_program};
 ghost use Rattle.cyc_types.specs.typing.WellTyped.{IsWellTypedProgram};
 ghost use Rattle.cyc_types.specs.Weight.{program_weight};
+ghost use Rattle.cyc_soundness.specs.Sound.{IsSound};
 ghost use Rattle.cyc_lower.specs.Lowered.{CanBeLowered, IsLowered};
 ghost use Rattle.cyc_system.specs.FullPreservation.{IsImageOf};
 ghost use Rattle.cyc_system.specs.Compiled.{IsTooLarge, IsSmall, IsCompiledText, IsRefusedAtLast, HasFaultAtLast};
@@ -23,9 +24,9 @@ use cyc_types::check_built;
 use cyc_words::Fault;
 use std::alloc::Global;
 
-/// Compiles a plain program whose functions have frames. The bytes are an image of each program that was lowered to the plain one.
+/// Compiles a plain program whose functions have frames. The bytes are an image of each sound program that was lowered to the plain one.
 fn compile_plain(alloc: Global, framed: &Framed) -> Result<Vec<u8>, Fault>
-    ensures image { IfOk result (λ file. (p : Program) → IsLowered p framed.now.program → IsImageOf p file.items) }
+    ensures image { IfOk result (λ file. (p : Program) → IsSound p → IsLowered p framed.now.program → IsImageOf p file.items) }
     ensures refused { IfErr result (λ f. f ≡ memory_fault) }
 {
     let code = select(alloc, framed)?;
@@ -37,6 +38,7 @@ fn compile_plain(alloc: Global, framed: &Framed) -> Result<Vec<u8>, Fault>
 /// Compiles a typed program to an image, as the bytes of a file.
 fn build(alloc: Global, program: &Flowed) -> Result<Vec<u8>, Fault>
     requires well_typed { IsWellTypedProgram (view_program program.now.tree) }
+    requires sound { IsSound (view_program program.now.tree) }
     requires small { program_weight (view_program program.now.tree) ≤ max_tokens }
     requires can_be { CanBeLowered (view_program program.now.tree) }
     ensures { Decides (IsSmall (view_program program.now.tree)) (λ p file. IsImageOf p file.items)

@@ -12,7 +12,7 @@ ghost use Rattle.cyc_words.specs.declared.fault.Fault.{Fault};
 ghost use Rattle.cyc_types.specs.TypedTrees.{Program};
 ghost use Rattle.cyc_system.specs.Front.{IsAcceptedText, IsRefusedText};
 ghost use Rattle.cyc_system.specs.Compiled.{IsCompiledText};
-ghost use Rattle.cyc_system.specs.FullPreservation.{NeverGoesWrong, DoesTheSame, AreAlike, IsLoadable, IsImageOf, text_words};
+ghost use Rattle.cyc_system.specs.FullPreservation.{DoesTheSame, AreAlike, IsLoadable, IsImageOf, text_words};
 ghost use Rattle.cyc_system.specs.Engine.{Devices, AnswersAnew};
 ghost use Rattle.cyc_system.specs.CompiledRuns.{RunsAs};
 ghost use Rattle.cyc_system.specs.declared.report.Report.{Report};
@@ -41,15 +41,15 @@ pub fn compiled_images_load()
 pub fn images_run_alike()
     ensures { (p : Program) (image : ImageContents) → DoesTheSame p image
         → (limits : Bounds) (store : StoreState) (input : List ℕ) → AreAllowed limits.pages limits.calls → IsNew limits.pages store
-        → AllByRecursion (λ b. b < 256) input → NeverGoesWrong p limits input → AreAlike p image limits store input }
+        → AllByRecursion (λ b. b < 256) input → AreAlike p image limits store input }
 {}
 
 /// `compile` and then `run`: what is written and answered for a text that was compiled is as the limited run of the text's program
-/// says, for all limits, over each new store, for each input that the reader tells and on which the program never goes wrong, and each budget. With T words
-/// of text, a budget of (n + 1) * T lets the run come as far as the program comes in n steps.
+/// says, for all limits, over each new store, for each input that the reader tells, and each budget. With T words of text, a budget of
+/// (n + 1) * T lets the run come as far as the program comes in n steps.
 pub fn compiled_programs_run()
     ensures { (text : List ℕ) (p : Program) (file : List ℕ) → IsCompiledText text p → (is : IsImageOf p file)
-        → (limits : Bounds) (input : List ℕ) → AreAllowed limits.pages limits.calls → AllByRecursion (λ b. b < 256) input → NeverGoesWrong p limits input
+        → (limits : Bounds) (input : List ℕ) → AreAllowed limits.pages limits.calls → AllByRecursion (λ b. b < 256) input
         → (grows : Bool) (budget : ℕ) (old new : Devices) (result : Result Report RunFault) → old.remaining ≡ Some input
         → AnswersAnew grows (reading file) limits budget old new result → RunsAs p limits input (text_words is.image) budget old new result }
 {}

@@ -33,5 +33,5 @@ returns c =
     let there = sym (of ∙ same) in
     image_answers (λ q file. IsImageOf q file.items) p c.in_ok-framed.framed.program
     (subst (IsLowered p) there (subst (λ (q : Program). IsLowered q c.in_ok-plain.plain) one is)) (subst (λ (q : Program). length q.functions ≤ MOST_FUNCTIONS) one few)
-    c.in_ok-plain.ensures.refuses (subst HasSmallFrames (sym of) small) (λ f large. c.in_ok-framed.ensures.refuses f (subst (λ (r : PlainProgram). frames.IsTooLarge r f) (of ∙ same) large))
+    c.in_ok-plain.ensures.refuses c.requires.sound (subst HasSmallFrames (sym of) small) (λ f large. c.in_ok-framed.ensures.refuses f (subst (λ (r : PlainProgram). frames.IsTooLarge r f) (of ∙ same) large))
     c.compile_plain.result c.compile_plain.ensures.image c.compile_plain.ensures.refused

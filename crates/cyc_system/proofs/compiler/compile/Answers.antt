@@ -3,6 +3,7 @@ use Rattle.std.proofs.lemmas.Result.{err_from_is_err_and}
 use Rattle.cyc_types.specs.TypedTreeView.{view_program}
 use Rattle.cyc_types.specs.Built.{is_built}
 use Rattle.cyc_types.proofs.typing.ProgramLemmas.{program_well}
+use Rattle.cyc_soundness.proofs.Whole.{built_sound}
 use Rattle.cyc_lower.proofs.Accepted.{accepted_can_be_lowered}
 use Rattle.cyc_system.specs.Front.{names_in, IsAcceptedText}
 use Rattle.cyc_system.specs.FullPreservation.{IsImageOf}
@@ -30,6 +31,13 @@ build-requires-clause-well_typed c =
     let (p, is, same) = c.in_ok-program.ensures.decides.accepted in
     let a = subst (IsAcceptedText c.args.text.now) (sym same) is in
     program_well (names_in a.tokens) a.tree (view_program c.in_ok-program.program.tree) a.typed
+
+pub build-requires-clause-sound : goal.build-requires-clause-sound
+build-requires-clause-sound c =
+    let (p, is, same) = c.in_ok-program.ensures.decides.accepted in
+    let a = subst (IsAcceptedText c.args.text.now) (sym same) is in
+    let tree = view_program c.in_ok-program.program.tree in
+    built_sound tree (program_well (names_in a.tokens) a.tree tree a.typed) a.allowed (sym c.in_ok-check_built.ensures)
 
 pub build-requires-clause-small : goal.build-requires-clause-small
 build-requires-clause-small c =

@@ -1,0 +1,134 @@
+-- Texts of which the theorem speaks: both sets of rules accept them, they stand in the class, and their runs end as is said. Each is
+-- proved by computation, so that the theorem is not about nothing.
+use Rattle.std.proofs.Common.{◌≡◌, ℕ, List, [], ◌∷◌, Some, None, Ok, Err, pos, refl}
+use Rattle.std.specs.Prelude.{codes}
+use Rattle.cyc_words.specs.Ending.{Returned}
+use Rattle.cyc_syntax.specs.declared.tree.PointerKind.{PointerKind}
+use Rattle.cyc_syntax.specs.declared.tree.PointerKind.TheVariants as marks
+use Rattle.cyc_syntax.specs.declared.tree.PrefixOperator.TheVariants as prefixes
+use Rattle.cyc_syntax.specs.declared.tree.BinaryOperator.TheVariants as operators
+use Rattle.cyc_syntax.specs.Symbols.{Place}
+use Rattle.cyc_syntax.specs.Trees.{Named, BaseType, Int, Struct, Handle, WrittenType, Expression, Number, Null, HeapRegion, UniqueRegion, Variable, Call, NumberOfElements, Chained, Prefixed, New, RegionNew, Binary, Assign, Plain, Fields, Array, NoExpressions, MoreExpressions, NoPostfixes, ThenIndex, ThenField, NoOperations, ThenOperation, Evaluate, Swap, Return, Try, Braces, Items, NoItems, MoreItems, Execute, Local, Default, Listed, Declaration, StructType, Global, Function}
+use Rattle.cyc_types.specs.TypedTrees as typed
+use Rattle.cyc_types.specs.Rules.{Checked}
+use Rattle.cyc_types.specs.typing.Programs.{rule_program, check_of, IsTypedProgram}
+use Rattle.cyc_types.specs.flow.Programs.{flow_of}
+use Rattle.cyc_types.specs.flow.Programs as flow
+use Rattle.cyc_types.proofs.RuleLaws.{answers_tree}
+use Rattle.cyc_types.proofs.typing.ProgramLemmas.{program_well}
+use Rattle.cyc_meaning.specs.State.{Status, HasEnded, status_of}
+use Rattle.cyc_meaning.specs.Run.{run}
+use Rattle.cyc_soundness.specs.Classes.{IsOfTheHeap}
+use Rattle.cyc_soundness.specs.Sound.{IsSound}
+use Rattle.cyc_soundness.proofs.Whole.{heap_sound}
+
+-- ---- what is said of a text
+
+-- the typed program keeps the flow rules, stands in the class, and ends so
+abbrev Ends : Checked typed.Program → Status → Type 0
+Ends (Ok p) s = (flow_of p ≡ Ok tt) × IsOfTheHeap p × (status_of (run p [] 200) ≡ s)
+Ends (Err f) s = ⊥
+
+-- and so no run of it is dead or wrong
+pub never_dead : (texts : List (List ℕ)) (tree : List Declaration) (s : Status) → Ends (check_of texts tree) s
+    → (p : typed.Program) × IsTypedProgram texts tree p × IsSound p × (status_of (run p [] 200) ≡ s)
+never_dead texts tree s ends = go (check_of texts tree) refl ends
+  where
+    go : (r : Checked typed.Program) → check_of texts tree ≡ r → Ends r s → (p : typed.Program) × IsTypedProgram texts tree p × IsSound p × (status_of (run p [] 200) ≡ s)
+    go (Ok p) is (allowed, kept, ended) =
+        let derived : IsTypedProgram texts tree p = answers_tree (rule_program texts tree) p is in
+        (p, derived, heap_sound p (program_well texts tree p derived) (answers_tree (flow.rule_program p) tt allowed) kept, ended)
+    go (Err f) is none = absurd none
+
+-- ---- trees
+
+abbrev texts : List (List ℕ)
+texts = codes "main" ∷ codes "S" ∷ codes "p" ∷ codes "x" ∷ codes "n" ∷ codes "i" ∷ codes "U" ∷ codes "f" ∷ codes "r" ∷ codes "h" ∷ []
+
+abbrev at : ℕ → Place
+at column = record { line = 1; column = column }
+
+abbrev named : ℕ → ℕ → Named
+named n column = record { name = n; place = at column }
+
+abbrev written : BaseType → List PointerKind → WrittenType
+written b [] = record { place = at 1; base = b; marks = [] }
+written b (k ∷ ks) = record { place = at 1; base = b; marks = record { kind = k; region = None } ∷ [] }
+
+-- a pointer to an int in the region of this name, which is never null
+abbrev into : ℕ → WrittenType
+into n = record { place = at 1; base = Int; marks = record { kind = marks.NonNull; region = Some (named n 3) } ∷ [] }
+
+abbrev main : Items → Declaration
+main is = Function (Some (written Int [])) (named 0 5) (record { list = Listed []; effect = None; constraints = [] }) (Braces (at 11) is (at 99))
+
+abbrev field : ℕ → Expression
+field n = Chained (Variable (named 2 20)) (ThenField (named n 21) NoPostfixes)
+
+abbrev plus : Expression → Expression → Expression
+plus a b = Binary a (ThenOperation operators.Add (at 30) b NoOperations)
+
+-- ---- texts
+
+-- struct S { int x; int *n; }; int main(){ struct S @p = new S{4, NULL}; p->n = new 3; return p->x + *p->n; }
+fields : Ends (check_of texts (
+    StructType (named 1 1) [] (record { of_type = written Int []; name = named 3 2 } ∷ record { of_type = written Int (marks.Nullable ∷ []); name = named 4 3 } ∷ [])
+    ∷ main (
+    MoreItems (Local (written (Struct (named 1 4) []) (marks.NonNull ∷ [])) (named 2 5) (Some (New (at 6) (Fields (named 1 7) [] (MoreExpressions (Number (at 8) 4) (MoreExpressions (Null (at 9)) NoExpressions))))))
+    (MoreItems (Execute (Evaluate (Assign (field 4) (New (at 10) (Plain (Number (at 11) 3))))))
+    (MoreItems (Execute (Return (at 12) (Some (plus (field 3) (Prefixed (at 13) prefixes.Dereference (field 4)))))) NoItems)))
+    ∷ [])) (HasEnded (Returned (pos 7)))
+fields = (refl, (((tt, (tt, (tt, tt))), ((tt, (tt, tt)), ((tt, (tt, tt)), tt))), tt), refl)
+
+-- int main(){ int ?p = new {for i < 3 : i * i}; return p[2] + numelts(p + 1); }
+elements : Ends (check_of texts (
+    main (
+    MoreItems (Local (written Int (marks.Fat ∷ [])) (named 2 5) (Some (New (at 6) (Array (at 7) (named 5 8) (Number (at 9) 3) (Binary (Variable (named 5 10)) (ThenOperation operators.Multiply (at 11) (Variable (named 5 12)) NoOperations))))))
+    (MoreItems (Execute (Return (at 13) (Some (plus (Chained (Variable (named 2 14)) (ThenIndex (Number (at 15) 2) NoPostfixes)) (NumberOfElements (at 16) (plus (Variable (named 2 17)) (Number (at 18) 1))))))) NoItems))
+    ∷ [])) (HasEnded (Returned (pos 6)))
+elements = (refl, (((tt, (tt, (tt, (tt, tt)))), (((tt, tt), ((tt, (tt, tt)), tt)), tt)), tt), refl)
+
+-- struct S { int x; int n; }; int main(){ struct S @p = new S{1, 5}; p->x :=: p->n; return p->x; }
+swapped : Ends (check_of texts (
+    StructType (named 1 1) [] (record { of_type = written Int []; name = named 3 2 } ∷ record { of_type = written Int []; name = named 4 3 } ∷ [])
+    ∷ main (
+    MoreItems (Local (written (Struct (named 1 4) []) (marks.NonNull ∷ [])) (named 2 5) (Some (New (at 6) (Fields (named 1 7) [] (MoreExpressions (Number (at 8) 1) (MoreExpressions (Number (at 9) 5) NoExpressions))))))
+    (MoreItems (Execute (Swap (field 3) (field 4)))
+    (MoreItems (Execute (Return (at 12) (Some (field 3)))) NoItems)))
+    ∷ [])) (HasEnded (Returned (pos 5)))
+swapped = (refl, (((tt, (tt, (tt, tt))), ((tt, tt), (tt, tt))), tt), refl)
+
+-- int main(){ int @`U p = rnew(unique_region) 5; return *p; }
+unique : Ends (check_of texts (
+    main (
+    MoreItems (Local (into 6) (named 2 5) (Some (RegionNew (at 6) (UniqueRegion (at 7)) (Plain (Number (at 8) 5)))))
+    (MoreItems (Execute (Return (at 9) (Some (Prefixed (at 10) prefixes.Dereference (Variable (named 2 11)))))) NoItems))
+    ∷ [])) (HasEnded (Returned (pos 5)))
+unique = (refl, (((tt, tt), (tt, tt)), tt), refl)
+
+-- int main(){ int *p = NULL; try return *p; catch { default: return 9; } }
+caught : Ends (check_of texts (
+    main (
+    MoreItems (Local (written Int (marks.Nullable ∷ [])) (named 2 5) (Some (Null (at 6))))
+    (MoreItems (Execute (Try (at 7) (Return (at 8) (Some (Prefixed (at 9) prefixes.Dereference (Variable (named 2 10))))) (Default (MoreItems (Execute (Return (at 11) (Some (Number (at 12) 9)))) NoItems)))) NoItems))
+    ∷ [])) (HasEnded (Returned (pos 9)))
+caught = (refl, ((tt, ((tt, (tt, tt)), tt)), tt), refl)
+
+-- int x; int main(){ int *p = &x; *p = 8; return x; }
+global : Ends (check_of texts (
+    Global (written Int []) (named 3 1) None
+    ∷ main (
+    MoreItems (Local (written Int (marks.Nullable ∷ [])) (named 2 5) (Some (Prefixed (at 6) prefixes.AddressOf (Variable (named 3 7)))))
+    (MoreItems (Execute (Evaluate (Assign (Prefixed (at 8) prefixes.Dereference (Variable (named 2 9))) (Number (at 10) 8))))
+    (MoreItems (Execute (Return (at 11) (Some (Variable (named 3 12))))) NoItems)))
+    ∷ [])) (HasEnded (Returned (pos 8)))
+global = (refl, ((tt, ((tt, tt), (tt, tt))), tt), refl)
+
+-- int f(region_t<`r> h){ int @`r p = rnew(h) 6; return *p; } int main(){ return f(heap_region); }
+by_handle : Ends (check_of texts (
+    Function (Some (written Int [])) (named 7 1) (record { list = Listed (record { of_type = written (Handle (named 8 2)) []; name = named 9 3 } ∷ []); effect = None; constraints = [] }) (Braces (at 4) (
+    MoreItems (Local (into 8) (named 2 5) (Some (RegionNew (at 6) (Variable (named 9 7)) (Plain (Number (at 8) 6)))))
+    (MoreItems (Execute (Return (at 9) (Some (Prefixed (at 10) prefixes.Dereference (Variable (named 2 11)))))) NoItems)) (at 12))
+    ∷ main (MoreItems (Execute (Return (at 13) (Some (Call (named 7 14) (MoreExpressions (HeapRegion (at 15)) NoExpressions))))) NoItems)
+    ∷ [])) (HasEnded (Returned (pos 6)))
+by_handle = (refl, (((tt, tt), (tt, tt)), (((tt, tt), tt), tt)), refl)
