@@ -25,7 +25,7 @@ use Rattle.cyc_plain.proofs.SlotLaws.{put-same}
 use Rattle.cyc_meaning.specs.Values.{Int, Null, Thin, Operand as Kinded, kind_of, words_of_kind}
 use Rattle.cyc_meaning.specs.SourceMachine.{status_in}
 use Rattle.cyc_meaning.specs.State.{status_of, World, Environment, ConvertTo, Operate, Chain, Apply, Store, Pass, Choose, Test, Entry, Needs, Discard, Focus, Evaluating, Given, Running}
-use Rattle.cyc_meaning.specs.Step.{object_of, assigned, passes, step}
+use Rattle.cyc_meaning.specs.Step.{target_by, object_of, assigned, passes, step}
 use Rattle.cyc_lower.specs.Slots.{slot_of}
 use Rattle.cyc_lower.proofs.Slots.{slot-room}
 use Rattle.cyc_lower.proofs.Widths.{kind_positive, type_words, HasRoom, Outside}
@@ -233,7 +233,7 @@ module _ (source : Program) (pages calls : ℕ) where
       → o ≡ operands.Slot (slot_of (starts_at source c.active.function) n) → HasRoom (types_at source c.active.function) n to
       → InitialBy (code_of source c.active.function) (bounds_at source c.active.function) (types_at source c.active.function) there from to a (slot_of (starts_at source c.active.function) n) (top source c.active.function k) c.active.next m
       → HandsOnStack source c.active.function e.locals to o m c.frames k
-      → Related source pages calls (Evaluating a) (Needs (ConvertTo from to) ∷ Needs (Store (Thin object 0)) ∷ k) e w c
+      → Related source pages calls (Evaluating a) (Needs (ConvertTo from to (target_by a)) ∷ Needs (Store (Thin object 0)) ∷ k) e w c
   assigns_local true n from to a k e w c object o m lands found shared facts holds there room (wide, at_a) hands =
       let g = c.active.function in
       let inside = slot-room (types_at source g) n (facts.2.within n object found).0 in (
@@ -244,7 +244,7 @@ module _ (source : Program) (pages calls : ℕ) where
       )
   assigns_local false n from to a k e w c object o m lands found shared facts holds there room (x, r, s, at_a, at_to, move, end) hands =
       let place : Lvalue = Local (record { line = 0; column = 0 }) n in
-      (shared, facts, sources from to a (Needs (ConvertTo from to) ∷ Needs (Store (Thin object 0)) ∷ k) e w c x r at_a holds (s, at_to, (place, o, m, (move, end, there, room), (object, refl, found), hands)))
+      (shared, facts, sources from to a (Needs (ConvertTo from to (target_by a)) ∷ Needs (Store (Thin object 0)) ∷ k) e w c x r at_a holds (s, at_to, (place, o, m, (move, end, there, room), (object, refl, found), hands)))
 
   -- a place is assigned, and then the value of the assignment is handed on
   assigns : (l : Lvalue) (from to : Kind) (a : Expression) (t : ValueType) (k : List Entry) (e : Environment) (w : World) (c : Configuration) (object : Option ℕ) (o : Operand) (m : ℕ)
@@ -255,15 +255,15 @@ module _ (source : Program) (pages calls : ℕ) where
       absurd (well (ap (λ x. status_in (status_of (assigned x (Convert from to a) k e w))) found))
   assigns (Local p n) from to a t k e w c (Some object) o m found (well, shared, facts, holds) (there, room, at) hands =
       silently source pages calls (Running (Evaluating (Assign (Local p n) (Convert from to a) t)) k e w)
-      (Running (Evaluating a) (Needs (ConvertTo from to) ∷ Needs (Store (Thin object 0)) ∷ k) e w) (plain.Running c)
+      (Running (Evaluating a) (Needs (ConvertTo from to (target_by a)) ∷ Needs (Store (Thin object 0)) ∷ k) e w) (plain.Running c)
       (ap (λ x. assigned x (Convert from to a) k e w) found)
       (assigns_local (converts_there from to) n from to a k e w c object o m refl found shared facts holds there room at hands)
       (omega arith)
   assigns (Global n) from to a t k e w c (Some object) o m found (well, shared, facts, holds) (s, (r, at_a, at_to), few, store, end) hands =
       silently source pages calls (Running (Evaluating (Assign (Global n) (Convert from to a) t)) k e w)
-      (Running (Evaluating a) (Needs (ConvertTo from to) ∷ Needs (Store (Thin object 0)) ∷ k) e w) (plain.Running c)
+      (Running (Evaluating a) (Needs (ConvertTo from to (target_by a)) ∷ Needs (Store (Thin object 0)) ∷ k) e w) (plain.Running c)
       (ap (λ x. assigned x (Convert from to a) k e w) found)
-      (shared, facts, sources from to a (Needs (ConvertTo from to) ∷ Needs (Store (Thin object 0)) ∷ k) e w c o r at_a holds (s, at_to, (Global n, o, m, (store, end, refl, few), (object, refl, found), hands)))
+      (shared, facts, sources from to a (Needs (ConvertTo from to (target_by a)) ∷ Needs (Store (Thin object 0)) ∷ k) e w c o r at_a holds (s, at_to, (Global n, o, m, (store, end, refl, few), (object, refl, found), hands)))
       (omega arith)
 
   -- a byte is printed
@@ -273,8 +273,8 @@ module _ (source : Program) (pages calls : ℕ) where
   prints NoArguments t k e w c o m known at stack = absurd at
   prints (MoreArguments (Convert from to a) NoArguments) t k e w c o m (well, shared, facts, holds) (s, at_a, at_to) (write, stack) =
       silently source pages calls (Running (Evaluating (Call callees.Putchar (MoreArguments (Convert from to a) NoArguments) t)) k e w)
-      (Running (Evaluating a) (Needs (ConvertTo from to) ∷ Needs (Pass callees.Putchar [] NoArguments) ∷ k) e w) (plain.Running c) refl
-      (shared, facts, sources from to a (Needs (ConvertTo from to) ∷ Needs (Pass callees.Putchar [] NoArguments) ∷ k) e w c o s at_a holds (m, at_to, (refl, refl, write, stack)))
+      (Running (Evaluating a) (Needs (ConvertTo from to (target_by a)) ∷ Needs (Pass callees.Putchar [] NoArguments) ∷ k) e w) (plain.Running c) refl
+      (shared, facts, sources from to a (Needs (ConvertTo from to (target_by a)) ∷ Needs (Pass callees.Putchar [] NoArguments) ∷ k) e w c o s at_a holds (m, at_to, (refl, refl, write, stack)))
       (omega arith)
   prints (MoreArguments c' (MoreArguments c'' cs)) t k e w c o m known at stack = absurd at
 

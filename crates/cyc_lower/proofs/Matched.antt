@@ -62,7 +62,7 @@ module _ (source : Program) where
   mutual
     pub value_depth : (g : ℕ) (locals : ℕ → Option ℕ) (kind : Kind) (o : Operand) (p : ℕ) (frames : List Frame) (k : List Entry) → ValueStack source g locals kind o p frames k → HasDepth frames k
     value_depth g locals kind o p frames [] stack = absurd stack
-    value_depth g locals kind o p frames (Needs (ConvertTo from to) ∷ k) (q, at, stack) = value_depth g locals to o q frames k stack
+    value_depth g locals kind o p frames (Needs (ConvertTo from to target) ∷ k) (q, at, stack) = value_depth g locals to o q frames k stack
     value_depth g locals kind o p frames (Needs (Operate u) ∷ k) (to_slot (d, at, lands)) =
         by_lands lands (λ stack. value_depth g locals kinds.Int (operands.Slot d) (p + 1) frames k stack) (λ stack. ahead_depth g locals kinds.Int d (p + 1) frames k stack)
     value_depth g locals kind o p frames (Needs (Operate u) ∷ k) (to_jump (is, stack)) = condition_depth g comparisons.NotEqual o (operands.Word 0) p frames k stack
@@ -105,7 +105,7 @@ module _ (source : Program) where
     dropped_depth g p frames k stack = absurd stack
 
     pub ahead_depth : (g : ℕ) (locals : ℕ → Option ℕ) (kind : Kind) (n p : ℕ) (frames : List Frame) (k : List Entry) → AheadStack source g locals kind n p frames k → HasDepth frames k
-    ahead_depth g locals kind n p frames (Needs (ConvertTo from to) ∷ k) (quiet, stack) = ahead_depth g locals to n p frames k stack
+    ahead_depth g locals kind n p frames (Needs (ConvertTo from to target) ∷ k) (quiet, stack) = ahead_depth g locals to n p frames k stack
     ahead_depth g locals kind n p frames (Needs (Chain NoOperations) ∷ k) stack = ahead_depth g locals kind n p frames k stack
     ahead_depth g locals kind n p frames (Needs (Store place) ∷ k) (number, object, is, found, same, room, hands) =
         by_hands hands (λ stack. dropped_depth g p frames k stack) (λ stack. value_depth g locals kind (operands.Slot n) p frames k stack)
@@ -130,7 +130,7 @@ module _ (source : Program) where
   mutual
     pub value_plain : (g : ℕ) (locals : ℕ → Option ℕ) (kind : Kind) (o : Operand) (p : ℕ) (frames : List Frame) (k : List Entry) → ValueStack source g locals kind o p frames k → IsPlainStack k
     value_plain g locals kind o p frames [] stack = absurd stack
-    value_plain g locals kind o p frames (Needs (ConvertTo from to) ∷ k) (q, at, stack) = value_plain g locals to o q frames k stack
+    value_plain g locals kind o p frames (Needs (ConvertTo from to target) ∷ k) (q, at, stack) = value_plain g locals to o q frames k stack
     value_plain g locals kind o p frames (Needs (Operate u) ∷ k) (to_slot (d, at, lands)) =
         by_lands lands (λ stack. value_plain g locals kinds.Int (operands.Slot d) (p + 1) frames k stack) (λ stack. ahead_plain g locals kinds.Int d (p + 1) frames k stack)
     value_plain g locals kind o p frames (Needs (Operate u) ∷ k) (to_jump (is, stack)) = condition_plain g comparisons.NotEqual o (operands.Word 0) p frames k stack
@@ -173,7 +173,7 @@ module _ (source : Program) where
     dropped_plain g p frames k stack = absurd stack
 
     pub ahead_plain : (g : ℕ) (locals : ℕ → Option ℕ) (kind : Kind) (n p : ℕ) (frames : List Frame) (k : List Entry) → AheadStack source g locals kind n p frames k → IsPlainStack k
-    ahead_plain g locals kind n p frames (Needs (ConvertTo from to) ∷ k) (quiet, stack) = ahead_plain g locals to n p frames k stack
+    ahead_plain g locals kind n p frames (Needs (ConvertTo from to target) ∷ k) (quiet, stack) = ahead_plain g locals to n p frames k stack
     ahead_plain g locals kind n p frames (Needs (Chain NoOperations) ∷ k) stack = ahead_plain g locals kind n p frames k stack
     ahead_plain g locals kind n p frames (Needs (Store place) ∷ k) (number, object, is, found, same, room, hands) =
         by_hands hands (λ stack. dropped_plain g p frames k stack) (λ stack. value_plain g locals kind (operands.Slot n) p frames k stack)

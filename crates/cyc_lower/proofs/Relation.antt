@@ -69,7 +69,7 @@ HoldsFrom slots first (v ∷ vs) = Is v.kind v.value slots first × HoldsFrom sl
 -- the values of the running call that are inside the entries of a stack
 abbrev pub held : List Entry → List Kinded
 held [] = []
-held (Needs (ConvertTo from to) ∷ k) = held k
+held (Needs (ConvertTo from to target) ∷ k) = held k
 held (Needs (Operate operator) ∷ k) = held k
 held (Needs (Chain rest) ∷ k) = held k
 held (Needs (Apply operator left) ∷ k) = left ∷ held k
@@ -302,7 +302,7 @@ module _ (source : Program) where
   abbrev mutual
     pub ValueStack : (g : ℕ) → (ℕ → Option ℕ) → Kind → Operand → (p : ℕ) → List Frame → List Entry → Type 0
     ValueStack g locals kind o p frames [] = ⊥
-    ValueStack g locals kind o p frames (Needs (ConvertTo from to) ∷ k) =
+    ValueStack g locals kind o p frames (Needs (ConvertTo from to target) ∷ k) =
         (q : ℕ) × ConversionAt (code_of g) (bounds_at g) (types_at g) to o p q × ValueStack g locals to o q frames k
     ValueStack g locals kind o p frames (Needs (Operate operator) ∷ k) =
         Yields ((d : ℕ) × At (code_of g) p (instructions.Unary (unary_operator operator) d o)
@@ -363,7 +363,7 @@ module _ (source : Program) where
 
     -- the same for a value that stands already in the slot n of a local, which is about to get it
     pub AheadStack : (g : ℕ) → (ℕ → Option ℕ) → Kind → (n p : ℕ) → List Frame → List Entry → Type 0
-    AheadStack g locals kind n p frames (Needs (ConvertTo from to) ∷ k) = (converts_there from to ≡ true) × AheadStack g locals to n p frames k
+    AheadStack g locals kind n p frames (Needs (ConvertTo from to target) ∷ k) = (converts_there from to ≡ true) × AheadStack g locals to n p frames k
     AheadStack g locals kind n p frames (Needs (Chain NoOperations) ∷ k) = AheadStack g locals kind n p frames k
     AheadStack g locals kind n p frames (Needs (Store place) ∷ k) =
         (number : ℕ) × (object : ℕ) × (place ≡ Thin object 0) × (locals number ≡ Some object) × (slot_of (starts_at g) number ≡ n)

@@ -22,7 +22,7 @@ use Rattle.cyc_plain.proofs.SlotLaws.{copied-below}
 use Rattle.cyc_plain.specs.Straight.{At}
 use Rattle.cyc_meaning.specs.Values.{Value, Int, kind_of, Operand as Kinded, words_of_kind}
 use Rattle.cyc_meaning.specs.State.{Region, World, Environment, variable, made, opened, closed, with_local, region_at, ConvertTo, Initialise, Choose, Return, Entry, Needs, NeedsPlace, Discard, Rest, Join, Loop, CloseRegion, CloseLexical, EndLoan, Handler, Caller, Main, Focus, Evaluating, Executing, Proceeding, Breaking, Continuing, Returning, Throwing, Running}
-use Rattle.cyc_meaning.specs.Step.{inside, region_end, step}
+use Rattle.cyc_meaning.specs.Step.{target_by, inside, region_end, step}
 use Rattle.cyc_lower.specs.Slots.{slot_of}
 use Rattle.cyc_lower.proofs.Slots.{slot-room, room-inside, slot_types-many}
 use Rattle.cyc_lower.proofs.Widths.{HasRoom, Outside}
@@ -111,8 +111,8 @@ module _ (source : Program) (pages calls : ℕ) where
       (shared, facts, (loop, q, s, here, stack))
       (omega arith)
   executing (typed.Return (Some (Convert from to a))) k e w c well (shared, facts, (loop, q, (s, m, r, at_a, at_to, here, wide, kind_is), stack)) =
-      silently source pages calls (Running (Executing (typed.Return (Some (Convert from to a)))) k e w) (Running (Evaluating a) (Needs (ConvertTo from to) ∷ Needs Return ∷ k) e w) (plain.Running c) refl
-      (shared, facts, returned a (are_as_wide from to) e.locals c.active.function c.active.next c.active.slots c.frames (Needs (ConvertTo from to) ∷ Needs Return ∷ k) s m at_a tt (r, at_to, (loop, q, s, refl, here, (wide, kind_is), stack)))
+      silently source pages calls (Running (Executing (typed.Return (Some (Convert from to a)))) k e w) (Running (Evaluating a) (Needs (ConvertTo from to (target_by a)) ∷ Needs Return ∷ k) e w) (plain.Running c) refl
+      (shared, facts, returned a (are_as_wide from to) e.locals c.active.function c.active.next c.active.slots c.frames (Needs (ConvertTo from to (target_by a)) ∷ Needs Return ∷ k) s m at_a tt (r, at_to, (loop, q, s, refl, here, (wide, kind_is), stack)))
       (omega arith)
   executing Break k e w c well (shared, facts, (loop, q, here, stack)) =
       silently source pages calls (Running (Executing Break) k e w) (Running Breaking k e w) (plain.Running c) refl
@@ -250,7 +250,7 @@ module _ (source : Program) (pages calls : ℕ) where
       → InitialBy (code_of source c.active.function) (bounds_at source c.active.function) (types_at source c.active.function) there from to a (slot_of (starts_at source c.active.function) n) (base_of source c.active.function) c.active.next m
       → ItemsAt (code_of source c.active.function) (bounds_at source c.active.function) (types_at source c.active.function) js loop (base_of source c.active.function) m q
       → StatementStack source c.active.function loop q c.frames k
-      → Related source pages calls (Evaluating a) (Needs (ConvertTo from to) ∷ Needs (Initialise n (kind_of ty) js) ∷ k) e w c
+      → Related source pages calls (Evaluating a) (Needs (ConvertTo from to (target_by a)) ∷ Needs (Initialise n (kind_of ty) js) ∷ k) e w c
   initial_by true n ty from to a js k e w c loop m q lands shared facts room (wide, at_a) items stack =
       let g = c.active.function in
       let inside = slot-room (types_at source g) n (room-inside (types_at source g) n to room) in
@@ -258,7 +258,7 @@ module _ (source : Program) (pages calls : ℕ) where
   initial_by false n ty from to a js k e w c loop m q lands shared facts room (o, s, r, at_a, at_to, move, end) items stack =
       let g = c.active.function in
       let rest = subst (λ p. ItemsAt (code_of source g) (bounds_at source g) (types_at source g) js loop (base_of source g) p q) (sym end) items in
-      (shared, facts, sources source pages calls from to a (Needs (ConvertTo from to) ∷ Needs (Initialise n (kind_of ty) js) ∷ k) e w c o s at_a tt (r, at_to, (loop, q, move, room, rest, stack)))
+      (shared, facts, sources source pages calls from to a (Needs (ConvertTo from to (target_by a)) ∷ Needs (Initialise n (kind_of ty) js) ∷ k) e w c o s at_a tt (r, at_to, (loop, q, move, room, rest, stack)))
 
   initial : (n : ℕ) (ty : Ty) (from to : Kind) (a : Expression) (js : Items) (k : List Entry) (e : Environment) (w : World) (c : Configuration) (loop m q : ℕ)
       → SharedAt source pages calls w c → DataAt source c.active.function w.objects e.locals (callers k) c.active.slots c.globals c.frames
@@ -269,7 +269,7 @@ module _ (source : Program) (pages calls : ℕ) where
       → IsMatched source pages calls (Running Proceeding (Rest (MoreItems (Declare n ty (Some (Convert from to a))) js) ∷ k) e w) (plain.Running c)
   initial n ty from to a js k e w c loop m q shared facts room at items stack =
       silently source pages calls (Running Proceeding (Rest (MoreItems (Declare n ty (Some (Convert from to a))) js) ∷ k) e w)
-      (Running (Evaluating a) (Needs (ConvertTo from to) ∷ Needs (Initialise n (kind_of ty) js) ∷ k) e w) (plain.Running c) refl
+      (Running (Evaluating a) (Needs (ConvertTo from to (target_by a)) ∷ Needs (Initialise n (kind_of ty) js) ∷ k) e w) (plain.Running c) refl
       (initial_by (converts_there from to) n ty from to a js k e w c loop m q refl shared facts room at items stack)
       (omega arith)
 

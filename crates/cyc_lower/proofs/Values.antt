@@ -1,6 +1,6 @@
 -- The steps that hand a value on.
 use Rattle.std.proofs.Common.{◌≡◌, ◌≢◌, ℕ, zero, suc, ◌+◌, ◌<◌, Bool, true, false, not, List, [], ◌∷◌, Option, None, Some, slice_get, refl, sym, ap, subst, ◌∙◌, arith, inl, inr, length}
-use Rattle.std.specs.Prelude.{ℤ, ◌==◌, ◌<ℤ◌, ◌≤ℤ◌, int_le, int_lt, if◌then◌else◌}
+use Rattle.std.specs.Prelude.{ℤ, ◌==◌, ◌&&◌, ◌<ℤ◌, ◌≤ℤ◌, int_le, int_lt, if◌then◌else◌}
 use Rattle.std.proofs.lemmas.Int.{ints}
 use Rattle.std.proofs.lemmas.Bool.{cases_eq, eqb-true, false_from_ne_true}
 use Rattle.std.proofs.lemmas.Option.{same_Some, none-some}
@@ -38,10 +38,10 @@ use Rattle.cyc_plain.specs.Straight.{At}
 use Rattle.cyc_types.specs.Types.{Ty}
 use Rattle.cyc_meaning.specs.Values.{Value, Int, Null, Thin, Fat, Handle, Key, Operand as Kinded, is_kind, words_of_kind}
 use Rattle.cyc_meaning.specs.Operators.{Gives, Raises, Misfits, has_no_result, binary_word, is_zero, unary_result, truth_result, truth_of, division_by_zero}
-use Rattle.cyc_meaning.specs.Pointers.{takes_kind}
+use Rattle.cyc_meaning.specs.Pointers.{takes_kind, followed}
 use Rattle.cyc_meaning.specs.Conversion.{conversion}
 use Rattle.cyc_meaning.specs.State.{World, Environment, with_local, made, variable, written, region_at, Awaiting, ConvertTo, Operate, Chain, Apply, ApplyPointer, Decide, Store, Pass, Initialise, Choose, Test, Return, Entry, Needs, Discard, Rest, Join, Loop, Focus, Evaluating, Given, Executing, Proceeding, Calling, Returning, Throwing, State, Running}
-use Rattle.cyc_meaning.specs.Step.{wrong, object_of, computed, stored_at, declared, passes, tested, awaits_right, chosen, looped, step}
+use Rattle.cyc_meaning.specs.Step.{leads_to, wrong, object_of, computed, stored_at, declared, passes, tested, awaits_right, chosen, looped, step}
 use Rattle.cyc_lower.specs.Slots.{slot_of}
 use Rattle.cyc_lower.specs.Lowerable.{is_null_test}
 use Rattle.cyc_lower.proofs.Slots.{slot-room, room-inside}
@@ -99,6 +99,10 @@ first_word v slots (operands.Slot n) is = Is-first v.kind v.value slots (λ (i :
 first_word v slots (operands.Word w) is = is
 
 -- a value that is converted without a change keeps its words
+first_holds : (a b : Bool) → (a && b) ≡ true → a ≡ true
+first_holds true b holds = refl
+first_holds false b holds = holds
+
 kept_at : (from to : Kind) (v : Value) (words : Words) (p : ℕ) → conversion to v ≡ Gives v → Is from v words p → Is to v words p
 kept_at kinds.Int kinds.Int (Int a) words p gives is = is
 kept_at kinds.Nullable kinds.Nullable Null words p gives is = is
@@ -234,28 +238,28 @@ module _ (source : Program) (pages calls : ℕ) where
   -- ---- conversions
 
   -- the same value goes on, and nothing is executed
-  kept_value : (from to i : Kind) (v : Value) (o : Operand) (k : List Entry) (e : Environment) (w : World) (c : Configuration) (q : ℕ)
+  kept_value : (from to : Kind) (target : Option Kind) (i : Kind) (v : Value) (o : Operand) (k : List Entry) (e : Environment) (w : World) (c : Configuration) (q : ℕ)
       → conversion to v ≡ Gives v
-      → step source (Running (Given (of_kind i v)) (Needs (ConvertTo from to) ∷ k) e w) ≡ Running (Given (of_kind to v)) k e w → Stands (of_kind i v) o k e w c
-      → c.active.next ≡ q → ValueStack source c.active.function e.locals to o q c.frames k → GoesBehind (of_kind i v) (Needs (ConvertTo from to) ∷ k) e w c
-  kept_value from to i v o k e w c q gives does (shared, facts, is, holds) end stack =
-      silently source pages calls (Running (Given (of_kind i v)) (Needs (ConvertTo from to) ∷ k) e w) (Running (Given (of_kind to v)) k e w) (plain.Running c) does
+      → step source (Running (Given (of_kind i v)) (Needs (ConvertTo from to target) ∷ k) e w) ≡ Running (Given (of_kind to v)) k e w → Stands (of_kind i v) o k e w c
+      → c.active.next ≡ q → ValueStack source c.active.function e.locals to o q c.frames k → GoesBehind (of_kind i v) (Needs (ConvertTo from to target) ∷ k) e w c
+  kept_value from to target i v o k e w c q gives does (shared, facts, is, holds) end stack =
+      silently source pages calls (Running (Given (of_kind i v)) (Needs (ConvertTo from to target) ∷ k) e w) (Running (Given (of_kind to v)) k e w) (plain.Running c) does
       (shared, in_operand o facts (kept_in i to v c.active.slots o gives is) holds (subst (λ r. ValueStack source c.active.function e.locals to o r c.frames k) (sym end) stack))
       (omega arith)
 
   -- a value is converted from its own kind
-  converts_kind : (from to : Kind) (v : Kinded) (k : List Entry) (e : Environment) (w : World) → IsWell (step source (Running (Given v) (Needs (ConvertTo from to) ∷ k) e w))
-      → step source (Running (Given v) (Needs (ConvertTo from to) ∷ k) e w) ≡ computed to (conversion to v.value) k e w
-  converts_kind from to v k e w well =
-      ap (λ (b : Bool). if b then computed to (conversion to v.value) k e w else wrong w) (is_fitting (is_kind v.kind from) (computed to (conversion to v.value) k e w) w well)
+  converts_kind : (from to : Kind) (target : Option Kind) (v : Kinded) (k : List Entry) (e : Environment) (w : World) → IsWell (step source (Running (Given v) (Needs (ConvertTo from to target) ∷ k) e w))
+      → step source (Running (Given v) (Needs (ConvertTo from to target) ∷ k) e w) ≡ computed to (conversion to v.value) k e w
+  converts_kind from to target v k e w well =
+      ap (λ (b : Bool). if b then computed to (conversion to v.value) k e w else wrong w) (is_fitting (is_kind v.kind from && leads_to w target (followed v.value)) (computed to (conversion to v.value) k e w) w well)
 
-  converted : (from to i : Kind) (v : Value) (o : Operand) (k : List Entry) (e : Environment) (w : World) (c : Configuration) → IsWell (computed to (conversion to v) k e w)
-      → step source (Running (Given (of_kind i v)) (Needs (ConvertTo from to) ∷ k) e w) ≡ computed to (conversion to v) k e w → Stands (of_kind i v) o k e w c
-      → ValueStack source c.active.function e.locals i o c.active.next c.frames (Needs (ConvertTo from to) ∷ k) → GoesBehind (of_kind i v) (Needs (ConvertTo from to) ∷ k) e w c
-  converted from kinds.Int i (Int a) o k e w c well does stands (q, end, stack) = kept_value from kinds.Int i (Int a) o k e w c q refl does stands end stack
-  converted from kinds.Nullable i Null o k e w c well does stands (q, end, stack) = kept_value from kinds.Nullable i Null o k e w c q refl does stands end stack
-  converted from kinds.Fat i Null o k e w c well does stands (q, end, stack) = kept_value from kinds.Fat i Null o k e w c q refl does stands end stack
-  converted from kinds.NonNull i Null o k e w c well does (shared, facts, is, holds) (q, (jump, uncaught, end), stack) =
+  converted : (from to : Kind) (target : Option Kind) (i : Kind) (v : Value) (o : Operand) (k : List Entry) (e : Environment) (w : World) (c : Configuration) → IsWell (computed to (conversion to v) k e w)
+      → step source (Running (Given (of_kind i v)) (Needs (ConvertTo from to target) ∷ k) e w) ≡ computed to (conversion to v) k e w → Stands (of_kind i v) o k e w c
+      → ValueStack source c.active.function e.locals i o c.active.next c.frames (Needs (ConvertTo from to target) ∷ k) → GoesBehind (of_kind i v) (Needs (ConvertTo from to target) ∷ k) e w c
+  converted from kinds.Int target i (Int a) o k e w c well does stands (q, end, stack) = kept_value from kinds.Int target i (Int a) o k e w c q refl does stands end stack
+  converted from kinds.Nullable target i Null o k e w c well does stands (q, end, stack) = kept_value from kinds.Nullable target i Null o k e w c q refl does stands end stack
+  converted from kinds.Fat target i Null o k e w c well does stands (q, end, stack) = kept_value from kinds.Fat target i Null o k e w c q refl does stands end stack
+  converted from kinds.NonNull target i Null o k e w c well does (shared, facts, is, holds) (q, (jump, uncaught, end), stack) =
       let zero_word = null_is i c.active.slots o is in
       by_one source pages calls does shared jump
       (λ choice. not_taken (Running (Throwing 1 0) k e w) c (not (operand_word c.active.slots o == 0)) q (ap (λ x. not (x == 0)) zero_word) (
@@ -266,18 +270,18 @@ module _ (source : Program) (pages calls : ℕ) where
         uncaught,
         zero_word,
       ))
-  converted from to i (Thin object offset) o k e w c well does (shared, facts, is, holds) stack = absurd (no_pointer i object offset c.active.slots o is)
-  converted from to i (Fat object start many index) o k e w c well does (shared, facts, is, holds) stack = absurd (no_part i object start many index c.active.slots o is)
-  converted from to i (Handle region) o k e w c well does (shared, facts, is, holds) stack = absurd (no_handle i region c.active.slots o is)
-  converted from to i (Key region) o k e w c well does (shared, facts, is, holds) stack = absurd (no_key i region c.active.slots o is)
-  converted from to i v o k e w c well does stands stack = absurd (well refl)
+  converted from to target i (Thin object offset) o k e w c well does (shared, facts, is, holds) stack = absurd (no_pointer i object offset c.active.slots o is)
+  converted from to target i (Fat object start many index) o k e w c well does (shared, facts, is, holds) stack = absurd (no_part i object start many index c.active.slots o is)
+  converted from to target i (Handle region) o k e w c well does (shared, facts, is, holds) stack = absurd (no_handle i region c.active.slots o is)
+  converted from to target i (Key region) o k e w c well does (shared, facts, is, holds) stack = absurd (no_key i region c.active.slots o is)
+  converted from to target i v o k e w c well does stands stack = absurd (well refl)
 
-  converts : (from to : Kind) (v : Kinded) (o : Operand) (k : List Entry) (e : Environment) (w : World) (c : Configuration)
-      → IsWell (step source (Running (Given v) (Needs (ConvertTo from to) ∷ k) e w)) → Stands v o k e w c
-      → ValueStack source c.active.function e.locals v.kind o c.active.next c.frames (Needs (ConvertTo from to) ∷ k) → GoesBehind v (Needs (ConvertTo from to) ∷ k) e w c
-  converts from to v o k e w c well stands stack =
-      let does = converts_kind from to v k e w well in
-      converted from to v.kind v.value o k e w c (subst IsWell does well) does stands stack
+  converts : (from to : Kind) (target : Option Kind) (v : Kinded) (o : Operand) (k : List Entry) (e : Environment) (w : World) (c : Configuration)
+      → IsWell (step source (Running (Given v) (Needs (ConvertTo from to target) ∷ k) e w)) → Stands v o k e w c
+      → ValueStack source c.active.function e.locals v.kind o c.active.next c.frames (Needs (ConvertTo from to target) ∷ k) → GoesBehind v (Needs (ConvertTo from to target) ∷ k) e w c
+  converts from to target v o k e w c well stands stack =
+      let does = converts_kind from to target v k e w well in
+      converted from to target v.kind v.value o k e w c (subst IsWell does well) does stands stack
 
   -- a conversion that raises nothing, of a value in the slots of a local that is about to get it
   converted_ahead : (from to i : Kind) (v : Value) (words : Words) (n : ℕ) (k : List Entry) (e : Environment) (w : World)
@@ -294,14 +298,14 @@ module _ (source : Program) (pages calls : ℕ) where
   converted_ahead from to i v words n k e w well quiet is = absurd (well refl)
 
   -- its kind is the one that it is converted from, and it has as many words behind
-  converts_ahead : (from to : Kind) (v : Kinded) (n : ℕ) (k : List Entry) (e : Environment) (w : World) (c : Configuration)
-      → IsWell (step source (Running (Given v) (Needs (ConvertTo from to) ∷ k) e w)) → converts_there from to ≡ true → Is v.kind v.value c.active.slots n
-      → (step source (Running (Given v) (Needs (ConvertTo from to) ∷ k) e w) ≡ Running (Given (of_kind to v.value)) k e w) × Is to v.value c.active.slots n
+  converts_ahead : (from to : Kind) (target : Option Kind) (v : Kinded) (n : ℕ) (k : List Entry) (e : Environment) (w : World) (c : Configuration)
+      → IsWell (step source (Running (Given v) (Needs (ConvertTo from to target) ∷ k) e w)) → converts_there from to ≡ true → Is v.kind v.value c.active.slots n
+      → (step source (Running (Given v) (Needs (ConvertTo from to target) ∷ k) e w) ≡ Running (Given (of_kind to v.value)) k e w) × Is to v.value c.active.slots n
       × (words_of_kind v.kind ≡ words_of_kind to)
-  converts_ahead from to v n k e w c well quiet is =
-      let does = converts_kind from to v k e w well in
+  converts_ahead from to target v n k e w c well quiet is =
+      let does = converts_kind from to target v k e w well in
       let (goes, now) = converted_ahead from to v.kind v.value c.active.slots n k e w (subst IsWell does well) quiet is in
-      let fits = is_fitting (is_kind v.kind from) (computed to (conversion to v.value) k e w) w well in
+      let fits = first_holds (is_kind v.kind from) (leads_to w target (followed v.value)) (is_fitting (is_kind v.kind from && leads_to w target (followed v.value)) (computed to (conversion to v.value) k e w) w well) in
       (does ∙ goes, now, ap words_of_kind (same_kind v.kind from fits) ∙ as_wide from to quiet)
 
   -- ---- operators
@@ -900,7 +904,7 @@ module _ (source : Program) (pages calls : ℕ) where
   stands_given : (v : Kinded) (o : Operand) (k : List Entry) (e : Environment) (w : World) (c : Configuration) → IsWell (step source (Running (Given v) k e w)) → Stands v o k e w c
       → ValueStack source c.active.function e.locals v.kind o c.active.next c.frames k → GoesBehind v k e w c
   stands_given v o [] e w c well stands stack = absurd stack
-  stands_given v o (Needs (ConvertTo from to) ∷ k) e w c well stands stack = converts from to v o k e w c well stands stack
+  stands_given v o (Needs (ConvertTo from to target) ∷ k) e w c well stands stack = converts from to target v o k e w c well stands stack
   stands_given v o (Needs (Operate u) ∷ k) e w c well stands stack = operates u v o k e w c well stands stack
   stands_given v o (Needs (Chain os) ∷ k) e w c well stands stack = chains os v o k e w c well stands stack
   stands_given v o (Needs (Apply u left) ∷ k) e w c well (shared, facts, is, (is_left, holds)) applied =
@@ -938,9 +942,9 @@ module _ (source : Program) (pages calls : ℕ) where
       → ((m : ℕ) → Outside n (words_of_kind v.kind) m → old m ≡ c.active.slots m) → DataIn source old k e w c
       → Is v.kind v.value c.active.slots n → Holds c.active.slots (base_of source c.active.function) (held k)
       → AheadStack source c.active.function e.locals v.kind n c.active.next c.frames k → GoesBehind v k e w c
-  ahead_given v n old (Needs (ConvertTo from to) ∷ k) e w c well shared same facts is holds (quiet, stack) =
-      let (does, now, wide) = converts_ahead from to v n k e w c well quiet is in
-      silently source pages calls (Running (Given v) (Needs (ConvertTo from to) ∷ k) e w) (Running (Given (of_kind to v.value)) k e w) (plain.Running c) does
+  ahead_given v n old (Needs (ConvertTo from to target) ∷ k) e w c well shared same facts is holds (quiet, stack) =
+      let (does, now, wide) = converts_ahead from to target v n k e w c well quiet is in
+      silently source pages calls (Running (Given v) (Needs (ConvertTo from to target) ∷ k) e w) (Running (Given (of_kind to v.value)) k e w) (plain.Running c) does
       (shared, ahead n (old, subst (λ many. (m : ℕ) → Outside n many m → old m ≡ c.active.slots m) wide same, facts) now holds stack)
       (omega arith)
   ahead_given v n old (Needs (Chain NoOperations) ∷ k) e w c well shared same facts is holds stack =
