@@ -12,7 +12,6 @@ use Rattle.cyc_types.specs.declared.typed.ValueType.{ValueType as ValueTypeCode}
 use Rattle.cyc_types.specs.declared.typed.Lvalue.{Lvalue as LvalueCode}
 use Rattle.cyc_types.specs.declared.typed.Callee.{Callee}
 use Rattle.cyc_types.specs.declared.typed.Callee.TheVariants as callees
-use Rattle.cyc_types.specs.declared.typed.Kind.TheVariants as kinds
 use Rattle.cyc_types.specs.declared.typed.Operator.{Operator}
 use Rattle.cyc_types.specs.declared.typed.Operator.TheVariants as operators
 use Rattle.cyc_types.specs.declared.typed.LogicalOperator.{LogicalOperator}

@@ -10,7 +10,7 @@ use Rattle.cyc_types.specs.declared.typed.Kind.TheVariants as kinds
 use Rattle.cyc_types.specs.declared.typed.UnaryOperator.TheVariants as unary
 use Rattle.cyc_types.specs.declared.typed.Operator.{Operator}
 use Rattle.cyc_types.specs.Types.{Ty, ValueType}
-use Rattle.cyc_types.specs.TypedTrees.{Lvalue, Local, Global, Expression, Number, Copy, Call, Unary, Binary, Assign, Converted, Convert, Arguments, NoArguments, MoreArguments, Operations, NoOperations, ThenCompute, ThenTest, Function, Program}
+use Rattle.cyc_types.specs.TypedTrees.{Lvalue, Local, Global, Expression, Number, Copy, Call, Unary, Binary, Assign, Converted, Convert, Arguments, NoArguments, MoreArguments, Operations, NoOperations, ThenCompute, ThenTest, ThenPointer, Function, Program}
 use Rattle.cyc_types.specs.TypedTrees as typed
 use Rattle.cyc_plain.specs.declared.instruction.Comparison.{Comparison}
 use Rattle.cyc_plain.specs.declared.instruction.Comparison.TheVariants as comparisons
@@ -22,7 +22,7 @@ use Rattle.cyc_plain.specs.State.{Words, put, Frame, Configuration}
 use Rattle.cyc_plain.specs.Straight.{At as CodeAt}
 use Rattle.cyc_plain.specs.Step.{Choice, with_slots, advanced, performed}
 use Rattle.cyc_plain.proofs.SlotLaws.{put-same}
-use Rattle.cyc_meaning.specs.Values.{Int, Thin, Operand as Kinded, kind_of, words_of_kind}
+use Rattle.cyc_meaning.specs.Values.{Int, Null, Thin, Operand as Kinded, kind_of, words_of_kind}
 use Rattle.cyc_meaning.specs.SourceMachine.{status_in}
 use Rattle.cyc_meaning.specs.State.{status_of, World, Environment, ConvertTo, Operate, Chain, Apply, Store, Pass, Choose, Test, Entry, Needs, Discard, Focus, Evaluating, Given, Running}
 use Rattle.cyc_meaning.specs.Step.{target_by, object_of, assigned, passes, step}
@@ -119,6 +119,14 @@ module _ (source : Program) (pages calls : ℕ) where
         value = record { kind = kinds.Int; value = Int n };
         gives = refl;
         is = subst (IsIn (record { kind = kinds.Int; value = Int n }) c.active.slots) (same_Some (operands.Word n) o known) refl;
+        same = refl;
+        some = refl;
+      }
+  reads typed.NullPointer o k e w c known well facts =
+      record {
+        value = record { kind = kinds.Nullable; value = Null };
+        gives = refl;
+        is = subst (IsIn (record { kind = kinds.Nullable; value = Null }) c.active.slots) (same_Some (operands.Word 0) o known) refl;
         same = refl;
         some = refl;
       }
@@ -300,6 +308,9 @@ module _ (source : Program) (pages calls : ℕ) where
       → LandsStack source c.active.function e.locals (given_at source c.active.function a) d q c.frames k → IsBegun a k e w c
   comes (Number n) k e w c d q (well, shared, facts, holds) (at, end) lands =
       by_one source pages calls refl shared at (λ choice. landed_word n n d k e w c q refl shared facts holds end lands)
+  comes typed.NullPointer k e w c d q (well, shared, facts, holds) (at, end) lands =
+      let v : Kinded = record { kind = kinds.Nullable; value = Null } in
+      by_one source pages calls refl shared at (λ choice. landed_moved v (operands.Word 0) d k e w c q choice refl shared facts holds end lands)
   comes (Copy (Local p n) t) k e w c d q (well, shared, facts, holds) (at, end) lands =
       let g = c.active.function in
       let found = is_loaded (kind_of t) (e.locals n) k e w well in
@@ -332,6 +343,8 @@ module _ (source : Program) (pages calls : ℕ) where
       chain_begins (operand_of (starts_at source c.active.function) b) a (ThenCompute o b os) t k e w c l m known at_a (to_slot (d, q, at, lands))
   comes (Binary a (ThenTest o b os) t) k e w c d q known (l, m, at_a, at) lands =
       chain_begins None a (ThenTest o b os) t k e w c l m known at_a (to_slot (d, q, at, lands))
+  comes (Binary a (ThenPointer o typed.NullPointer os) t) k e w c d q known (l, m, at_a, at) lands =
+      chain_begins None a (ThenPointer o typed.NullPointer os) t k e w c l m known at_a (to_slot (d, q, at, lands))
   comes (Binary a os t) k e w c d q known (l, m, at_a, at) lands = absurd at
   comes (Assign (Local p n) (Convert from to a) t) k e w c d q known (o, m, at, copy) lands = assigns (Local p n) from to a t k e w c (object_of e (Local p n)) o m refl known at (copies d q copy lands)
   comes (Assign (Global n) (Convert from to a) t) k e w c d q known (o, m, at, copy) lands = assigns (Global n) from to a t k e w c (object_of e (Global n)) o m refl known at (copies d q copy lands)
@@ -352,6 +365,7 @@ module _ (source : Program) (pages calls : ℕ) where
       → ValueAt (code_of source c.active.function) (bounds_at source c.active.function) (types_at source c.active.function) a (top source c.active.function k) o c.active.next q
       → ValueStack source c.active.function e.locals (given_at source c.active.function a) o q c.frames k → IsBegun a k e w c
   operand (Number n) k e w c o q known (is, end) stack = known_operand (Number n) o k e w c q (ap Some (sym is)) end known stack
+  operand typed.NullPointer k e w c o q known (is, end) stack = known_operand typed.NullPointer o k e w c q (ap Some (sym is)) end known stack
   operand (Copy (Local p n) t) k e w c o q known (is, end) stack = known_operand (Copy (Local p n) t) o k e w c q (ap Some (sym is)) end known stack
   operand (Copy (Global n) t) k e w c o q known at stack = in_top (Copy (Global n) t) k e w c o q known at stack
   operand (Call f cs t) k e w c o q known at stack = in_top (Call f cs t) k e w c o q known at stack
@@ -379,7 +393,7 @@ module _ (source : Program) (pages calls : ℕ) where
   for_its_effect (Call (callees.Function n) cs t) k e w c q known (o, at) stack = in_top (Call (callees.Function n) cs t) k e w c o q known at (dropped_value c.active.function e.locals (given_at source c.active.function (Call (callees.Function n) cs t)) o q c.frames k stack)
   for_its_effect (Unary u a) k e w c q known (o, at) stack = in_top (Unary u a) k e w c o q known at (dropped_value c.active.function e.locals (given_at source c.active.function (Unary u a)) o q c.frames k stack)
   for_its_effect (Binary a os t) k e w c q known (o, at) stack = in_top (Binary a os t) k e w c o q known at (dropped_value c.active.function e.locals (given_at source c.active.function (Binary a os t)) o q c.frames k stack)
-  for_its_effect typed.NullPointer k e w c q known (o, (is, at)) stack = absurd at
+  for_its_effect typed.NullPointer k e w c q known (o, at) stack = operand typed.NullPointer k e w c o q known at (dropped_value c.active.function e.locals (given_at source c.active.function typed.NullPointer) o q c.frames k stack)
   for_its_effect typed.HeapRegion k e w c q known (o, (is, at)) stack = absurd at
   for_its_effect (typed.Counter level) k e w c q known (o, (is, at)) stack = absurd at
   for_its_effect (typed.Move p n t) k e w c q known (o, (is, at)) stack = absurd at

@@ -1,6 +1,6 @@
 -- What lowering asks of a tree: each number that it has names something that is there, and each value has room where it comes to. The tree
 -- of a well typed program whose numbers are in range has it.
-use Rattle.std.proofs.Common.{◌≡◌, ◌⊎◌, ℕ, zero, suc, ◌+◌, ◌≤◌, ◌<◌, Bool, true, false, List, [], ◌∷◌, ◌++◌, length, map, Option, None, Some, slice_get, refl, sym, ap, subst, ◌∙◌, arith, inl, inr}
+use Rattle.std.proofs.Common.{◌≡◌, ◌⊎◌, ℕ, ◌≤◌, ◌<◌, Bool, true, false, List, [], ◌∷◌, length, map, Option, None, Some, slice_get, refl, sym, ap, subst, ◌∙◌, arith, inl, inr}
 use Rattle.std.specs.Prelude.{option_map, if◌then◌else◌}
 use Rattle.std.proofs.lemmas.Option.{same_Some}
 use Rattle.cyc_syntax.specs.declared.tree.PointerKind.TheVariants as marks
@@ -10,18 +10,21 @@ use Rattle.cyc_types.specs.declared.typed.Kind.TheVariants as kinds
 use Rattle.cyc_types.specs.declared.typed.Callee.{Callee}
 use Rattle.cyc_types.specs.declared.typed.Callee.TheVariants as callees
 use Rattle.cyc_types.specs.declared.typed.UnaryOperator.TheVariants as unary
+use Rattle.cyc_types.specs.declared.typed.PointerOperator.{PointerOperator}
+use Rattle.cyc_types.specs.declared.typed.PointerOperator.TheVariants as pointers
 use Rattle.cyc_types.specs.Types.{Ty, words_of, substituted_ty, ValueType, Void, Value, result_type}
 use Rattle.cyc_types.specs.Types as type_forms
-use Rattle.cyc_types.specs.TypedTrees.{Lvalue, Local, Global, Expression, Number, Copy, Peek, Call, Unary, Binary, Assign, Converted, Convert, Arguments, NoArguments, MoreArguments, Operations, NoOperations, ThenCompute, ThenTest, Statement, Block, Empty, Evaluate, If, While, Return, Break, Continue, Items, NoItems, MoreItems, Execute, Declare, GlobalVariable, Signature, Function, Program}
+use Rattle.cyc_types.specs.TypedTrees.{Lvalue, Local, Global, Expression, Number, NullPointer, Copy, Peek, Call, Unary, Binary, Assign, Converted, Convert, Arguments, NoArguments, MoreArguments, Operations, NoOperations, ThenCompute, ThenTest, ThenPointer, Statement, Block, Empty, Evaluate, If, While, Return, Break, Continue, Items, NoItems, MoreItems, Execute, Declare, Signature, Function, Program}
 use Rattle.cyc_types.specs.typing.Scopes.{signature_of_ints}
 use Rattle.cyc_types.specs.typing.Tests as tests
 use Rattle.cyc_types.specs.typing.Expressions.{instantiated}
-use Rattle.cyc_types.specs.typing.WellTyped.{Context, IsVariable, IsPlace, IsCallee, Converts, IsPeek, IsLeft, WellTyped, IsConverted, ArePassed, IsChain, IsCondition, IsReturned, IsInitial, WellTypedStatement, WellTypedItems, behind, in_block, in_body, with_local, signature_of, body_context, AreWellTypedFunctions, AreWellTypedGlobals, IsWellTypedProgram}
-use Rattle.cyc_types.specs.Numbered.{Numbering, signatures_of, IsSignature, argument_count, IsWithin, IsNumbered, IsNumberedConverted, AreNumberedArguments, AreNumberedOperations, IsNumberedReturn, IsNumberedInitial, IsNumberedStatement, AreNumberedItems, numbering_of, AreNumberedFunctions, IsNumberedProgram}
+use Rattle.cyc_types.specs.typing.WellTyped.{Context, PointerOperation, thin_null, thin_there, fat_null, fat_there, IsCallee, Converts, IsPeek, IsLeft, WellTyped, IsConverted, ArePassed, IsChain, IsCondition, IsReturned, IsInitial, WellTypedStatement, WellTypedItems, behind, in_block, in_body, with_local, body_context, AreWellTypedFunctions, AreWellTypedGlobals, IsWellTypedProgram}
+use Rattle.cyc_types.specs.Numbered.{Numbering, signatures_of, IsSignature, argument_count, numbering_of}
+use Rattle.cyc_lower.specs.Lowerable.{is_null_test, IsLowerable, IsLowerableConverted, AreLowerableArguments, AreLowerableOperations, IsLowerableReturn, IsLowerableInitial, IsLowerableStatement, AreLowerableItems, AreLowerableFunctions, IsLowerableProgram}
 use Rattle.cyc_meaning.specs.Values.{kind_of, words_of_kind}
 use Rattle.cyc_meaning.specs.FrameCount.{result_words, words_of_all}
 use Rattle.cyc_lower.specs.Lowering.{slot_types, passed_words, all_passed, results_of}
-use Rattle.cyc_lower.proofs.Widths.{kind_of_result, result_kind, called_kind, given, passed_kind, type_words, words_in, HasRoom}
+use Rattle.cyc_lower.proofs.Widths.{kind_of_result, result_kind, called_kind, given, passed_kind, type_words, HasRoom}
 use Rattle.cyc_lower.proofs.Slots.{words-there}
 
 -- ---- what is asked
@@ -35,6 +38,7 @@ module _ (b : Numbering) (types : List Ty) where
   abbrev mutual
     pub Fits : Expression → Type 0
     Fits (Number n) = Unit {0}
+    Fits NullPointer = Unit {0}
     Fits (Copy l t) = FitsPlace l (kind_of t)
     Fits (Call f cs t) =
         (s : Signature) × IsSignature b f s × (argument_count cs ≡ length s.parameters) × (all_passed cs ≡ words_of_all s.parameters)
@@ -55,6 +59,7 @@ module _ (b : Numbering) (types : List Ty) where
     FitOperations NoOperations = Unit {0}
     FitOperations (ThenCompute o a os) = Fits a × FitOperations os
     FitOperations (ThenTest o a os) = Fits a × FitOperations os
+    FitOperations (ThenPointer o NullPointer os) = (is_null_test o ≡ true) × FitOperations os
     FitOperations os = ⊥
 
   abbrev pub FitsReturn : Option Ty → Option Converted → Type 0
@@ -163,21 +168,37 @@ module _ (b : Numbering) (types : List Ty) where
   called_is (callees.Function n) s is = ap result_kind is
 
   -- a tree of the int language has no peeks
-  looked : (a : Expression) (c : Context) (v : ValueType) → IsNumbered b a → WellTyped c a v ⊎ IsPeek c a v → WellTyped c a v
+  looked : (a : Expression) (c : Context) (v : ValueType) → IsLowerable b a → WellTyped c a v ⊎ IsPeek c a v → WellTyped c a v
   looked (Peek p n u) c v numbered well = absurd numbered
   looked a c v numbered (inl well) = well
   looked a c v numbered (inr peek) = absurd peek
 
-  left_well : (os : Operations) (a : Expression) (c : Context) (v : ValueType) → IsNumbered b a → AreNumberedOperations b os → IsLeft (WellTyped c a v) c a v os → WellTyped c a v
+  left_well : (os : Operations) (a : Expression) (c : Context) (v : ValueType) → IsLowerable b a → AreLowerableOperations b os → IsLeft (WellTyped c a v) c a v os → WellTyped c a v
   left_well NoOperations a c v numbered all well = well
   left_well (ThenCompute o x os) a c v numbered all well = well
   left_well (ThenTest o x os) a c v numbered all well = looked a c v numbered well
+  left_well (ThenPointer o NullPointer os) a c v numbered all well = well
   left_well os a c v numbered all well = absurd all
 
-  chain_int : (os : Operations) (c : Context) (u : Ty) → AreNumberedOperations b os → IsChain c (Value type_forms.Int) os u → Value type_forms.Int ≡ Value u
+  -- a comparison with null gives an int
+  null_gives : (o : PointerOperator) (c : Context) (left right result : ValueType) → is_null_test o ≡ true → PointerOperation c o left right result → result ≡ Value type_forms.Int
+  null_gives pointers.ThinIsNull c left right result test (thin_null k t r is) = refl
+  null_gives pointers.ThinIsNotNull c left right result test (thin_there k t r is) = refl
+  null_gives pointers.FatIsNull c left right result test (fat_null k t r is) = refl
+  null_gives pointers.FatIsNotNull c left right result test (fat_there k t r is) = refl
+  null_gives pointers.AddFat c left right result test operation = absurd (let f : false ≡ true = test in cc)
+  null_gives pointers.SubtractFat c left right result test operation = absurd (let f : false ≡ true = test in cc)
+  null_gives pointers.EqualThin c left right result test operation = absurd (let f : false ≡ true = test in cc)
+  null_gives pointers.NotEqualThin c left right result test operation = absurd (let f : false ≡ true = test in cc)
+  null_gives pointers.NullIs c left right result test operation = absurd (let f : false ≡ true = test in cc)
+  null_gives pointers.NullIsNot c left right result test operation = absurd (let f : false ≡ true = test in cc)
+
+  chain_int : (os : Operations) (c : Context) (u : Ty) → AreLowerableOperations b os → IsChain c (Value type_forms.Int) os u → Value type_forms.Int ≡ Value u
   chain_int NoOperations c u all is = is
   chain_int (ThenCompute o x os) c u (one, all) (left, right, rest) = chain_int os c u all rest
   chain_int (ThenTest o x os) c u (one, all) (left, right, rest) = chain_int os c u all rest
+  chain_int (ThenPointer o NullPointer os) c u (test, all) (v, w, right, operation, rest) =
+      chain_int os c u all (subst (λ (x : ValueType). IsChain c x os u) (null_gives o c (Value type_forms.Int) v w test operation) rest)
   chain_int os c u all is = absurd all
 
   int_given : (u : Ty) (v : ValueType) → Value type_forms.Int ≡ Value u → v ≡ Value u → IsGiven kinds.Int v
@@ -194,11 +215,12 @@ module _ (b : Numbering) (types : List Ty) where
   passed_is (Convert from to a) = refl
 
   mutual
-    fits : (a : Expression) (c : Context) (v : ValueType) → Suits c → IsNumbered b a → WellTyped c a v → IsGiven (given b.functions a) v × Fits b types a
+    fits : (a : Expression) (c : Context) (v : ValueType) → Suits c → IsLowerable b a → WellTyped c a v → IsGiven (given b.functions a) v × Fits b types a
     fits (Number n) c v suits numbered is = (subst (IsGiven kinds.Int) (sym is) refl, tt)
+    fits NullPointer c v suits numbered is = (subst (IsGiven kinds.Nullable) (sym is) refl, tt)
     fits (Copy (Local p n) t) c v suits few (there, stays, is) = (subst (IsGiven (kind_of t)) (sym is) refl, (few, room_in c n t (kind_of t) suits there.1 refl))
     fits (Copy (Global n) t) c v suits few (there, stays, is) = (subst (IsGiven (kind_of t)) (sym is) refl, few)
-    fits (Call f cs u) c v suits (s, signature, many, same, numbered) (s', m, callee, long, regions, passed, live, outliving, u_is, v_is) =
+    fits (Call f cs u) c v suits (s, signature, many, numbered) (s', m, callee, long, regions, passed, live, outliving, u_is, v_is) =
         let agree = same_signature f c s' s suits callee signature in
         let u_result : u ≡ result_type (option_map (substituted_ty m) s.result) = u_is ∙ ap (λ (x : Signature). result_type (option_map (substituted_ty m) x.result)) agree in
         let (words, fitting) = fit_arguments cs c (instantiated m s').parameters suits numbered passed in (
@@ -229,6 +251,9 @@ module _ (b : Numbering) (types : List Ty) where
         ((fits x c y suits one (looked x c y one right)).1, fit_operations os c (Value type_forms.Int) u suits all rest),
       ),
     )
+    fits (Binary a (ThenPointer o NullPointer os) u) c v suits (numbered, (test, all)) (w, well, (x, y, right, operation, rest), is) =
+        let int = subst (λ (z : ValueType). IsChain c z os u) (null_gives o c w x y test operation) rest in
+        (int_given u v (chain_int os c u all int) is, ((fits a c w suits numbered well).1, (test, fit_operations os c (Value type_forms.Int) u suits all int)))
     fits (Binary a os u) c v suits (numbered, all) well = absurd all
     fits (Assign (Local p n) d u) c v suits (few, numbered) (t, r, (m, place, home, there), converted, u_is, is) =
         let (kind, fitting) = fits_converted d c t suits numbered converted in
@@ -238,7 +263,7 @@ module _ (b : Numbering) (types : List Ty) where
         (assigned_given (Global n) d u t v kind (is ∙ u_is), (few, fitting))
     fits a c v suits numbered well = absurd numbered
 
-    fits_converted : (d : Converted) (c : Context) (t : Ty) → Suits c → IsNumberedConverted b d → IsConverted c d t → (passed_kind d ≡ kind_of t) × FitsConverted b types d
+    fits_converted : (d : Converted) (c : Context) (t : Ty) → Suits c → IsLowerableConverted b d → IsConverted c d t → (passed_kind d ≡ kind_of t) × FitsConverted b types d
     fits_converted (Convert from to a) c t suits numbered (v, well, converts, from_is, to_is) =
         let (kind, fitting) = fits a c v suits numbered well in
         (to_is ∙ sym (kinds_same t), (from_given v converts from_is kind, fitting))
@@ -248,7 +273,7 @@ module _ (b : Numbering) (types : List Ty) where
         from_given type_forms.Null can is kind = is ∙ sym kind
         from_given (Value u) can is kind = is ∙ sym (kinds_same u) ∙ sym kind
 
-    fit_arguments : (ds : Arguments) (c : Context) (ts : List Ty) → Suits c → AreNumberedArguments b ds → ArePassed c ts ds → (all_passed ds ≡ words_of_all ts) × FitArguments b types ds
+    fit_arguments : (ds : Arguments) (c : Context) (ts : List Ty) → Suits c → AreLowerableArguments b ds → ArePassed c ts ds → (all_passed ds ≡ words_of_all ts) × FitArguments b types ds
     fit_arguments NoArguments c [] suits numbered passed = (refl, tt)
     fit_arguments NoArguments c (t ∷ ts) suits numbered passed = absurd passed
     fit_arguments (MoreArguments d ds) c [] suits numbered passed = absurd passed
@@ -257,22 +282,24 @@ module _ (b : Numbering) (types : List Ty) where
         let (words, others) = fit_arguments ds c ts suits all rest in
         (omega (arith, words, passed_is d, ap words_of_kind kind, type_words t), (fitting, others))
 
-    fit_operations : (os : Operations) (c : Context) (left : ValueType) (u : Ty) → Suits c → AreNumberedOperations b os → IsChain c left os u → FitOperations b types os
+    fit_operations : (os : Operations) (c : Context) (left : ValueType) (u : Ty) → Suits c → AreLowerableOperations b os → IsChain c left os u → FitOperations b types os
     fit_operations NoOperations c left u suits all is = tt
     fit_operations (ThenCompute o x os) c left u suits (one, all) (is, right, rest) = ((fits x c (Value type_forms.Int) suits one right).1, fit_operations os c (Value type_forms.Int) u suits all rest)
     fit_operations (ThenTest o x os) c left u suits (one, all) (is, (y, right, tested), rest) = ((fits x c y suits one (looked x c y one right)).1, fit_operations os c (Value type_forms.Int) u suits all rest)
+    fit_operations (ThenPointer o NullPointer os) c left u suits (test, all) (v, w, right, operation, rest) =
+        (test, fit_operations os c (Value type_forms.Int) u suits all (subst (λ (x : ValueType). IsChain c x os u) (null_gives o c left v w test operation) rest))
     fit_operations os c left u suits all is = absurd all
 
-  fits_condition : (a : Expression) (c : Context) → Suits c → IsNumbered b a → IsCondition c a → Fits b types a
+  fits_condition : (a : Expression) (c : Context) → Suits c → IsLowerable b a → IsCondition c a → Fits b types a
   fits_condition a c suits numbered (v, well, tested) = (fits a c v suits numbered (looked a c v numbered well)).1
 
-  fits_return : (result : Option Ty) (v : Option Converted) (c : Context) → Suits c → IsNumberedReturn b result v → IsReturned c result v → FitsReturn b types result v
+  fits_return : (result : Option Ty) (v : Option Converted) (c : Context) → Suits c → IsLowerableReturn b result v → IsReturned c result v → FitsReturn b types result v
   fits_return None None c suits numbered well = tt
   fits_return None (Some d) c suits numbered well = absurd numbered
   fits_return (Some t) None c suits numbered well = absurd numbered
   fits_return (Some t) (Some d) c suits numbered well = fits_converted d c t suits numbered well
 
-  fits_initial : (v : Option Converted) (n : ℕ) (t : Ty) (c : Context) → Suits c → slice_get c.variables n ≡ Some t → IsNumberedInitial b v → IsInitial c v t → FitsInitial b types n v
+  fits_initial : (v : Option Converted) (n : ℕ) (t : Ty) (c : Context) → Suits c → slice_get c.variables n ≡ Some t → IsLowerableInitial b v → IsInitial c v t → FitsInitial b types n v
   fits_initial None n t c suits there numbered well = tt
   fits_initial (Some d) n t c suits there numbered well =
       let (kind, fitting) = fits_converted d c t suits numbered well in
@@ -282,8 +309,8 @@ module _ (b : Numbering) (types : List Ty) where
   suits_behind s c suits = record { functions = suits.functions; variables = suits.variables; result = suits.result }
 
   mutual
-    fits_statement : (s : Statement) (l : Bool) (c : Context) → Suits c → IsNumberedStatement b l s → WellTypedStatement c s → FitsStatement b types l s
-    fits_statement (Block r js) l c suits (few, numbered) (next, well) =
+    fits_statement : (s : Statement) (l : Bool) (c : Context) → Suits c → IsLowerableStatement b l s → WellTypedStatement c s → FitsStatement b types l s
+    fits_statement (Block r js) l c suits numbered (next, well) =
         fit_items js l (in_block c) (record { functions = suits.functions; variables = suits.variables; result = suits.result }) numbered well
     fits_statement Empty l c suits numbered well = tt
     fits_statement (Evaluate a) l c suits numbered (t, well) = (fits a c t suits numbered well).1
@@ -298,7 +325,7 @@ module _ (b : Numbering) (types : List Ty) where
     fits_statement Continue l c suits numbered well = numbered
     fits_statement s l c suits numbered well = absurd numbered
 
-    fit_items : (js : Items) (l : Bool) (c : Context) → Suits c → AreNumberedItems b l js → WellTypedItems c js → FitItems b types l js
+    fit_items : (js : Items) (l : Bool) (c : Context) → Suits c → AreLowerableItems b l js → WellTypedItems c js → FitItems b types l js
     fit_items NoItems l c suits numbered well = tt
     fit_items (MoreItems (Execute s) js) l c suits (one, all) (well, rest) =
         (fits_statement s l c suits one well, fit_items js l (behind c s) (suits_behind s c suits) all rest)
@@ -309,17 +336,17 @@ module _ (b : Numbering) (types : List Ty) where
     )
     fit_items js l c suits numbered well = absurd numbered
 
-  pub body_fits : (js : Items) (c : Context) → c.functions ≡ b.functions → c.variables ≡ types → c.result ≡ b.result → AreNumberedItems b false js → WellTypedItems c js → FitItems b types false js
+  pub body_fits : (js : Items) (c : Context) → c.functions ≡ b.functions → c.variables ≡ types → c.result ≡ b.result → AreLowerableItems b false js → WellTypedItems c js → FitItems b types false js
   body_fits js c functions variables result numbered well = fit_items js false c (record { functions = functions; variables = variables; result = result }) numbered well
 
 -- ---- programs
 
-functions_fit : (p : Program) (hs : List Function) → AreNumberedFunctions (length p.globals) (signatures_of p.functions) hs → AreWellTypedFunctions p hs → AreFitting (length p.globals) (signatures_of p.functions) hs
+functions_fit : (p : Program) (hs : List Function) → AreLowerableFunctions (length p.globals) (signatures_of p.functions) hs → AreWellTypedFunctions p hs → AreFitting (length p.globals) (signatures_of p.functions) hs
 functions_fit p [] numbered well = tt
 functions_fit p (h ∷ hs) (one, all) (well, rest) =
     (body_fits (numbering_of (length p.globals) (signatures_of p.functions) h) (slot_types h) h.body (body_context p h) refl refl refl one well.body, functions_fit p hs all rest)
 
-pub is_fitting_program : (p : Program) → IsNumberedProgram p → IsWellTypedProgram p → IsFitting p
+pub is_fitting_program : (p : Program) → IsLowerableProgram p → IsWellTypedProgram p → IsFitting p
 is_fitting_program p numbered well = record {
   functions = functions_fit p p.functions numbered.functions well.functions;
   globals = well.globals;

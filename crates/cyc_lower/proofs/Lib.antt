@@ -1,5 +1,6 @@
 -- what is accepted can be lowered
 pub mod Accepted
+pub mod LowerableLemmas
 pub mod TreeConstants
 pub mod TypedConstants
 -- the answers of `lower`

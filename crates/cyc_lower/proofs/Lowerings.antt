@@ -30,11 +30,11 @@ functions_lowered (h ∷ hs) = (record { name = refl; frame = refl; small = func
 
 pub is_lowered : (source : Program) → IsWellTypedProgram source → CanBeLowered source → IsLowered source (lower_program source)
 is_lowered source well fit = record {
-  well_formed = well_formed source (is_fitting_program source fit.is_numbered well) fit.few_globals;
+  well_formed = well_formed source (is_fitting_program source fit.lowerable well) fit.few_globals;
   words = has_words source fit.of_words;
   functions = functions_lowered source.functions;
   globals = sym (globals_counted source.globals);
-  follows = λ pages calls store input new some_page some_call. follows source (is_fitting_program source fit.is_numbered well) pages calls store input new some_page some_call;
+  follows = λ pages calls store input new some_page some_call. follows source (is_fitting_program source fit.lowerable well) pages calls store input new some_page some_call;
 }
 
 functions_small : (hs : List Function) → sum_by size (map lower_function hs) ≤ size_per_weight * sum_of function_weight hs
@@ -44,7 +44,7 @@ functions_small (h ∷ hs) = omega (arith, sum_by-cons size (lower_function h) (
 -- what is true of every plain program is true of this one
 pub is_plain : (source : Program) → IsWellTypedProgram source → CanBeLowered source → program_weight source ≤ max_tokens → IsPlain (lower_program source)
 is_plain source well fit light = record {
-  well_formed = well_formed source (is_fitting_program source fit.is_numbered well) fit.few_globals;
+  well_formed = well_formed source (is_fitting_program source fit.lowerable well) fit.few_globals;
   words = has_words source fit.of_words;
   small = omega (arith, functions_small source.functions, light);
 }

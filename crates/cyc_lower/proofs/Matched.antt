@@ -27,7 +27,7 @@ use Rattle.cyc_words.proofs.Matching.{by_none, way_before}
 use Rattle.cyc_plain.proofs.Steps.{step_performs, place_known}
 use Rattle.cyc_plain.specs.Straight.{At}
 use Rattle.cyc_words.specs.Demand.{demand_of}
-use Rattle.cyc_meaning.specs.State.{World, Environment, ConvertTo, Operate, Chain, Apply, Decide, Store, Pass, Initialise, Choose, Test, Return, Entry, Needs, Discard, Rest, Join, Loop, CloseRegion, Caller, Main, counted, calls_in, Focus, Evaluating, Given, Executing, Proceeding, Calling, Entering, Binding, Breaking, Continuing, Returning, Throwing, State, Running, Ended, Dead, Wrong, output_of, input_of, status_of}
+use Rattle.cyc_meaning.specs.State.{World, Environment, ConvertTo, Operate, Chain, Apply, ApplyPointer, Decide, Store, Pass, Initialise, Choose, Test, Return, Entry, Needs, Discard, Rest, Join, Loop, CloseRegion, Caller, Main, counted, calls_in, Focus, Evaluating, Given, Executing, Proceeding, Calling, Entering, Binding, Breaking, Continuing, Returning, Throwing, State, Running, Ended, Dead, Wrong, output_of, input_of, status_of}
 use Rattle.cyc_meaning.specs.Step.{step}
 use Rattle.cyc_meaning.specs.Run.{is_within, limited_step}
 use Rattle.cyc_lower.specs.Lowering.{compared_of, lower_program}
@@ -73,6 +73,8 @@ module _ (source : Program) where
     value_depth g locals kind o p frames (Needs (Apply u left) ∷ k) (to_slot (d, q, at, lands)) =
         by_lands lands (λ stack. value_depth g locals kinds.Int (operands.Slot d) q frames k stack) (λ stack. ahead_depth g locals kinds.Int d q frames k stack)
     value_depth g locals kind o p frames (Needs (Apply u left) ∷ k) (to_jump (failing, is, stack)) = condition_depth g failing (operands.Slot (top source g k)) o p frames k stack
+    value_depth g locals kind o p frames (Needs (ApplyPointer peek u left) ∷ k) (d, test, at, lands) =
+        by_lands lands (λ stack. value_depth g locals kinds.Int (operands.Slot d) (p + 1) frames k stack) (λ stack. ahead_depth g locals kinds.Int d (p + 1) frames k stack)
     value_depth g locals kind o p frames (Needs Decide ∷ k) (d, q, is, at, lands) =
         by_lands lands (λ stack. value_depth g locals kinds.Int (operands.Slot d) q frames k stack) (λ stack. ahead_depth g locals kinds.Int d q frames k stack)
     value_depth g locals kind o p frames (Needs (Store place) ∷ k) (l, to, q, at, is, hands) =
@@ -139,6 +141,8 @@ module _ (source : Program) where
     value_plain g locals kind o p frames (Needs (Apply u left) ∷ k) (to_slot (d, q, at, lands)) =
         by_lands lands (λ stack. value_plain g locals kinds.Int (operands.Slot d) q frames k stack) (λ stack. ahead_plain g locals kinds.Int d q frames k stack)
     value_plain g locals kind o p frames (Needs (Apply u left) ∷ k) (to_jump (failing, is, stack)) = condition_plain g failing (operands.Slot (top source g k)) o p frames k stack
+    value_plain g locals kind o p frames (Needs (ApplyPointer peek u left) ∷ k) (d, test, at, lands) =
+        by_lands lands (λ stack. value_plain g locals kinds.Int (operands.Slot d) (p + 1) frames k stack) (λ stack. ahead_plain g locals kinds.Int d (p + 1) frames k stack)
     value_plain g locals kind o p frames (Needs Decide ∷ k) (d, q, is, at, lands) =
         by_lands lands (λ stack. value_plain g locals kinds.Int (operands.Slot d) q frames k stack) (λ stack. ahead_plain g locals kinds.Int d q frames k stack)
     value_plain g locals kind o p frames (Needs (Store place) ∷ k) (l, to, q, at, is, hands) =

@@ -1,7 +1,6 @@
 -- What slots hold after a value has been moved.
-use Rattle.std.proofs.Common.{◌≡◌, ◌≢◌, ◌⊎◌, ℕ, zero, suc, ◌+◌, ◌≤◌, ◌<◌, Bool, true, false, refl, sym, ap, ◌∙◌, arith, inl, inr}
+use Rattle.std.proofs.Common.{◌≡◌, ℕ, ◌≤◌, Bool, true, false, refl, sym, arith, inl, inr}
 use Rattle.std.specs.Prelude.{◌==◌, if◌then◌else◌}
-use Rattle.cyc_types.specs.declared.typed.Kind.{Kind}
 use Rattle.cyc_plain.specs.declared.instruction.Operand.{Operand}
 use Rattle.cyc_plain.specs.declared.instruction.Operand.TheVariants as operands
 use Rattle.cyc_plain.specs.declared.instruction.Instruction.TheVariants as instructions
@@ -11,7 +10,7 @@ use Rattle.cyc_plain.specs.Step.{Choice, with_slots, advanced, performed}
 use Rattle.cyc_plain.proofs.SlotLaws.{put-same, put-other, copied-inside, copied-below, copied-above}
 use Rattle.cyc_meaning.specs.Values.{Operand as Kinded, words_of_kind}
 use Rattle.cyc_lower.specs.Lowering.{move_of}
-use Rattle.cyc_lower.proofs.Widths.{kind_positive, Outside}
+use Rattle.cyc_lower.proofs.Widths.{Outside}
 use Rattle.cyc_lower.proofs.Relation.{Is, IsIn}
 use Rattle.cyc_lower.proofs.Data.{Is-first, Is-same}
 

@@ -23,12 +23,13 @@ use Rattle.cyc_plain.specs.Step.{operand_word}
 use Rattle.cyc_plain.specs.State as plain
 use Rattle.cyc_plain.specs.Straight.{At}
 use Rattle.cyc_meaning.specs.Values.{Value, Int, Null, Thin, Operand as Kinded, Cell, words_of_kind}
-use Rattle.cyc_meaning.specs.State.{Sort, Heap, Globals, Stack, Lexical, Dynamic, Region, Object, World, counted, Environment, ConvertTo, Operate, Chain, Apply, Decide, Store, Pass, Initialise, Choose, Test, Return, Entry, Needs, NeedsPlace, Discard, Rest, Join, Loop, CloseRegion, CloseLexical, EndLoan, Handler, Caller, Main, calls_in, Focus, Evaluating, Given, Executing, Proceeding, Calling, Entering, Binding, Breaking, Continuing, Returning, Throwing, State, Running, Ended}
+use Rattle.cyc_meaning.specs.State.{Sort, Heap, Globals, Stack, Lexical, Dynamic, Region, Object, World, counted, Environment, ConvertTo, Operate, Chain, Apply, ApplyPointer, Decide, Store, Pass, Initialise, Choose, Test, Return, Entry, Needs, NeedsPlace, Discard, Rest, Join, Loop, CloseRegion, CloseLexical, EndLoan, Handler, Caller, Main, calls_in, Focus, Evaluating, Given, Executing, Proceeding, Calling, Entering, Binding, Breaking, Continuing, Returning, Throwing, State, Running, Ended}
 use Rattle.cyc_meaning.specs.Step.{object_of}
 use Rattle.cyc_meaning.specs.Operators.{is_zero}
 use Rattle.cyc_meaning.specs.FrameCount.{words_of_all}
 use Rattle.cyc_lower.specs.Slots.{starts_of, slot_of}
-use Rattle.cyc_lower.specs.Lowering.{slot_types, unary_operator, failing_comparison, operand_of, move_of, low_byte, converts_there, all_passed, compared_of, break_target, continue_target, results_of, lower_program}
+use Rattle.cyc_lower.specs.Lowerable.{is_null_test}
+use Rattle.cyc_lower.specs.Lowering.{slot_types, unary_operator, failing_comparison, operand_of, move_of, pointer_instruction, low_byte, converts_there, all_passed, compared_of, break_target, continue_target, results_of, lower_program}
 use Rattle.cyc_lower.proofs.Widths.{kind_of_result, given, called_kind, HasRoom, Outside}
 use Rattle.cyc_lower.proofs.Stands.{ConversionAt, OperatorAt, TruthAt, CopyAt, ExpressionAt, ArgumentsAt, OperationsAt, ValueAt, ConditionAt, FailingAt, ComparesAt, DiscardedAt, StatementAt, ItemsAt}
 
@@ -72,6 +73,7 @@ held (Needs (ConvertTo from to target) ∷ k) = held k
 held (Needs (Operate operator) ∷ k) = held k
 held (Needs (Chain rest) ∷ k) = held k
 held (Needs (Apply operator left) ∷ k) = left ∷ held k
+held (Needs (ApplyPointer peek operator left) ∷ k) = left ∷ held k
 held (Needs Decide ∷ k) = held k
 held (Needs (Store place) ∷ k) = held k
 held (Needs (Pass callee before rest) ∷ k) = before ++ held k
@@ -315,6 +317,9 @@ module _ (source : Program) where
         Yields ((d : ℕ) × (q : ℕ) × OperatorAt (code_of g) (bounds_at g) (types_at g) operator d (operands.Slot (top g k)) o p q
         × Lands (base_of g) (top g k) d 1 (ValueStack g locals kinds.Int (operands.Slot d) q frames k) (AheadStack g locals kinds.Int d q frames k))
         ((failing : Comparison) × (failing_comparison operator ≡ Some failing) × ConditionStack g failing (operands.Slot (top g k)) o p frames k)
+    ValueStack g locals kind o p frames (Needs (ApplyPointer peek operator left) ∷ k) =
+        (d : ℕ) × (is_null_test operator ≡ true) × At (code_of g) p (pointer_instruction operator (operands.Slot (top g k)) d)
+        × Lands (base_of g) (top g k) d 1 (ValueStack g locals kinds.Int (operands.Slot d) (p + 1) frames k) (AheadStack g locals kinds.Int d (p + 1) frames k)
     ValueStack g locals kind o p frames (Needs Decide ∷ k) =
         (d : ℕ) × (q : ℕ) × (o ≡ operands.Slot (top g k)) × TruthAt (code_of g) (bounds_at g) (types_at g) (top g k) d p q
         × Lands (base_of g) (top g k) d 1 (ValueStack g locals kinds.Int (operands.Slot d) q frames k) (AheadStack g locals kinds.Int d q frames k)

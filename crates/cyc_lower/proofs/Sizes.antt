@@ -1,6 +1,5 @@
 -- The size of a function's code is at most three for each token that its spelling needs.
 use Rattle.std.proofs.Common.{◌≡◌, ℕ, zero, suc, ◌+◌, ◌*◌, ◌≤◌, Bool, true, false, List, [], ◌∷◌, ◌++◌, length, Option, None, Some, arith}
-use Rattle.cyc_meaning.specs.Operators.{null_exception}
 use Rattle.std.specs.Prelude.{◌==◌, sum_by, if◌then◌else◌}
 use Rattle.std.proofs.lemmas.List.Sums.{sum_by-append, sum_by-cons}
 use Rattle.cyc_types.specs.declared.typed.Kind.{Kind}
@@ -9,6 +8,8 @@ use Rattle.cyc_types.specs.declared.typed.Callee.TheVariants as callees
 use Rattle.cyc_types.specs.declared.typed.UnaryOperator.TheVariants as unary
 use Rattle.cyc_types.specs.declared.typed.Operator.{Operator}
 use Rattle.cyc_types.specs.declared.typed.Operator.TheVariants as operators
+use Rattle.cyc_types.specs.declared.typed.PointerOperator.{PointerOperator}
+use Rattle.cyc_types.specs.declared.typed.PointerOperator.TheVariants as pointers
 use Rattle.cyc_types.specs.declared.typed.LogicalOperator.{LogicalOperator}
 use Rattle.cyc_types.specs.declared.typed.LogicalOperator.TheVariants as logical
 use Rattle.cyc_types.specs.TypedTrees.{Lvalue, Local, Global, Expression, Number, Copy, Call, Unary, Binary, Assign, Converted, Convert, Arguments, NoArguments, MoreArguments, Operations, NoOperations, ThenCompute, ThenTest, ThenPointer, ThenPointerPeek, Statement, Block, Empty, Evaluate, If, While, Return, Break, Continue, Items, NoItems, MoreItems, Execute, Declare, Function}
@@ -24,7 +25,7 @@ use Rattle.cyc_plain.specs.Program.{instruction_size, size}
 use Rattle.cyc_lower.specs.Slots.{starts_of, slot_of}
 use Rattle.cyc_meaning.specs.Values.{kind_of, words_of_kind}
 use Rattle.cyc_lower.proofs.Widths.{kind_few, type_words}
-use Rattle.cyc_lower.specs.Lowering.{slot_types, converts_there, passed_words, all_passed, source_of, source_slot, converted_by, moved_by, move_of, unary_operator, binary_operator, operand_of, operand_or, code_unless, slot_or, code_unless_slot, left_of, value_slot, next_slot, left_slot, value_operand, converted_operand, printed_operand, check_code, conversion_code, divisor_code, checked_code, operator_code, truth_code, load_code, low_byte, test_code, is_in, copy_code, expression_code, arguments_code, converted_code, converted_operand_code, printed_code, initial_code, assignment_code, operations_code, discarded_code, failing_comparison, compared_or, left_with, slot_with, first_code, second_code, pair_code, condition_code, condition_of, failing_jump, break_target, continue_target, return_code, declaration_code, statement_code, items_code, first_temporary, jump_if_zero, jump_if_nonzero, lower_function}
+use Rattle.cyc_lower.specs.Lowering.{slot_types, converts_there, passed_words, all_passed, source_of, source_slot, converted_by, moved_by, move_of, pointer_instruction, unary_operator, binary_operator, operand_of, operand_or, code_unless, slot_or, code_unless_slot, left_of, value_slot, next_slot, left_slot, value_operand, converted_operand, printed_operand, conversion_code, divisor_code, checked_code, operator_code, truth_code, load_code, low_byte, test_code, is_in, copy_code, expression_code, arguments_code, converted_code, converted_operand_code, printed_code, initial_code, assignment_code, operations_code, discarded_code, failing_comparison, compared_or, left_with, slot_with, first_code, second_code, pair_code, condition_code, condition_of, failing_jump, break_target, continue_target, return_code, declaration_code, statement_code, items_code, first_temporary, jump_if_zero, jump_if_nonzero, lower_function}
 use Rattle.cyc_lower.specs.Lowered.{size_per_weight}
 
 abbrev code_size : List Instruction → ℕ
@@ -97,6 +98,13 @@ initial_by_size : (there : Bool) (known : Option Operand) (at_once inner : List 
 initial_by_size true known at_once inner to o p d bound few other = omega (arith, few)
 initial_by_size false known at_once inner to o p d bound few other =
     omega (arith, both (converted_by known inner to o p) (move_of (words_of_kind to) d o ∷ []), converted_by_size known inner to o p bound other, move_size (words_of_kind to) d o (kind_few to))
+
+pointer_size : (o : PointerOperator) (l : Operand) (d : ℕ) → instruction_size (pointer_instruction o l d) ≤ 11
+pointer_size pointers.ThinIsNull l d = omega arith
+pointer_size pointers.ThinIsNotNull l d = omega arith
+pointer_size pointers.FatIsNull l d = omega arith
+pointer_size pointers.FatIsNotNull l d = omega arith
+pointer_size o l d = omega arith
 
 test_size : (o : LogicalOperator) (operand : List Instruction) (p d t : ℕ) → code_size (test_code o operand p d t) ≤ 25 + code_size operand
 test_size logical.AndThen operand p d t = omega (arith, both operand (truth_code t d), cons (jump_if_zero (operands.Slot t) (p + 1 + length operand)) (operand ++ truth_code t d))
@@ -205,7 +213,7 @@ module _ (starts : List ℕ) where
         omega (arith, both front (operations_code starts os q (operands.Slot next) d t), test_size o operand p next t, expression_size a (p + 1) t t, operations_size os q (operands.Slot next) d t)
     operations_size (ThenPointer o a os) p l d t =
         let next = next_slot os d t in
-        omega (arith, cons (instructions.Move next (operands.Word 0)) (operations_code starts os (p + 1) (operands.Slot next) d t), operations_size os (p + 1) (operands.Slot next) d t)
+        omega (arith, cons (pointer_instruction o l next) (operations_code starts os (p + 1) (operands.Slot next) d t), pointer_size o l next, operations_size os (p + 1) (operands.Slot next) d t)
     operations_size (ThenPointerPeek n o a os) p l d t =
         let next = next_slot os d t in
         omega (arith, cons (instructions.Move next (operands.Word 0)) (operations_code starts os (p + 1) (operands.Slot next) d t), operations_size os (p + 1) (operands.Slot next) d t)

@@ -1,8 +1,8 @@
 -- The steps that hand a value on.
 use Rattle.std.proofs.Common.{◌≡◌, ◌≢◌, ℕ, zero, suc, ◌+◌, ◌<◌, Bool, true, false, not, List, [], ◌∷◌, Option, None, Some, slice_get, refl, sym, ap, subst, ◌∙◌, arith, inl, inr, length}
-use Rattle.std.specs.Prelude.{◌&&◌, ℤ, ◌==◌, ◌<ℤ◌, ◌≤ℤ◌, int_le, int_lt, if◌then◌else◌}
+use Rattle.std.specs.Prelude.{ℤ, ◌==◌, ◌&&◌, ◌<ℤ◌, ◌≤ℤ◌, int_le, int_lt, if◌then◌else◌}
 use Rattle.std.proofs.lemmas.Int.{ints}
-use Rattle.std.proofs.lemmas.Bool.{and_parts, cases_eq, eqb-true, false_from_ne_true}
+use Rattle.std.proofs.lemmas.Bool.{eqb-true, false_from_ne_true}
 use Rattle.std.proofs.lemmas.Option.{same_Some, none-some}
 use Rattle.cyc_words.specs.Word.{signed, slt_of}
 use Rattle.cyc_words.proofs.WordLemmas.{slt_of_cases}
@@ -13,10 +13,13 @@ use Rattle.cyc_types.specs.declared.typed.UnaryOperator.{UnaryOperator}
 use Rattle.cyc_types.specs.declared.typed.UnaryOperator.TheVariants as unary
 use Rattle.cyc_types.specs.declared.typed.Operator.{Operator}
 use Rattle.cyc_types.specs.declared.typed.Operator.TheVariants as operators
+use Rattle.cyc_types.specs.declared.typed.PointerOperator.{PointerOperator}
+use Rattle.cyc_types.specs.declared.typed.PointerOperator.TheVariants as pointers
 use Rattle.cyc_types.specs.declared.typed.LogicalOperator.{LogicalOperator}
 use Rattle.cyc_types.specs.declared.typed.LogicalOperator.TheVariants as logical
 use Rattle.cyc_types.specs.declared.typed.Callee.TheVariants as callees
-use Rattle.cyc_types.specs.TypedTrees.{Lvalue, Local, Global, Expression, Arguments, NoArguments, MoreArguments, Operations, NoOperations, ThenCompute, ThenTest, Statement, Items, Program}
+use Rattle.cyc_types.specs.TypedTrees.{Lvalue, Local, Global, Expression, Arguments, NoArguments, MoreArguments, Operations, NoOperations, ThenCompute, ThenTest, ThenPointer, Statement, Items, Program}
+use Rattle.cyc_types.specs.TypedTrees as typed
 use Rattle.cyc_plain.specs.declared.instruction.Comparison.{Comparison}
 use Rattle.cyc_plain.specs.declared.instruction.Comparison.TheVariants as comparisons
 use Rattle.cyc_plain.specs.declared.instruction.Operand.{Operand}
@@ -35,15 +38,16 @@ use Rattle.cyc_plain.specs.Straight.{At}
 use Rattle.cyc_types.specs.Types.{Ty}
 use Rattle.cyc_meaning.specs.Values.{Value, Int, Null, Thin, Fat, Handle, Key, Operand as Kinded, is_kind, words_of_kind}
 use Rattle.cyc_meaning.specs.Operators.{Gives, Raises, Misfits, has_no_result, binary_word, is_zero, unary_result, truth_result, truth_of, division_by_zero}
+use Rattle.cyc_meaning.specs.Pointers.{takes_kind, followed}
 use Rattle.cyc_meaning.specs.Conversion.{conversion}
-use Rattle.cyc_meaning.specs.Pointers.{followed}
-use Rattle.cyc_meaning.specs.State.{World, Environment, with_local, made, variable, written, region_at, Awaiting, ConvertTo, Operate, Chain, Apply, Decide, Store, Pass, Initialise, Choose, Test, Return, Entry, Needs, Discard, Rest, Join, Loop, Focus, Evaluating, Given, Executing, Proceeding, Calling, Returning, Throwing, State, Running}
-use Rattle.cyc_meaning.specs.Step.{wrong, leads_to, object_of, computed, stored_at, declared, passes, tested, awaits_right, chosen, looped, step}
+use Rattle.cyc_meaning.specs.State.{World, Environment, with_local, made, variable, written, region_at, Awaiting, ConvertTo, Operate, Chain, Apply, ApplyPointer, Decide, Store, Pass, Initialise, Choose, Test, Return, Entry, Needs, Discard, Rest, Join, Loop, Focus, Evaluating, Given, Executing, Proceeding, Calling, Returning, Throwing, State, Running}
+use Rattle.cyc_meaning.specs.Step.{leads_to, wrong, object_of, computed, stored_at, declared, passes, tested, awaits_right, chosen, looped, step}
 use Rattle.cyc_lower.specs.Slots.{slot_of}
+use Rattle.cyc_lower.specs.Lowerable.{is_null_test}
 use Rattle.cyc_lower.proofs.Slots.{slot-room, room-inside}
 use Rattle.cyc_lower.proofs.Widths.{kind_positive, same_kind, HasRoom, Outside}
 use Rattle.cyc_lower.proofs.Moves.{moved_slots, moves, put_elsewhere, moved_elsewhere, moved_is}
-use Rattle.cyc_lower.specs.Lowering.{unary_operator, binary_operator, failing_comparison, operand_of, value_slot, next_slot, is_in, jump_if_zero, jump_if_nonzero, move_of, converts_there, break_target, lower_program}
+use Rattle.cyc_lower.specs.Lowering.{unary_operator, binary_operator, failing_comparison, operand_of, value_slot, next_slot, is_in, jump_if_zero, jump_if_nonzero, move_of, pointer_instruction, converts_there, break_target, lower_program}
 use Rattle.cyc_lower.proofs.Stands.{OperandBy, CopyBy, CopyAt, CheckAt, CheckedAt, OperatorAt, TruthAt, ExpressionAt, OperationsAt}
 use Rattle.cyc_lower.proofs.Relation.{Is, IsIn, with_kind, types_at, starts_at, Holds, held, contents, callers, in_place, by_jump, in_temporary, in_local, drops, leaves, copies, DataIn, SharedAt, StoreAt, to_slot, to_jump, ValueStack, ConditionStack, DroppedStack, AheadStack, LandsStack, HandsOnStack, AppliedStack, ReadyAt, as_operand, into_slot, as_right, in_operand, nowhere, ahead, compared, with_left, behind_statement, Related, Matches, code_of, bounds_at, base_of, top}
 use Rattle.cyc_lower.proofs.Data.{Is-first, height-least, Holds-same, Holds-above, data_above, data_assigned, data_assigned_global, data_declared}
@@ -95,6 +99,10 @@ first_word v slots (operands.Slot n) is = Is-first v.kind v.value slots (λ (i :
 first_word v slots (operands.Word w) is = is
 
 -- a value that is converted without a change keeps its words
+first_holds : (a b : Bool) → (a && b) ≡ true → a ≡ true
+first_holds true b holds = refl
+first_holds false b holds = holds
+
 kept_at : (from to : Kind) (v : Value) (words : Words) (p : ℕ) → conversion to v ≡ Gives v → Is from v words p → Is to v words p
 kept_at kinds.Int kinds.Int (Int a) words p gives is = is
 kept_at kinds.Nullable kinds.Nullable Null words p gives is = is
@@ -276,18 +284,18 @@ module _ (source : Program) (pages calls : ℕ) where
       converted from to target v.kind v.value o k e w c (subst IsWell does well) does stands stack
 
   -- a conversion that raises nothing, of a value in the slots of a local that is about to get it
-  converted_ahead : (from to : Kind) (target : Option Kind) (i : Kind) (v : Value) (words : Words) (n : ℕ) (k : List Entry) (e : Environment) (w : World)
+  converted_ahead : (from to i : Kind) (v : Value) (words : Words) (n : ℕ) (k : List Entry) (e : Environment) (w : World)
       → IsWell (computed to (conversion to v) k e w) → converts_there from to ≡ true → Is i v words n
       → (computed to (conversion to v) k e w ≡ Running (Given (of_kind to v)) k e w) × Is to v words n
-  converted_ahead from kinds.Int target i (Int a) words n k e w well quiet is = (refl, kept_at i kinds.Int (Int a) words n refl is)
-  converted_ahead from kinds.Nullable target i Null words n k e w well quiet is = (refl, kept_at i kinds.Nullable Null words n refl is)
-  converted_ahead from kinds.Fat target i Null words n k e w well quiet is = (refl, kept_at i kinds.Fat Null words n refl is)
-  converted_ahead from kinds.NonNull target i Null words n k e w well quiet is = absurd (let f : false ≡ true = quiet in cc)
-  converted_ahead from to target i (Thin object offset) words n k e w well quiet is = absurd (no_pointer i object offset words (operands.Slot n) is)
-  converted_ahead from to target i (Fat object start many index) words n k e w well quiet is = absurd (no_part i object start many index words (operands.Slot n) is)
-  converted_ahead from to target i (Handle region) words n k e w well quiet is = absurd (no_handle i region words (operands.Slot n) is)
-  converted_ahead from to target i (Key region) words n k e w well quiet is = absurd (no_key i region words (operands.Slot n) is)
-  converted_ahead from to target i v words n k e w well quiet is = absurd (well refl)
+  converted_ahead from kinds.Int i (Int a) words n k e w well quiet is = (refl, kept_at i kinds.Int (Int a) words n refl is)
+  converted_ahead from kinds.Nullable i Null words n k e w well quiet is = (refl, kept_at i kinds.Nullable Null words n refl is)
+  converted_ahead from kinds.Fat i Null words n k e w well quiet is = (refl, kept_at i kinds.Fat Null words n refl is)
+  converted_ahead from kinds.NonNull i Null words n k e w well quiet is = absurd (let f : false ≡ true = quiet in cc)
+  converted_ahead from to i (Thin object offset) words n k e w well quiet is = absurd (no_pointer i object offset words (operands.Slot n) is)
+  converted_ahead from to i (Fat object start many index) words n k e w well quiet is = absurd (no_part i object start many index words (operands.Slot n) is)
+  converted_ahead from to i (Handle region) words n k e w well quiet is = absurd (no_handle i region words (operands.Slot n) is)
+  converted_ahead from to i (Key region) words n k e w well quiet is = absurd (no_key i region words (operands.Slot n) is)
+  converted_ahead from to i v words n k e w well quiet is = absurd (well refl)
 
   -- its kind is the one that it is converted from, and it has as many words behind
   converts_ahead : (from to : Kind) (target : Option Kind) (v : Kinded) (n : ℕ) (k : List Entry) (e : Environment) (w : World) (c : Configuration)
@@ -296,9 +304,9 @@ module _ (source : Program) (pages calls : ℕ) where
       × (words_of_kind v.kind ≡ words_of_kind to)
   converts_ahead from to target v n k e w c well quiet is =
       let does = converts_kind from to target v k e w well in
-      let (goes, now) = converted_ahead from to target v.kind v.value c.active.slots n k e w (subst IsWell does well) quiet is in
-      let fits = is_fitting (is_kind v.kind from && leads_to w target (followed v.value)) (computed to (conversion to v.value) k e w) w well in
-      (does ∙ goes, now, ap words_of_kind (same_kind v.kind from (and_parts _ _ fits).0) ∙ as_wide from to quiet)
+      let (goes, now) = converted_ahead from to v.kind v.value c.active.slots n k e w (subst IsWell does well) quiet is in
+      let fits = first_holds (is_kind v.kind from) (leads_to w target (followed v.value)) (is_fitting (is_kind v.kind from && leads_to w target (followed v.value)) (computed to (conversion to v.value) k e w) w well) in
+      (does ∙ goes, now, ap words_of_kind (same_kind v.kind from fits) ∙ as_wide from to quiet)
 
   -- ---- operators
 
@@ -455,6 +463,38 @@ module _ (source : Program) (pages calls : ℕ) where
       → ReadyAt source v e.locals c.active.function c.active.next c.active.slots c.frames (Needs (Apply u left) ∷ k) → GoesBehind v (Needs (Apply u left) ∷ k) e w c
   applies u left v k e w c well shared facts ready = applies_values u left.kind v.kind left.value v.value k e w c well shared facts ready
 
+  -- a pointer is compared with null
+  compares_null : (u : PointerOperator) (peek : Option ℕ) (i j : Kind) (left v : Value) (d : ℕ) (k : List Entry) (e : Environment) (w : World) (c : Configuration)
+      → IsWell (step source (Running (Given (of_kind j v)) (Needs (ApplyPointer peek u (of_kind i left)) ∷ k) e w)) → is_null_test u ≡ true
+      → SharedAt source pages calls w c → DataIn source c.active.slots k e w c
+      → Is i left c.active.slots (top source c.active.function k) → Holds c.active.slots (base_of source c.active.function) (held k)
+      → At (code_of source c.active.function) c.active.next (pointer_instruction u (operands.Slot (top source c.active.function k)) d)
+      → LandsStack source c.active.function e.locals kinds.Int d (c.active.next + 1) c.frames k → GoesBehind (of_kind j v) (Needs (ApplyPointer peek u (of_kind i left)) ∷ k) e w c
+  compares_null u peek i j (Thin object offset) v d k e w c well test shared facts is holds here lands = absurd (no_pointer_at i object offset c.active.slots (top source c.active.function k) is)
+  compares_null u peek i j (Fat object start many index) v d k e w c well test shared facts is holds here lands = absurd (no_part_at i object start many index c.active.slots (top source c.active.function k) is)
+  compares_null pointers.ThinIsNull peek i j Null Null d k e w c well test shared facts is holds here lands =
+      by_one source pages calls refl shared here
+      (λ choice. landed_word source pages calls 1 (truth (c.active.slots (top source c.active.function k) == 0)) d k e w c (c.active.next + 1) (ap (λ x. truth (x == 0)) (null_at i c.active.slots (top source c.active.function k) is)) shared facts holds refl lands)
+  compares_null pointers.ThinIsNotNull peek i j Null Null d k e w c well test shared facts is holds here lands =
+      by_one source pages calls refl shared here
+      (λ choice. landed_word source pages calls 0 (truth (not (c.active.slots (top source c.active.function k) == 0))) d k e w c (c.active.next + 1) (ap (λ x. truth (not (x == 0))) (null_at i c.active.slots (top source c.active.function k) is)) shared facts holds refl lands)
+  compares_null pointers.FatIsNull peek i j Null Null d k e w c well test shared facts is holds here lands =
+      by_one source pages calls refl shared here
+      (λ choice. landed_word source pages calls 1 (truth (c.active.slots (top source c.active.function k) == 0)) d k e w c (c.active.next + 1) (ap (λ x. truth (x == 0)) (null_at i c.active.slots (top source c.active.function k) is)) shared facts holds refl lands)
+  compares_null pointers.FatIsNotNull peek i j Null Null d k e w c well test shared facts is holds here lands =
+      by_one source pages calls refl shared here
+      (λ choice. landed_word source pages calls 0 (truth (not (c.active.slots (top source c.active.function k) == 0))) d k e w c (c.active.next + 1) (ap (λ x. truth (not (x == 0))) (null_at i c.active.slots (top source c.active.function k) is)) shared facts holds refl lands)
+  compares_null pointers.AddFat peek i j left v d k e w c well test shared facts is holds here lands = absurd (let f : false ≡ true = test in cc)
+  compares_null pointers.SubtractFat peek i j left v d k e w c well test shared facts is holds here lands = absurd (let f : false ≡ true = test in cc)
+  compares_null pointers.EqualThin peek i j left v d k e w c well test shared facts is holds here lands = absurd (let f : false ≡ true = test in cc)
+  compares_null pointers.NotEqualThin peek i j left v d k e w c well test shared facts is holds here lands = absurd (let f : false ≡ true = test in cc)
+  compares_null pointers.NullIs peek i j left v d k e w c well test shared facts is holds here lands = absurd (let f : false ≡ true = test in cc)
+  compares_null pointers.NullIsNot peek i j left v d k e w c well test shared facts is holds here lands = absurd (let f : false ≡ true = test in cc)
+  compares_null u peek i j (Int a) Null d k e w c well test shared facts is holds here lands = absurd (well refl)
+  compares_null u peek i j (Handle region) Null d k e w c well test shared facts is holds here lands = absurd (well refl)
+  compares_null u peek i j (Key region) Null d k e w c well test shared facts is holds here lands = absurd (well refl)
+  compares_null u peek i j left v d k e w c well test shared facts is holds here lands = absurd (well refl)
+
   -- ---- truth values
 
   truth_twice : (b : Bool) → truth (truth b == 0) ≡ truth (not b)
@@ -498,6 +538,7 @@ module _ (source : Program) (pages calls : ℕ) where
   chain_lands NoOperations g locals d p q frames k (is, end) lands = lands_at source pages calls g locals kinds.Int d p q frames k end lands
   chain_lands (ThenCompute u b os) g locals d p q frames k ops lands = in_temporary (omega arith) (to_slot (d, q, ops, lands))
   chain_lands (ThenTest u b os) g locals d p q frames k ops lands = in_temporary (omega arith) (to_slot (d, q, ops, lands))
+  chain_lands (ThenPointer u typed.NullPointer os) g locals d p q frames k ops lands = in_temporary (omega arith) (to_slot (d, q, ops, lands))
   chain_lands os g locals d p q frames k ops lands = absurd ops
 
   -- where the left operand decides, the right one is jumped over
@@ -615,6 +656,16 @@ module _ (source : Program) (pages calls : ℕ) where
   chains (ThenTest u b os) v o k e w c well (shared, facts, is, holds) (to_slot (d, q, (m, r, there, jump, at_b, truths, ops), lands)) =
       tests u b os v (c.active.slots (top source c.active.function k) == 0) k e w c d q refl
       (shared, facts, subst (IsIn v c.active.slots) there is, holds) (m, r, refl, jump, at_b, truths, ops) lands
+  chains (ThenPointer u typed.NullPointer os) v o k e w c well (shared, facts, is, holds) (to_slot (d, q, (there, test, here, ops), lands)) =
+      let g = c.active.function in
+      silently source pages calls (Running (Given v) (Needs (Chain (ThenPointer u typed.NullPointer os)) ∷ k) e w) (Running (Evaluating typed.NullPointer) (Needs (ApplyPointer None u v) ∷ Needs (Chain os) ∷ k) e w) (plain.Running c)
+      (awaited (takes_kind u v.kind) (ApplyPointer None u v) typed.NullPointer os k e w well) (
+        shared,
+        facts,
+        as_operand (operands.Word 0) c.active.next (refl, refl) (subst (IsIn v c.active.slots) there is, holds)
+            (next_slot os d (top source g k), test, here, chain_lands os g e.locals d (c.active.next + 1) q c.frames k ops lands),
+      )
+      (omega arith)
   chains os v o k e w c well stands (to_slot (d, q, at, lands)) = absurd at
   chains os v o k e w c well stands (to_jump (failing, r, q, at, stack)) = absurd at
 
@@ -858,6 +909,8 @@ module _ (source : Program) (pages calls : ℕ) where
   stands_given v o (Needs (Chain os) ∷ k) e w c well stands stack = chains os v o k e w c well stands stack
   stands_given v o (Needs (Apply u left) ∷ k) e w c well (shared, facts, is, (is_left, holds)) applied =
       applies u left v k e w c well shared facts (operands.Slot (top source c.active.function k), o, is_left, is, holds, applied)
+  stands_given v o (Needs (ApplyPointer peek u left) ∷ k) e w c well (shared, facts, is, (is_left, holds)) (d, test, here, lands) =
+      compares_null u peek left.kind v.kind left.value v.value d k e w c well test shared facts is_left holds here lands
   stands_given v o (Needs Decide ∷ k) e w c well stands stack = decides_truth v o k e w c stands stack
   stands_given v o (Needs (Store place) ∷ k) e w c well stands stack = stores_at place v o k e w c well stands stack
   stands_given v o (Needs (Pass f before cs) ∷ k) e w c well stands stack = hands_on f before cs v o k e w c stands stack

@@ -1,6 +1,6 @@
 -- The weight of a source state, which falls with each step that the plain program makes no step for.
 use Rattle.std.proofs.Common.{ℕ, suc, ◌+◌, List, [], ◌∷◌, Option, None, Some, length}
-use Rattle.cyc_types.specs.TypedTrees.{Expression, Number, Copy, Call, Unary, Binary, Assign, Converted, Convert, Arguments, NoArguments, MoreArguments, Operations, NoOperations, ThenCompute, ThenTest, Statement, Block, Empty, Evaluate, If, While, Break, Continue, Items, NoItems, MoreItems, Execute, Declare}
+use Rattle.cyc_types.specs.TypedTrees.{Expression, Number, NullPointer, Copy, Call, Unary, Binary, Assign, Converted, Convert, Arguments, NoArguments, MoreArguments, Operations, NoOperations, ThenCompute, ThenTest, ThenPointer, Statement, Block, Empty, Evaluate, If, While, Break, Continue, Items, NoItems, MoreItems, Execute, Declare}
 use Rattle.cyc_types.specs.TypedTrees as typed
 use Rattle.cyc_meaning.specs.State.{Awaiting, Chain, Pass, Initialise, Entry, Needs, Rest, Focus, Evaluating, Executing, Entering, Binding, State, Running}
 
@@ -8,6 +8,7 @@ use Rattle.cyc_meaning.specs.State.{Awaiting, Chain, Pass, Initialise, Entry, Ne
 abbrev mutual
   pub expression_weight : Expression → ℕ
   expression_weight (Number n) = 1
+  expression_weight NullPointer = 1
   expression_weight (Copy l t) = 1
   expression_weight (Call f cs t) = suc (arguments_weight cs)
   expression_weight (Unary o a) = suc (suc (expression_weight a))
@@ -26,6 +27,7 @@ abbrev mutual
   pub operations_weight : Operations → ℕ
   operations_weight NoOperations = 0
   operations_weight (ThenCompute o a os) = suc (suc (expression_weight a + operations_weight os))
+  operations_weight (ThenPointer o a os) = suc (suc (expression_weight a + operations_weight os))
   operations_weight os = 0
 
 abbrev pub initial_weight : Option Converted → ℕ

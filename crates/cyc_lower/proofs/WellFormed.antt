@@ -10,11 +10,12 @@ use Rattle.cyc_types.specs.declared.typed.Operator.{Operator}
 use Rattle.cyc_types.specs.declared.typed.Operator.TheVariants as operators
 use Rattle.cyc_types.specs.declared.typed.LogicalOperator.{LogicalOperator}
 use Rattle.cyc_types.specs.declared.typed.LogicalOperator.TheVariants as logical
-use Rattle.cyc_types.specs.Types.{Ty, words_of, ValueType, Void, Null, Value, result_type}
-use Rattle.cyc_types.specs.TypedTrees.{Lvalue, Local, Global, Expression, Number, Copy, Call, Unary, Binary, Assign, Converted, Convert, Arguments, NoArguments, MoreArguments, Operations, NoOperations, ThenCompute, ThenTest, type_of, Statement, Block, Empty, Evaluate, If, While, Return, Break, Continue, Items, NoItems, MoreItems, Execute, Declare, GlobalVariable, Signature, Function, Program}
+use Rattle.cyc_types.specs.Types.{Ty, words_of, ValueType, Void, Null, Value}
+use Rattle.cyc_types.specs.TypedTrees.{Lvalue, Local, Global, Expression, Number, NullPointer, Copy, Call, Unary, Binary, Assign, Converted, Convert, Arguments, NoArguments, MoreArguments, Operations, NoOperations, ThenCompute, ThenTest, ThenPointer, type_of, Statement, Block, Empty, Evaluate, If, While, Return, Break, Continue, Items, NoItems, MoreItems, Execute, Declare, GlobalVariable, Signature, Function, Program}
 use Rattle.cyc_types.specs.typing.WellTyped.{signature_of}
 use Rattle.cyc_types.specs.Numbered.{Numbering, signatures_of, numbering_of}
 use Rattle.cyc_plain.specs.declared.instruction.Comparison.{Comparison}
+use Rattle.cyc_plain.specs.declared.instruction.BinaryOperator.{BinaryOperator as PlainBinary}
 use Rattle.cyc_plain.specs.declared.instruction.Operand.{Operand}
 use Rattle.cyc_plain.specs.declared.instruction.Operand.TheVariants as operands
 use Rattle.cyc_plain.specs.declared.instruction.Instruction.{Instruction}
@@ -28,7 +29,7 @@ use Rattle.cyc_meaning.specs.Operators.{null_exception, division_by_zero}
 use Rattle.cyc_meaning.specs.Values.{kind_of, words_of_kind}
 use Rattle.cyc_meaning.specs.FrameCount.{result_words, operand_words, converted_words, argument_words, expression_need, converted_need, arguments_need, operations_need, initial_need, statement_need, items_need, words_of_all}
 use Rattle.cyc_lower.specs.Slots.{starts_of, slot_of}
-use Rattle.cyc_lower.specs.Lowering.{slot_types, spare_slots, are_as_wide, converts_there, passed_words, all_passed, source_of, source_slot, moved_by, move_of, unary_operator, binary_operator, operand_of, operand_or, code_unless, slot_or, code_unless_slot, left_with, left_of, value_slot, next_slot, slot_with, left_slot, value_operand, converted_operand, printed_operand, check_code, conversion_code, divisor_code, checked_code, operator_code, truth_code, load_code, low_byte, test_code, is_in, copy_code, expression_code, arguments_code, converted_code, converted_operand_code, printed_code, initial_code, assignment_code, operations_code, discarded_code, failing_comparison, compared_or, first_operand, first_code, second_code, pair_code, condition_code, condition_of, failing_jump, break_target, continue_target, return_code, declaration_code, statement_code, items_code, first_temporary, results_of, lower_function, lower_global, lower_program}
+use Rattle.cyc_lower.specs.Lowering.{slot_types, spare_slots, are_as_wide, converts_there, passed_words, all_passed, source_of, source_slot, moved_by, move_of, null_operator, compared_with_null, unary_operator, binary_operator, operand_of, operand_or, code_unless, slot_or, code_unless_slot, left_with, left_of, value_slot, next_slot, slot_with, left_slot, value_operand, converted_operand, printed_operand, check_code, conversion_code, divisor_code, checked_code, operator_code, truth_code, load_code, low_byte, test_code, is_in, copy_code, expression_code, arguments_code, converted_code, converted_operand_code, printed_code, initial_code, assignment_code, operations_code, discarded_code, failing_comparison, compared_or, first_operand, first_code, second_code, pair_code, condition_code, condition_of, failing_jump, break_target, continue_target, return_code, declaration_code, statement_code, items_code, first_temporary, results_of, lower_function, lower_global, lower_program}
 use Rattle.cyc_lower.proofs.Widths.{kind_positive, kind_few, type_words, kind_of_result, result_kind, given, passed_kind, words_in}
 use Rattle.cyc_lower.proofs.Fitting.{FitsPlace, Fits, FitsConverted, FitArguments, FitOperations, FitsReturn, FitsInitial, FitsStatement, FitItems, AreFitting, IsFitting}
 use Rattle.cyc_lower.proofs.Values.{as_wide}
@@ -129,6 +130,7 @@ module _ (program : PlainProgram) (r : Routine) (b : Numbering) (types : List Ty
   -- what is given has as many words as are needed for it, or one
   given_needs : (a : Expression) → Fits b types a → words_of_kind (kind_at a) ≤ max 1 (expression_need a)
   given_needs (Number n) numbered = omega arith
+  given_needs NullPointer numbered = omega arith
   given_needs (Copy l t) numbered = omega (arith, type_words t)
   given_needs (Call callees.Putchar cs t) numbered = omega arith
   given_needs (Call callees.Getchar cs t) numbered = omega arith
@@ -138,6 +140,7 @@ module _ (program : PlainProgram) (r : Routine) (b : Numbering) (types : List Ty
   given_needs (Binary a NoOperations t) (numbered, none) = omega (arith, given_needs a numbered)
   given_needs (Binary a (ThenCompute o c os) t) numbered = omega arith
   given_needs (Binary a (ThenTest o c os) t) numbered = omega arith
+  given_needs (Binary a (ThenPointer o NullPointer os) t) numbered = omega arith
   given_needs (Binary a os t) (numbered, all) = absurd all
   given_needs (Assign l (Convert from to a) t) numbered = omega arith
   given_needs a numbered = absurd numbered
@@ -148,6 +151,7 @@ module _ (program : PlainProgram) (r : Routine) (b : Numbering) (types : List Ty
 
   value_room : (a : Expression) (t : ℕ) → Fits b types a → t + words_of_kind (kind_at a) ≤ r.slots → HasOperand (value_operand (starts_of types) a t) (words_of_kind (kind_at a))
   value_room (Number n) t numbered few = tt
+  value_room NullPointer t numbered few = tt
   value_room (Copy (Local w n) ty) t (within, room) few = omega (arith, locals n within, room)
   value_room (Assign (Local w n) (Convert from to a) ty) t ((within, room), numbered) few = omega (arith, locals n within, room)
   value_room a t numbered few = few
@@ -204,6 +208,7 @@ module _ (program : PlainProgram) (r : Routine) (b : Numbering) (types : List Ty
   has_room NoOperations ty t left numbered some few = tt
   has_room (ThenCompute o a os) ty t left numbered some few = omega (arith, few, some)
   has_room (ThenTest o a os) ty t left numbered some few = omega (arith, few, some)
+  has_room (ThenPointer o NullPointer os) ty t left numbered some few = omega (arith, few, some)
   has_room os ty t left numbered some few = absurd numbered
 
   slot_with_in : (known : Option Operand) (a : Expression) (t : ℕ) → Fits b types a → t + words_of_kind (kind_at a) ≤ r.slots → slot_with (starts_of types) known a t + words_of_kind (kind_at a) ≤ r.slots
@@ -267,6 +272,10 @@ module _ (program : PlainProgram) (r : Routine) (b : Numbering) (types : List Ty
   copy_in true c o d inside few = tt
   copy_in false c o d inside few = (subst (λ words. IsInRange program r (move_of words d o)) (sym (passed_is c)) (move_in (passed_kind c) d o few inside), tt)
 
+  pointer_in : (o : Option PlainBinary) (l : Operand) (d : ℕ) → d < r.slots → IsOperand r l → IsInRange program r (compared_with_null o l d)
+  pointer_in (Some o) l d few inside = (few, inside, tt)
+  pointer_in None l d few inside = (few, tt)
+
   test_in : (o : LogicalOperator) (operand : List Instruction) (p d t : ℕ) → d < r.slots → t < r.slots → p + length (test_code o operand p d t) < length r.code → AreIn operand → AreIn (test_code o operand p d t)
   test_in logical.AndThen operand p d t few room short inside =
       let long = length-append operand (truth_code t d) in
@@ -300,6 +309,7 @@ module _ (program : PlainProgram) (r : Routine) (b : Numbering) (types : List Ty
   mutual
     expression_in : (a : Expression) (p d t : ℕ) → Fits b types a → d + words_of_kind (kind_at a) ≤ r.slots → t + expression_need a ≤ r.slots → p + length (expression_code (starts_of types) a p d t) < length r.code → AreIn (expression_code (starts_of types) a p d t)
     expression_in (Number n) p d t numbered room few short = ((omega (arith, room), tt), tt)
+    expression_in NullPointer p d t numbered room few short = ((omega (arith, room), tt), tt)
     expression_in (Copy l ty) p d t numbered room few short = load_in l ty d numbered room
     expression_in (Call callees.Putchar cs ty) p d t (s, signature, many, passed, result, numbered) room few short =
         let o = printed_operand (starts_of types) cs (operands.Slot t) t in
@@ -434,6 +444,10 @@ module _ (program : PlainProgram) (r : Routine) (b : Numbering) (types : List Ty
         append front back
         (test_in o operand p next t next_few free (omega (arith, short, long)) (expression_in a (p + 1) t t numbered (omega (arith, few, free, given_needs a numbered)) (omega (arith, few)) (omega (arith, short, long, long_front))))
         (operations_in os ty (p + length front) (operands.Slot next) d t (words_of ty) rest room next_few (words_positive ty) (omega (arith, few)) (omega (arith, short, long)))
+    operations_in (ThenPointer o NullPointer os) ty p l d t left (test, rest) room inside some few short =
+        let next = next_slot os d t in
+        let next_few = next_in os d t room (omega (arith, few, some)) in
+        (pointer_in (null_operator o) l next next_few inside, operations_in os ty (p + 1) (operands.Slot next) d t (words_of ty) rest room next_few (words_positive ty) (omega (arith, few)) (omega (arith, short)))
     operations_in os ty p l d t left numbered room inside some few short = absurd numbered
 
   assignment_in : (l : Lvalue) (c : Converted) (p t : ℕ) → FitsPlace b types l (passed_kind c) → FitsConverted b types c → t + converted_words c ≤ r.slots → t + converted_need c ≤ r.slots → p + length (assignment_code (starts_of types) l c p t) < length r.code → AreIn (assignment_code (starts_of types) l c p t)

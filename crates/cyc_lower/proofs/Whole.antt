@@ -4,8 +4,7 @@ use Rattle.std.specs.Prelude.{◌==◌, if◌then◌else◌}
 use Rattle.std.proofs.lemmas.Bool.{le-leb, and_from}
 use Rattle.std.proofs.lemmas.Option.{same_Some, none-some}
 use Rattle.cyc_words.specs.Ending.{Full}
-use Rattle.cyc_types.specs.TypedTrees.{Constant, Word, GlobalVariable, Function, Program}
-use Rattle.cyc_types.specs.TypedTrees as typed
+use Rattle.cyc_types.specs.TypedTrees.{Constant, GlobalVariable, Function, Program}
 use Rattle.cyc_syntax.specs.declared.tree.PointerKind.TheVariants as marks
 use Rattle.cyc_types.specs.declared.typed.Kind.TheVariants as kinds
 use Rattle.cyc_types.specs.Types.{Ty}

@@ -1,8 +1,6 @@
 -- The kinds of what expressions give, and the words of locals.
-use Rattle.std.proofs.Common.{◌≡◌, ◌⊎◌, ℕ, zero, suc, ◌+◌, ◌*◌, ◌≤◌, ◌<◌, Bool, true, false, List, [], ◌∷◌, Option, None, Some, slice_get, refl, sym, ap, ◌∙◌, arith}
-use Rattle.std.specs.Prelude.{◌==◌}
+use Rattle.std.proofs.Common.{◌≡◌, ◌⊎◌, ℕ, zero, suc, ◌+◌, ◌≤◌, ◌<◌, true, List, [], ◌∷◌, Option, None, Some, slice_get, refl, sym, ap, ◌∙◌, arith}
 use Rattle.std.proofs.lemmas.Bool.{eqb-true}
-use Rattle.cyc_syntax.specs.declared.tree.PointerKind.{PointerKind}
 use Rattle.cyc_syntax.specs.declared.tree.PointerKind.TheVariants as marks
 use Rattle.cyc_types.specs.declared.typed.Kind.{Kind}
 use Rattle.cyc_types.specs.declared.typed.Kind.TheVariants as kinds
@@ -10,8 +8,8 @@ use Rattle.cyc_types.specs.declared.typed.Callee.{Callee}
 use Rattle.cyc_types.specs.declared.typed.Callee.TheVariants as callees
 use Rattle.cyc_types.specs.Types.{Ty, words_of, words_of_mark}
 use Rattle.cyc_types.specs.Types as types
-use Rattle.cyc_types.specs.TypedTrees.{Expression, Copy, Call, Binary, Assign, Converted, Convert, NoOperations, Signature}
-use Rattle.cyc_meaning.specs.Values.{kind_of, kind_of_mark, number_of_kind, is_kind, words_of_kind}
+use Rattle.cyc_types.specs.TypedTrees.{Expression, NullPointer, Copy, Call, Binary, Assign, Converted, Convert, NoOperations, Signature}
+use Rattle.cyc_meaning.specs.Values.{kind_of, number_of_kind, is_kind, words_of_kind}
 
 -- ---- kinds and their words
 
@@ -78,6 +76,7 @@ module _ (signatures : List Signature) where
   called_kind (callees.Function n) = result_kind (slice_get signatures n)
 
   abbrev pub given : Expression → Kind
+  given NullPointer = kinds.Nullable
   given (Copy l t) = kind_of t
   given (Call f cs t) = called_kind f
   given (Binary a NoOperations t) = given a

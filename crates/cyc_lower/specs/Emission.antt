@@ -12,7 +12,7 @@ use Rattle.cyc_plain.specs.declared.instruction.Operand.{Operand}
 use Rattle.cyc_plain.specs.declared.instruction.Operand.TheVariants.{Slot, Word}
 use Rattle.cyc_plain.specs.declared.instruction.Instruction.{Instruction}
 use Rattle.cyc_plain.specs.declared.instruction.Instruction.TheVariants.{Move, WriteByte}
-use Rattle.cyc_lower.specs.Lowering.{operand_of, source_of, source_slot, code_unless, slot_or, code_unless_slot, printed_operand, conversion_code, printed_code, left_of, value_slot, left_slot, value_operand, expression_code, compute_code, test_code, condition_code, failing_jump, while_code, statement_code, declaration_code, condition_of}
+use Rattle.cyc_lower.specs.Lowering.{operand_of, source_of, source_slot, code_unless, slot_or, code_unless_slot, printed_operand, conversion_code, printed_code, left_of, value_slot, left_slot, value_operand, expression_code, compute_code, test_code, pointer_instruction, condition_code, failing_jump, while_code, statement_code, declaration_code, condition_of}
 use Rattle.cyc_meaning.specs.FrameCount.{operand_words, argument_words, arguments_need, expression_need, initial_need, statement_need, kept_by, frame_count}
 use Rattle.cyc_plain.specs.declared.instruction.Comparison.{Comparison}
 use Rattle.cyc_lower.specs.declared.emitter.Emitter.{Emitter}
@@ -90,7 +90,8 @@ module _ (starts : List ℕ) where
   operation_code (operation.Compute o e) p l d t =
       compute_code o l (value_operand starts (view_expression e) (suc t)) (value_code (view_expression e) p (suc t)) p d
   operation_code (operation.Test o e) p l d t = test_code o (expression_code starts (view_expression e) (p + 1) t t) p d t
-  operation_code o p l d t = Move d (Word 0) ∷ []
+  operation_code (operation.Pointer o e) p l d t = pointer_instruction o l d ∷ []
+  operation_code (operation.PointerPeek n o e) p l d t = Move d (Word 0) ∷ []
 
   -- one item of a block
   abbrev pub item_code : Item → (p loop t : ℕ) → List Instruction

@@ -1,6 +1,7 @@
 -- what the contract of `lower` rests on
 pub mod Lowered
 pub mod Words
+pub mod Lowerable
 -- what the functions inside the crate promise each other
 pub mod Lowering
 pub mod Slots

@@ -3,7 +3,6 @@ use Rattle.std.specs.Prelude.{◌≡◌, ℕ, ◌*◌, ◌≤◌, List, [], ◌�
 use Rattle.cyc_words.specs.declared.fault.Code.TheVariants.{TooManyFunctions}
 use Rattle.cyc_words.specs.declared.fault.Fault.{Fault}
 use Rattle.cyc_types.specs.TypedTrees.{Function, Program}
-use Rattle.cyc_types.specs.Numbered.{IsNumberedProgram}
 use Rattle.cyc_types.specs.Weight.{function_weight}
 use Rattle.cyc_words.specs.Simulation.{NeverFails, Follows}
 use Rattle.cyc_store.specs.State.{StoreState}
@@ -18,6 +17,7 @@ use Rattle.cyc_meaning.specs.SourceMachine.{source_machine}
 use Rattle.cyc_meaning.specs.FrameCount.{frame_count}
 use Rattle.cyc_lower.specs.Lowering.{span_of_place}
 use Rattle.cyc_lower.specs.Words.{IsOfWordsProgram}
+use Rattle.cyc_lower.specs.Lowerable.{IsLowerableProgram}
 use Rattle.cyc_lower.specs.declared.limits.TheConstants.{MOST_FUNCTIONS}
 
 -- ---- refusals
@@ -63,10 +63,10 @@ pub record IsLowered (source : Program) (lowered : PlainProgram) : Type 0 where
   pub globals : length lowered.globals ≡ length source.globals
   pub follows : (pages calls : ℕ) (store : StoreState) (input : List ℕ) → IsNew pages store → 1 ≤ pages → 1 ≤ calls → FollowsSource source lowered pages calls store input
 
--- What is asked of the typed tree. That of a text has it all: it is slice_get, its constants are words, and it has fewer globals
--- than tokens.
+-- What is asked of the typed tree. That of a text that is built has it all: its forms are lowered and its numbers name what is there, its
+-- constants are words, and it has fewer globals than tokens.
 pub record CanBeLowered (source : Program) : Type 0 where
-  pub is_numbered : IsNumberedProgram source
+  pub lowerable : IsLowerableProgram source
   pub of_words : IsOfWordsProgram source
   pub few_globals : length source.globals ≤ MOST_GLOBALS
 

@@ -14,10 +14,12 @@ use Rattle.cyc_types.specs.declared.typed.UnaryOperator.{UnaryOperator}
 use Rattle.cyc_types.specs.declared.typed.UnaryOperator.TheVariants as unary
 use Rattle.cyc_types.specs.declared.typed.Operator.{Operator}
 use Rattle.cyc_types.specs.declared.typed.Operator.TheVariants as operators
+use Rattle.cyc_types.specs.declared.typed.PointerOperator.{PointerOperator}
+use Rattle.cyc_types.specs.declared.typed.PointerOperator.TheVariants as pointers
 use Rattle.cyc_types.specs.declared.typed.LogicalOperator.{LogicalOperator}
 use Rattle.cyc_types.specs.declared.typed.LogicalOperator.TheVariants as logical
 use Rattle.cyc_types.specs.Types.{Ty, words_of}
-use Rattle.cyc_types.specs.TypedTrees.{Lvalue, Local, Global, Expression, Number, Copy, Call, Unary, Binary, Assign, Converted, Convert, Arguments, NoArguments, MoreArguments, Operations, NoOperations, ThenCompute, ThenTest, ThenPointer, ThenPointerPeek, Statement, Block, Empty, Evaluate, If, While, Return, Break, Continue, Items, NoItems, MoreItems, Execute, Declare, Constant, Word, Null, GlobalVariable, Function, Program}
+use Rattle.cyc_types.specs.TypedTrees.{Lvalue, Local, Global, Expression, Number, NullPointer, Copy, Call, Unary, Binary, Assign, Converted, Convert, Arguments, NoArguments, MoreArguments, Operations, NoOperations, ThenCompute, ThenTest, ThenPointer, ThenPointerPeek, Statement, Block, Empty, Evaluate, If, While, Return, Break, Continue, Items, NoItems, MoreItems, Execute, Declare, Constant, Word, Null, GlobalVariable, Function, Program}
 use Rattle.cyc_plain.specs.declared.instruction.UnaryOperator.{UnaryOperator as PlainUnary}
 use Rattle.cyc_plain.specs.declared.instruction.UnaryOperator.TheVariants as plain_unary
 use Rattle.cyc_plain.specs.declared.instruction.BinaryOperator.{BinaryOperator as PlainBinary}
@@ -67,6 +69,14 @@ binary_operator operators.Subtract = plain_binary.Subtract
 binary_operator operators.Multiply = plain_binary.Multiply
 binary_operator operators.Divide = plain_binary.Divide
 binary_operator operators.Remainder = plain_binary.Remainder
+
+-- what a pointer is compared by with null, if it is
+abbrev pub null_operator : PointerOperator → Option PlainBinary
+null_operator pointers.ThinIsNull = Some plain_binary.Equal
+null_operator pointers.ThinIsNotNull = Some plain_binary.NotEqual
+null_operator pointers.FatIsNull = Some plain_binary.Equal
+null_operator pointers.FatIsNotNull = Some plain_binary.NotEqual
+null_operator o = None
 
 -- the comparison that holds where that of an operator fails, if it is one
 abbrev pub failing_comparison : Operator → Option Comparison
@@ -154,6 +164,14 @@ operator_code o l r p d = instructions.Binary (binary_operator o) d l r ∷ []
 abbrev pub test_jump : LogicalOperator → (t target : ℕ) → Instruction
 test_jump logical.AndThen t target = jump_if_zero (operands.Slot t) target
 test_jump logical.OrElse t target = jump_if_nonzero (operands.Slot t) target
+
+-- A pointer is compared with null by its first word; another operator on pointers has a constant in its place.
+abbrev pub compared_with_null : Option PlainBinary → Operand → (d : ℕ) → Instruction
+compared_with_null (Some o) l d = instructions.Binary o d l (operands.Word 0)
+compared_with_null None l d = instructions.Move d (operands.Word 0)
+
+abbrev pub pointer_instruction : PointerOperator → Operand → (d : ℕ) → Instruction
+pointer_instruction o l d = compared_with_null (null_operator o) l d
 
 -- 0 stays 0, and any other word becomes 1
 abbrev pub truth_code : (t d : ℕ) → List Instruction
@@ -261,9 +279,10 @@ while_code condition jump body p =
 module _ (starts : List ℕ) where
   -- ---- where values stand
 
-  -- what an expression is without code: a number, or a local
+  -- what an expression is without code: a number, null, or a local
   abbrev pub operand_of : Expression → Option Operand
   operand_of (Number n) = Some (operands.Word n)
+  operand_of NullPointer = Some (operands.Word 0)
   operand_of (Copy (Local p n) t) = Some (operands.Slot (slot_of starts n))
   operand_of a = None
 
@@ -316,6 +335,7 @@ module _ (starts : List ℕ) where
   abbrev mutual
     pub expression_code : Expression → (p d t : ℕ) → List Instruction
     expression_code (Number n) p d t = instructions.Move d (operands.Word n) ∷ []
+    expression_code NullPointer p d t = instructions.Move d (operands.Word 0) ∷ []
     expression_code (Copy l ty) p d t = load_code (words_of ty) l d
     expression_code (Call callees.Putchar cs ty) p d t =
         printed_code cs p t
@@ -379,7 +399,7 @@ module _ (starts : List ℕ) where
         test_code o (expression_code b (p + 1) t t) p (next_slot os d t) t
         ++ operations_code os (p + length (test_code o (expression_code b (p + 1) t t) p (next_slot os d t) t)) (operands.Slot (next_slot os d t)) d t
     operations_code (ThenPointer o b os) p l d t =
-        instructions.Move (next_slot os d t) (operands.Word 0) ∷ operations_code os (p + 1) (operands.Slot (next_slot os d t)) d t
+        pointer_instruction o l (next_slot os d t) ∷ operations_code os (p + 1) (operands.Slot (next_slot os d t)) d t
     operations_code (ThenPointerPeek n o b os) p l d t =
         instructions.Move (next_slot os d t) (operands.Word 0) ∷ operations_code os (p + 1) (operands.Slot (next_slot os d t)) d t
 

@@ -18,7 +18,8 @@ use crate::operands::{
     value_slot,
 };
 use crate::operators::{
-    binary_operator, failing_comparison, jump_if_nonzero, move_of, test_jump, unary_operator,
+    binary_operator, failing_comparison, jump_if_nonzero, move_of, pointer_instruction, test_jump,
+    unary_operator,
 };
 use cyc_plain::{BinaryOperator, Comparison, Instruction, Operand, UnaryOperator};
 use cyc_types::typed;
@@ -392,7 +393,10 @@ impl Emitter {
                 self.patch(jump, test_jump(*operator, free, behind));
                 self.make_truth(free, slot)
             }
-            Operation::Pointer { .. } | Operation::PointerPeek { .. } => self.emit_missing(slot),
+            Operation::Pointer { operator, .. } => {
+                self.emit(pointer_instruction(*operator, left, slot))
+            }
+            Operation::PointerPeek { .. } => self.emit_missing(slot),
         }
     }
 

@@ -22,12 +22,13 @@ pub(crate) struct Condition {
     pub(crate) right: Operand,
 }
 
-/// What an expression is without code: a number, or a local.
+/// What an expression is without code: a number, null, or a local.
 pub(crate) fn operand_of(starts: &[usize], value: &Expr) -> Option<Operand>
     ensures { result ≡ operand_of starts.now (view_expression value.now) }
 {
     match value {
         Expr::Number { value } => Some(Operand::Word { word: *value }),
+        Expr::NullPointer => Some(Operand::Word { word: 0 }),
         Expr::Copy { source, .. } => match *source {
             Lvalue::Local { number, .. } => Some(Operand::Slot {
                 number: slot_of(starts, number),

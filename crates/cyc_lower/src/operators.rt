@@ -1,6 +1,6 @@
 //! What operators become.
 ghost use Rattle.std.specs.Prelude.{◌≡◌};
-ghost use Rattle.cyc_lower.specs.Lowering.{unary_operator, binary_operator, failing_comparison, move_of, failing_jump, jump_if_zero, jump_if_nonzero, test_jump};
+ghost use Rattle.cyc_lower.specs.Lowering.{unary_operator, binary_operator, pointer_instruction, failing_comparison, move_of, failing_jump, jump_if_zero, jump_if_nonzero, test_jump};
 
 use crate::operands::Condition;
 use cyc_plain::{BinaryOperator, Comparison, Instruction, Operand, UnaryOperator};
@@ -36,6 +36,36 @@ pub(crate) fn binary_operator(operator: typed::Operator) -> BinaryOperator
         typed::Operator::Multiply => BinaryOperator::Multiply,
         typed::Operator::Divide => BinaryOperator::Divide,
         typed::Operator::Remainder => BinaryOperator::Remainder,
+    }
+}
+
+/// A pointer is compared with null by its first word; another operator on pointers is not built yet, and never runs.
+pub(crate) fn pointer_instruction(
+    operator: typed::PointerOperator,
+    left: Operand,
+    destination: usize,
+) -> Instruction
+    ensures { result ≡ pointer_instruction operator left destination }
+{
+    let operator = match operator {
+        typed::PointerOperator::ThinIsNull | typed::PointerOperator::FatIsNull => {
+            BinaryOperator::Equal
+        }
+        typed::PointerOperator::ThinIsNotNull | typed::PointerOperator::FatIsNotNull => {
+            BinaryOperator::NotEqual
+        }
+        _ => {
+            return Instruction::Move {
+                destination,
+                source: Operand::Word { word: 0 },
+            };
+        }
+    };
+    Instruction::Binary {
+        operator,
+        destination,
+        left,
+        right: Operand::Word { word: 0 },
     }
 }
 

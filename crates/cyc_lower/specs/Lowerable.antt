@@ -1,0 +1,80 @@
+-- Which typed trees are lowered: those whose forms have code. Each number that such a tree has names something that is there, each call passes
+-- as many arguments as its function has parameters, and a break or a continue stands in a loop. A tree of the int language is one.
+use Rattle.std.specs.Prelude.{◌≡◌, ℕ, ◌<◌, Bool, true, false, List, [], ◌∷◌, Option, Some, None, length, slice_get}
+use Rattle.cyc_types.specs.declared.typed.PointerOperator.{PointerOperator}
+use Rattle.cyc_types.specs.declared.typed.PointerOperator.TheVariants as pointers
+use Rattle.cyc_types.specs.Types.{Ty}
+use Rattle.cyc_types.specs.TypedTrees.{Expression, Number, NullPointer, Copy, Call, Unary, Binary, Assign, Converted, Convert, Arguments, NoArguments, MoreArguments, Operations, NoOperations, ThenCompute, ThenTest, ThenPointer, Statement, Block, Empty, Evaluate, If, While, Return, Break, Continue, Items, NoItems, MoreItems, Execute, Declare, Signature, Function, Program}
+use Rattle.cyc_types.specs.typing.Scopes.{signature_of_ints}
+use Rattle.cyc_types.specs.Numbered.{Numbering, IsSignature, IsWithin, argument_count, numbering_of, signatures_of}
+
+-- a pointer is compared with `NULL`, which stands on the right
+abbrev pub is_null_test : PointerOperator → Bool
+is_null_test pointers.ThinIsNull = true
+is_null_test pointers.ThinIsNotNull = true
+is_null_test pointers.FatIsNull = true
+is_null_test pointers.FatIsNotNull = true
+is_null_test o = false
+
+abbrev mutual
+  pub IsLowerable : Numbering → Expression → Type 0
+  IsLowerable b (Number n) = Unit {0}
+  IsLowerable b NullPointer = Unit {0}
+  IsLowerable b (Copy l t) = IsWithin b l
+  IsLowerable b (Call f cs t) = (s : Signature) × IsSignature b f s × (argument_count cs ≡ length s.parameters) × AreLowerableArguments b cs
+  IsLowerable b (Unary o a) = IsLowerable b a
+  IsLowerable b (Binary a os t) = IsLowerable b a × AreLowerableOperations b os
+  IsLowerable b (Assign l c t) = IsWithin b l × IsLowerableConverted b c
+  IsLowerable b a = ⊥
+
+  pub IsLowerableConverted : Numbering → Converted → Type 0
+  IsLowerableConverted b (Convert from to a) = IsLowerable b a
+
+  pub AreLowerableArguments : Numbering → Arguments → Type 0
+  AreLowerableArguments b NoArguments = Unit {0}
+  AreLowerableArguments b (MoreArguments c cs) = IsLowerableConverted b c × AreLowerableArguments b cs
+
+  pub AreLowerableOperations : Numbering → Operations → Type 0
+  AreLowerableOperations b NoOperations = Unit {0}
+  AreLowerableOperations b (ThenCompute o a os) = IsLowerable b a × AreLowerableOperations b os
+  AreLowerableOperations b (ThenTest o a os) = IsLowerable b a × AreLowerableOperations b os
+  AreLowerableOperations b (ThenPointer o NullPointer os) = (is_null_test o ≡ true) × AreLowerableOperations b os
+  AreLowerableOperations b os = ⊥
+
+-- a value is returned exactly by a function with a result
+abbrev pub IsLowerableReturn : Numbering → Option Ty → Option Converted → Type 0
+IsLowerableReturn b None None = Unit {0}
+IsLowerableReturn b None (Some c) = ⊥
+IsLowerableReturn b (Some t) None = ⊥
+IsLowerableReturn b (Some t) (Some c) = IsLowerableConverted b c
+
+abbrev pub IsLowerableInitial : Numbering → Option Converted → Type 0
+IsLowerableInitial b None = Unit {0}
+IsLowerableInitial b (Some c) = IsLowerableConverted b c
+
+abbrev mutual
+  pub IsLowerableStatement : Numbering → (in_loop : Bool) → Statement → Type 0
+  IsLowerableStatement b l (Block r js) = AreLowerableItems b l js
+  IsLowerableStatement b l Empty = Unit {0}
+  IsLowerableStatement b l (Evaluate a) = IsLowerable b a
+  IsLowerableStatement b l (If a s t) = IsLowerable b a × IsLowerableStatement b l s × IsLowerableStatement b l t
+  IsLowerableStatement b l (While p a s) = IsLowerable b a × IsLowerableStatement b true s
+  IsLowerableStatement b l (Return v) = IsLowerableReturn b b.result v
+  IsLowerableStatement b l Break = l ≡ true
+  IsLowerableStatement b l Continue = l ≡ true
+  IsLowerableStatement b l s = ⊥
+
+  pub AreLowerableItems : Numbering → Bool → Items → Type 0
+  AreLowerableItems b l NoItems = Unit {0}
+  AreLowerableItems b l (MoreItems (Execute s) js) = IsLowerableStatement b l s × AreLowerableItems b l js
+  AreLowerableItems b l (MoreItems (Declare n t v) js) = (n < b.locals) × IsLowerableInitial b v × AreLowerableItems b l js
+  AreLowerableItems b l js = ⊥
+
+abbrev pub AreLowerableFunctions : ℕ → List Signature → List Function → Type 0
+AreLowerableFunctions globals functions [] = Unit {0}
+AreLowerableFunctions globals functions (h ∷ hs) = AreLowerableItems (numbering_of globals functions h) false h.body × AreLowerableFunctions globals functions hs
+
+-- `main` is a function without parameters, whose result is an int
+pub record IsLowerableProgram (p : Program) : Type 0 where
+  pub functions : AreLowerableFunctions (length p.globals) (signatures_of p.functions) p.functions
+  pub main : slice_get (signatures_of p.functions) p.main ≡ Some (signature_of_ints [])
