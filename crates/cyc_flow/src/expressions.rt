@@ -1,5 +1,6 @@
-//! What is known behind an expression, where it keeps the flow rules. Each method changes what is known before into what is known behind,
-//! and takes the locals of which a peek waits. What is known is changed in its place, since expressions nest deepest: a frame holds none.
+//! What is known behind an expression, where it keeps the flow rules. Each method changes what is known before into
+//! what is known behind, and takes the locals of which a peek waits. What is known is changed in its place, since
+//! expressions nest deepest: a frame holds none.
 ghost use Rattle.std.specs.Prelude.{◌≡◌, ◌++◌, IfOk, Some, Ok, option_map};
 ghost use Rattle.cyc_syntax.specs.TreeView.{place_of_span};
 ghost use Rattle.cyc_types.specs.Rules.{run, fault_at};
@@ -67,20 +68,12 @@ pub(crate) fn and_peeked(
 }
 
 impl Tracked {
-    /// Of one local this is known now.
-    pub(crate) fn set(&mut self, number: usize, fullness: Fullness)
-        ensures state { view_state self.new.state ≡ with_fullness (view_fullness fullness) (view_state self.old.state) number }
-        ensures touched { self.new.touched.items ≡ self.old.touched.items }
-    {
-        self.state.set(number, fullness);
-    }
-
     /// The same but for one local, of which this is known.
     pub(crate) fn with_fullness(mut self, number: usize, fullness: Fullness) -> Tracked
         ensures state { view_state result.state ≡ with_fullness (view_fullness fullness) (view_state self.state) number }
         ensures touched { result.touched.items ≡ self.touched.items }
     {
-        self.set(number, fullness);
+        self.state.set(number, fullness);
         self
     }
 
@@ -248,7 +241,8 @@ impl Evaluation {
         }
     }
 
-    /// Goes through what a new object holds. An array may have no elements, and its last one leaves what is known at the first.
+    /// Goes through what a new object holds. An array may have no elements, and its last one leaves what is known at
+    /// the first.
     #[cycle(expression)]
     fn initialise(
         &mut self,

@@ -144,7 +144,8 @@ impl State {
         }
     }
 
-    /// The first local that is emptier here than there, or 0 where none is: only what is said to a person depends on it.
+    /// The first local that is emptier here than there, or 0 where none is: only what is said to a person depends on
+    /// it.
     pub(crate) fn first_emptier(&self, other: &State) -> usize {
         let (State::Reached(here), State::Reached(there)) = (self, other) else {
             return 0;
