@@ -1,5 +1,5 @@
 -- The view of a node with lists of nodes, by the lists that its `Vec`s hold.
-use Rattle.std.proofs.Common.{◌≡◌, List, [], map, Option, Some, None, option_map, refl, sym, ap, ◌∙◌}
+use Rattle.std.proofs.Common.{◌≡◌, List, map, Option, Some, None, option_map, refl, sym, ap, ◌∙◌}
 use Rattle.std.specs.declared.vec.Vec.{Vec}
 use Rattle.std.specs.declared.boxed.Box.{Box}
 use Rattle.std.specs.declared.alloc.Global.{Global as Heap}
@@ -18,7 +18,7 @@ use Rattle.cyc_syntax.specs.declared.tree.Stmt.TheVariants as stmt
 use Rattle.cyc_syntax.specs.declared.tree.Item.{Item as ItemCode}
 use Rattle.cyc_syntax.specs.declared.tree.Block.{Block as BlockCode}
 use Rattle.cyc_syntax.specs.declared.tree.Clause.{Clause}
-use Rattle.cyc_syntax.specs.Trees.{Expression, Call, Chained, Binary, Fields, Expressions, MoreExpressions, ThenIndex, ThenField, ThenOperation, Block, Labelled, Try, Braces, Items, MoreItems, Clauses, Default, Case}
+use Rattle.cyc_syntax.specs.Trees.{Call, Chained, Binary, Fields, MoreExpressions, ThenIndex, ThenField, ThenOperation, Block, Labelled, Try, Braces, Items, MoreItems, Clauses, Default, Case}
 use Rattle.cyc_syntax.specs.TreeView.{place_of_span, view_name, view_expression, view_initial, view_expressions, view_postfixes, view_operations, expressions_of, postfixes_of, operations_of, view_statement, view_items, view_item, view_clauses, view_default, items_of, view_block, default_of, clauses_of}
 
 view_expressions-items : {m : _} (row : Row_of-Expr m) → view_expressions row ≡ expressions_of (items-the_row-Expr m row)

@@ -2,7 +2,6 @@
 use Rattle.std.specs.Prelude.{List, [], ◌∷◌, map, Option, Some, None, option_map}
 use Rattle.std.specs.declared.vec.Vec.{Vec}
 use Rattle.std.specs.declared.alloc.Global.{Global as Heap}
-use Rattle.cyc_syntax.specs.declared.interning.Name.{Name}
 use Rattle.cyc_words.specs.declared.span.Span.{Span}
 use Rattle.cyc_syntax.specs.declared.tree.Ident.{Ident}
 use Rattle.cyc_syntax.specs.declared.tree.Pointer.{Pointer as PointerCode}
