@@ -1,5 +1,5 @@
 -- What the rules derive from a program over ints is built.
-use Rattle.std.proofs.Common.{◌≡◌, ℕ, suc, Bool, true, false, cond, not, nat_eq, ◌&&◌, ◌||◌, List, [], ◌∷◌, ◌++◌, Option, Some, None, map, refl, sym, ap, subst, ◌∙◌}
+use Rattle.std.proofs.Common.{◌≡◌, ℕ, suc, Bool, true, false, cond, nat_eq, ◌&&◌, List, [], ◌∷◌, ◌++◌, Option, Some, None, map, refl, sym, ap, subst, ◌∙◌}
 use Rattle.std.specs.Prelude.{option_map, codes as bytes}
 use Rattle.std.specs.List.{list_all}
 use Rattle.std.proofs.lemmas.Bool.{and_parts}
@@ -20,17 +20,16 @@ use Rattle.cyc_types.specs.Types.{Ty, Int, ValueType, Value, result_type, substi
 use Rattle.cyc_types.specs.Types as types
 use Rattle.cyc_types.specs.TypedTrees.{Lvalue, Side, VariableSide, CellSide, Converted, Signature, type_of}
 use Rattle.cyc_types.specs.TypedTrees as typed
-use Rattle.cyc_types.specs.IntPart.{is_empty, is_left_out, is_int_base, is_int_type, is_int_expression, are_int_expressions, are_int_operations, is_int_option, is_int_statement, is_int_body, are_int_items, is_int_item, are_int_members, is_int_list, are_int_parameters, is_int_value, is_int_result, is_int_declaration, is_int_program}
+use Rattle.cyc_types.specs.IntPart.{is_empty, is_left_out, is_int_base, is_int_type, is_int_expression, are_int_expressions, are_int_operations, is_int_option, is_int_statement, is_int_body, are_int_items, are_int_members, is_int_list, are_int_parameters, is_int_value, is_int_result, is_int_declaration, is_int_program}
 use Rattle.cyc_types.specs.Built.{is_built_type, is_built_result, is_built_expression, are_built_arguments, are_built_operations, is_built_value, is_built_statement, are_built_items, is_built_global, is_built_function, is_built}
 use Rattle.cyc_types.specs.Rules.{Rule, Derives}
 use Rattle.cyc_types.specs.typing.Scopes.{signature_of_ints, RegionName, StructName, Exception, Meaning, Unknown, Fixed, Counter, Routine, Declared, Ordinary, LocalVariable, Scope, meaning_in, meaning_among, meaning_of, behind, in_block, in_body, with_local}
 use Rattle.cyc_types.specs.typing.Scopes as scopes
-use Rattle.cyc_types.specs.typing.Tests.{value_of, is_int}
 use Rattle.cyc_types.specs.typing.Formation.{Naming, base_written, pointers_written, type_written, after_base, base_for, pointers_for, type_for, after_type, types_for}
 use Rattle.cyc_types.specs.typing.Expressions.{passed, variable_read, variable_looked, read, looked, rule_looked, Found, place_meant, assignment, is_looking, is_looking_first, operand, Joined, peeked_local, then_added, ints_joined, tests_joined, sums_joined, int_test, then_compared, equality_joined, joined, instance_of, instantiated, called, rule, rule_all, rule_chain, rule_place}
-use Rattle.cyc_types.specs.typing.Statements.{rule_condition, returned, rule_returned, local_type, rule_initial, declared_type, behind_item, rule_statement, rule_body, rule_items}
-use Rattle.cyc_types.specs.typing.Heads.{Known, members_of, structs_of, exceptions_of, parameter_naming, parameter_types, result_written, signature_of, declared_from}
-use Rattle.cyc_types.specs.typing.Programs.{declared_before, known_of, Program, program_known, parameter_locals, body_scope, rule_functions, globals_of, struct_types, IsTypedProgram}
+use Rattle.cyc_types.specs.typing.Statements.{rule_condition, returned, rule_returned, rule_initial, declared_type, behind_item, rule_statement, rule_body, rule_items}
+use Rattle.cyc_types.specs.typing.Heads.{Known, members_of, structs_of, exceptions_of, parameter_naming, result_written, signature_of, declared_from}
+use Rattle.cyc_types.specs.typing.Programs.{declared_before, Program, program_known, parameter_locals, body_scope, rule_functions, globals_of, struct_types, IsTypedProgram}
 
 both : (a b : Bool) → a ≡ true → b ≡ true → a && b ≡ true
 both true b h k = k

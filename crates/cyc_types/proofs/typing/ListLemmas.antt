@@ -1,5 +1,5 @@
 -- A list and its part from a number on.
-use Rattle.std.proofs.Common.{◌≡◌, ℕ, zero, suc, ◌+◌, List, [], ◌∷◌, ◌++◌, Some, length, slice_get, refl, subst, arith}
+use Rattle.std.proofs.Common.{◌≡◌, ℕ, zero, suc, ◌+◌, List, [], ◌∷◌, ◌++◌, Some, length, slice_get, subst, arith}
 
 -- the list holds these from this number on
 abbrev pub Holds : {A : Type 0} → List A → ℕ → List A → Type 0

@@ -1,14 +1,14 @@
 -- THE FLOW RULES of functions and of a program: at the start of a function its parameters hold values, and the end of one with a result
 -- is never reached.
-use Rattle.std.specs.Prelude.{ℕ, not, List, [], ◌∷◌, ◌++◌, Option, Some, None}
+use Rattle.std.specs.Prelude.{not, List, [], ◌∷◌, ◌++◌, Option, Some, None}
 use Rattle.cyc_words.specs.declared.fault.Code.TheVariants as codes
 use Rattle.cyc_words.specs.declared.fault.Fault.{Fault}
 use Rattle.cyc_syntax.specs.Symbols.{Place}
 use Rattle.cyc_types.specs.Types.{Ty}
 use Rattle.cyc_types.specs.TypedTrees.{Function, Program}
-use Rattle.cyc_types.specs.Rules.{Checked, Demand, demand, Rule, Own, Part, gives, Derives, Refuses, run}
+use Rattle.cyc_types.specs.Rules.{Checked, Demand, demand, Rule, Own, Part, Derives, Refuses, run}
 use Rattle.cyc_types.specs.flow.States.{Fullness, Vacant, Full, State, Unreached, Reached, is_reached}
-use Rattle.cyc_types.specs.flow.Statements.{Around, Known, rule_items}
+use Rattle.cyc_types.specs.flow.Statements.{Around, rule_items}
 
 abbrev pub each_is : Fullness → List Ty → List Fullness
 each_is a [] = []

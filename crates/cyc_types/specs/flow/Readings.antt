@@ -1,6 +1,6 @@
 -- The flow rules in their usual form. What a rule value derives and refuses with computes to a statement on trees and on what is known, so
 -- each reading here is the rule itself: `refl` proves it.
-use Rattle.std.specs.Prelude.{◌≡◌, ◌⊎◌, ℕ, true, not, ◌&&◌, List, [], ◌∷◌, ◌++◌, Option, Some, refl}
+use Rattle.std.specs.Prelude.{◌≡◌, ◌⊎◌, ℕ, true, not, ◌&&◌, List, [], ◌∷◌, ◌++◌, Some, refl}
 use Rattle.cyc_words.specs.declared.fault.Code.TheVariants as codes
 use Rattle.cyc_words.specs.declared.fault.Fault.{Fault}
 use Rattle.cyc_syntax.specs.Symbols.{Place}
@@ -8,11 +8,11 @@ use Rattle.cyc_types.specs.declared.typed.Kind.{Kind}
 use Rattle.cyc_types.specs.declared.typed.LogicalOperator.{LogicalOperator}
 use Rattle.cyc_types.specs.declared.typed.PointerOperator.{PointerOperator}
 use Rattle.cyc_types.specs.Types.{Ty, ValueType}
-use Rattle.cyc_types.specs.TypedTrees.{Local, Expression, Move, Peek, Assign, Store, Dereference, Initial, Array, Converted, Operations, ThenTest, ThenPointerPeek, Side, Statement, Block, Swap, If, While, Return, Break, Continue, Try, Items, MoreItems, Item, OpenRegion, Clauses, Default, Function}
+use Rattle.cyc_types.specs.TypedTrees.{Local, Expression, Move, Peek, Assign, Store, Dereference, Array, Converted, Operations, ThenTest, ThenPointerPeek, Side, Statement, Block, If, While, Break, Continue, Try, Items, MoreItems, Item, OpenRegion, Clauses, Default, Function}
 use Rattle.cyc_types.specs.Rules.{demand, AllKept, IsFaultOf, Derives, Refuses}
 use Rattle.cyc_types.specs.flow.States.{State, Unreached, Vacant, Locked, Full, meet, is_at_least, is_reached, fullness, with_fullness, with_each, is_vacant, is_locked, emptied}
 use Rattle.cyc_types.specs.flow.Touched.{touched_statement}
-use Rattle.cyc_types.specs.flow.Expressions.{use_demanded, is_free, and_peeked, peek_behind, rule, rule_place, rule_initial, rule_converted, rule_operations}
+use Rattle.cyc_types.specs.flow.Expressions.{is_free, and_peeked, peek_behind, rule, rule_place, rule_initial, rule_converted, rule_operations}
 use Rattle.cyc_types.specs.flow.Statements.{Loop, Around, Known, rule_side, peeked_side, swap_demanded, rule_swapped, locks_of, behind_item, rule_statement, rule_items, rule_item, rule_clauses}
 use Rattle.cyc_types.specs.flow.Programs.{in_function, start_of, rule_function}
 
