@@ -10,7 +10,7 @@ use Rattle.cyc_types.specs.declared.typed.Kind.TheVariants as kinds
 use Rattle.cyc_types.specs.declared.typed.UnaryOperator.TheVariants as unary
 use Rattle.cyc_types.specs.declared.typed.Operator.{Operator}
 use Rattle.cyc_types.specs.Types.{Ty, ValueType}
-use Rattle.cyc_types.specs.TypedTrees.{Lvalue, Local, Global, Expression, Number, Copy, Call, Unary, Binary, Assign, Converted, Convert, Arguments, NoArguments, MoreArguments, Operations, NoOperations, ThenCompute, ThenTest, ThenPointer, Function, Program}
+use Rattle.cyc_types.specs.TypedTrees.{Dereference, Target, Lvalue, Local, Global, Expression, Number, Copy, Call, Unary, Binary, Assign, Converted, Convert, Arguments, NoArguments, MoreArguments, Operations, NoOperations, ThenCompute, ThenTest, ThenPointer, Function, Program}
 use Rattle.cyc_types.specs.TypedTrees as typed
 use Rattle.cyc_plain.specs.declared.instruction.Comparison.{Comparison}
 use Rattle.cyc_plain.specs.declared.instruction.Comparison.TheVariants as comparisons
@@ -24,8 +24,8 @@ use Rattle.cyc_plain.specs.Step.{Choice, with_slots, advanced, performed}
 use Rattle.cyc_plain.proofs.SlotLaws.{put-same}
 use Rattle.cyc_meaning.specs.Values.{Int, Null, Thin, Operand as Kinded, kind_of, words_of_kind}
 use Rattle.cyc_meaning.specs.SourceMachine.{status_in}
-use Rattle.cyc_meaning.specs.State.{status_of, World, Environment, ConvertTo, Operate, Chain, Apply, Store, Pass, Choose, Test, Entry, Needs, Discard, Focus, Evaluating, Given, Running}
-use Rattle.cyc_meaning.specs.Step.{target_by, object_of, assigned, passes, step}
+use Rattle.cyc_meaning.specs.State.{status_of, World, Environment, ConvertTo, Operate, Chain, Apply, Store, Pass, Choose, Test, Follow, LoadFrom, Entry, Needs, NeedsPlace, Discard, Focus, Evaluating, Locating, Given, Running}
+use Rattle.cyc_meaning.specs.Step.{target_of, target_by, object_of, assigned, passes, step}
 use Rattle.cyc_lower.specs.Slots.{slot_of}
 use Rattle.cyc_lower.proofs.Slots.{slot-room}
 use Rattle.cyc_lower.proofs.Widths.{kind_positive, type_words, HasRoom, Outside}
@@ -348,6 +348,10 @@ module _ (source : Program) (pages calls : ℕ) where
   comes (Binary a os t) k e w c d q known (l, m, at_a, at) lands = absurd at
   comes (Assign (Local p n) (Convert from to a) t) k e w c d q known (o, m, at, copy) lands = assigns (Local p n) from to a t k e w c (object_of e (Local p n)) o m refl known at (copies d q copy lands)
   comes (Assign (Global n) (Convert from to a) t) k e w c d q known (o, m, at, copy) lands = assigns (Global n) from to a t k e w c (object_of e (Global n)) o m refl known at (copies d q copy lands)
+  comes (typed.Load (Target pointer a ty)) k e w c d q (well, shared, facts, holds) (o, m, r, at_a, check, load, end) lands =
+      silently source pages calls (Running (Evaluating (typed.Load (Target pointer a ty))) k e w) (Running (Locating (Target pointer a ty)) (NeedsPlace (LoadFrom (kind_of ty)) ∷ k) e w) (plain.Running c) refl
+      (shared, facts, (o, m, at_a, holds, (r, check, (d, load, lands_at c.active.function e.locals (kind_of ty) d (r + 1) q c.frames k end lands))))
+      (omega arith)
   comes a k e w c d q known at lands = absurd at
 
   -- a value that is in its slot is not copied
@@ -378,6 +382,7 @@ module _ (source : Program) (pages calls : ℕ) where
       assigns (Local p n) from to a t k e w c (object_of e (Local p n)) there m refl known (is_there, room, at)
       (leaves (subst (λ x. ValueStack source g e.locals to x m c.frames k) (is ∙ sym is_there) (subst (λ r. ValueStack source g e.locals to o r c.frames k) (sym end) stack)))
   operand (Assign (Global n) c' t) k e w c o q known at stack = in_top (Assign (Global n) c' t) k e w c o q known at stack
+  operand (typed.Load x) k e w c o q known at stack = in_top (typed.Load x) k e w c o q known at stack
   operand a k e w c o q known (is, at) stack = absurd at
 
   for_its_effect : (a : Expression) (k : List Entry) (e : Environment) (w : World) (c : Configuration) (q : ℕ) → At_step a k e w c
@@ -398,7 +403,7 @@ module _ (source : Program) (pages calls : ℕ) where
   for_its_effect (typed.Counter level) k e w c q known (o, (is, at)) stack = absurd at
   for_its_effect (typed.Move p n t) k e w c q known (o, (is, at)) stack = absurd at
   for_its_effect (typed.Peek p n t) k e w c q known (o, (is, at)) stack = absurd at
-  for_its_effect (typed.Load x) k e w c q known (o, (is, at)) stack = absurd at
+  for_its_effect (typed.Load x) k e w c q known (o, at) stack = in_top (typed.Load x) k e w c o q known at (dropped_value c.active.function e.locals (given_at source c.active.function (typed.Load x)) o q c.frames k stack)
   for_its_effect (typed.AddressOf l t) k e w c q known (o, (is, at)) stack = absurd at
   for_its_effect (typed.AddressOfCell x t) k e w c q known (o, (is, at)) stack = absurd at
   for_its_effect (typed.NumberOfElements a) k e w c q known (o, (is, at)) stack = absurd at
@@ -454,6 +459,14 @@ module _ (source : Program) (pages calls : ℕ) where
       (omega arith)
   condition (Binary a (ThenCompute o b NoOperations) t) k e w c l r q known at stack = compares (failing_comparison o) o a b t k e w c l r q refl known at stack
   condition a k e w c l r q known at stack = not_zero a k e w c l r q known at stack
+
+  -- a place that a pointer leads to: the pointer is evaluated
+  pub locating : (x : Dereference) (k : List Entry) (e : Environment) (w : World) (c : Configuration) → IsStep (Locating x) k e w c
+  locating (Target pointer a t) k e w c well (shared, facts, (o, m, at_a, holds, stack)) =
+      silently source pages calls (Running (Locating (Target pointer a t)) k e w) (Running (Evaluating a) (Needs (Follow pointer (target_of t)) ∷ k) e w) (plain.Running c) refl
+      (shared, facts, as_operand o m at_a holds stack)
+      (omega arith)
+  locating x k e w c well (shared, facts, at) = absurd at
 
   pub evaluating : (a : Expression) (k : List Entry) (e : Environment) (w : World) (c : Configuration) → IsStep (Evaluating a) k e w c
   evaluating a k e w c well (shared, facts, as_operand o q at holds stack) = operand a k e w c o q (well, shared, facts, holds) at stack

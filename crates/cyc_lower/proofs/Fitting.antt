@@ -14,7 +14,7 @@ use Rattle.cyc_types.specs.declared.typed.PointerOperator.{PointerOperator}
 use Rattle.cyc_types.specs.declared.typed.PointerOperator.TheVariants as pointers
 use Rattle.cyc_types.specs.Types.{Ty, words_of, substituted_ty, ValueType, Void, Value, result_type}
 use Rattle.cyc_types.specs.Types as type_forms
-use Rattle.cyc_types.specs.TypedTrees.{Lvalue, Local, Global, Expression, Number, NullPointer, Copy, Peek, Call, Unary, Binary, Assign, Converted, Convert, Arguments, NoArguments, MoreArguments, Operations, NoOperations, ThenCompute, ThenTest, ThenPointer, Statement, Block, Empty, Evaluate, If, While, Return, Break, Continue, Items, NoItems, MoreItems, Execute, Declare, Signature, Function, Program}
+use Rattle.cyc_types.specs.TypedTrees.{Load, Dereference, Target, Lvalue, Local, Global, Expression, Number, NullPointer, Copy, Peek, Call, Unary, Binary, Assign, Converted, Convert, Arguments, NoArguments, MoreArguments, Operations, NoOperations, ThenCompute, ThenTest, ThenPointer, Statement, Block, Empty, Evaluate, If, While, Return, Break, Continue, Items, NoItems, MoreItems, Execute, Declare, Signature, Function, Program}
 use Rattle.cyc_types.specs.typing.Scopes.{signature_of_ints}
 use Rattle.cyc_types.specs.typing.Tests as tests
 use Rattle.cyc_types.specs.typing.Expressions.{instantiated}
@@ -46,7 +46,12 @@ module _ (b : Numbering) (types : List Ty) where
     Fits (Unary o a) = Fits a
     Fits (Binary a os t) = Fits a × FitOperations os
     Fits (Assign l c t) = FitsPlace l (passed_kind c) × FitsConverted c
+    Fits (Load x) = FitsCell x
     Fits a = ⊥
+
+    pub FitsCell : Dereference → Type 0
+    FitsCell (Target k a t) = Fits a
+    FitsCell x = ⊥
 
     pub FitsConverted : Converted → Type 0
     FitsConverted (Convert from to a) = (from ≡ given b.functions a) × Fits a
@@ -261,6 +266,11 @@ module _ (b : Numbering) (types : List Ty) where
     fits (Assign (Global n) d u) c v suits (few, numbered) (t, r, (home, there), converted, u_is, is) =
         let (kind, fitting) = fits_converted d c t suits numbered converted in
         (assigned_given (Global n) d u t v kind (is ∙ u_is), (few, fitting))
+    fits (Load (Target k a t)) c v suits numbered (u, r, (m, well, live, kind, same), flat, shared, is) = (
+      subst (IsGiven (kind_of t)) (sym (is ∙ ap Value same)) refl,
+      (fits a c (Value (type_forms.Pointer m t r)) suits numbered (looked a c (Value (type_forms.Pointer m t r)) numbered well)).1,
+    )
+    fits (Load x) c v suits numbered well = absurd numbered
     fits a c v suits numbered well = absurd numbered
 
     fits_converted : (d : Converted) (c : Context) (t : Ty) → Suits c → IsLowerableConverted b d → IsConverted c d t → (passed_kind d ≡ kind_of t) × FitsConverted b types d

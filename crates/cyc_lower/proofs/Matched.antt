@@ -8,7 +8,7 @@ use Rattle.cyc_types.specs.declared.typed.Kind.{Kind}
 use Rattle.cyc_types.specs.declared.typed.Kind.TheVariants as kinds
 use Rattle.cyc_types.specs.declared.typed.Callee.TheVariants as callees
 use Rattle.cyc_types.specs.declared.typed.Operator.{Operator}
-use Rattle.cyc_types.specs.TypedTrees.{Expression, NoOperations, Program}
+use Rattle.cyc_types.specs.TypedTrees.{Target, Expression, NoOperations, Program}
 use Rattle.cyc_meaning.specs.Values.{Operand as Kinded}
 use Rattle.cyc_plain.specs.declared.instruction.Comparison.{Comparison}
 use Rattle.cyc_plain.specs.declared.instruction.Comparison.TheVariants as comparisons
@@ -27,13 +27,13 @@ use Rattle.cyc_words.proofs.Matching.{by_none, way_before}
 use Rattle.cyc_plain.proofs.Steps.{step_performs, place_known}
 use Rattle.cyc_plain.specs.Straight.{At}
 use Rattle.cyc_words.specs.Demand.{demand_of}
-use Rattle.cyc_meaning.specs.State.{World, Environment, ConvertTo, Operate, Chain, Apply, ApplyPointer, Decide, Store, Pass, Initialise, Choose, Test, Return, Entry, Needs, Discard, Rest, Join, Loop, CloseRegion, Caller, Main, counted, calls_in, Focus, Evaluating, Given, Executing, Proceeding, Calling, Entering, Binding, Breaking, Continuing, Returning, Throwing, State, Running, Ended, Dead, Wrong, output_of, input_of, status_of}
-use Rattle.cyc_meaning.specs.Step.{step}
+use Rattle.cyc_meaning.specs.State.{World, Environment, ConvertTo, Operate, Chain, Apply, ApplyPointer, Follow, LoadFrom, Decide, Store, Pass, Initialise, Choose, Test, Return, Entry, Needs, NeedsPlace, Discard, Rest, Join, Loop, CloseRegion, Caller, Main, counted, calls_in, Focus, Evaluating, Locating, Given, Executing, Proceeding, Calling, Entering, Binding, Breaking, Continuing, Returning, Throwing, State, Running, Ended, Dead, Wrong, output_of, input_of, status_of}
+use Rattle.cyc_meaning.specs.Step.{target_of, step}
 use Rattle.cyc_meaning.specs.Run.{is_within, limited_step}
 use Rattle.cyc_lower.specs.Lowering.{compared_of, lower_program}
 use Rattle.cyc_meaning.specs.SourceMachine.{status_in, source_machine}
 use Rattle.cyc_lower.proofs.Weights.{weight}
-use Rattle.cyc_lower.proofs.Relation.{IsPlainStack, Lands, in_temporary, in_local, HandsOn, drops, leaves, copies, Prints, prints_only, gives_byte, SharedAt, to_slot, to_jump, ValueStack, ConditionStack, DroppedStack, AheadStack, StatementStack, LandsStack, PrintsStack, AppliedStack, RightAt, ReadyAt, EvaluatingAt, as_operand, into_slot, for_effect, as_right, as_condition, FocusAt, GivenAt, in_operand, nowhere, ahead, compared, with_left, ProceedingAt, behind_statement, behind_call, behind_wrong, Related, Matches, code_of, given_at, called_at, returned_at, top}
+use Rattle.cyc_lower.proofs.Relation.{IsPlainStack, Lands, in_temporary, in_local, HandsOn, drops, leaves, copies, Prints, prints_only, gives_byte, SharedAt, to_slot, to_jump, ValueStack, PlaceStack, ConditionStack, DroppedStack, AheadStack, StatementStack, LandsStack, PrintsStack, AppliedStack, RightAt, ReadyAt, EvaluatingAt, as_operand, into_slot, for_effect, as_right, as_condition, FocusAt, GivenAt, in_operand, nowhere, ahead, compared, with_left, ProceedingAt, behind_statement, behind_call, behind_wrong, Related, Matches, code_of, given_at, called_at, returned_at, top}
 
 module _ (source : Program) where
   -- ---- where a value goes
@@ -91,8 +91,14 @@ module _ (source : Program) where
     value_depth g locals kind o p frames (Needs (Choose s t) ∷ k) (loop, r, q, at, at_s, jump, at_t, stack) = statement_depth g loop q frames k stack
     value_depth g locals kind o p frames (Needs (Test a s) ∷ k) (loop, outer, q, at, r, jump, body, back, stack) = statement_depth g outer q frames k stack
     value_depth g locals kind o p frames (Needs Return ∷ k) (loop, q, s, is, at, one, stack) = statement_depth g loop q frames k stack
+    value_depth g locals kind o p frames (Needs (Follow pointer target) ∷ k) (q, check, place) = place_depth g locals o q frames k place
     value_depth g locals kind o p frames (Discard ∷ k) (loop, stack) = statement_depth g loop p frames k stack
     value_depth g locals kind o p frames (entry ∷ k) stack = absurd stack
+
+    pub place_depth : (g : ℕ) (locals : ℕ → Option ℕ) (o : Operand) (p : ℕ) (frames : List Frame) (k : List Entry) → PlaceStack source g locals o p frames k → HasDepth frames k
+    place_depth g locals o p frames (NeedsPlace (LoadFrom cell) ∷ k) (d, at, lands) =
+        by_lands lands (λ stack. value_depth g locals cell (operands.Slot d) (p + 1) frames k stack) (λ stack. ahead_depth g locals cell d (p + 1) frames k stack)
+    place_depth g locals o p frames k place = absurd place
 
     pub condition_depth : (g : ℕ) (failing : Comparison) (l r : Operand) (p : ℕ) (frames : List Frame) (k : List Entry) → ConditionStack source g failing l r p frames k → HasDepth frames k
     condition_depth g failing l r p frames (Needs (Chain NoOperations) ∷ k) stack = condition_depth g failing l r p frames k stack
@@ -159,8 +165,14 @@ module _ (source : Program) where
     value_plain g locals kind o p frames (Needs (Choose s t) ∷ k) (loop, r, q, at, at_s, jump, at_t, stack) = statement_plain g loop q frames k stack
     value_plain g locals kind o p frames (Needs (Test a s) ∷ k) (loop, outer, q, at, r, jump, body, back, stack) = statement_plain g outer q frames k stack
     value_plain g locals kind o p frames (Needs Return ∷ k) (loop, q, s, is, at, one, stack) = statement_plain g loop q frames k stack
+    value_plain g locals kind o p frames (Needs (Follow pointer target) ∷ k) (q, check, place) = place_plain g locals o q frames k place
     value_plain g locals kind o p frames (Discard ∷ k) (loop, stack) = statement_plain g loop p frames k stack
     value_plain g locals kind o p frames (entry ∷ k) stack = absurd stack
+
+    pub place_plain : (g : ℕ) (locals : ℕ → Option ℕ) (o : Operand) (p : ℕ) (frames : List Frame) (k : List Entry) → PlaceStack source g locals o p frames k → IsPlainStack k
+    place_plain g locals o p frames (NeedsPlace (LoadFrom cell) ∷ k) (d, at, lands) =
+        by_lands lands (λ stack. value_plain g locals cell (operands.Slot d) (p + 1) frames k stack) (λ stack. ahead_plain g locals cell d (p + 1) frames k stack)
+    place_plain g locals o p frames k place = absurd place
 
     pub condition_plain : (g : ℕ) (failing : Comparison) (l r : Operand) (p : ℕ) (frames : List Frame) (k : List Entry) → ConditionStack source g failing l r p frames k → IsPlainStack k
     condition_plain g failing l r p frames (Needs (Chain NoOperations) ∷ k) stack = condition_plain g failing l r p frames k stack
@@ -231,6 +243,7 @@ module _ (source : Program) where
 
   depth_going : (focus : Focus) (k : List Entry) (locals : ℕ → Option ℕ) (g p : ℕ) (slots : ℕ → ℕ) (frames : List Frame) → FocusAt source focus k locals g p slots frames → HasDepth frames k
   depth_going (Evaluating a) k locals g p slots frames at = evaluating_depth a locals g p slots frames k at
+  depth_going (Locating (Target pointer a t)) k locals g p slots frames (o, m, at, holds, stack) = value_depth g locals (given_at source g a) o m frames (Needs (Follow pointer (target_of t)) ∷ k) stack
   depth_going (Executing s) k locals g p slots frames (loop, q, at, stack) = statement_depth g loop q frames k stack
   depth_going (Calling callees.Putchar before) k locals g p slots frames (v, o, single, is, holds, prints) = prints_depth g locals o p frames k prints
   depth_going (Calling callees.Getchar before) k locals g p slots frames (d, q, at, holds, lands) = lands_depth g locals kinds.Int d q frames k lands

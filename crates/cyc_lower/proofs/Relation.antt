@@ -7,7 +7,7 @@ use Rattle.cyc_types.specs.declared.typed.UnaryOperator.TheVariants as unary
 use Rattle.cyc_types.specs.declared.typed.Operator.{Operator}
 use Rattle.cyc_types.specs.declared.typed.Callee.TheVariants as callees
 use Rattle.cyc_types.specs.Types.{Ty}
-use Rattle.cyc_types.specs.TypedTrees.{Lvalue, Local, Global, Expression, NoArguments, NoOperations, Statement, Function, Program}
+use Rattle.cyc_types.specs.TypedTrees.{Target, Lvalue, Local, Global, Expression, NoArguments, NoOperations, Statement, Function, Program}
 use Rattle.cyc_types.specs.Numbered.{Numbering, numbering_of, signatures_of}
 use Rattle.cyc_store.specs.State.{StoreState, sizes_in, demand}
 use Rattle.cyc_plain.specs.declared.instruction.Comparison.{Comparison}
@@ -23,15 +23,15 @@ use Rattle.cyc_plain.specs.Step.{operand_word}
 use Rattle.cyc_plain.specs.State as plain
 use Rattle.cyc_plain.specs.Straight.{At}
 use Rattle.cyc_meaning.specs.Values.{Value, Int, Null, Thin, Operand as Kinded, Cell, words_of_kind}
-use Rattle.cyc_meaning.specs.State.{Sort, Heap, Globals, Stack, Lexical, Dynamic, Region, Object, World, counted, Environment, ConvertTo, Operate, Chain, Apply, ApplyPointer, Decide, Store, Pass, Initialise, Choose, Test, Return, Entry, Needs, NeedsPlace, Discard, Rest, Join, Loop, CloseRegion, CloseLexical, EndLoan, Handler, Caller, Main, calls_in, Focus, Evaluating, Given, Executing, Proceeding, Calling, Entering, Binding, Breaking, Continuing, Returning, Throwing, State, Running, Ended}
-use Rattle.cyc_meaning.specs.Step.{object_of}
-use Rattle.cyc_meaning.specs.Operators.{is_zero}
+use Rattle.cyc_meaning.specs.State.{Sort, Heap, Globals, Stack, Lexical, Dynamic, Region, Object, World, counted, Environment, ConvertTo, Operate, Chain, Apply, ApplyPointer, Follow, LoadFrom, Decide, Store, Pass, Initialise, Choose, Test, Return, Entry, Needs, NeedsPlace, Discard, Rest, Join, Loop, CloseRegion, CloseLexical, EndLoan, Handler, Caller, Main, calls_in, Focus, Evaluating, Locating, Given, Executing, Proceeding, Calling, Entering, Binding, Breaking, Continuing, Returning, Throwing, State, Running, Ended}
+use Rattle.cyc_meaning.specs.Step.{target_of, object_of}
+use Rattle.cyc_meaning.specs.Operators.{null_exception, is_zero}
 use Rattle.cyc_meaning.specs.FrameCount.{words_of_all}
 use Rattle.cyc_lower.specs.Slots.{starts_of, slot_of}
 use Rattle.cyc_lower.specs.Lowerable.{is_null_test}
 use Rattle.cyc_lower.specs.Lowering.{slot_types, unary_operator, failing_comparison, operand_of, move_of, pointer_instruction, low_byte, converts_there, all_passed, compared_of, break_target, continue_target, results_of, lower_program}
 use Rattle.cyc_lower.proofs.Widths.{kind_of_result, given, called_kind, HasRoom, Outside}
-use Rattle.cyc_lower.proofs.Stands.{ConversionAt, OperatorAt, TruthAt, CopyAt, ExpressionAt, ArgumentsAt, OperationsAt, ValueAt, ConditionAt, FailingAt, ComparesAt, DiscardedAt, StatementAt, ItemsAt}
+use Rattle.cyc_lower.proofs.Stands.{CheckAt, ConversionAt, OperatorAt, TruthAt, CopyAt, ExpressionAt, ArgumentsAt, OperationsAt, ValueAt, ConditionAt, FailingAt, ComparesAt, DiscardedAt, StatementAt, ItemsAt}
 
 -- ---- values in slots
 
@@ -81,6 +81,8 @@ held (Needs (Initialise number kind items) ∷ k) = []
 held (Needs (Choose first second) ∷ k) = []
 held (Needs (Test condition body) ∷ k) = []
 held (Needs Return ∷ k) = []
+held (Needs (Follow pointer target) ∷ k) = held k
+held (NeedsPlace a ∷ k) = held k
 held (entry ∷ k) = []
 
 -- ---- objects and the words that stand for them
@@ -119,10 +121,9 @@ callers [] = []
 callers (Caller e ∷ k) = e ∷ callers k
 callers (entry ∷ k) = callers k
 
--- nothing waits but what the int language has: no `try`, no place, no region of a program
+-- nothing waits that catches an exception or is more than variables: no `try`, no region of a program
 abbrev pub IsPlainStack : List Entry → Type 0
 IsPlainStack [] = Unit {0}
-IsPlainStack (NeedsPlace a ∷ k) = ⊥
 IsPlainStack (CloseLexical region ∷ k) = ⊥
 IsPlainStack (EndLoan lent ∷ k) = ⊥
 IsPlainStack (Handler handler ∷ k) = ⊥
@@ -346,8 +347,17 @@ module _ (source : Program) where
     ValueStack g locals kind o p frames (Needs Return ∷ k) =
         (loop : ℕ) × (q : ℕ) × (s : ℕ) × (o ≡ operands.Slot s) × At (code_of g) p (instructions.Return s) × IsReturned g kind
         × StatementStack g loop q frames k
+    ValueStack g locals kind o p frames (Needs (Follow pointer target) ∷ k) =
+        (q : ℕ) × CheckAt (code_of g) (bounds_at g) (types_at g) null_exception o p q × PlaceStack g locals o q frames k
     ValueStack g locals kind o p frames (Discard ∷ k) = (loop : ℕ) × StatementStack g loop p frames k
     ValueStack g locals kind o p frames (entry ∷ k) = ⊥
+
+    -- the same for a place, whose address stands in an operand
+    pub PlaceStack : (g : ℕ) → (ℕ → Option ℕ) → Operand → (p : ℕ) → List Frame → List Entry → Type 0
+    PlaceStack g locals o p frames (NeedsPlace (LoadFrom cell) ∷ k) =
+        (d : ℕ) × At (code_of g) p (instructions.Load d o 0)
+        × Lands (base_of g) (top g k) d (words_of_kind cell) (ValueStack g locals cell (operands.Slot d) (p + 1) frames k) (AheadStack g locals cell d (p + 1) frames k)
+    PlaceStack g locals o p frames k = ⊥
 
     -- the same for a condition, which fails where this comparison holds
     pub ConditionStack : (g : ℕ) → Comparison → (l r : Operand) → (p : ℕ) → List Frame → List Entry → Type 0
@@ -442,6 +452,9 @@ module _ (source : Program) where
 
   abbrev pub FocusAt : Focus → List Entry → (ℕ → Option ℕ) → (g p : ℕ) → Words → List Frame → Type 0
   FocusAt (Evaluating a) k locals g p slots frames = EvaluatingAt a locals g p slots frames k
+  FocusAt (Locating (Target pointer a t)) k locals g p slots frames =
+      (o : Operand) × (m : ℕ) × ValueAt (code_of g) (bounds_at g) (types_at g) a (top g k) o p m × Holds slots (base_of g) (held k)
+      × ValueStack g locals (given_at g a) o m frames (Needs (Follow pointer (target_of t)) ∷ k)
   FocusAt (Executing s) k locals g p slots frames =
       (loop : ℕ) × (q : ℕ) × StatementAt (code_of g) (bounds_at g) (types_at g) s loop (base_of g) p q × StatementStack g loop q frames k
   FocusAt (Calling callees.Putchar before) k locals g p slots frames =

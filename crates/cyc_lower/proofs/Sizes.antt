@@ -12,10 +12,10 @@ use Rattle.cyc_types.specs.declared.typed.PointerOperator.{PointerOperator}
 use Rattle.cyc_types.specs.declared.typed.PointerOperator.TheVariants as pointers
 use Rattle.cyc_types.specs.declared.typed.LogicalOperator.{LogicalOperator}
 use Rattle.cyc_types.specs.declared.typed.LogicalOperator.TheVariants as logical
-use Rattle.cyc_types.specs.TypedTrees.{Lvalue, Local, Global, Expression, Number, Copy, Call, Unary, Binary, Assign, Converted, Convert, Arguments, NoArguments, MoreArguments, Operations, NoOperations, ThenCompute, ThenTest, ThenPointer, ThenPointerPeek, Statement, Block, Empty, Evaluate, If, While, Return, Break, Continue, Items, NoItems, MoreItems, Execute, Declare, Function}
+use Rattle.cyc_types.specs.TypedTrees.{Load, Dereference, Target, Member, Element, Lvalue, Local, Global, Expression, Number, Copy, Call, Unary, Binary, Assign, Converted, Convert, Arguments, NoArguments, MoreArguments, Operations, NoOperations, ThenCompute, ThenTest, ThenPointer, ThenPointerPeek, Statement, Block, Empty, Evaluate, If, While, Return, Break, Continue, Items, NoItems, MoreItems, Execute, Declare, Function}
 use Rattle.cyc_types.specs.Types.{Ty, words_of}
 use Rattle.cyc_types.proofs.WeightLemmas.{some_token}
-use Rattle.cyc_types.specs.Weight.{expression_weight, converted_weight, arguments_weight, more_arguments_weight, operations_weight, else_weight, statement_weight, items_weight, function_weight}
+use Rattle.cyc_types.specs.Weight.{expression_weight, dereference_weight, converted_weight, arguments_weight, more_arguments_weight, operations_weight, else_weight, statement_weight, items_weight, function_weight}
 use Rattle.cyc_plain.specs.declared.instruction.Comparison.{Comparison}
 use Rattle.cyc_plain.specs.declared.instruction.Operand.{Operand}
 use Rattle.cyc_plain.specs.declared.instruction.Operand.TheVariants as operands
@@ -25,7 +25,7 @@ use Rattle.cyc_plain.specs.Program.{instruction_size, size}
 use Rattle.cyc_lower.specs.Slots.{starts_of, slot_of}
 use Rattle.cyc_meaning.specs.Values.{kind_of, words_of_kind}
 use Rattle.cyc_lower.proofs.Widths.{kind_few, type_words}
-use Rattle.cyc_lower.specs.Lowering.{slot_types, converts_there, passed_words, all_passed, source_of, source_slot, converted_by, moved_by, move_of, pointer_instruction, unary_operator, binary_operator, operand_of, operand_or, code_unless, slot_or, code_unless_slot, left_of, value_slot, next_slot, left_slot, value_operand, converted_operand, printed_operand, conversion_code, divisor_code, checked_code, operator_code, truth_code, load_code, low_byte, test_code, is_in, copy_code, expression_code, arguments_code, converted_code, converted_operand_code, printed_code, initial_code, assignment_code, operations_code, discarded_code, failing_comparison, compared_or, left_with, slot_with, first_code, second_code, pair_code, condition_code, condition_of, failing_jump, break_target, continue_target, return_code, declaration_code, statement_code, items_code, first_temporary, jump_if_zero, jump_if_nonzero, lower_function}
+use Rattle.cyc_lower.specs.Lowering.{slot_types, converts_there, passed_words, all_passed, source_of, source_slot, converted_by, moved_by, move_of, pointer_instruction, unary_operator, binary_operator, operand_of, operand_or, code_unless, slot_or, code_unless_slot, left_of, value_slot, next_slot, left_slot, value_operand, converted_operand, printed_operand, conversion_code, divisor_code, checked_code, operator_code, truth_code, load_code, low_byte, test_code, is_in, copy_code, expression_code, arguments_code, converted_code, converted_operand_code, printed_code, dereference_code, initial_code, assignment_code, operations_code, discarded_code, failing_comparison, compared_or, left_with, slot_with, first_code, second_code, pair_code, condition_code, condition_of, failing_jump, break_target, continue_target, return_code, declaration_code, statement_code, items_code, first_temporary, jump_if_zero, jump_if_nonzero, lower_function}
 use Rattle.cyc_lower.specs.Lowered.{size_per_weight}
 
 abbrev code_size : List Instruction → ℕ
@@ -144,7 +144,17 @@ module _ (starts : List ℕ) where
         let front = converted_operand_code starts c p t in
         let store = instructions.StoreGlobal n o ∷ [] in
         omega (arith, both (front ++ store) (copy_code (passed_words c) o d), both front store, converted_operand_size c p t, copy_size c o d)
+    expression_size (Load x) p d t = dereference_size x p d t
     expression_size a p d t = omega (arith, some_token a)
+
+    dereference_size : (x : Dereference) (p d t : ℕ) → code_size (dereference_code starts x p d t) ≤ size_per_weight * dereference_weight x
+    dereference_size (Target k a ty) p d t =
+        let slot = value_slot starts a t in
+        let o = value_operand starts a t in
+        let inner = expression_code starts a p slot t in
+        omega (arith, both (converted_by (operand_of starts a) inner kinds.NonNull o p) (instructions.Load d o 0 ∷ []), converted_by_size (operand_of starts a) inner kinds.NonNull o p (size_per_weight * expression_weight a) (expression_size a p slot t))
+    dereference_size (Member k a n f ty) p d t = omega (arith, some_token a)
+    dereference_size (Element a i ty) p d t = omega (arith, some_token a)
 
     initial_size : (c : Converted) (p d t : ℕ) → code_size (initial_code starts c p d t) ≤ size_per_weight * converted_weight c + 38
     initial_size (Convert from to a) p d t =

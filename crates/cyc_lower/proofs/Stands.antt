@@ -5,7 +5,7 @@ use Rattle.cyc_types.specs.declared.typed.Kind.TheVariants as kinds
 use Rattle.cyc_types.specs.declared.typed.Callee.TheVariants as callees
 use Rattle.cyc_types.specs.declared.typed.Operator.{Operator}
 use Rattle.cyc_types.specs.declared.typed.Operator.TheVariants as operators
-use Rattle.cyc_types.specs.TypedTrees.{Lvalue, Local, Global, Expression, Number, NullPointer, Copy, Call, Unary, Binary, Assign, Converted, Convert, Arguments, NoArguments, MoreArguments, Operations, NoOperations, ThenCompute, ThenTest, ThenPointer, Statement, Block, Empty, Evaluate, If, While, Return, Break, Continue, Items, NoItems, MoreItems, Execute, Declare}
+use Rattle.cyc_types.specs.TypedTrees.{Load, Dereference, Target, Lvalue, Local, Global, Expression, Number, NullPointer, Copy, Call, Unary, Binary, Assign, Converted, Convert, Arguments, NoArguments, MoreArguments, Operations, NoOperations, ThenCompute, ThenTest, ThenPointer, Statement, Block, Empty, Evaluate, If, While, Return, Break, Continue, Items, NoItems, MoreItems, Execute, Declare}
 use Rattle.cyc_types.specs.Types.{Ty, words_of}
 use Rattle.cyc_types.specs.Numbered.{Numbering}
 use Rattle.cyc_plain.specs.declared.instruction.UnaryOperator.TheVariants as plain_unary
@@ -98,7 +98,14 @@ module _ (code : List Instruction) (bounds : Numbering) (types : List Ty) where
         (o : Operand) × (m : ℕ)
         × ((r : ℕ) × ConvertedOperandAt c t o p r × (n < bounds.globals) × At code r (instructions.StoreGlobal n o) × (r + 1 ≡ m))
         × CopyAt code (passed_words c) o d m q
+    ExpressionAt (Load x) d t p q = DereferenceAt x d t p q
     ExpressionAt a d t p q = ⊥
+
+    pub DereferenceAt : Dereference → (d t p q : ℕ) → Type 0
+    DereferenceAt (Target k a ty) d t p q =
+        (o : Operand) × (m : ℕ) × (r : ℕ) × OperandBy (operand_of (starts_of types) a) (ExpressionAt a (value_slot (starts_of types) a t) t p m) (value_slot (starts_of types) a t) o p m
+        × CheckAt null_exception o m r × At code r (instructions.Load d o 0) × (r + 1 ≡ q)
+    DereferenceAt x d t p q = ⊥
 
     -- the value comes to slot d, converted
     pub InitialAt : Converted → (d t p q : ℕ) → Type 0

@@ -465,7 +465,8 @@ module _ (source : Program) (pages calls : ℕ) where
       (omega arith)
   throwing tag value (Caller outer ∷ k) e w c well (shared, fits, plain_stack, s, here, is) =
       silently source pages calls (Running (Throwing tag value) (Caller outer ∷ k) e w) (Running (Throwing tag value) k outer w) (plain.Running c) refl (shared, omega (arith, fits), plain_stack, s, here, is) (omega arith)
-  throwing tag value (NeedsPlace a ∷ k) e w c well (shared, fits, plain_stack, s, here, is) = absurd plain_stack
+  throwing tag value (NeedsPlace a ∷ k) e w c well (shared, fits, plain_stack, s, here, is) =
+      silently source pages calls (Running (Throwing tag value) (NeedsPlace a ∷ k) e w) (Running (Throwing tag value) k e w) (plain.Running c) refl (shared, fits, plain_stack, s, here, is) (omega arith)
   throwing tag value (CloseLexical region ∷ k) e w c well (shared, fits, plain_stack, s, here, is) = absurd plain_stack
   throwing tag value (EndLoan lent ∷ k) e w c well (shared, fits, plain_stack, s, here, is) = absurd plain_stack
   throwing tag value (Handler handler ∷ k) e w c well (shared, fits, plain_stack, s, here, is) = absurd plain_stack

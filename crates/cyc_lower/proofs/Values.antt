@@ -40,7 +40,7 @@ use Rattle.cyc_meaning.specs.Values.{Value, Int, Null, Thin, Fat, Handle, Key, O
 use Rattle.cyc_meaning.specs.Operators.{Gives, Raises, Misfits, has_no_result, binary_word, is_zero, unary_result, truth_result, truth_of, division_by_zero}
 use Rattle.cyc_meaning.specs.Pointers.{takes_kind, followed}
 use Rattle.cyc_meaning.specs.Conversion.{conversion}
-use Rattle.cyc_meaning.specs.State.{World, Environment, with_local, made, variable, written, region_at, Awaiting, ConvertTo, Operate, Chain, Apply, ApplyPointer, Decide, Store, Pass, Initialise, Choose, Test, Return, Entry, Needs, Discard, Rest, Join, Loop, Focus, Evaluating, Given, Executing, Proceeding, Calling, Returning, Throwing, State, Running}
+use Rattle.cyc_meaning.specs.State.{World, Environment, with_local, made, variable, written, region_at, Awaiting, ConvertTo, Operate, Chain, Apply, ApplyPointer, Follow, Decide, Store, Pass, Initialise, Choose, Test, Return, Entry, Needs, Discard, Rest, Join, Loop, Focus, Evaluating, Given, Executing, Proceeding, Calling, Returning, Throwing, State, Running}
 use Rattle.cyc_meaning.specs.Step.{leads_to, wrong, object_of, computed, stored_at, declared, passes, tested, awaits_right, chosen, looped, step}
 use Rattle.cyc_lower.specs.Slots.{slot_of}
 use Rattle.cyc_lower.specs.Lowerable.{is_null_test}
@@ -54,7 +54,7 @@ use Rattle.cyc_lower.proofs.Data.{Is-first, height-least, Holds-same, Holds-abov
 use Rattle.cyc_lower.proofs.Accesses.{IsWell, is_fitting, is_stored, written_here, written_elsewhere, written_length, is_declared}
 use Rattle.cyc_lower.proofs.Weights.{weight}
 use Rattle.cyc_lower.proofs.Relation.{StatementStack}
-use Rattle.cyc_lower.proofs.Matched.{IsMatched, silently, by_one, by_two, by_three, shared_way, shared_within, lands_depth, value_depth, lands_plain, value_plain}
+use Rattle.cyc_lower.proofs.Matched.{IsMatched, silently, by_one, by_two, by_three, shared_way, shared_within, lands_depth, value_depth, place_depth, lands_plain, value_plain, place_plain}
 use Rattle.cyc_lower.proofs.Evaluations.{IsStep, landed_word, landed_moved, lands_at, passes_related, passes_weight, object_of_same, global_there}
 
 -- an operand of a kind, and an int
@@ -128,6 +128,10 @@ as_wide from kinds.Nullable quiet = eqb-true _ _ quiet
 as_wide from kinds.Fat quiet = eqb-true _ _ quiet
 as_wide from kinds.Handle quiet = eqb-true _ _ quiet
 as_wide from kinds.Key quiet = eqb-true _ _ quiet
+
+goes_wrong : (fits : Bool) (w : World) → IsWell (if fits then wrong w else wrong w) → ⊥
+goes_wrong true w well = well refl
+goes_wrong false w well = well refl
 
 no_pointer_at : (kind : Kind) (object offset : ℕ) (words : Words) (p : ℕ) → Is kind (Thin object offset) words p → ⊥
 no_pointer_at kinds.Int object offset words p is = is
@@ -900,6 +904,29 @@ module _ (source : Program) (pages calls : ℕ) where
 
   -- ---- all that waits for a value
 
+  -- an access through null raises an exception
+  follows_null : (pointer : Kind) (target : Option Kind) (i : Kind) (v : Value) (o : Operand) (k : List Entry) (e : Environment) (w : World) (c : Configuration)
+      → IsWell (step source (Running (Given (of_kind i v)) (Needs (Follow pointer target) ∷ k) e w)) → Stands (of_kind i v) o k e w c
+      → ValueStack source c.active.function e.locals i o c.active.next c.frames (Needs (Follow pointer target) ∷ k) → GoesBehind (of_kind i v) (Needs (Follow pointer target) ∷ k) e w c
+  follows_null pointer target i Null o k e w c well (shared, facts, is, holds) (q, (jump, uncaught, end), place) =
+      let zero_word = null_is i c.active.slots o is in
+      let does : step source (Running (Given (of_kind i Null)) (Needs (Follow pointer target) ∷ k) e w) ≡ Running (Throwing 1 0) k e w
+      = ap (λ (b : Bool). if b then Running (Throwing 1 0) k e w else wrong w) (is_fitting (is_kind i pointer && leads_to w target (followed Null)) (Running (Throwing 1 0) k e w) w well) in
+      by_one source pages calls does shared jump
+      (λ choice. not_taken (Running (Throwing 1 0) k e w) c (not (operand_word c.active.slots o == 0)) q (ap (λ x. not (x == 0)) zero_word) (
+        shared,
+        omega (arith, place_depth source c.active.function e.locals o q c.frames k place, shared.fits),
+        place_plain source c.active.function e.locals o q c.frames k place,
+        o,
+        uncaught,
+        zero_word,
+      ))
+  follows_null pointer target i (Thin object offset) o k e w c well (shared, facts, is, holds) stack = absurd (no_pointer i object offset c.active.slots o is)
+  follows_null pointer target i (Fat object start many index) o k e w c well (shared, facts, is, holds) stack = absurd (no_part i object start many index c.active.slots o is)
+  follows_null pointer target i (Int a) o k e w c well stands stack = absurd (goes_wrong (is_kind i pointer && leads_to w target (followed (Int a))) w well)
+  follows_null pointer target i (Handle region) o k e w c well stands stack = absurd (goes_wrong (is_kind i pointer && leads_to w target (followed (Handle region))) w well)
+  follows_null pointer target i (Key region) o k e w c well stands stack = absurd (goes_wrong (is_kind i pointer && leads_to w target (followed (Key region))) w well)
+
   -- where the value stands in an operand
   stands_given : (v : Kinded) (o : Operand) (k : List Entry) (e : Environment) (w : World) (c : Configuration) → IsWell (step source (Running (Given v) k e w)) → Stands v o k e w c
       → ValueStack source c.active.function e.locals v.kind o c.active.next c.frames k → GoesBehind v k e w c
@@ -923,6 +950,7 @@ module _ (source : Program) (pages calls : ℕ) where
       silently source pages calls (Running (Given v) (Needs Return ∷ k) e w) (Running (Returning (Some v)) k e w) (plain.Running c) refl
       (shared, facts, (loop, q, s, here, subst (IsIn v c.active.slots) there is, single, stack))
       (omega arith)
+  stands_given v o (Needs (Follow pointer target) ∷ k) e w c well stands stack = follows_null pointer target v.kind v.value o k e w c well stands stack
   stands_given v o (Discard ∷ k) e w c well (shared, facts, is, holds) (loop, stack) =
       silently source pages calls (Running (Given v) (Discard ∷ k) e w) (Running Proceeding k e w) (plain.Running c) refl
       (shared, behind_statement loop facts stack)

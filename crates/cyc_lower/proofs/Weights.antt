@@ -1,8 +1,8 @@
 -- The weight of a source state, which falls with each step that the plain program makes no step for.
 use Rattle.std.proofs.Common.{ℕ, suc, ◌+◌, List, [], ◌∷◌, Option, None, Some, length}
-use Rattle.cyc_types.specs.TypedTrees.{Expression, Number, NullPointer, Copy, Call, Unary, Binary, Assign, Converted, Convert, Arguments, NoArguments, MoreArguments, Operations, NoOperations, ThenCompute, ThenTest, ThenPointer, Statement, Block, Empty, Evaluate, If, While, Break, Continue, Items, NoItems, MoreItems, Execute, Declare}
+use Rattle.cyc_types.specs.TypedTrees.{Load, Dereference, Target, Expression, Number, NullPointer, Copy, Call, Unary, Binary, Assign, Converted, Convert, Arguments, NoArguments, MoreArguments, Operations, NoOperations, ThenCompute, ThenTest, ThenPointer, Statement, Block, Empty, Evaluate, If, While, Break, Continue, Items, NoItems, MoreItems, Execute, Declare}
 use Rattle.cyc_types.specs.TypedTrees as typed
-use Rattle.cyc_meaning.specs.State.{Awaiting, Chain, Pass, Initialise, Entry, Needs, Rest, Focus, Evaluating, Executing, Entering, Binding, State, Running}
+use Rattle.cyc_meaning.specs.State.{Awaiting, Chain, Pass, Initialise, Entry, Needs, Rest, Focus, Evaluating, Locating, Executing, Entering, Binding, State, Running}
 
 -- An expression that is an operand may have no code. One that begins with another weighs more than that and what waits for it.
 abbrev mutual
@@ -14,7 +14,12 @@ abbrev mutual
   expression_weight (Unary o a) = suc (suc (expression_weight a))
   expression_weight (Binary a os t) = suc (suc (expression_weight a + operations_weight os))
   expression_weight (Assign l c t) = suc (suc (converted_weight c))
+  expression_weight (Load x) = suc (suc (dereference_weight x))
   expression_weight a = 0
+
+  pub dereference_weight : Dereference → ℕ
+  dereference_weight (Target k a t) = suc (suc (expression_weight a))
+  dereference_weight x = 0
 
   -- with what converts it
   pub converted_weight : Converted → ℕ
@@ -73,6 +78,7 @@ focus_weight (Evaluating a) = expression_weight a
 focus_weight (Executing s) = statement_weight s
 focus_weight (Entering h arguments) = suc (suc (suc (suc (length h.parameters + items_weight h.body))))
 focus_weight (Binding number types arguments body) = suc (suc (length types + items_weight body))
+focus_weight (Locating x) = dereference_weight x
 focus_weight focus = 0
 
 abbrev pub weight : State → ℕ

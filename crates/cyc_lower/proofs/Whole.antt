@@ -21,7 +21,7 @@ use Rattle.cyc_plain.specs.Step as plain_step
 use Rattle.cyc_plain.proofs.RunLaws.{lawful}
 use Rattle.cyc_words.proofs.Simulation.{simulates}
 use Rattle.cyc_meaning.specs.Values.{Int, Null, Operand as Kinded, kind_of}
-use Rattle.cyc_meaning.specs.State.{World, Environment, no_locals, constant_value, global_object, first_world, Entry, Main, Focus, Evaluating, Given, Executing, Proceeding, Calling, Entering, Binding, Breaking, Continuing, Returning, Throwing, State, Running, Ended, Dead, Wrong, output_of, input_of, status_of}
+use Rattle.cyc_meaning.specs.State.{World, Environment, no_locals, constant_value, global_object, first_world, Entry, Main, Focus, Evaluating, Locating, Given, Executing, Proceeding, Calling, Entering, Binding, Breaking, Continuing, Returning, Throwing, State, Running, Ended, Dead, Wrong, output_of, input_of, status_of}
 use Rattle.cyc_meaning.specs.Step.{wrong, called, step}
 use Rattle.cyc_meaning.specs.Run.{start, is_within, limited_step}
 use Rattle.cyc_lower.specs.Lowering.{initial_word, lower_global, lower_program}
@@ -32,7 +32,7 @@ use Rattle.cyc_lower.proofs.Fitting.{IsFitting}
 use Rattle.cyc_lower.proofs.Data.{Is-first, no_locals_hold}
 use Rattle.cyc_lower.proofs.Accesses.{IsWell}
 use Rattle.cyc_lower.proofs.Matched.{IsMatched, above, below, matching}
-use Rattle.cyc_lower.proofs.Evaluations.{evaluating}
+use Rattle.cyc_lower.proofs.Evaluations.{evaluating, locating}
 use Rattle.cyc_lower.proofs.Values.{given}
 use Rattle.cyc_lower.proofs.StatementSteps.{executing, proceeding, breaking, continuing, returning, throwing}
 use Rattle.cyc_lower.proofs.Calls.{FunctionsStand, calling, entering, binding, entered}
@@ -77,6 +77,7 @@ module _ (source : Program) (pages calls : ℕ) (well_typed : AreWellTypedGlobal
   stepping : (focus : Focus) (k : List Entry) (e : Environment) (w : World) (c : Configuration) → IsWell (step source (Running focus k e w)) → Related source pages calls focus k e w c
       → IsMatched source pages calls (Running focus k e w) (plain.Running c)
   stepping (Evaluating a) k e w c well related = evaluating source pages calls a k e w c well related
+  stepping (Locating x) k e w c well related = locating source pages calls x k e w c well related
   stepping (Given v) k e w c well related = given source pages calls v k e w c well related
   stepping (Executing s) k e w c well related = executing source pages calls s k e w c well related
   stepping Proceeding k e w c well related = proceeding source pages calls k e w c well related

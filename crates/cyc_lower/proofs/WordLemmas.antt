@@ -11,7 +11,7 @@ use Rattle.cyc_types.specs.declared.typed.Operator.{Operator}
 use Rattle.cyc_types.specs.declared.typed.Operator.TheVariants as operators
 use Rattle.cyc_types.specs.declared.typed.LogicalOperator.{LogicalOperator}
 use Rattle.cyc_types.specs.declared.typed.LogicalOperator.TheVariants as logical
-use Rattle.cyc_types.specs.TypedTrees.{Lvalue, Local, Global, Expression, Number, NullPointer, Copy, Call, Unary, Binary, Assign, Converted, Convert, Arguments, NoArguments, MoreArguments, Operations, NoOperations, ThenCompute, ThenTest, ThenPointer, Statement, Block, Empty, Evaluate, If, While, Return, Break, Continue, Items, NoItems, MoreItems, Execute, Declare, Constant, Word, Null, GlobalVariable, Function, Program}
+use Rattle.cyc_types.specs.TypedTrees.{Load, Dereference, Target, Lvalue, Local, Global, Expression, Number, NullPointer, Copy, Call, Unary, Binary, Assign, Converted, Convert, Arguments, NoArguments, MoreArguments, Operations, NoOperations, ThenCompute, ThenTest, ThenPointer, Statement, Block, Empty, Evaluate, If, While, Return, Break, Continue, Items, NoItems, MoreItems, Execute, Declare, Constant, Word, Null, GlobalVariable, Function, Program}
 use Rattle.cyc_plain.specs.declared.instruction.Comparison.{Comparison}
 use Rattle.cyc_plain.specs.declared.instruction.BinaryOperator.{BinaryOperator as PlainBinary}
 use Rattle.cyc_plain.specs.declared.instruction.Operand.{Operand}
@@ -19,12 +19,12 @@ use Rattle.cyc_plain.specs.declared.instruction.Operand.TheVariants as operands
 use Rattle.cyc_plain.specs.declared.instruction.Instruction.{Instruction}
 use Rattle.cyc_plain.specs.declared.instruction.Instruction.TheVariants as instructions
 use Rattle.cyc_plain.specs.WellFormed.{IsOfWord, HasWord, HasWords}
-use Rattle.cyc_lower.specs.Words.{IsOfWords, IsOfWordsConverted, AreOfWordsArguments, AreOfWordsOperations, IsOfWordsInitial, IsOfWordsStatement, AreOfWordsItems, IsOfWordsConstant, AreOfWordsGlobals, AreOfWordsFunctions, IsOfWordsProgram}
+use Rattle.cyc_lower.specs.Words.{IsOfWords, IsOfWordsCell, IsOfWordsConverted, AreOfWordsArguments, AreOfWordsOperations, IsOfWordsInitial, IsOfWordsStatement, AreOfWordsItems, IsOfWordsConstant, AreOfWordsGlobals, AreOfWordsFunctions, IsOfWordsProgram}
 use Rattle.cyc_lower.specs.Slots.{starts_of, slot_of}
 use Rattle.std.specs.Prelude.{◌==◌, if◌then◌else◌}
 use Rattle.cyc_types.specs.Types.{words_of}
 use Rattle.cyc_meaning.specs.Values.{words_of_kind}
-use Rattle.cyc_lower.specs.Lowering.{slot_types, are_as_wide, converts_there, passed_words, source_of, source_slot, converted_by, moved_by, move_of, null_operator, compared_with_null, operand_of, operand_or, code_unless, slot_or, code_unless_slot, left_with, left_of, value_slot, next_slot, left_slot, value_operand, converted_operand, printed_operand, check_code, conversion_code, divisor_code, checked_code, operator_code, truth_code, load_code, test_code, is_in, copy_code, expression_code, arguments_code, converted_code, converted_operand_code, printed_code, initial_code, assignment_code, operations_code, discarded_code, failing_comparison, compared_or, compared_of, slot_with, first_code, second_code, pair_code, condition_code, condition_of, return_code, declaration_code, statement_code, items_code, first_temporary, initial_word, lower_function, lower_global, lower_program}
+use Rattle.cyc_lower.specs.Lowering.{slot_types, are_as_wide, converts_there, passed_words, source_of, source_slot, converted_by, moved_by, move_of, null_operator, compared_with_null, operand_of, operand_or, code_unless, slot_or, code_unless_slot, left_with, left_of, value_slot, next_slot, left_slot, value_operand, converted_operand, printed_operand, check_code, conversion_code, divisor_code, checked_code, operator_code, truth_code, load_code, test_code, is_in, copy_code, expression_code, arguments_code, converted_code, converted_operand_code, printed_code, dereference_code, initial_code, assignment_code, operations_code, discarded_code, failing_comparison, compared_or, compared_of, slot_with, first_code, second_code, pair_code, condition_code, condition_of, return_code, declaration_code, statement_code, items_code, first_temporary, initial_word, lower_function, lower_global, lower_program}
 use Rattle.cyc_lower.proofs.WellFormed.{all_append, all_of}
 
 abbrev HaveWords : List Instruction → Type 0
@@ -156,7 +156,17 @@ module _ (starts : List ℕ) where
         let front = converted_operand_code starts c p t in
         let word = converted_word c t words in
         append (front ++ instructions.StoreGlobal n o ∷ []) (copy_code (passed_words c) o d) (append front _ (converted_operand_words c p t words) (word, tt)) (copy_words (is_in o d) (passed_words c) o d word)
+    expression_words (Load x) p d t words = dereference_words x p d t words
     expression_words a p d t words = absurd words
+
+    dereference_words : (x : Dereference) (p d t : ℕ) → IsOfWordsCell x → HaveWords (dereference_code starts x p d t)
+    dereference_words (Target k a ty) p d t words =
+        let slot = value_slot starts a t in
+        let o = value_operand starts a t in
+        let inner = expression_code starts a p slot t in
+        let word = known_word a slot words in
+        append (converted_by (operand_of starts a) inner kinds.NonNull o p) _ (converted_by_words (operand_of starts a) inner kinds.NonNull o p (expression_words a p slot t words) word) ((word, omega arith), tt)
+    dereference_words x p d t words = absurd words
 
     initial_words : (c : Converted) (p d t : ℕ) → IsOfWordsConverted c → HaveWords (initial_code starts c p d t)
     initial_words (Convert from to a) p d t words =

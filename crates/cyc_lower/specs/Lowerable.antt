@@ -4,7 +4,7 @@ use Rattle.std.specs.Prelude.{◌≡◌, ℕ, ◌<◌, Bool, true, false, List, 
 use Rattle.cyc_types.specs.declared.typed.PointerOperator.{PointerOperator}
 use Rattle.cyc_types.specs.declared.typed.PointerOperator.TheVariants as pointers
 use Rattle.cyc_types.specs.Types.{Ty}
-use Rattle.cyc_types.specs.TypedTrees.{Expression, Number, NullPointer, Copy, Call, Unary, Binary, Assign, Converted, Convert, Arguments, NoArguments, MoreArguments, Operations, NoOperations, ThenCompute, ThenTest, ThenPointer, Statement, Block, Empty, Evaluate, If, While, Return, Break, Continue, Items, NoItems, MoreItems, Execute, Declare, Signature, Function, Program}
+use Rattle.cyc_types.specs.TypedTrees.{Load, Dereference, Target, Expression, Number, NullPointer, Copy, Call, Unary, Binary, Assign, Converted, Convert, Arguments, NoArguments, MoreArguments, Operations, NoOperations, ThenCompute, ThenTest, ThenPointer, Statement, Block, Empty, Evaluate, If, While, Return, Break, Continue, Items, NoItems, MoreItems, Execute, Declare, Signature, Function, Program}
 use Rattle.cyc_types.specs.typing.Scopes.{signature_of_ints}
 use Rattle.cyc_types.specs.Numbered.{Numbering, IsSignature, IsWithin, argument_count, numbering_of, signatures_of}
 
@@ -25,7 +25,12 @@ abbrev mutual
   IsLowerable b (Unary o a) = IsLowerable b a
   IsLowerable b (Binary a os t) = IsLowerable b a × AreLowerableOperations b os
   IsLowerable b (Assign l c t) = IsWithin b l × IsLowerableConverted b c
+  IsLowerable b (Load x) = IsLowerableCell b x
   IsLowerable b a = ⊥
+
+  pub IsLowerableCell : Numbering → Dereference → Type 0
+  IsLowerableCell b (Target k a t) = IsLowerable b a
+  IsLowerableCell b x = ⊥
 
   pub IsLowerableConverted : Numbering → Converted → Type 0
   IsLowerableConverted b (Convert from to a) = IsLowerable b a

@@ -19,7 +19,7 @@ use Rattle.cyc_types.specs.declared.typed.PointerOperator.TheVariants as pointer
 use Rattle.cyc_types.specs.declared.typed.LogicalOperator.{LogicalOperator}
 use Rattle.cyc_types.specs.declared.typed.LogicalOperator.TheVariants as logical
 use Rattle.cyc_types.specs.Types.{Ty, words_of}
-use Rattle.cyc_types.specs.TypedTrees.{Lvalue, Local, Global, Expression, Number, NullPointer, Copy, Call, Unary, Binary, Assign, Converted, Convert, Arguments, NoArguments, MoreArguments, Operations, NoOperations, ThenCompute, ThenTest, ThenPointer, ThenPointerPeek, Statement, Block, Empty, Evaluate, If, While, Return, Break, Continue, Items, NoItems, MoreItems, Execute, Declare, Constant, Word, Null, GlobalVariable, Function, Program}
+use Rattle.cyc_types.specs.TypedTrees.{Load, Dereference, Target, Lvalue, Local, Global, Expression, Number, NullPointer, Copy, Call, Unary, Binary, Assign, Converted, Convert, Arguments, NoArguments, MoreArguments, Operations, NoOperations, ThenCompute, ThenTest, ThenPointer, ThenPointerPeek, Statement, Block, Empty, Evaluate, If, While, Return, Break, Continue, Items, NoItems, MoreItems, Execute, Declare, Constant, Word, Null, GlobalVariable, Function, Program}
 use Rattle.cyc_plain.specs.declared.instruction.UnaryOperator.{UnaryOperator as PlainUnary}
 use Rattle.cyc_plain.specs.declared.instruction.UnaryOperator.TheVariants as plain_unary
 use Rattle.cyc_plain.specs.declared.instruction.BinaryOperator.{BinaryOperator as PlainBinary}
@@ -357,7 +357,16 @@ module _ (starts : List ℕ) where
         initial_code c p (slot_of starts n) t ++ copy_code (passed_words c) (operands.Slot (slot_of starts n)) d
     expression_code (Assign (Global n) c ty) p d t =
         (converted_operand_code c p t ++ instructions.StoreGlobal n (converted_operand c t) ∷ []) ++ copy_code (passed_words c) (converted_operand c t) d
+    expression_code (Load x) p d t = dereference_code x p d t
     expression_code a p d t = instructions.Move d (operands.Word 0) ∷ []
+
+    -- the value in a cell that a pointer leads to, which is tested first
+    pub dereference_code : Dereference → (p d t : ℕ) → List Instruction
+    dereference_code (Target k a ty) p d t =
+        converted_by (operand_of a) (expression_code a p (value_slot a t) t) kinds.NonNull (value_operand a t) p
+        ++ instructions.Load d (value_operand a t) 0
+        ∷ []
+    dereference_code x p d t = instructions.Move d (operands.Word 0) ∷ []
 
     -- each argument comes into the slots behind those of the one before
     pub arguments_code : Arguments → (p t : ℕ) → List Instruction

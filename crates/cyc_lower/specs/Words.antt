@@ -2,7 +2,7 @@
 -- tree of a text.
 use Rattle.std.specs.Prelude.{List, [], ◌∷◌, Option, None, Some}
 use Rattle.cyc_words.specs.Word.{IsWord}
-use Rattle.cyc_types.specs.TypedTrees.{Expression, Number, NullPointer, Copy, Call, Unary, Binary, Assign, Converted, Convert, Arguments, NoArguments, MoreArguments, Operations, NoOperations, ThenCompute, ThenTest, ThenPointer, Statement, Block, Empty, Evaluate, If, While, Return, Break, Continue, Items, NoItems, MoreItems, Execute, Declare, Constant, Word, Null, GlobalVariable, Function, Program}
+use Rattle.cyc_types.specs.TypedTrees.{Load, Dereference, Target, Expression, Number, NullPointer, Copy, Call, Unary, Binary, Assign, Converted, Convert, Arguments, NoArguments, MoreArguments, Operations, NoOperations, ThenCompute, ThenTest, ThenPointer, Statement, Block, Empty, Evaluate, If, While, Return, Break, Continue, Items, NoItems, MoreItems, Execute, Declare, Constant, Word, Null, GlobalVariable, Function, Program}
 
 abbrev mutual
   pub IsOfWords : Expression → Type 0
@@ -13,7 +13,12 @@ abbrev mutual
   IsOfWords (Unary o a) = IsOfWords a
   IsOfWords (Binary a os t) = IsOfWords a × AreOfWordsOperations os
   IsOfWords (Assign l c t) = IsOfWordsConverted c
+  IsOfWords (Load x) = IsOfWordsCell x
   IsOfWords a = ⊥
+
+  pub IsOfWordsCell : Dereference → Type 0
+  IsOfWordsCell (Target k a t) = IsOfWords a
+  IsOfWordsCell x = ⊥
 
   pub IsOfWordsConverted : Converted → Type 0
   IsOfWordsConverted (Convert from to a) = IsOfWords a

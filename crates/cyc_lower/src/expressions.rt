@@ -2,12 +2,12 @@
 //! else only the slots from `free` on are written, and those of locals that are assigned.
 ghost use Rattle.std.specs.Prelude.{◌≡◌, ◌+◌, ◌<◌, ◌≤◌, [], ◌∷◌, None, length};
 ghost use Rattle.cyc_types.specs.Types.{Void};
-ghost use Rattle.cyc_types.specs.TypedTreeView.{view_expression, view_converted, view_lvalue, arguments_of, operations_of};
+ghost use Rattle.cyc_types.specs.TypedTreeView.{view_dereference, view_expression, view_converted, view_lvalue, arguments_of, operations_of};
 ghost use Rattle.cyc_types.specs.TypedTrees.{Call};
 ghost use Rattle.cyc_meaning.specs.Values.{words_of_kind};
 ghost use Rattle.cyc_plain.specs.declared.instruction.Operand.TheVariants as operands;
 ghost use Rattle.cyc_plain.specs.declared.instruction.Instruction.TheVariants as instructions;
-ghost use Rattle.cyc_lower.specs.Lowering.{operand_of, operand_or, left_of, left_slot, value_operand, converted_operand, printed_operand, check_code, conversion_code, divisor_code, operator_code, truth_code, copy_code, all_passed, expression_code, arguments_code, converted_operand_code, printed_code, initial_code, assignment_code, assigned_operand, operations_code, discarded_code, condition_of, condition_code};
+ghost use Rattle.cyc_lower.specs.Lowering.{operand_of, operand_or, left_of, left_slot, value_operand, converted_operand, printed_operand, check_code, conversion_code, divisor_code, operator_code, truth_code, copy_code, all_passed, expression_code, dereference_code, arguments_code, converted_operand_code, printed_code, initial_code, assignment_code, assigned_operand, operations_code, discarded_code, condition_of, condition_code};
 ghost use Rattle.cyc_lower.specs.Emission.{Appends, Gives, HasRoom, HasRoomFor, most_locals, value_code, source_code, slot_code, print_code, converted_slot, converted_slot_code, left_code, operation_code, IsChain, zero_condition};
 
 use crate::emitter::Emitter;
@@ -23,7 +23,7 @@ use crate::operators::{
 };
 use cyc_plain::{BinaryOperator, Comparison, Instruction, Operand, UnaryOperator};
 use cyc_types::typed;
-use cyc_types::typed::{Callee, Converted, Expr, Kind, Lvalue, Operation, Operator};
+use cyc_types::typed::{Callee, Converted, Dereference, Expr, Kind, Lvalue, Operation, Operator};
 use std::alloc::AllocError;
 
 /// The exceptions that are raised, by their tags.
@@ -159,6 +159,33 @@ impl Emitter {
             Expr::Assign { target, value, .. } => {
                 let assigned = self.lower_assignment(starts, *target, value, free)?;
                 self.copy(value.to, assigned, slot)
+            }
+            Expr::Load { source } => self.load_cell(starts, source, slot, free),
+            _ => self.emit_missing(slot),
+        }
+    }
+
+    /// The value in a cell that a pointer leads to, which is tested first.
+    #[cycle(expression)]
+    fn load_cell(
+        &mut self,
+        starts: &[usize],
+        source: &Dereference,
+        slot: usize,
+        free: usize,
+    ) -> Result<(), AllocError>
+        requires { free ≤ most_locals + length self.old.code.items }
+        ensures { Appends result self.old self.new (dereference_code starts.now (view_dereference source.now) (length self.old.code.items) slot free) }
+    {
+        match source {
+            Dereference::Target { pointer, .. } => {
+                let address = self.lower_operand(starts, pointer, free)?;
+                self.check(NULL_EXCEPTION, address)?;
+                self.emit(Instruction::Load {
+                    destination: slot,
+                    address,
+                    offset: 0,
+                })
             }
             _ => self.emit_missing(slot),
         }
