@@ -1,17 +1,19 @@
 #!/usr/bin/env python3
-"""Compiles and runs the programs in examples/ that have an output beside them, checks those in docs/LANGUAGE.md, and says which it fails.
+"""Compiles and runs the programs in examples/ that have an output beside them, checks those in docs/LANGUAGE.md and in tests/sound, and says
+which it fails.
 
     python3 tests/examples.py [--program PATH]
 
 `NAME.cyc` is compiled, and run on `NAME.in`, or on no input where there is none. `NAME.out` is what a terminal then
 shows: the standard output, and behind it the last line on standard error, which also tells the exit status. `check` has
-to take the program too. A program in docs/LANGUAGE.md whose first line is `// done` or `// fault C at L:K` has this verdict. The
-last line is `N passed, M failed`.
+to take the program too. A program in docs/LANGUAGE.md whose first line is `// done` or `// fault C at L:K` has this verdict, and a
+program in tests/sound the one that its head says. The last line is `N passed, M failed`.
 """
 import os
 import re
 import tempfile
 
+import in_trees
 import suite
 
 FOLDER = os.path.join(suite.ROOT, "examples")
@@ -72,15 +74,21 @@ def faults_of_shown(program, text, verdict, folder):
     return [] if got == wanted else [suite.difference("check", wanted, got)]
 
 
+def judged_programs():
+    """The programs in tests/sound: where each stands, its text, and its verdict."""
+    return [(f"tests/sound/{name}.programs: {head[0]}", text, in_trees.refusal_of(head)[0])
+            for name in ("accepted", "refused") for head, text in in_trees.programs_in(name)]
+
+
 def main():
     options = suite.command_line(__doc__).parse_args()
     names = sorted(name[: -len(".out")] for name in os.listdir(FOLDER) if name.endswith(".out"))
-    shown = shown_programs()
-    program = suite.program_of(options, len(names) + len(shown))
+    judged = [(f"docs/LANGUAGE.md:{line}", text, verdict) for line, text, verdict in shown_programs()] + judged_programs()
+    program = suite.program_of(options, len(names) + len(judged))
     with tempfile.TemporaryDirectory(prefix="cyclone-example-") as folder:
         things = [(f"examples/{name}.cyc", lambda name=name: faults_of(program, name, folder)) for name in names]
-        for line, text, verdict in shown:
-            things.append((f"docs/LANGUAGE.md:{line}", lambda one=(text, verdict): faults_of_shown(program, *one, folder)))
+        for place, text, verdict in judged:
+            things.append((place, lambda one=(text, verdict): faults_of_shown(program, *one, folder)))
         suite.try_each(things, lambda thing: thing[0], lambda thing: thing[1]())
 
 

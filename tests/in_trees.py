@@ -7,7 +7,14 @@ Each text becomes a tree as `crates/cyc_types/specs/TypedTrees.antt` has it, and
 ends, what it prints, and how many words the frames of its functions have. A text that the rules of empty and locked variables
 refuse is run all the same: then the run may be dead. With `pub mod Texts` in `crates/cyc_meaning/proofs/Lib.antt`, `rt check` there
 says whether the definitions agree. Runs should be short: the prover makes every step.
+
+    python3 tests/in_trees.py --accepted > crates/cyc_soundness/proofs/AcceptedPrograms.antt
+    python3 tests/in_trees.py --refused > crates/cyc_soundness/proofs/RefusedPrograms.antt
+
+These are the programs of `sound/accepted.programs` and `sound/refused.programs`, each with how its run ends. A program that the rules
+refuse is made a tree by leaving out the rules of the code that refuses it.
 """
+import os
 import sys
 
 import reference
@@ -29,6 +36,7 @@ use Rattle.std.proofs.Common.{◌≡◌, ℕ, [], ◌∷◌, Some, None, pos, ne
 use Rattle.std.specs.Prelude.{map}
 use Rattle.cyc_words.specs.Word.{slt_of, sar_of, div_of, rem_of}
 use Rattle.cyc_words.specs.Ending.{Returned, Uncaught, Full}
+use Rattle.cyc_syntax.specs.declared.tree.PointerKind.TheVariants as marks
 use Rattle.cyc_types.specs.declared.region.Region.TheVariants.{Heap}
 use Rattle.cyc_types.specs.declared.typed.Kind.TheVariants as kinds
 use Rattle.cyc_types.specs.declared.typed.Callee.TheVariants as callees
@@ -58,7 +66,12 @@ def spelled(type):
     if type in (types.NULL, types.NOTHING):
         return "types.Int"
     if types.is_pointer(type):
-        return {"*": "star", "@": "at", "?": "fat"}[type[1]]
+        if type[2] == types.INT:
+            return {"*": "star", "@": "at", "?": "fat"}[type[1]]
+        mark = {"*": "Nullable", "@": "NonNull", "?": "Fat"}[type[1]]
+        return f"(types.Pointer marks.{mark} {spelled(type[2])} Heap)"
+    if type[0] == "struct":
+        return "(types.Struct 0 [])"
     return {"int": "types.Int", "handle": "(types.Handle Heap)", "key": "(types.Key Heap)"}[type[0]]
 
 
@@ -234,8 +247,8 @@ class Writer:
 
     def expression_address(self, node):
         if node.operand.kind == "variable":
-            return f"(t.AddressOf {self.variable(node.operand)} at)"
-        return f"(t.AddressOfCell {self.cell(node.operand)} at)"
+            return f"(t.AddressOf {self.variable(node.operand)} {spelled(node.type)})"
+        return f"(t.AddressOfCell {self.cell(node.operand)} {spelled(node.type)})"
 
     def expression_numelts(self, node):
         return f"(t.NumberOfElements {self.looked(node.operand)})"
@@ -362,7 +375,78 @@ abbrev {name} : t.Program
 """
 
 
+# --- Programs with the ending of their runs ---
+
+HERE = os.path.dirname(os.path.abspath(__file__))
+SHORT = 500
+ACCEPTED = """-- Programs that the rules accept, run through the ends of their scopes: none is dead or wrong. Each is proved by computation."""
+REFUSED = """-- Programs that the rules refuse, as the trees that a checker would make without the rules of that one code: each is dead or wrong.
+-- Each is proved by computation."""
+
+
+def programs_in(name):
+    """The programs of a file: for each what stands behind its `==`, and its text."""
+    found = []
+    for line in reference.read(os.path.join(HERE, "sound", name + ".programs")).splitlines():
+        if line.startswith("== "):
+            found.append(([part.strip() for part in line[3:].split("|")], []))
+        elif line and not line.startswith("#"):
+            found[-1][1].append(line)
+    return [(head, "\n".join(lines)) for head, lines in found]
+
+
+def overlooking(code, text):
+    """The program of a text, with the rules of a code left out."""
+    types.Faults.overlooked = code
+    try:
+        return Program(tree_of(text))
+    finally:
+        types.Faults.overlooked = None
+
+
+def refusal_of(head):
+    """What a program is refused with, and its code, if it is."""
+    return (head[2], int(head[2].split()[1])) if len(head) > 2 else ("done", None)
+
+
+def run_of(text, code):
+    """How the run of a program would end, in one word where it has no end."""
+    run = runs.Run(overlooking(code, text), b"", steps=STEPS)
+    try:
+        return run.end()[0]
+    except runs.Dead:
+        return "dead"
+    except runs.Wrong:
+        return "wrong"
+
+
+def stated(head, text):
+    """A program as a tree, and how its run ends."""
+    name, (refusal, code) = head[0], refusal_of(head)
+    program = overlooking(code, text)
+    end = status(runs.Run(program, b"", steps=STEPS))
+    comment = "".join(f"-- {line}\n" for line in ([refusal] if code else []) + text.split("\n"))
+    return f"""
+{comment}abbrev {name} : t.Program
+{name} = {Writer(program).program_tree()}
+
+{name}_ends : status_of (run {name} [] {SHORT}) ≡ {end}
+unfolding slt_of sar_of div_of rem_of
+{name}_ends = refl
+"""
+
+
+def module(name, purpose):
+    """A module of the programs of a file."""
+    head = HEAD.replace("-- Made by tests/in_trees.py.", purpose + " Made by tests/in_trees.py of tests/sound.")
+    return head + "".join(stated(head, text) for head, text in programs_in(name))
+
+
 def main():
+    if sys.argv[1:] == ["--accepted"]:
+        return print(module("accepted", ACCEPTED), end="")
+    if sys.argv[1:] == ["--refused"]:
+        return print(module("refused", REFUSED), end="")
     found = [equations(f"text_{number}", reference.read(path)) for number, path in enumerate(sys.argv[1:])]
     print(HEAD + "".join(part for part in found if part))
 

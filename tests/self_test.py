@@ -15,6 +15,7 @@ import sys
 import tempfile
 
 import gate_table
+import in_trees
 import reference
 import run
 import suite
@@ -241,6 +242,15 @@ def is_text_right(case):
     return verdict == case["expect"]
 
 
+def is_program_right(head, text):
+    """Whether the reference refuses a program as its head says, and runs it to this end where it leaves out the rules of that code."""
+    refusal, code = in_trees.refusal_of(head)
+    wanted, got = (refusal, head[1]), (reference.verdict(text), in_trees.run_of(text, code))
+    if got != wanted:
+        print(suite.difference(head[0], wanted, got))
+    return got == wanted
+
+
 def main():
     files = run.case_files(run.WHOLE) + [os.path.join(run.CASES, name + ".cases") for name in TEXT_CASES]
     cases = [case for path in files for case in run.Reader(path).read()]
@@ -251,6 +261,7 @@ def main():
     with tempfile.TemporaryDirectory() as folder:
         right = [is_runner_right(folder), is_table_right()]
     right += reference.with_room(lambda: [is_case_right(case) for case in cases] + [is_text_right(case) for case in texts])
+    right += reference.with_room(lambda: [is_program_right(*one) for name in ("accepted", "refused") for one in in_trees.programs_in(name)])
     suite.end(right.count(True), right.count(False))
 
 

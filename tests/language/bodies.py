@@ -68,9 +68,10 @@ class Expressions:
     # Places
 
     def expression_variable(self, node):
-        type = self.found(node)
+        type, faults = self.found(node), Faults()
         if node.variable.sort == "global" and is_unique(type):
-            raise Refused(27, node.place)
+            faults.add(27, node.place)
+        faults.settle()
         return type
 
     def found(self, node):
@@ -166,8 +167,10 @@ class Expressions:
             region = operand.variable.region
         else:
             region = operand.region
+        faults = Faults()
         if is_unique(type) or region == UNIQUE:
-            raise Refused(27, operand.place)
+            faults.add(27, operand.place)
+        faults.settle()
         return pointer("@", type, region)
 
     def expression_assign(self, node):
@@ -223,9 +226,11 @@ class Expressions:
             return
         if not (is_thin(left) and is_thin(right)) or left[2] != right[2]:
             raise Refused(22, node.start)
+        faults = Faults()
         for side, type in ((node.left, left), (node.right, right)):
             if not self.regions.is_live(type[3]):
-                raise Refused(24, side.start)
+                faults.add(24, side.start)
+        faults.settle()
 
     def expression_numelts(self, node):
         type = self.expression(node.operand)

@@ -64,7 +64,10 @@ def keys_of(types):
 
 
 class Faults:
-    """The rules that one construct breaks. The lowest code is the refusal, and among equal ones the first."""
+    """The rules that one construct breaks. The lowest code is the refusal, and among equal ones the first. The rules of a code
+    that is overlooked are left out, so that what they forbid can be run."""
+
+    overlooked = None
 
     def __init__(self):
         self.found = []
@@ -73,8 +76,9 @@ class Faults:
         self.found.append((code, place))
 
     def settle(self):
-        if self.found:
-            raise Refused(*min(self.found, key=lambda fault: fault[0]))
+        found = [fault for fault in self.found if fault[0] != Faults.overlooked]
+        if found:
+            raise Refused(*min(found, key=lambda fault: fault[0]))
 
 
 class Variable:

@@ -18,5 +18,7 @@ mod Unwinding
 mod BuiltLemmas
 -- what `cyc_system` cites
 pub mod Whole
--- texts
+-- texts, and programs that the rules accept and refuse
 mod Examples
+mod AcceptedPrograms
+mod RefusedPrograms
