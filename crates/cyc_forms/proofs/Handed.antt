@@ -1,5 +1,5 @@
 -- What is handed on with its demands settled, and what is made of it.
-use Rattle.std.proofs.Common.{◌≡◌, Bool, true, false, cond, nat_lt, List, ◌++◌, Option, Some, None, Ok, refl, sym, ap, ◌∙◌}
+use Rattle.std.proofs.Common.{◌≡◌, Bool, true, false, cond, nat_lt, Option, Some, None, refl, sym, ap, ◌∙◌}
 use Rattle.std.specs.declared.boxed.Box.{Box}
 use Rattle.std.specs.declared.alloc.Global.{Global}
 use Rattle.cyc_words.specs.declared.fault.Fault.{Fault}
@@ -9,10 +9,9 @@ use Rattle.cyc_types.specs.Types.{ValueType, Pointer}
 use Rattle.cyc_types.specs.TypeView.{view_ty}
 use Rattle.cyc_types.specs.TypedTrees.{VariableSide, CellSide, type_of_place}
 use Rattle.cyc_types.specs.TypedTrees as typed
-use Rattle.cyc_types.specs.TypedTreeView.{view_dereference, view_placement, view_initial}
+use Rattle.cyc_types.specs.TypedTreeView.{view_dereference, view_initial}
 use Rattle.cyc_types.specs.Rules.{lesser, settled, unless, run}
 use Rattle.cyc_types.specs.typing.Expressions.{Reached, Placed, Made, content_demanded, loaded, reached, created, type_of_side, converted, assigned_type, assignment}
-use Rattle.cyc_types.proofs.RuleLaws.{settled_append}
 use Rattle.cyc_forms.specs.declared.places.Reached.{Reached as ReachedCode}
 use Rattle.cyc_forms.specs.declared.objects.Placed.{Placed as PlacedCode}
 use Rattle.cyc_forms.specs.declared.objects.Made.{Made as MadeCode}

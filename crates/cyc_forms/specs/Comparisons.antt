@@ -1,5 +1,4 @@
 -- What a comparison for equality does, by its operands' types.
-use Rattle.std.specs.Prelude.{ℕ, Option}
 use Rattle.cyc_types.specs.TypedTrees as typed
 use Rattle.cyc_types.specs.typing.Expressions.{then_pointer}
 use Rattle.cyc_forms.specs.declared.operators.Comparison.{Comparison}

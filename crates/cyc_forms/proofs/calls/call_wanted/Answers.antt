@@ -1,4 +1,4 @@
-use Rattle.std.proofs.Common.{rules, ◌≡◌, nat_eq, length, map, None, subst, sym}
+use Rattle.std.proofs.Common.{rules, ◌≡◌, nat_eq, length, map, None, subst}
 use Rattle.cyc_words.specs.declared.fault.Code.TheVariants as codes
 use Rattle.cyc_syntax.specs.TreeView.{place_of_span, expressions_of}
 use Rattle.cyc_types.specs.TypeView.{view_ty}
