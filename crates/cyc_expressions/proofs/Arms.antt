@@ -1,5 +1,5 @@
 -- An expression of its parts, where the code holds copies of them.
-use Rattle.std.proofs.Common.{◌≡◌, ◌≢◌, ℕ, Bool, List, [], ◌∷◌, Option, Ok, Err, refl, sym, ap, subst, ◌∙◌}
+use Rattle.std.proofs.Common.{◌≡◌, ◌≢◌, ℕ, Bool, List, [], ◌∷◌, Option, Ok, Err, refl, sym, ap, ◌∙◌}
 use Rattle.cyc_words.specs.declared.fault.Code.TheVariants as codes
 use Rattle.cyc_syntax.specs.declared.tree.Postfix.{Postfix}
 use Rattle.cyc_syntax.specs.declared.tree.Postfix.TheVariants as postfix
@@ -13,7 +13,7 @@ use Rattle.cyc_types.specs.TypedTrees.{type_of}
 use Rattle.cyc_types.specs.TypedTrees as typed
 use Rattle.cyc_types.specs.Rules.{Checked, Rule, Part, and_then, fault_at, gives, run}
 use Rattle.cyc_types.specs.typing.Scopes.{Scope}
-use Rattle.cyc_types.specs.typing.Expressions.{Reached, Placed, Made, Joined, loaded, indexed, selected, created, operand, is_looking_first, peeked_local, rule, rule_looked, rule_chain, rule_postfixed, rule_further, rule_made, rule_placement}
+use Rattle.cyc_types.specs.typing.Expressions.{Reached, Placed, Made, Joined, loaded, indexed, selected, created, operand, is_looking_first, rule, rule_looked, rule_postfixed, rule_further, rule_made, rule_placement}
 use Rattle.cyc_scope.specs.declared.stop.Stop.{Stop}
 use Rattle.cyc_scope.specs.declared.stop.Stop.TheVariants as stops
 use Rattle.cyc_scope.specs.Code.{Stops}

@@ -1,16 +1,14 @@
 -- How the code walks the values of a list, the operations of a chain, and postfixes.
-use Rattle.std.proofs.Common.{◌≡◌, ℕ, ◌+◌, List, [], ◌∷◌, ◌++◌, Option, Some, None, map, drop, Ok, Err, refl, sym, ap, ◌∙◌}
+use Rattle.std.proofs.Common.{◌≡◌, ℕ, List, [], ◌∷◌, ◌++◌, Option, Some, None, Ok, Err, refl, sym, ap, ◌∙◌}
 use Rattle.std.proofs.lemmas.List.{append_assoc, append-nil}
 use Rattle.std.proofs.lemmas.Option.{same_Some}
-use Rattle.std.specs.declared.boxed.Box.{Box}
-use Rattle.std.specs.declared.alloc.Global.{Global}
 use Rattle.cyc_syntax.specs.declared.tree.Expr.{Expr}
 use Rattle.cyc_syntax.specs.declared.tree.Operation.{Operation as OperationCode}
 use Rattle.cyc_syntax.specs.declared.tree.Postfix.{Postfix}
 use Rattle.cyc_syntax.specs.declared.tree.Postfix.TheVariants as postfix
 use Rattle.cyc_syntax.specs.Symbols.{Place}
 use Rattle.cyc_syntax.specs.Trees.{Named, Expression, Variable, Bracketed}
-use Rattle.cyc_syntax.specs.TreeView.{view_expression, expressions_of, operations_of, then_postfix, postfixes_of}
+use Rattle.cyc_syntax.specs.TreeView.{view_expression, expressions_of, operations_of, postfixes_of}
 use Rattle.cyc_types.specs.declared.typed.Operation.{Operation}
 use Rattle.cyc_types.specs.declared.typed.Operation.TheVariants as operation
 use Rattle.cyc_types.specs.Types.{Ty, ValueType, Value}

@@ -1,4 +1,4 @@
-use Rattle.std.proofs.Common.{◌≡◌, ◌≤◌, map, drop}
+use Rattle.std.proofs.Common.{◌≡◌, map, drop}
 use Rattle.cyc_syntax.specs.TreeView.{place_of_span, expressions_of, postfixes_of, operations_of}
 use Rattle.cyc_types.specs.Rules.{gives, run}
 use Rattle.cyc_types.specs.typing.Expressions.{Reached, rule_all, rule_chain, rule_postfixed, rule_further}
