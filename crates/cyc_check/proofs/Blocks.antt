@@ -1,6 +1,6 @@
 -- How the code walks the items of a block, and where it leaves the scope.
-use Rattle.std.proofs.Common.{◌≡◌, ℕ, suc, ◌+◌, ◌<◌, ◌≤◌, List, [], ◌∷◌, ◌++◌, Option, Some, None, Result, Ok, Err, OnOk, refl, sym, ap, subst, ◌∙◌, arith}
-use Rattle.std.proofs.lemmas.List.{append_assoc, append-nil}
+use Rattle.std.proofs.Common.{◌≡◌, ℕ, suc, ◌+◌, List, [], ◌∷◌, ◌++◌, Some, None, Result, Ok, Err, OnOk, refl, sym, ap, subst, ◌∙◌, arith}
+use Rattle.std.proofs.lemmas.List.{append_assoc}
 use Rattle.cyc_syntax.specs.Symbols.{Place}
 use Rattle.cyc_syntax.specs.Trees.{Named, Expression, Statement, IfElse, Items, NoItems, MoreItems, Item, Execute, Local, Region, Alias, DynamicRegion}
 use Rattle.cyc_types.specs.declared.typed.Item.{Item as ItemCode}
@@ -12,7 +12,7 @@ use Rattle.cyc_types.specs.Types.{Handle, Key}
 use Rattle.cyc_types.specs.typing.Formation.{region_of}
 use Rattle.cyc_types.specs.typing.Scopes.{Scope, Ordinary, OfRegion, with_opened, with_region, with_key_opened, item_locals, one_item_locals, item_regions, one_item_regions, item_names, one_item_names, locals_in, regions_in, names_in, behind, in_block, in_labelled, in_body}
 use Rattle.cyc_types.specs.typing.Statements.{declared_type, behind_item, rule_items, rule_item}
-use Rattle.cyc_types.specs.Rules.{Checked, and_then, run}
+use Rattle.cyc_types.specs.Rules.{and_then, run}
 use Rattle.cyc_scope.specs.declared.stop.Stop.{Stop}
 use Rattle.cyc_scope.specs.declared.stop.Stop.TheVariants as stops
 use Rattle.cyc_scope.specs.Code.{Stops}
@@ -21,7 +21,7 @@ use Rattle.cyc_scope.specs.Marks.{IsInOrder, mark_of, left_to}
 use Rattle.cyc_check.specs.Walks.{IsBehindItems, behind_block, behind_labelled}
 use Rattle.cyc_check.specs.Inside.{Inside}
 use Rattle.cyc_check.proofs.Inside.{inside_itself, inside_through, inside_local, inside_opened, inside_region, inside_key, inside_behind, inside_block, inside_labelled, inside_body, numbered_as, left, order_left}
-use Rattle.cyc_expressions.proofs.Loops.{onto, onto-append, with_front, regroup, onto_nothing}
+use Rattle.cyc_expressions.proofs.Loops.{onto, with_front, regroup, onto_nothing}
 
 -- what was made of the items so far, and where the walk stands
 pub record Walked (start now : Scope) (made : List ItemCode) (rest whole : Items) : Type 0 where

@@ -1,5 +1,5 @@
 -- A catch of its parts.
-use Rattle.std.proofs.Common.{◌≡◌, List, [], Option, Some, None, Ok, refl, sym, ap, ◌∙◌}
+use Rattle.std.proofs.Common.{◌≡◌, List, [], Option, Some, None, Ok, sym, ap, ◌∙◌}
 use Rattle.std.specs.declared.vec.Vec.{Vec}
 use Rattle.std.specs.declared.alloc.Global.{Global}
 use Rattle.cyc_syntax.specs.declared.tree.Clause.{Clause}
@@ -10,7 +10,7 @@ use Rattle.cyc_syntax.specs.TreeView.{items_of, default_of, clauses_of}
 use Rattle.cyc_types.specs.TypedTrees as typed
 use Rattle.cyc_types.specs.typing.Scopes.{Scope, behind}
 use Rattle.cyc_types.specs.typing.Statements.{rule_statement, rule_clauses}
-use Rattle.cyc_types.specs.Rules.{Checked, and_then, run}
+use Rattle.cyc_types.specs.Rules.{and_then, run}
 use Rattle.cyc_scope.specs.declared.stop.Stop.{Stop}
 use Rattle.cyc_scope.specs.declared.stop.Stop.TheVariants as stops
 use Rattle.cyc_scope.specs.Code.{Stops}

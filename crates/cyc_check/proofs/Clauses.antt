@@ -1,18 +1,17 @@
 -- How the code walks the clauses of a catch.
-use Rattle.std.proofs.Common.{◌≡◌, ℕ, suc, ◌+◌, ◌≤◌, List, [], ◌∷◌, ◌++◌, Option, Some, None, Ok, Err, option_map, refl, sym, ap, subst, ◌∙◌, arith}
+use Rattle.std.proofs.Common.{◌≡◌, ℕ, suc, ◌+◌, List, [], ◌∷◌, ◌++◌, Option, Some, None, Ok, Err, option_map, refl, sym, ap, subst, ◌∙◌, arith}
 use Rattle.std.proofs.lemmas.List.{append_assoc, append-nil}
 use Rattle.cyc_syntax.specs.declared.tree.Clause.{Clause}
 use Rattle.cyc_syntax.specs.Symbols.{Place}
 use Rattle.cyc_syntax.specs.Trees.{Named, Statement, Items, Clauses, NoClauses, Default, Case, Try}
 use Rattle.cyc_syntax.specs.TreeView.{view_name, items_of, clauses_of}
-use Rattle.cyc_types.specs.declared.typed.Body.{Body}
 use Rattle.cyc_types.specs.declared.typed.Clause.{Clause as ClauseCode}
 use Rattle.cyc_types.specs.TypedTrees as typed
 use Rattle.cyc_types.specs.TypedTreeView as view
-use Rattle.cyc_types.specs.typing.Scopes.{Scope, counted, item_locals, item_regions, item_names, clause_locals, clause_regions, clause_names, locals_in, regions_in, names_in, behind, in_block, with_local, Ordinary}
+use Rattle.cyc_types.specs.typing.Scopes.{Scope, counted, item_locals, item_regions, item_names, clause_locals, clause_regions, clause_names, locals_in, regions_in, names_in, behind, in_block, Ordinary}
 use Rattle.cyc_types.specs.Types.{Int}
-use Rattle.cyc_types.specs.typing.Statements.{exception_among, caught, with_caught, behind_clause, rule_statement, rule_items, rule_clauses}
-use Rattle.cyc_types.specs.Rules.{Checked, Rule, and_then, run}
+use Rattle.cyc_types.specs.typing.Statements.{exception_among, caught, with_caught, behind_clause, rule_items, rule_clauses}
+use Rattle.cyc_types.specs.Rules.{Checked, and_then, run}
 use Rattle.cyc_scope.specs.declared.stop.Stop.{Stop}
 use Rattle.cyc_scope.specs.declared.stop.Stop.TheVariants as stops
 use Rattle.cyc_scope.specs.Code.{Stops}

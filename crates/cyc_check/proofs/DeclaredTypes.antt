@@ -1,15 +1,14 @@
 -- How the code reads off what a typed body declares: item by item, clause by clause.
-use Rattle.std.proofs.Common.{◌≡◌, ℕ, ◌+◌, ◌<◌, List, [], ◌∷◌, ◌++◌, Option, None, Some, map, drop, get_or, refl, sym, ap, ◌∙◌, append_assoc}
+use Rattle.std.proofs.Common.{◌≡◌, ℕ, ◌+◌, List, [], ◌∷◌, ◌++◌, Option, None, Some, drop, refl, sym, ap, ◌∙◌, append_assoc}
 use Rattle.std.proofs.lemmas.List.{append-nil}
 use Rattle.cyc_types.specs.Types.{Ty}
 use Rattle.cyc_types.specs.declared.typed.Body.{Body}
 use Rattle.cyc_types.specs.declared.typed.Item.{Item as ItemCode}
 use Rattle.cyc_types.specs.declared.typed.Clause.{Clause}
 use Rattle.cyc_types.specs.declared.typed.Stmt.{Stmt as StmtCode}
-use Rattle.cyc_types.specs.TypedTrees.{Statement, Items, NoItems, MoreItems, Item, Execute, Declare, DeclareRegion, OpenRegion, DeclareAlias, DeclareKey, Clauses, NoClauses, Default, Case, Try}
+use Rattle.cyc_types.specs.TypedTrees.{Statement, Items, NoItems, MoreItems, Item, Execute, Declare, DeclareRegion, OpenRegion, DeclareAlias, DeclareKey, Clauses, NoClauses, Try}
 use Rattle.cyc_types.specs.TypedTreeView.{view_statement, view_item, items_of, default_of, clauses_of}
 use Rattle.cyc_types.specs.Declarations.{declared_types, item_types, clause_types, caught_types}
-use Rattle.cyc_expressions.proofs.Loops.{read}
 
 pub item_types_first : (i : Item) (js : Items) → item_types (MoreItems i js) ≡ item_types (MoreItems i NoItems) ++ item_types js
 item_types_first (Execute s) js = ap (λ ts. ts ++ item_types js) (sym (append-nil (declared_types s)))

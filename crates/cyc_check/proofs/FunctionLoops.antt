@@ -1,5 +1,5 @@
 -- How the code walks the declarations of a program, of which only the functions have bodies.
-use Rattle.std.proofs.Common.{◌≡◌, List, [], ◌∷◌, ◌++◌, Option, map, Ok, Err, refl, sym, ap, ◌∙◌}
+use Rattle.std.proofs.Common.{◌≡◌, List, [], ◌∷◌, ◌++◌, Option, map, Ok, refl, sym, ap, ◌∙◌}
 use Rattle.cyc_syntax.specs.Symbols.{Place}
 use Rattle.cyc_syntax.specs.Trees.{Named, WrittenType, Member, Items, Braces, Body, Parameters, Declaration, StructType, Exceptions, Global, Function}
 use Rattle.cyc_types.specs.declared.typed.Function.{Function as FunctionCode}

@@ -1,5 +1,5 @@
 -- A program answers what its heads answer, and then what its bodies do.
-use Rattle.std.proofs.Common.{◌≡◌, ℕ, List, Ok, Err, refl, sym, ap, ◌∙◌}
+use Rattle.std.proofs.Common.{◌≡◌, ℕ, List, Ok, ap, ◌∙◌}
 use Rattle.cyc_syntax.specs.Trees.{Declaration}
 use Rattle.cyc_types.specs.TypedTrees as typed
 use Rattle.cyc_types.specs.Rules.{Checked, and_then, Part, gives, run}

@@ -1,5 +1,5 @@
 -- What the functions of the walk promise each other: where it leaves the scope, and its nodes.
-use Rattle.std.specs.Prelude.{◌≡◌, ℕ, suc, ◌+◌, List, [], ◌∷◌, ◌++◌, Option, option_map}
+use Rattle.std.specs.Prelude.{◌≡◌, suc, ◌+◌, [], ◌∷◌, ◌++◌, Option, option_map}
 use Rattle.std.specs.declared.boxed.Box.{Box}
 use Rattle.std.specs.declared.alloc.Global.{Global}
 use Rattle.cyc_syntax.specs.Trees.{Named, Items, Clauses}

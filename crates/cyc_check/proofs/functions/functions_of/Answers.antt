@@ -1,4 +1,4 @@
-use Rattle.std.proofs.Common.{◌∷◌, map, option_map, length, drop, sym, ap, subst}
+use Rattle.std.proofs.Common.{map, option_map, sym, ap, subst}
 use Rattle.cyc_syntax.specs.TreeView.{view_name, view_type, view_parameters, view_block, view_declaration}
 use Rattle.cyc_expressions.proofs.Loops.{read, drop_all}
 use Rattle.cyc_check.proofs.FunctionLoops.{HasNoBody, passes, adds, ends}

@@ -1,4 +1,4 @@
-use Rattle.std.proofs.Common.{◌≡◌, ◌∷◌, map, drop}
+use Rattle.std.proofs.Common.{◌≡◌, map, drop}
 use Rattle.cyc_syntax.specs.TreeView.{view_declaration}
 use Rattle.cyc_types.specs.Rules.{run}
 use Rattle.cyc_types.specs.typing.Programs.{rule_functions}

@@ -1,21 +1,20 @@
 use borrow.Enum.Total.{values_d_at}
 use borrow.Enum.Known.{ValuesAt}
 use Rattle.cyc_syntax.specs.contracts.tree.Stmt.{enum}
-use Rattle.std.proofs.Common.{arith, ◌≡◌, ℕ, suc, Some, None, Ok, OnOk, ◌+◌, [], ◌∷◌, drop, option_map, refl, sym, ap, subst, ◌∙◌}
+use Rattle.std.proofs.Common.{◌≡◌, Some, Ok, OnOk, ◌+◌, [], ◌∷◌, drop, option_map, sym, ap, subst, ◌∙◌}
 use Rattle.std.proofs.lemmas.Result.{err_from_is_err_and}
 use Rattle.cyc_syntax.specs.declared.tree.Stmt.TheVariants as stmt
-use Rattle.cyc_syntax.specs.TreeView.{place_of_span, view_name, view_expression, view_statement, view_item, items_of, view_block, clauses_of, default_of}
+use Rattle.cyc_syntax.specs.TreeView.{place_of_span, view_name, view_expression, view_statement, view_item, items_of, clauses_of, default_of}
 use Rattle.cyc_syntax.specs.Trees.{NoClauses, Default, Case, Try}
 use Rattle.cyc_syntax.specs.Trees as trees
 use Rattle.cyc_syntax.proofs.TreeViewLemmas.{view_statement_block, view_labelled, view_try}
 use Rattle.cyc_types.specs.TypedTrees as nodes
 use Rattle.cyc_types.specs.TypedTreeView as typed_view
 use Rattle.cyc_types.specs.Rules.{and_then, demands, run}
-use Rattle.cyc_types.specs.typing.Scopes.{Scope, in_block, in_labelled, in_body, behind}
-use Rattle.cyc_types.specs.typing.Statements.{new_name_demanded, with_caught, rule_statement, rule_items, rule_item, rule_clauses}
+use Rattle.cyc_types.specs.typing.Scopes.{in_block, in_labelled, behind}
+use Rattle.cyc_types.specs.typing.Statements.{new_name_demanded, rule_statement, rule_items, rule_item, rule_clauses}
 use Rattle.cyc_scope.specs.Code.{Gives, Stops}
-use Rattle.cyc_scope.specs.Marks.{IsInOrder, mark_of, left_to}
-use Rattle.cyc_check.specs.Walks.{IsBehindItems, behind_block, behind_labelled, behind_clauses, view_boxed_statement, view_clause}
+use Rattle.cyc_check.specs.Walks.{behind_block, behind_labelled, behind_clauses, view_boxed_statement}
 use Rattle.cyc_expressions.proofs.Loops.{read, drop_all}
 use Rattle.cyc_check.proofs.Blocks.{Walked, walk_starts, walk_goes_on, walk_stops, walk_gives, block_is_left, labelled_is_left, if_behind, on_ok}
 use Rattle.cyc_check.proofs.Clauses.{CaughtSoFar, catch_goes_on, catch_stops, default_gives, default_stops, try_behind, default_behind, clause_is_left, clause_in_order}
