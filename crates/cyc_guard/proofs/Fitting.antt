@@ -2,8 +2,8 @@
 -- run (`never`), no more is known than that.
 use Rattle.std.proofs.Common.{◌≡◌, ◌⊎◌, ℕ, Bool, true, false, cond, not, ◌||◌, nat_eq, List, [], ◌∷◌, ◌++◌, Option, Some, None, get_or, slice_set, inl, inr, refl, sym, ap, subst, ◌∙◌}
 use Rattle.cyc_types.specs.flow.States.{Fullness, Vacant, Locked, Full, State, Unreached, Reached, lower, meet, fullness, with_fullness, with_each, is_vacant, is_locked, emptied}
-use Rattle.cyc_guard.specs.Held.{Held, Never, Holds, IsAtLeast, updated, Guard, peeking}
-use Rattle.cyc_guard.proofs.Bools.{Told, same, other, told, not_true, not_false, or_false, or_true, or_assoc, refuted, has, has_append, updated_same, updated_other, updated_true}
+use Rattle.cyc_guard.specs.Held.{Held, Holds, IsAtLeast, updated, Guard, peeking}
+use Rattle.cyc_guard.proofs.Bools.{Told, same, other, told, not_true, not_false, or_false, or_true, or_assoc, refuted, has, has_append}
 use Rattle.cyc_guard.proofs.States.{is_full, held_of, set_there, set_other, set_at, lower_at, at_least_trans, emptied_one, emptied_never, Emptied, emptied_at, refilled_never, Refilled, refilled_at}
 
 abbrev pub FitsAt : Guard → ℕ → Fullness → Type 0

@@ -1,10 +1,10 @@
 -- The states of the rules, and what a proof about runs takes them for: a local that is lent out holds a value.
-use Rattle.std.proofs.Common.{◌≡◌, ◌⊎◌, ℕ, zero, suc, Bool, true, false, cond, not, ◌&&◌, ◌||◌, nat_eq, List, [], ◌∷◌, get_or, slice_set, inl, inr, refl, sym, ap, subst, ◌∙◌}
+use Rattle.std.proofs.Common.{◌≡◌, ◌⊎◌, ℕ, zero, suc, Bool, true, false, cond, not, ◌||◌, nat_eq, List, [], ◌∷◌, get_or, slice_set, inl, inr, refl, sym, ap, subst, ◌∙◌}
 use Rattle.std.proofs.lemmas.Bool.{and_parts}
 use Rattle.std.proofs.lemmas.List.{get_or-set_other}
 use Rattle.cyc_types.specs.flow.States.{Fullness, Vacant, Locked, Full, State, Unreached, Reached, lower, lower_each, meet, is_as_full, are_as_full, is_at_least, fullness, with_fullness, with_each, is_vacant, is_locked, emptied}
 use Rattle.cyc_guard.specs.Held.{Held, Never, Holds, IsAtLeast, updated, with_held}
-use Rattle.cyc_guard.proofs.Bools.{Told, same, other, told, has, updated_same, updated_other, updated_true}
+use Rattle.cyc_guard.proofs.Bools.{Told, same, other, told, has, updated_same, updated_true}
 
 abbrev pub is_full : List Fullness → ℕ → Bool
 is_full as' n = not (is_vacant (get_or as' n Vacant))

@@ -1,12 +1,12 @@
 -- In a well typed program numbers are fresh: what is lent out is in scope, and what is declared has the next number.
-use Rattle.std.proofs.Common.{◌≡◌, ℕ, suc, ◌+◌, ◌<◌, ◌≤◌, Bool, true, false, cond, nat_eq, List, [], ◌∷◌, Option, Some, None, length, refl, sym, subst, arith, inl, inr}
-use Rattle.cyc_types.specs.Types.{Ty, Key}
-use Rattle.cyc_types.specs.Declarations.{declared_types, item_types, caught_types}
-use Rattle.cyc_types.specs.TypedTrees.{Local, Statement, Block, Empty, Evaluate, Swap, If, While, Return, Break, Continue, Throw, Try, Items, NoItems, MoreItems, Execute, Declare, DeclareRegion, OpenRegion, DeclareAlias, DeclareKey, Clauses, NoClauses, Default, Case, Function, Program}
-use Rattle.cyc_types.specs.typing.WellTyped.{LocalInScope, HasLocal, Context, behind, with_local, IsCaught, behind_clause, WellTypedStatement, WellTypedItems, WellTypedClauses, parameters_in_scope, body_context, IsWellTypedFunction, AreWellTypedFunctions}
+use Rattle.std.proofs.Common.{◌≡◌, ℕ, suc, ◌+◌, ◌<◌, ◌≤◌, Bool, true, false, cond, nat_eq, List, [], ◌∷◌, Some, None, length, refl, subst, arith, inl, inr}
+use Rattle.cyc_types.specs.Types.{Ty}
+use Rattle.cyc_types.specs.Declarations.{declared_types, item_types}
+use Rattle.cyc_types.specs.TypedTrees.{Statement, Block, Empty, Evaluate, Swap, If, While, Return, Break, Continue, Throw, Try, Items, NoItems, MoreItems, Execute, Declare, DeclareRegion, OpenRegion, DeclareAlias, DeclareKey, Clauses, NoClauses, Default, Case, Function, Program}
+use Rattle.cyc_types.specs.typing.WellTyped.{LocalInScope, HasLocal, Context, behind, IsCaught, behind_clause, WellTypedStatement, WellTypedItems, WellTypedClauses, parameters_in_scope, body_context, AreWellTypedFunctions}
 use Rattle.cyc_guard.specs.Held.{updated, nowhere}
-use Rattle.cyc_guard.proofs.Bools.{Told, same, other, told, refuted, updated_other}
-use Rattle.cyc_guard.proofs.Numbers.{IsFreshCaught, IsFresh, AreFresh, AreFreshClauses}
+use Rattle.cyc_guard.proofs.Bools.{Told, same, other, told}
+use Rattle.cyc_guard.proofs.Numbers.{IsFresh, AreFresh, AreFreshClauses}
 use Rattle.cyc_guard.proofs.Whole.{AreAllFresh}
 
 -- what is lent out has a lower number than this

@@ -1,15 +1,13 @@
 -- The whole program.
-use Rattle.std.proofs.Common.{◌≡◌, ℕ, zero, suc, ◌<◌, Bool, true, false, not, nat_lt, List, [], ◌∷◌, ◌++◌, Option, Some, None, get_or, length, refl, sym, ap, subst, ◌∙◌, arith}
+use Rattle.std.proofs.Common.{◌≡◌, ℕ, zero, suc, ◌<◌, true, false, not, nat_lt, List, [], ◌∷◌, ◌++◌, Option, Some, None, get_or, length, refl, sym, subst, arith}
 use Rattle.std.proofs.lemmas.Bool.Decides.{nat_tests}
 use Rattle.cyc_types.specs.Types.{Ty}
-use Rattle.cyc_types.specs.TypedTrees.{Function, Program}
+use Rattle.cyc_types.specs.TypedTrees.{Function}
 use Rattle.cyc_types.specs.Rules.{Derives, AllKept}
-use Rattle.cyc_types.specs.flow.States.{Fullness, Vacant, Full, State, Unreached, Reached, is_vacant, is_locked, is_reached}
-use Rattle.cyc_types.specs.flow.Touched.{touched_items}
-use Rattle.cyc_types.specs.flow.Statements.{Known}
-use Rattle.cyc_types.specs.flow.Programs.{each_is, start_of, in_function, end_demanded, rule_function, rule_functions, rule_program}
-use Rattle.cyc_guard.specs.Held.{Held, Never, IsAtLeast, nowhere, no_guard}
-use Rattle.cyc_guard.specs.Programs.{held_at_start, EndsIn, IsGuardedFunction, AreGuarded}
+use Rattle.cyc_types.specs.flow.States.{Vacant, Full, State, Unreached, Reached, is_vacant, is_reached}
+use Rattle.cyc_types.specs.flow.Programs.{each_is, start_of, in_function, end_demanded, rule_function, rule_functions}
+use Rattle.cyc_guard.specs.Held.{Never, nowhere, no_guard}
+use Rattle.cyc_guard.specs.Programs.{EndsIn, IsGuardedFunction, AreGuarded}
 use Rattle.cyc_guard.proofs.States.{is_full, held_of, at_least_same}
 use Rattle.cyc_guard.proofs.Fitting.{FitsAt, FitsEach, leaves_none}
 use Rattle.cyc_guard.proofs.Numbers.{AreFresh}

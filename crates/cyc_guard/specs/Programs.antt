@@ -1,5 +1,5 @@
 -- The same of functions and of a program.
-use Rattle.std.specs.Prelude.{◌≡◌, ℕ, nat_lt, List, [], ◌∷◌, Option, Some, None, length}
+use Rattle.std.specs.Prelude.{◌≡◌, nat_lt, List, [], ◌∷◌, Option, Some, None, length}
 use Rattle.cyc_types.specs.Types.{Ty}
 use Rattle.cyc_types.specs.TypedTrees.{Function, Program}
 use Rattle.cyc_guard.specs.Held.{Held, Never, Holds, IsAtLeast, no_guard}
