@@ -436,10 +436,21 @@ unfolding slt_of sar_of div_of rem_of
 """
 
 
+def imported(line, body):
+    """An import without the names that a module does not use; nothing where none is left."""
+    if "{" not in line:
+        return line + "\n" if line.split()[-1] + "." in body else ""
+    path, names = line.rstrip("}").split("{")
+    used = [name for name in names.split(", ") if name.strip("◌") in body]
+    return f"{path}{{{', '.join(used)}}}\n" if used else ""
+
+
 def module(name, purpose):
     """A module of the programs of a file."""
-    head = HEAD.replace("-- Made by tests/in_trees.py.", purpose + " Made by tests/in_trees.py of tests/sound.")
-    return head + "".join(stated(head, text) for head, text in programs_in(name))
+    body = "".join(stated(head, text) for head, text in programs_in(name))
+    code = "\n".join(line for line in body.split("\n") if not line.startswith("--"))
+    imports = "".join(imported(line, code) for line in HEAD.splitlines()[1:])
+    return f"{purpose} Made by tests/in_trees.py of tests/sound.\n{imports}{body}"
 
 
 def main():

@@ -479,8 +479,10 @@ class Body(Expressions):
     def item_swap(self, item):
         left = self.place(item.left)
         right = self.place(item.right)
+        faults = Faults()
         if left != right or left[0] == "struct":
-            raise Refused(22, item.place)
+            faults.add(22, item.place)
+        faults.settle()
 
     def item_if(self, item):
         self.condition(item.condition, self.expression(item.condition))

@@ -24,6 +24,33 @@ inner_address_assigned_ends : status_of (run inner_address_assigned [] 500) ≡ 
 unfolding slt_of sar_of div_of rem_of
 inner_address_assigned_ends = refl
 
+-- fault 25 at 1:62
+-- int main(){ int *`main p = NULL; { int y = 2; int *`main q = &y; p = q; } return *p; }
+abbrev initial_value_of_a_shorter_life : t.Program
+initial_value_of_a_shorter_life = record { structs = []; exceptions = []; globals = []; functions = (record (function [] []) { locals = (star ∷ types.Int ∷ star ∷ []); body = (t.MoreItems (t.Declare 0 star (Some (t.Convert kinds.Nullable kinds.Nullable t.NullPointer))) (t.MoreItems (t.Execute (t.Block 1 (t.MoreItems (t.Declare 1 types.Int (Some (t.Convert kinds.Int kinds.Int (t.Number 2)))) (t.MoreItems (t.Declare 2 star (Some (t.Convert kinds.NonNull kinds.Nullable (t.AddressOf (t.Local here 1) at)))) (t.MoreItems (t.Execute (t.Evaluate (t.Assign (t.Local here 0) (t.Convert kinds.Nullable kinds.Nullable (t.Copy (t.Local here 2) star)) (types.Value star)))) t.NoItems))))) (t.MoreItems (t.Execute (t.Return (Some (t.Convert kinds.Int kinds.Int (t.Load (t.Target kinds.Nullable (t.Copy (t.Local here 0) star) types.Int)))))) t.NoItems))) } ∷ []); main = 0 }
+
+initial_value_of_a_shorter_life_ends : status_of (run initial_value_of_a_shorter_life [] 500) ≡ IsDead
+unfolding slt_of sar_of div_of rem_of
+initial_value_of_a_shorter_life_ends = refl
+
+-- fault 22 at 1:77
+-- int main(){ int *`main p = NULL; Inner: { int y = 2; int *`Inner *`main q = &p; *q = &y; } return *p; }
+abbrev invariant_behind_a_pointer : t.Program
+invariant_behind_a_pointer = record { structs = []; exceptions = []; globals = []; functions = (record (function [] []) { locals = (star ∷ types.Int ∷ (types.Pointer marks.Nullable star Heap) ∷ []); body = (t.MoreItems (t.Declare 0 star (Some (t.Convert kinds.Nullable kinds.Nullable t.NullPointer))) (t.MoreItems (t.Execute (t.Block 1 (t.MoreItems (t.Declare 1 types.Int (Some (t.Convert kinds.Int kinds.Int (t.Number 2)))) (t.MoreItems (t.Declare 2 (types.Pointer marks.Nullable star Heap) (Some (t.Convert kinds.NonNull kinds.Nullable (t.AddressOf (t.Local here 0) (types.Pointer marks.NonNull star Heap))))) (t.MoreItems (t.Execute (t.Evaluate (t.Store (t.Target kinds.Nullable (t.Copy (t.Local here 2) (types.Pointer marks.Nullable star Heap)) star) (t.Convert kinds.NonNull kinds.Nullable (t.AddressOf (t.Local here 1) at)) (types.Value star)))) t.NoItems))))) (t.MoreItems (t.Execute (t.Return (Some (t.Convert kinds.Int kinds.Int (t.Load (t.Target kinds.Nullable (t.Copy (t.Local here 0) star) types.Int)))))) t.NoItems))) } ∷ []); main = 0 }
+
+invariant_behind_a_pointer_ends : status_of (run invariant_behind_a_pointer [] 500) ≡ IsDead
+unfolding slt_of sar_of div_of rem_of
+invariant_behind_a_pointer_ends = refl
+
+-- fault 22 at 1:83
+-- int main(){ int x = 1; int *`main p = &x; Inner: { int y = 2; int *`Inner q = &y; p :=: q; } return *p; }
+abbrev swapped_with_a_shorter_life : t.Program
+swapped_with_a_shorter_life = record { structs = []; exceptions = []; globals = []; functions = (record (function [] []) { locals = (types.Int ∷ star ∷ types.Int ∷ star ∷ []); body = (t.MoreItems (t.Declare 0 types.Int (Some (t.Convert kinds.Int kinds.Int (t.Number 1)))) (t.MoreItems (t.Declare 1 star (Some (t.Convert kinds.NonNull kinds.Nullable (t.AddressOf (t.Local here 0) at)))) (t.MoreItems (t.Execute (t.Block 1 (t.MoreItems (t.Declare 2 types.Int (Some (t.Convert kinds.Int kinds.Int (t.Number 2)))) (t.MoreItems (t.Declare 3 star (Some (t.Convert kinds.NonNull kinds.Nullable (t.AddressOf (t.Local here 2) at)))) (t.MoreItems (t.Execute (t.Swap (t.VariableSide (t.Local here 1) star) (t.VariableSide (t.Local here 3) star))) t.NoItems))))) (t.MoreItems (t.Execute (t.Return (Some (t.Convert kinds.Int kinds.Int (t.Load (t.Target kinds.Nullable (t.Copy (t.Local here 1) star) types.Int)))))) t.NoItems)))) } ∷ []); main = 0 }
+
+swapped_with_a_shorter_life_ends : status_of (run swapped_with_a_shorter_life [] 500) ≡ IsDead
+unfolding slt_of sar_of div_of rem_of
+swapped_with_a_shorter_life_ends = refl
+
 -- fault 25 at 2:26
 -- int *g = NULL;
 -- void f(){ int x = 1; g = &x; }
@@ -146,6 +173,16 @@ younger_region_in_an_older_ends : status_of (run younger_region_in_an_older [] 5
 unfolding slt_of sar_of div_of rem_of
 younger_region_in_an_older_ends = refl
 
+-- fault 25 at 2:79
+-- struct S { int x; };
+-- int main(){ int *p = NULL; { region<`a> h; struct S @`a s = rnew(h) S{1}; p = &s->x; } return *p; }
+abbrev part_of_an_object_of_a_region : t.Program
+part_of_an_object_of_a_region = record { structs = (record { parameters = 0; fields = (types.Int ∷ []) } ∷ []); exceptions = []; globals = []; functions = (record (function [] []) { locals = (star ∷ (types.Handle Heap) ∷ (types.Pointer marks.NonNull (types.Struct 0 []) Heap) ∷ []); body = (t.MoreItems (t.Declare 0 star (Some (t.Convert kinds.Nullable kinds.Nullable t.NullPointer))) (t.MoreItems (t.Execute (t.Block 1 (t.MoreItems (t.DeclareRegion 1 1) (t.MoreItems (t.Declare 2 (types.Pointer marks.NonNull (types.Struct 0 []) Heap) (Some (t.Convert kinds.NonNull kinds.NonNull (t.New (t.ByHandle (t.Copy (t.Local here 1) (types.Handle Heap))) (t.Fields (t.MoreArguments (t.Convert kinds.Int kinds.Int (t.Number 1)) t.NoArguments)) (types.Pointer marks.NonNull (types.Struct 0 []) Heap))))) (t.MoreItems (t.Execute (t.Evaluate (t.Assign (t.Local here 0) (t.Convert kinds.NonNull kinds.Nullable (t.AddressOfCell (t.Member kinds.NonNull (t.Copy (t.Local here 2) (types.Pointer marks.NonNull (types.Struct 0 []) Heap)) 0 0 types.Int) at)) (types.Value star)))) t.NoItems))))) (t.MoreItems (t.Execute (t.Return (Some (t.Convert kinds.Int kinds.Int (t.Load (t.Target kinds.Nullable (t.Copy (t.Local here 0) star) types.Int)))))) t.NoItems))) } ∷ []); main = 0 }
+
+part_of_an_object_of_a_region_ends : status_of (run part_of_an_object_of_a_region [] 500) ≡ IsDead
+unfolding slt_of sar_of div_of rem_of
+part_of_an_object_of_a_region_ends = refl
+
 -- fault 25 at 3:46
 -- int main(){
 --     let NewDynamicRegion{<`k> k} = new_ukey(); int *`k p = NULL;
@@ -179,6 +216,15 @@ alias_behind_its_block_ends : status_of (run alias_behind_its_block [] 500) ≡ 
 unfolding slt_of sar_of div_of rem_of
 alias_behind_its_block_ends = refl
 
+-- fault 25 at 1:41
+-- int main(){ int *p = new 1; int *`U w = p; ufree(w); return *p; }
+abbrev heap_object_as_unique : t.Program
+heap_object_as_unique = record { structs = []; exceptions = []; globals = []; functions = (record (function [] []) { locals = (star ∷ star ∷ []); body = (t.MoreItems (t.Declare 0 star (Some (t.Convert kinds.NonNull kinds.Nullable (t.New t.OnHeap (t.Plain kinds.Int (t.Number 1)) at)))) (t.MoreItems (t.Declare 1 star (Some (t.Convert kinds.Nullable kinds.Nullable (t.Copy (t.Local here 0) star)))) (t.MoreItems (t.Execute (t.Evaluate (t.FreeUnique (t.Move here 1 star)))) (t.MoreItems (t.Execute (t.Return (Some (t.Convert kinds.Int kinds.Int (t.Load (t.Target kinds.Nullable (t.Copy (t.Local here 0) star) types.Int)))))) t.NoItems)))) } ∷ []); main = 0 }
+
+heap_object_as_unique_ends : status_of (run heap_object_as_unique [] 500) ≡ IsWrong
+unfolding slt_of sar_of div_of rem_of
+heap_object_as_unique_ends = refl
+
 -- fault 25 at 2:83
 -- struct S<`a> { int *`a p; };
 -- int main(){ int x = 1; struct S<`main> @s = new S<`main>{&x}; { int y = 2; s->p = &y; } return *s->p; }
@@ -188,6 +234,16 @@ struct_of_a_shorter_life = record { structs = (record { parameters = 0; fields =
 struct_of_a_shorter_life_ends : status_of (run struct_of_a_shorter_life [] 500) ≡ IsDead
 unfolding slt_of sar_of div_of rem_of
 struct_of_a_shorter_life_ends = refl
+
+-- fault 22 at 2:96
+-- struct S<`a> { int *`a p; };
+-- int main(){ struct S<`main> @s = new S<`main>{NULL}; Inner: { int y = 2; struct S<`Inner> @t = s; t->p = &y; } return *s->p; }
+abbrev struct_regions_do_not_convert : t.Program
+struct_regions_do_not_convert = record { structs = (record { parameters = 0; fields = (star ∷ []) } ∷ []); exceptions = []; globals = []; functions = (record (function [] []) { locals = ((types.Pointer marks.NonNull (types.Struct 0 []) Heap) ∷ types.Int ∷ (types.Pointer marks.NonNull (types.Struct 0 []) Heap) ∷ []); body = (t.MoreItems (t.Declare 0 (types.Pointer marks.NonNull (types.Struct 0 []) Heap) (Some (t.Convert kinds.NonNull kinds.NonNull (t.New t.OnHeap (t.Fields (t.MoreArguments (t.Convert kinds.Nullable kinds.Nullable t.NullPointer) t.NoArguments)) (types.Pointer marks.NonNull (types.Struct 0 []) Heap))))) (t.MoreItems (t.Execute (t.Block 1 (t.MoreItems (t.Declare 1 types.Int (Some (t.Convert kinds.Int kinds.Int (t.Number 2)))) (t.MoreItems (t.Declare 2 (types.Pointer marks.NonNull (types.Struct 0 []) Heap) (Some (t.Convert kinds.NonNull kinds.NonNull (t.Copy (t.Local here 0) (types.Pointer marks.NonNull (types.Struct 0 []) Heap))))) (t.MoreItems (t.Execute (t.Evaluate (t.Store (t.Member kinds.NonNull (t.Copy (t.Local here 2) (types.Pointer marks.NonNull (types.Struct 0 []) Heap)) 0 0 star) (t.Convert kinds.NonNull kinds.Nullable (t.AddressOf (t.Local here 1) at)) (types.Value star)))) t.NoItems))))) (t.MoreItems (t.Execute (t.Return (Some (t.Convert kinds.Int kinds.Int (t.Load (t.Target kinds.Nullable (t.Load (t.Member kinds.NonNull (t.Copy (t.Local here 0) (types.Pointer marks.NonNull (types.Struct 0 []) Heap)) 0 0 star)) types.Int)))))) t.NoItems))) } ∷ []); main = 0 }
+
+struct_regions_do_not_convert_ends : status_of (run struct_regions_do_not_convert [] 500) ≡ IsDead
+unfolding slt_of sar_of div_of rem_of
+struct_regions_do_not_convert_ends = refl
 
 -- fault 26 at 5:26
 -- int make(region_t<`r> h){ rnew(h) 1; return 0; }
@@ -293,17 +349,18 @@ object_behind_its_region_ends : status_of (run object_behind_its_region [] 500) 
 unfolding slt_of sar_of div_of rem_of
 object_behind_its_region_ends = refl
 
--- fault 24 at 4:26
+-- fault 24 at 1:51
+-- int same(int *`r p, int *`s q; {`s}){ return q == p; }
 -- int main(){
 --     let NewDynamicRegion{<`k> k} = new_ukey(); int *`k p = NULL;
 --     { region<`k> h = open(k); p = rnew(h) 1; }
---     free_ukey(k); return p == p; }
-abbrev compared_behind_its_region : t.Program
-compared_behind_its_region = record { structs = []; exceptions = []; globals = []; functions = (record (function [] []) { locals = ((types.Key Heap) ∷ star ∷ (types.Handle Heap) ∷ []); body = (t.MoreItems (t.DeclareKey 1 0) (t.MoreItems (t.Declare 1 star (Some (t.Convert kinds.Nullable kinds.Nullable t.NullPointer))) (t.MoreItems (t.Execute (t.Block 1 (t.MoreItems (t.OpenRegion 1 2 here 0) (t.MoreItems (t.Execute (t.Evaluate (t.Assign (t.Local here 1) (t.Convert kinds.NonNull kinds.Nullable (t.New (t.ByHandle (t.Copy (t.Local here 2) (types.Handle Heap))) (t.Plain kinds.Int (t.Number 1)) at)) (types.Value star)))) t.NoItems)))) (t.MoreItems (t.Execute (t.Evaluate (t.FreeKey (t.Move here 0 (types.Key Heap))))) (t.MoreItems (t.Execute (t.Return (Some (t.Convert kinds.Int kinds.Int (t.Binary (t.Copy (t.Local here 1) star) (t.ThenPointer pointers.EqualThin (t.Copy (t.Local here 1) star) t.NoOperations) types.Int))))) t.NoItems))))) } ∷ []); main = 0 }
+--     free_ukey(k); return same(p, new 1); }
+abbrev right_side_compared_out_of_an_effect : t.Program
+right_side_compared_out_of_an_effect = record { structs = []; exceptions = []; globals = []; functions = (record (function (star ∷ star ∷ []) []) { locals = []; body = (t.MoreItems (t.Execute (t.Return (Some (t.Convert kinds.Int kinds.Int (t.Binary (t.Copy (t.Local here 1) star) (t.ThenPointer pointers.EqualThin (t.Copy (t.Local here 0) star) t.NoOperations) types.Int))))) t.NoItems) } ∷ record (function [] []) { locals = ((types.Key Heap) ∷ star ∷ (types.Handle Heap) ∷ []); body = (t.MoreItems (t.DeclareKey 1 0) (t.MoreItems (t.Declare 1 star (Some (t.Convert kinds.Nullable kinds.Nullable t.NullPointer))) (t.MoreItems (t.Execute (t.Block 1 (t.MoreItems (t.OpenRegion 1 2 here 0) (t.MoreItems (t.Execute (t.Evaluate (t.Assign (t.Local here 1) (t.Convert kinds.NonNull kinds.Nullable (t.New (t.ByHandle (t.Copy (t.Local here 2) (types.Handle Heap))) (t.Plain kinds.Int (t.Number 1)) at)) (types.Value star)))) t.NoItems)))) (t.MoreItems (t.Execute (t.Evaluate (t.FreeKey (t.Move here 0 (types.Key Heap))))) (t.MoreItems (t.Execute (t.Return (Some (t.Convert kinds.Int kinds.Int (t.Call (callees.Function 0) (t.MoreArguments (t.Convert kinds.Nullable kinds.Nullable (t.Copy (t.Local here 1) star)) (t.MoreArguments (t.Convert kinds.NonNull kinds.Nullable (t.New t.OnHeap (t.Plain kinds.Int (t.Number 1)) at)) t.NoArguments)) (types.Value types.Int)))))) t.NoItems))))) } ∷ []); main = 1 }
 
-compared_behind_its_region_ends : status_of (run compared_behind_its_region [] 500) ≡ IsDead
+right_side_compared_out_of_an_effect_ends : status_of (run right_side_compared_out_of_an_effect [] 500) ≡ IsDead
 unfolding slt_of sar_of div_of rem_of
-compared_behind_its_region_ends = refl
+right_side_compared_out_of_an_effect_ends = refl
 
 -- fault 27 at 1:59
 -- int main(){ int @`U @q = new rnew(unique_region) 2; ufree(*q); return **q; }
@@ -332,6 +389,16 @@ unique_read_through_an_address = record { structs = []; exceptions = []; globals
 unique_read_through_an_address_ends : status_of (run unique_read_through_an_address [] 500) ≡ IsDead
 unfolding slt_of sar_of div_of rem_of
 unique_read_through_an_address_ends = refl
+
+-- fault 29 at 2:97
+-- int @`r both(int @`r p, int @`r *`s c){ *c = p; return p; }
+-- int main(){ int @`U u = rnew(unique_region) 5; int @`U *c = new rnew(unique_region) 1; u = both(u, c); ufree(u); int @`U w = rnew(unique_region) 2; w :=: *c; return *w; }
+abbrev variable_for_unique : t.Program
+variable_for_unique = record { structs = []; exceptions = []; globals = []; functions = (record (function (at ∷ (types.Pointer marks.Nullable at Heap) ∷ []) []) { locals = []; body = (t.MoreItems (t.Execute (t.Evaluate (t.Store (t.Target kinds.Nullable (t.Copy (t.Local here 1) (types.Pointer marks.Nullable at Heap)) at) (t.Convert kinds.NonNull kinds.NonNull (t.Copy (t.Local here 0) at)) (types.Value at)))) (t.MoreItems (t.Execute (t.Return (Some (t.Convert kinds.NonNull kinds.NonNull (t.Copy (t.Local here 0) at))))) t.NoItems)) } ∷ record (function [] []) { locals = (at ∷ (types.Pointer marks.Nullable at Heap) ∷ at ∷ []); body = (t.MoreItems (t.Declare 0 at (Some (t.Convert kinds.NonNull kinds.NonNull (t.New t.AsUnique (t.Plain kinds.Int (t.Number 5)) at)))) (t.MoreItems (t.Declare 1 (types.Pointer marks.Nullable at Heap) (Some (t.Convert kinds.NonNull kinds.Nullable (t.New t.OnHeap (t.Plain kinds.NonNull (t.New t.AsUnique (t.Plain kinds.Int (t.Number 1)) at)) (types.Pointer marks.NonNull at Heap))))) (t.MoreItems (t.Execute (t.Evaluate (t.Assign (t.Local here 0) (t.Convert kinds.NonNull kinds.NonNull (t.Call (callees.Function 0) (t.MoreArguments (t.Convert kinds.NonNull kinds.NonNull (t.Move here 0 at)) (t.MoreArguments (t.Convert kinds.Nullable kinds.Nullable (t.Copy (t.Local here 1) (types.Pointer marks.Nullable at Heap))) t.NoArguments)) (types.Value at))) types.Void))) (t.MoreItems (t.Execute (t.Evaluate (t.FreeUnique (t.Move here 0 at)))) (t.MoreItems (t.Declare 2 at (Some (t.Convert kinds.NonNull kinds.NonNull (t.New t.AsUnique (t.Plain kinds.Int (t.Number 2)) at)))) (t.MoreItems (t.Execute (t.Swap (t.VariableSide (t.Local here 2) at) (t.CellSide (t.Target kinds.Nullable (t.Copy (t.Local here 1) (types.Pointer marks.Nullable at Heap)) at)))) (t.MoreItems (t.Execute (t.Return (Some (t.Convert kinds.Int kinds.Int (t.Load (t.Target kinds.NonNull (t.Peek here 2 at) types.Int)))))) t.NoItems))))))) } ∷ []); main = 1 }
+
+variable_for_unique_ends : status_of (run variable_for_unique [] 500) ≡ IsDead
+unfolding slt_of sar_of div_of rem_of
+variable_for_unique_ends = refl
 
 -- fault 27 at 2:66
 -- struct S { int x; };
@@ -408,6 +475,15 @@ freed_before_its_clause_ends : status_of (run freed_before_its_clause [] 500) �
 unfolding slt_of sar_of div_of rem_of
 freed_before_its_clause_ends = refl
 
+-- fault 40 at 1:124
+-- int main(){ int @`U u = rnew(unique_region) 5; try { 1 / 0; } catch { case &Null_Exception: ; default: ufree(u); } return *u; }
+abbrev freed_in_a_clause : t.Program
+freed_in_a_clause = record { structs = []; exceptions = []; globals = []; functions = (record (function [] []) { locals = (at ∷ []); body = (t.MoreItems (t.Declare 0 at (Some (t.Convert kinds.NonNull kinds.NonNull (t.New t.AsUnique (t.Plain kinds.Int (t.Number 5)) at)))) (t.MoreItems (t.Execute (t.Try (t.Block 1 (t.MoreItems (t.Execute (t.Evaluate (t.Binary (t.Number 1) (t.ThenCompute operators.Divide (t.Number 0) t.NoOperations) types.Int))) t.NoItems)) (t.Case 1 None 1 (t.MoreItems (t.Execute t.Empty) t.NoItems) (t.Default 1 (t.MoreItems (t.Execute (t.Evaluate (t.FreeUnique (t.Move here 0 at)))) t.NoItems))))) (t.MoreItems (t.Execute (t.Return (Some (t.Convert kinds.Int kinds.Int (t.Load (t.Target kinds.NonNull (t.Peek here 0 at) types.Int)))))) t.NoItems))) } ∷ []); main = 0 }
+
+freed_in_a_clause_ends : status_of (run freed_in_a_clause [] 500) ≡ IsDead
+unfolding slt_of sar_of div_of rem_of
+freed_in_a_clause_ends = refl
+
 -- fault 40 at 1:87
 -- int main(){ int @`U u = rnew(unique_region) 5; while (1) { ufree(u); break; } return *u; }
 abbrev freed_before_a_break : t.Program
@@ -425,6 +501,16 @@ freed_before_a_continue = record { structs = []; exceptions = []; globals = []; 
 freed_before_a_continue_ends : status_of (run freed_before_a_continue [] 500) ≡ IsDead
 unfolding slt_of sar_of div_of rem_of
 freed_before_a_continue_ends = refl
+
+-- fault 42 at 2:48
+-- int eat(int @`U p){ ufree(p); return 1; }
+-- int main(){ int @`U u = rnew(unique_region) 5; while (eat(u)) ; return 0; }
+abbrev freed_in_a_condition : t.Program
+freed_in_a_condition = record { structs = []; exceptions = []; globals = []; functions = (record (function (at ∷ []) []) { locals = []; body = (t.MoreItems (t.Execute (t.Evaluate (t.FreeUnique (t.Move here 0 at)))) (t.MoreItems (t.Execute (t.Return (Some (t.Convert kinds.Int kinds.Int (t.Number 1))))) t.NoItems)) } ∷ record (function [] []) { locals = (at ∷ []); body = (t.MoreItems (t.Declare 0 at (Some (t.Convert kinds.NonNull kinds.NonNull (t.New t.AsUnique (t.Plain kinds.Int (t.Number 5)) at)))) (t.MoreItems (t.Execute (t.While here (t.Call (callees.Function 0) (t.MoreArguments (t.Convert kinds.NonNull kinds.NonNull (t.Move here 0 at)) t.NoArguments) (types.Value types.Int)) t.Empty)) (t.MoreItems (t.Execute (t.Return (Some (t.Convert kinds.Int kinds.Int (t.Number 0))))) t.NoItems))) } ∷ []); main = 1 }
+
+freed_in_a_condition_ends : status_of (run freed_in_a_condition [] 500) ≡ IsDead
+unfolding slt_of sar_of div_of rem_of
+freed_in_a_condition_ends = refl
 
 -- fault 42 at 2:62
 -- int eat(int @`U p){ ufree(p); return 1; }
@@ -444,6 +530,17 @@ swapped_when_freed = record { structs = []; exceptions = []; globals = []; funct
 swapped_when_freed_ends : status_of (run swapped_when_freed [] 500) ≡ IsDead
 unfolding slt_of sar_of div_of rem_of
 swapped_when_freed_ends = refl
+
+-- fault 40 at 3:48
+-- int *`U *cell = NULL;
+-- int *`U *keep(int *`U p){ cell = new p; return cell; }
+-- int main(){ int *`U u = rnew(unique_region) 5; u :=: *keep(u); ufree(u); int *`U w = NULL; w :=: *cell; return *w; }
+abbrev given_before_its_swap : t.Program
+given_before_its_swap = record { structs = []; exceptions = []; globals = (record { name = 0; of_type = (types.Pointer marks.Nullable star Heap); value = t.Null } ∷ []); functions = (record (function (star ∷ []) []) { locals = []; body = (t.MoreItems (t.Execute (t.Evaluate (t.Assign (t.Global 0) (t.Convert kinds.NonNull kinds.Nullable (t.New t.OnHeap (t.Plain kinds.Nullable (t.Move here 0 star)) (types.Pointer marks.NonNull star Heap))) (types.Value (types.Pointer marks.Nullable star Heap))))) (t.MoreItems (t.Execute (t.Return (Some (t.Convert kinds.Nullable kinds.Nullable (t.Copy (t.Global 0) (types.Pointer marks.Nullable star Heap)))))) t.NoItems)) } ∷ record (function [] []) { locals = (star ∷ star ∷ []); body = (t.MoreItems (t.Declare 0 star (Some (t.Convert kinds.NonNull kinds.Nullable (t.New t.AsUnique (t.Plain kinds.Int (t.Number 5)) at)))) (t.MoreItems (t.Execute (t.Swap (t.VariableSide (t.Local here 0) star) (t.CellSide (t.Target kinds.Nullable (t.Call (callees.Function 0) (t.MoreArguments (t.Convert kinds.Nullable kinds.Nullable (t.Move here 0 star)) t.NoArguments) (types.Value (types.Pointer marks.Nullable star Heap))) star)))) (t.MoreItems (t.Execute (t.Evaluate (t.FreeUnique (t.Move here 0 star)))) (t.MoreItems (t.Declare 1 star (Some (t.Convert kinds.Nullable kinds.Nullable t.NullPointer))) (t.MoreItems (t.Execute (t.Swap (t.VariableSide (t.Local here 1) star) (t.CellSide (t.Target kinds.Nullable (t.Copy (t.Global 0) (types.Pointer marks.Nullable star Heap)) star)))) (t.MoreItems (t.Execute (t.Return (Some (t.Convert kinds.Int kinds.Int (t.Load (t.Target kinds.Nullable (t.Peek here 1 star) types.Int)))))) t.NoItems)))))) } ∷ []); main = 1 }
+
+given_before_its_swap_ends : status_of (run given_before_its_swap [] 500) ≡ IsDead
+unfolding slt_of sar_of div_of rem_of
+given_before_its_swap_ends = refl
 
 -- fault 40 at 1:115
 -- int main(){ let NewDynamicRegion{<`k> k} = new_ukey(); uregion_key_t<`k> j = k; free_ukey(j); region<`k> h = open(k); return 0; }
