@@ -15,7 +15,7 @@ use Rattle.cyc_types.specs.typing.WellTyped.{Context, WellTyped, IsPeek, IsCell}
 use Rattle.cyc_meaning.specs.Values.{is_kind}
 use Rattle.cyc_meaning.specs.Values as values
 use Rattle.cyc_meaning.specs.Parts.{target_of_value, target_by}
-use Rattle.cyc_soundness.specs.Lives.{Value, kind_at, as_heap, read, read_value}
+use Rattle.cyc_soundness.specs.Lives.{Lives, Value, at, kind_at, as_heap, read, read_value}
 use Rattle.cyc_soundness.specs.Lives as lives
 
 -- ---- kinds
@@ -36,12 +36,16 @@ mark_kinds marks.Nullable = refl
 mark_kinds marks.NonNull = refl
 mark_kinds marks.Fat = refl
 
+-- a kind does not depend on what regions stand for
+pub kind_by : (n : Lives) (t : Ty) → kind_at (at n t) ≡ tests.kind_of t
+kind_by n types.Int = refl
+kind_by n (types.Pointer k t r) = mark_kinds k
+kind_by n (types.Handle r) = refl
+kind_by n (types.Key r) = refl
+kind_by n (types.Struct m rs) = refl
+
 pub kind_read : (t : Ty) → kind_at (read t) ≡ tests.kind_of t
-kind_read types.Int = refl
-kind_read (types.Pointer k t r) = mark_kinds k
-kind_read (types.Handle r) = refl
-kind_read (types.Key r) = refl
-kind_read (types.Struct n rs) = refl
+kind_read t = kind_by as_heap t
 
 pub kind_meant : (t : Ty) → kind_at (read t) ≡ values.kind_of t
 kind_meant types.Int = refl
@@ -52,16 +56,24 @@ kind_meant (types.Struct n rs) = refl
 
 -- ---- instances
 
-regions_read : (m rs : List Region) → map as_heap (map (substituted_region m) rs) ≡ map as_heap rs
-regions_read m [] = refl
-regions_read m (r ∷ rs) = ap (λ ls. lives.OfRegion 0 ∷ ls) (regions_read m rs)
+-- what the regions of a callee, or of a struct, stand for where these are put in their place
+abbrev pub lives_by : Lives → List Region → Lives
+lives_by n m r = n (substituted_region m r)
+
+regions_by : (n : Lives) (m rs : List Region) → map n (map (substituted_region m) rs) ≡ map (lives_by n m) rs
+regions_by n m [] = refl
+regions_by n m (r ∷ rs) = ap (λ ls. lives_by n m r ∷ ls) (regions_by n m rs)
+
+-- the regions of an instance stand for what those that are put in their place stand for
+pub instance_by : (n : Lives) (m : List Region) (t : Ty) → at n (substituted_ty m t) ≡ at (lives_by n m) t
+instance_by n m types.Int = refl
+instance_by n m (types.Pointer k t r) = ap (λ u. lives.Pointer k u (lives_by n m r)) (instance_by n m t)
+instance_by n m (types.Handle r) = refl
+instance_by n m (types.Key r) = refl
+instance_by n m (types.Struct s rs) = ap (lives.Struct s) (regions_by n m rs)
 
 pub instance_read : (m : List Region) (t : Ty) → read (substituted_ty m t) ≡ read t
-instance_read m types.Int = refl
-instance_read m (types.Pointer k t r) = ap (λ u. lives.Pointer k u (lives.OfRegion 0)) (instance_read m t)
-instance_read m (types.Handle r) = refl
-instance_read m (types.Key r) = refl
-instance_read m (types.Struct n rs) = ap (lives.Struct n) (regions_read m rs)
+instance_read m t = instance_by as_heap m t
 
 pub instances_read : (m : List Region) (ts : List Ty) → map read (map (substituted_ty m) ts) ≡ map read ts
 instances_read m [] = refl

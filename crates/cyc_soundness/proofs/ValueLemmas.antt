@@ -4,9 +4,11 @@ use Rattle.std.specs.Prelude.{if◌then◌else◌, nat_lt}
 use Rattle.std.proofs.lemmas.Bool.{ltb-true}
 use Rattle.cyc_syntax.specs.declared.tree.PointerKind.{PointerKind}
 use Rattle.cyc_syntax.specs.declared.tree.PointerKind.TheVariants as marks
+use Rattle.cyc_types.specs.declared.region.Region.{Region}
 use Rattle.cyc_types.specs.declared.typed.Kind.TheVariants as kinds
 use Rattle.cyc_types.specs.declared.typed.Operator.{Operator}
 use Rattle.cyc_types.specs.declared.typed.UnaryOperator.TheVariants as unary
+use Rattle.cyc_types.specs.Outlives.{RegionContext, IsGiven, itself, given, through}
 use Rattle.cyc_types.specs.Types.{Ty, ValueType}
 use Rattle.cyc_types.specs.Types as types
 use Rattle.cyc_types.specs.typing.Tests.{is_tested}
@@ -16,10 +18,23 @@ use Rattle.cyc_meaning.specs.Values.{Operand}
 use Rattle.cyc_meaning.specs.Values as values
 use Rattle.cyc_meaning.specs.Operators.{Gives, Raises, is_zero, binary_result, has_no_result, unary_result, binary_word, division_by_zero, array_bounds}
 use Rattle.cyc_meaning.specs.Conversion.{conversion, thinned}
-use Rattle.cyc_soundness.specs.Lives.{Life, RunTy, Int, Pointer, Handle, Key, read, read_value}
+use Rattle.cyc_soundness.specs.Lives.{Life, RunTy, Int, Pointer, Handle, Key, Lives, at, value_at, as_heap, read, read_value}
 use Rattle.cyc_soundness.specs.Lives as lives
-use Rattle.cyc_soundness.specs.Worlds.{Typing, IsTarget, HasType, IsResult, Fits}
+use Rattle.cyc_soundness.specs.Worlds.{Typing, Outlasts, alike, heap as for_ever, globals as with_globals, AgreesWith, IsTarget, HasType, IsResult, Fits}
 use Rattle.cyc_soundness.proofs.TypeLemmas.{kind_read}
+
+-- ---- what lasts as long
+
+outlasts_through : (a b c : Life) → Outlasts a b → Outlasts b c → Outlasts a c
+outlasts_through a b c (alike _) second = second
+outlasts_through a b c (for_ever _) second = for_ever c
+outlasts_through a b c (with_globals _) second = with_globals c
+
+-- Where what is given agrees, so does all that follows from it.
+pub given_agree : (c : RegionContext) (n : Lives) → ((a b : Region) → IsGiven c a b → Outlasts (n a) (n b)) → AgreesWith c n
+given_agree c n agree a b (itself _) = alike (n a)
+given_agree c n agree a b (given _ _ is) = agree a b is
+given_agree c n agree a d (through _ b _ first second) = outlasts_through (n a) (n b) (n d) (given_agree c n agree a b first) (given_agree c n agree b d second)
 
 module _ (g : Typing) where
   -- ---- ints
@@ -117,16 +132,35 @@ module _ (g : Typing) where
   key_converted l (values.Key region) is = is
   key_converted l v is = absurd is
 
-  -- a value that may be converted becomes one of the type that is wanted
+  -- what a pointer leads to outlasts what its life outlasts
+  shortened : (t : RunTy) (l m : Life) (object offset : ℕ) → Outlasts l m → IsTarget g t l object offset → IsTarget g t m object offset
+  shortened t l m object offset outlasts (x, there, shown, lasts, part) = (x, there, shown, outlasts_through x.life l m lasts outlasts, part)
+
+  pointer_shortened : (k : PointerKind) (t : RunTy) (l m : Life) (v : values.Value) → Outlasts l m → HasType g (Pointer k t l) v → HasType g (Pointer k t m) v
+  pointer_shortened marks.Nullable t l m values.Null outlasts is = tt
+  pointer_shortened marks.Nullable t l m (values.Thin object offset) outlasts is = shortened t l m object offset outlasts is
+  pointer_shortened marks.NonNull t l m (values.Thin object offset) outlasts is = shortened t l m object offset outlasts is
+  pointer_shortened marks.Fat t l m values.Null outlasts is = tt
+  pointer_shortened marks.Fat t l m (values.Fat object start count index) outlasts is = λ i less. shortened t l m object (start + i) outlasts (is i less)
+  pointer_shortened k t l m v outlasts is = absurd is
+
+  -- a value that may be converted becomes one of the type that is wanted, whatever regions stand for
+  pub converted_by : (n : Lives) (c : Context) (s : ValueType) (t : Ty) (v : Operand) → AgreesWith c.regions n → Converts c s t → IsResult g (value_at n s) v
+      → Fits g (at n t) (conversion (tests.kind_of t) v.value)
+  converted_by n c (types.Value types.Int) types.Int v agrees conv is = int_converted v.value is.1
+  converted_by n c (types.Value (types.Pointer k t r)) (types.Pointer m u s) v agrees conv is =
+      subst (λ z. Fits g (Pointer m (at n z) (n s)) (conversion (tests.kind_of_mark m) v.value)) conv.0
+        (pointer_converted k m (at n t) (n s) v.value (pointer_shortened k (at n t) (n r) (n s) v.value (agrees r s conv.1) is.1))
+  converted_by n c (types.Value (types.Handle r)) (types.Handle s) v agrees conv is =
+      subst (λ z. Fits g (Handle (n z)) (conversion kinds.Handle v.value)) conv (handle_converted (n r) v.value is.1)
+  converted_by n c (types.Value (types.Key r)) (types.Key s) v agrees conv is =
+      subst (λ z. Fits g (Key (n z)) (conversion kinds.Key v.value)) conv (key_converted (n r) v.value is.1)
+  converted_by n c types.Null (types.Pointer k t r) v agrees conv is =
+      subst (λ z. Fits g (Pointer k (at n t) (n r)) (conversion (tests.kind_of_mark k) z)) (sym is.1) (null_converted k (at n t) (n r))
+  converted_by n c s t v agrees conv is = absurd conv
+
   pub converted : (c : Context) (s : ValueType) (t : Ty) (v : Operand) → Converts c s t → IsResult g (read_value s) v → Fits g (read t) (conversion (tests.kind_of t) v.value)
-  converted c (types.Value types.Int) types.Int v conv is = int_converted v.value is.1
-  converted c (types.Value (types.Pointer k t r)) (types.Pointer m u s) v conv is =
-      subst (λ z. Fits g (Pointer m (read z) (lives.OfRegion 0)) (conversion (tests.kind_of_mark m) v.value)) conv.0 (pointer_converted k m (read t) (lives.OfRegion 0) v.value is.1)
-  converted c (types.Value (types.Handle r)) (types.Handle s) v conv is = handle_converted (lives.OfRegion 0) v.value is.1
-  converted c (types.Value (types.Key r)) (types.Key s) v conv is = key_converted (lives.OfRegion 0) v.value is.1
-  converted c types.Null (types.Pointer k t r) v conv is =
-      subst (λ z. Fits g (Pointer k (read t) (lives.OfRegion 0)) (conversion (tests.kind_of_mark k) z)) (sym is.1) (null_converted k (read t) (lives.OfRegion 0))
-  converted c s t v conv is = absurd conv
+  converted c s t v conv is = converted_by as_heap c s t v (λ a b outlives. alike (lives.OfRegion 0)) conv is
 
   -- and it has the kind that the tree says
   pub kind_given : (c : Context) (s : ValueType) (t : Ty) (v : Operand) → Converts c s t → IsResult g (read_value s) v → v.kind ≡ tests.kind_of_value s

@@ -2,12 +2,14 @@
 -- against what is open: a pointer keeps its type when its region closes, and that it may be followed is shown where it is followed.
 use Rattle.std.specs.Prelude.{◌≡◌, ℕ, zero, suc, ◌+◌, ◌<◌, ◌≤◌, Bool, true, false, List, [], ◌∷◌, length, Option, Some, None, slice_get}
 use Rattle.cyc_syntax.specs.declared.tree.PointerKind.TheVariants as marks
+use Rattle.cyc_types.specs.declared.region.Region.{Region as NamedRegion}
 use Rattle.cyc_types.specs.declared.typed.Kind.TheVariants as kinds
+use Rattle.cyc_types.specs.Outlives.{RegionContext, OutlivesIn}
 use Rattle.cyc_meaning.specs.Values.{Operand, Cell}
 use Rattle.cyc_meaning.specs.Values as values
 use Rattle.cyc_meaning.specs.Operators.{Result, Gives, Raises, Misfits}
 use Rattle.cyc_meaning.specs.State.{Region, Owner, InRegion, Unique, Object, heap_number, globals_number, is_open}
-use Rattle.cyc_soundness.specs.Lives.{Life, OfRegion, OfObject, RunTy, Int, Pointer, Handle, Key, Struct, RunValue, Void, Null, Value, kind_at}
+use Rattle.cyc_soundness.specs.Lives.{Life, OfRegion, OfObject, RunTy, Int, Pointer, Handle, Key, Struct, RunValue, Void, Null, Value, Lives, kind_at}
 
 pub record ObjectType : Type 0 where
   pub cells : List RunTy
@@ -43,6 +45,10 @@ pub data Outlasts : Life → Life → Type 0 where
   alike : (l : Life) → Outlasts l l
   heap : (l : Life) → Outlasts (OfRegion 0) l
   globals : (l : Life) → Outlasts (OfRegion 1) l
+
+-- regions stand for lives of which those last as long that are known here to outlive the others
+abbrev pub AgreesWith : RegionContext → Lives → Type 0
+AgreesWith c n = (a b : NamedRegion) → OutlivesIn c a b → Outlasts (n a) (n b)
 
 -- ---- values
 

@@ -11,8 +11,8 @@ ghost use Rattle.cyc_types.specs.flow.Programs.{IsAllowedProgram};
 ghost use Rattle.cyc_meaning.specs.Values.{Value, Operand};
 ghost use Rattle.cyc_meaning.specs.Conversion.{conversion};
 ghost use Rattle.cyc_meaning.specs.State.{Entry};
-ghost use Rattle.cyc_soundness.specs.Lives.{RunTy, read, read_value};
-ghost use Rattle.cyc_soundness.specs.Worlds.{Typing, HasType, IsResult, Fits, Grows};
+ghost use Rattle.cyc_soundness.specs.Lives.{RunTy, Lives, at, value_at};
+ghost use Rattle.cyc_soundness.specs.Worlds.{Typing, AgreesWith, HasType, IsResult, Fits, Grows};
 ghost use Rattle.cyc_soundness.specs.Frames.{InScope, Exits};
 ghost use Rattle.cyc_soundness.specs.Stacks.{Want, IsStack};
 ghost use Rattle.cyc_soundness.specs.Classes.{IsOfTheHeap};
@@ -26,10 +26,11 @@ pub fn typings_stay()
         → IsStack p g x locals want stack → IsStack p h x locals want stack }
 {}
 
-/// A value that the rules let be converted becomes a value of the type that is wanted, or raises an exception.
+/// A value that the rules let be converted becomes a value of the type that is wanted, or raises an exception: whatever
+/// regions stand for, if what outlives another there lasts as long.
 pub fn conversions_fit()
-    ensures { (g : Typing) (c : Context) (s : ValueType) (t : Ty) (v : Operand) → Converts c s t → IsResult g (read_value s) v
-        → Fits g (read t) (conversion (kind_of t) v.value) }
+    ensures { (g : Typing) (n : Lives) (c : Context) (s : ValueType) (t : Ty) (v : Operand) → AgreesWith c.regions n → Converts c s t
+        → IsResult g (value_at n s) v → Fits g (at n t) (conversion (kind_of t) v.value) }
 {}
 
 /// No run of a program in which nothing ends that can be reached, but its calls and blocks, is ever dead or wrong, where

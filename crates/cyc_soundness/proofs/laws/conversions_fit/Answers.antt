@@ -1,6 +1,6 @@
 -- Conversions.
-use Rattle.cyc_soundness.proofs.ValueLemmas.{converted}
+use Rattle.cyc_soundness.proofs.ValueLemmas.{converted_by}
 use Rattle.cyc_soundness.proofs.laws.conversions_fit.Goals as goal
 
 pub returns : goal.returns
-returns c = converted
+returns c = converted_by
