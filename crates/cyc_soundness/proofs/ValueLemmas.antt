@@ -150,7 +150,7 @@ module _ (g : Typing) where
   converted_by n c (types.Value types.Int) types.Int v agrees conv is = int_converted v.value is.1
   converted_by n c (types.Value (types.Pointer k t r)) (types.Pointer m u s) v agrees conv is =
       subst (λ z. Fits g (Pointer m (at n z) (n s)) (conversion (tests.kind_of_mark m) v.value)) conv.0
-        (pointer_converted k m (at n t) (n s) v.value (pointer_shortened k (at n t) (n r) (n s) v.value (agrees r s conv.1) is.1))
+      (pointer_converted k m (at n t) (n s) v.value (pointer_shortened k (at n t) (n r) (n s) v.value (agrees r s conv.1) is.1))
   converted_by n c (types.Value (types.Handle r)) (types.Handle s) v agrees conv is =
       subst (λ z. Fits g (Handle (n z)) (conversion kinds.Handle v.value)) conv (handle_converted (n r) v.value is.1)
   converted_by n c (types.Value (types.Key r)) (types.Key s) v agrees conv is =
