@@ -67,7 +67,7 @@ module _ (source : Program) (pages calls : ℕ) where
   low_byte_of : (a : ℕ) → bit_and a 255 ≡ a % 256
   low_byte_of a = and_numeral a 254 refl
 
-  shared_printed : (a x : ℕ) (w : World) (c : Configuration) → SharedAt source pages calls w c → x ≡ a
+  shared_printed : (a x : ℕ) (w : World) (c : Configuration) → (shared : SharedAt source pages calls k e w c) → x ≡ a
       → SharedAt source pages calls (record w { output = w.output ++ a % 256 ∷ [] }) (advanced (record c { output = c.output ++ x % 256 ∷ [] }))
   shared_printed a x w c shared is = record {
     same_output = ap (λ (l : List ℕ). l ++ x % 256 ∷ []) shared.same_output ∙ ap (λ y. w.output ++ y % 256 ∷ []) is;
@@ -81,7 +81,7 @@ module _ (source : Program) (pages calls : ℕ) where
 
   -- the byte is printed, and then its value is dropped, or comes to a slot
   prints : (i : Kind) (a : ℕ) (o : Operand) (k : List Entry) (e : Environment) (w : World) (c : Configuration)
-      → SharedAt source pages calls w c → DataIn source c.active.slots k e w c → operand_word c.active.slots o ≡ a → Holds c.active.slots (base_of source c.active.function) (held k)
+      → (shared : SharedAt source pages calls k e w c) → DataIn source shared.tables c.active.slots k e w c → operand_word c.active.slots o ≡ a → Holds shared.tables c.active.slots (base_of source c.active.function) (held k)
       → PrintsStack source c.active.function e.locals o c.active.next c.frames k
       → IsMatched source pages calls (Running (Calling callees.Putchar (record { kind = i; value = Int a } ∷ [])) k e w) (plain.Running c)
   prints i a o k e w c shared facts is holds (write, prints_only stack) =
@@ -106,7 +106,7 @@ module _ (source : Program) (pages calls : ℕ) where
   prints_value i (Int a) k e w c well (shared, facts, (u, o, single, is, holds, stack)) =
       let v : Kinded = record { kind = i; value = Int a } in
       let same : v ≡ u = let f : v ∷ [] ≡ u ∷ [] = single in cc in
-      prints i a o k e w c shared facts (int_is i a c.active.slots o (subst (λ (x : Kinded). IsIn x c.active.slots o) (sym same) is)) holds stack
+      prints i a o k e w c shared facts (int_is i a c.active.slots o (subst (λ (x : Kinded). IsIn shared.tables x c.active.slots o) (sym same) is)) holds stack
   prints_value i v k e w c well related = absurd (well refl)
 
   -- ---- the parameters of a call
@@ -150,16 +150,16 @@ module _ (source : Program) (pages calls : ℕ) where
       (Running (Binding (suc n) types arguments body) k (with_local e n (length w.objects)) (made w x)) (plain.Running c)
       (does ∙ is_declared (region_at w e.home) (Binding (suc n) types arguments body) n (kind_of t) (Some v.value) k e w (subst IsWell does well)) (
         shared,
-        data_declared source g w.objects e (callers k) c.active.slots c.active.slots c.globals c.frames n 0 x (omega (arith, local, count)) (omega arith) (λ i out. refl)
+        data_declared shared.tables source g w.objects e (callers k) c.active.slots c.active.slots c.globals c.frames n 0 x (omega (arith, local, count)) (omega arith) (λ i out. refl)
             (λ u has.
             let u_is : v ≡ u = ap (λ i. of_kind i v.value) kind_is ∙ same_Some (of_kind (kind_of t) v.value) u has in
-            subst (λ (y : Kinded). Is y.kind y.value c.active.slots (slot_of (starts_at source g) n) × HasRoom (types_at source g) n y.kind) u_is (subst (Is v.kind v.value c.active.slots) (sym there) is, room)) facts,
+            subst (λ (y : Kinded). Is y.kind y.value c.active.slots (slot_of (starts_at source g) n) × HasRoom (types_at source g) n y.kind) u_is (subst (Is shared.tables v.kind v.value c.active.slots) (sym there) is, room)) facts,
         (
           m,
           first ++ t ∷ [],
           items,
           stack,
-          subst (λ i. HoldsFrom c.active.slots i arguments) (sym next) holds,
+          subst (λ i. HoldsFrom shared.tables c.active.slots i arguments) (sym next) holds,
           own ∙ sym (append_assoc first (t ∷ []) types),
           let long : length (first ++ t ∷ []) ≡ length first + 1 = length-append first (t ∷ []) in omega (arith, long, count),
         ),
@@ -197,8 +197,8 @@ module _ (source : Program) (pages calls : ℕ) where
   pub entered : FunctionsStand → (n : ℕ) (h : Function) (arguments : List Kinded) (k : List Entry) (w : World) (slots globals : Words) (handlers : List Handler) (frames : List Frame) (store : StoreState) (output input : List ℕ)
       → slice_get source.functions n ≡ Some h
       → Shared pages calls w.regions w.classes w.output w.input output input store (length frames)
-      → DataAt source n w.objects (λ (number : ℕ). None) (callers k) slots globals frames
-      → HoldsFrom slots 0 arguments → ((m : ℕ) → At (code_of source n) m (instructions.Return (base_of source n)) → StatementStack source n 0 m frames k)
+      → DataAt source shared.tables n w.objects (λ (number : ℕ). None) (callers k) slots globals frames
+      → HoldsFrom shared.tables slots 0 arguments → ((m : ℕ) → At (code_of source n) m (instructions.Return (base_of source n)) → StatementStack source n 0 m frames k)
       → Related source pages calls (Entering h arguments) k no_locals w
       (record { active = record { function = n; next = 0; slots = slots; handlers = handlers }; frames = frames; globals = globals; store = store; output = output; input = input })
   entered stand n h arguments k w slots globals handlers frames store output input there shared facts holds stack =
@@ -208,7 +208,7 @@ module _ (source : Program) (pages calls : ℕ) where
   -- no more calls fit: both runs are full
   full : (k : List Entry) (e : Environment) (w : World) (c : Configuration) (focus : Focus) (next : State) (n first many into : ℕ)
       → step source (Running focus k e w) ≡ next → is_within pages calls next ≡ false
-      → SharedAt source pages calls w c → At (code_of source c.active.function) c.active.next (instructions.Call n first many into)
+      → (shared : SharedAt source pages calls k e w c) → At (code_of source c.active.function) c.active.next (instructions.Call n first many into)
       → calls < suc (suc (length c.frames))
       → IsMatched source pages calls (Running focus k e w) (plain.Running c)
   full k e w c focus next n first many into does over shared here past =
@@ -281,10 +281,10 @@ module _ (source : Program) (pages calls : ℕ) where
                   same_classes = shared.same_classes;
                   fits = fine;
                 })
-                (data_called source g n w.objects e (callers k) c.active.slots slots c.globals frame c.frames refl refl facts)
-                (arguments_copied c.active.slots choice.contents d 0 (words_held before) (reverse before) (omega (arith, words-reverse before))
-                (subst (λ (i : ℕ). HoldsFrom c.active.slots i (reverse before)) (let z : d ≡ d + 0 = omega arith in z) (in_order c.active.slots base before (held k) holds)))
-                (λ m at_end. (base_of source n, at_end, (Holds-rest c.active.slots base before (held k) holds, back))))
+                (data_called shared.tables source g n w.objects e (callers k) c.active.slots slots c.globals frame c.frames refl refl facts)
+                (arguments_copied shared.tables c.active.slots choice.contents d 0 (words_held before) (reverse before) (omega (arith, words-reverse before))
+                (subst (λ (i : ℕ). HoldsFrom shared.tables c.active.slots i (reverse before)) (let z : d ≡ d + 0 = omega arith in z) (in_order shared.tables c.active.slots base before (held k) holds)))
+                (λ m at_end. (base_of source n, at_end, (Holds-rest shared.tables c.active.slots base before (held k) holds, back))))
           ]
 
   -- one argument too many

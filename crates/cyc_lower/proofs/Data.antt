@@ -98,7 +98,7 @@ local_other locals number other object apart =
 
 -- ---- what is said of values
 
-module _ {t : Tables} where
+module _ (t : Tables) where
   pub IsWord-is : (kind : Kind) (v : Value) (word : ℕ) (words : Words) (p : ℕ) → words p ≡ word → IsWord t kind v word → Is t kind v words p
   IsWord-is kinds.Int (Int a) word words p same is = same ∙ is
   IsWord-is kinds.Nullable Null word words p same is = same ∙ is

@@ -49,18 +49,18 @@ module _ (source : Program) (pages calls : ℕ) where
   IsStep focus k e w c = IsWell (step source (Running focus k e w)) → Related source pages calls focus k e w c → IsMatched source pages calls (Running focus k e w) (plain.Running c)
 
   -- a value comes to a slot and those behind it, and the next instruction is the one behind
-  pub landed : (v : Kinded) (after : Words) (d : ℕ) (k : List Entry) (e : Environment) (w : World) (c : Configuration) (q : ℕ) → Is v.kind v.value after d
+  pub landed : (v : Kinded) (after : Words) (d : ℕ) (k : List Entry) (e : Environment) (w : World) (c : Configuration) (q : ℕ) → Is shared.tables v.kind v.value after d
       → ((m : ℕ) → Outside d (words_of_kind v.kind) m → after m ≡ c.active.slots m)
-      → SharedAt source pages calls w c → DataIn source c.active.slots k e w c → Holds c.active.slots (base_of source c.active.function) (held k)
+      → (shared : SharedAt source pages calls k e w c) → DataIn source shared.tables c.active.slots k e w c → Holds shared.tables c.active.slots (base_of source c.active.function) (held k)
       → c.active.next + 1 ≡ q → LandsStack source c.active.function e.locals v.kind d q c.frames k
       → Related source pages calls (Given v) k e w (advanced (with_slots c after))
   landed v after d k e w c q is same shared facts holds end (in_temporary least stack) =
       let base = base_of source c.active.function in (
         shared,
         in_operand (operands.Slot d)
-            (data_above source c.active.function w.objects e.locals (callers k) c.active.slots after c.globals c.frames d (words_of_kind v.kind) (omega (arith, least, height-least base (held k))) same facts)
+            (data_above shared.tables source c.active.function w.objects e.locals (callers k) c.active.slots after c.globals c.frames d (words_of_kind v.kind) (omega (arith, least, height-least base (held k))) same facts)
             is
-            (Holds-same c.active.slots after base (held k) (λ m below. same m (inl (omega (arith, below, least)))) holds)
+            (Holds-same shared.tables c.active.slots after base (held k) (λ m below. same m (inl (omega (arith, below, least)))) holds)
             (subst (λ r. ValueStack source c.active.function e.locals v.kind (operands.Slot d) r c.frames k) (sym end) stack),
       )
   landed v after d k e w c q is same shared facts holds end (in_local below stack) =
@@ -68,13 +68,13 @@ module _ (source : Program) (pages calls : ℕ) where
         shared,
         ahead d (c.active.slots, λ m out. sym (same m out), facts)
             is
-            (Holds-above c.active.slots after base (held k) (λ m above. same m (inr (omega (arith, below, above)))) holds)
+            (Holds-above shared.tables c.active.slots after base (held k) (λ m above. same m (inr (omega (arith, below, above)))) holds)
             (subst (λ r. AheadStack source c.active.function e.locals v.kind d r c.frames k) (sym end) stack),
       )
 
   -- the same for an int
   pub landed_word : (a word d : ℕ) (k : List Entry) (e : Environment) (w : World) (c : Configuration) (q : ℕ) → word ≡ a
-      → SharedAt source pages calls w c → DataIn source c.active.slots k e w c → Holds c.active.slots (base_of source c.active.function) (held k)
+      → (shared : SharedAt source pages calls k e w c) → DataIn source shared.tables c.active.slots k e w c → Holds shared.tables c.active.slots (base_of source c.active.function) (held k)
       → c.active.next + 1 ≡ q → LandsStack source c.active.function e.locals kinds.Int d q c.frames k
       → Related source pages calls (Given (record { kind = kinds.Int; value = Int a })) k e w (advanced (with_slots c (put c.active.slots d word)))
   landed_word a word d k e w c q is shared facts holds end lands =
@@ -82,14 +82,14 @@ module _ (source : Program) (pages calls : ℕ) where
       (λ m out. put_elsewhere c.active.slots d word 1 m (omega arith) out) shared facts holds end lands
 
   -- a value that is moved from an operand
-  pub landed_moved : (v : Kinded) (o : Operand) (d : ℕ) (k : List Entry) (e : Environment) (w : World) (c : Configuration) (q : ℕ) (choice : Choice) → IsIn v c.active.slots o
-      → SharedAt source pages calls w c → DataIn source c.active.slots k e w c → Holds c.active.slots (base_of source c.active.function) (held k)
+  pub landed_moved : (v : Kinded) (o : Operand) (d : ℕ) (k : List Entry) (e : Environment) (w : World) (c : Configuration) (q : ℕ) (choice : Choice) → IsIn shared.tables v c.active.slots o
+      → (shared : SharedAt source pages calls k e w c) → DataIn source shared.tables c.active.slots k e w c → Holds shared.tables c.active.slots (base_of source c.active.function) (held k)
       → c.active.next + 1 ≡ q → LandsStack source c.active.function e.locals v.kind d q c.frames k
       → Matches source pages calls (Running (Given v) k e w) (performed (lower_program source) choice c (move_of (words_of_kind v.kind) d o))
   landed_moved v o d k e w c q choice is shared facts holds end lands =
       let words = words_of_kind v.kind in
       subst (Matches source pages calls (Running (Given v) k e w)) (sym (moves (lower_program source) choice c words d o))
-      (landed v (moved_slots c.active.slots words d o) d k e w c q (moved_is v c.active.slots d o is)
+      (landed v (moved_slots c.active.slots words d o) d k e w c q (moved_is shared.tables v c.active.slots d o is)
       (λ m out. moved_elsewhere c.active.slots words d o m (kind_positive v.kind) out) shared facts holds end lands)
 
   -- what stands behind a slot, at an equal place
@@ -108,17 +108,17 @@ module _ (source : Program) (pages calls : ℕ) where
   pub record IsRead (a : Expression) (o : Operand) (k : List Entry) (e : Environment) (w : World) (c : Configuration) : Type 0 where
     pub value : Kinded
     pub gives : step source (Running (Evaluating a) k e w) ≡ Running (Given value) k e w
-    pub is : IsIn value c.active.slots o
+    pub is : IsIn shared.tables value c.active.slots o
     pub same : value.kind ≡ given_at source c.active.function a
     pub some : expression_weight a ≡ 1
 
   pub reads : (a : Expression) (o : Operand) (k : List Entry) (e : Environment) (w : World) (c : Configuration) → operand_of (starts_at source c.active.function) a ≡ Some o → IsWell (step source (Running (Evaluating a) k e w))
-      → DataIn source c.active.slots k e w c → IsRead a o k e w c
+      → DataIn source shared.tables c.active.slots k e w c → IsRead a o k e w c
   reads (Number n) o k e w c known well facts =
       record {
         value = record { kind = kinds.Int; value = Int n };
         gives = refl;
-        is = subst (IsIn (record { kind = kinds.Int; value = Int n }) c.active.slots) (same_Some (operands.Word n) o known) refl;
+        is = subst (IsIn shared.tables (record { kind = kinds.Int; value = Int n }) c.active.slots) (same_Some (operands.Word n) o known) refl;
         same = refl;
         some = refl;
       }
@@ -126,7 +126,7 @@ module _ (source : Program) (pages calls : ℕ) where
       record {
         value = record { kind = kinds.Nullable; value = Null };
         gives = refl;
-        is = subst (IsIn (record { kind = kinds.Nullable; value = Null }) c.active.slots) (same_Some (operands.Word 0) o known) refl;
+        is = subst (IsIn shared.tables (record { kind = kinds.Nullable; value = Null }) c.active.slots) (same_Some (operands.Word 0) o known) refl;
         same = refl;
         some = refl;
       }
@@ -135,7 +135,7 @@ module _ (source : Program) (pages calls : ℕ) where
       record {
         value = record { kind = kind_of t; value = found.value };
         gives = found.gives;
-        is = subst (IsIn (record { kind = kind_of t; value = found.value }) c.active.slots) (same_Some (operands.Slot (slot_of (starts_at source c.active.function) n)) o known)
+        is = subst (IsIn shared.tables (record { kind = kind_of t; value = found.value }) c.active.slots) (same_Some (operands.Slot (slot_of (starts_at source c.active.function) n)) o known)
             (hold.holds n found.number (record { kind = kind_of t; value = found.value }) found.there found.has).0;
         same = refl;
         some = refl;
@@ -146,11 +146,11 @@ module _ (source : Program) (pages calls : ℕ) where
 
   -- the next argument is evaluated, or the call is made
   pub passes_related : (f : Callee) (before : List Kinded) (cs : Arguments) (k : List Entry) (e : Environment) (w : World) (c : Configuration) (d m q all : ℕ)
-      → SharedAt source pages calls w c → DataIn source c.active.slots k e w c
+      → (shared : SharedAt source pages calls k e w c) → DataIn source shared.tables c.active.slots k e w c
       → ArgumentsAt (code_of source c.active.function) (bounds_at source c.active.function) (types_at source c.active.function) cs (height (base_of source c.active.function) (before ++ held k)) c.active.next m
       → CallAt source c.active.function f all (top source c.active.function k) d m q
       → words_held before + all_passed cs ≡ all
-      → Holds c.active.slots (base_of source c.active.function) (before ++ held k) → LandsStack source c.active.function e.locals (called_at source c.active.function f) d q c.frames k
+      → Holds shared.tables c.active.slots (base_of source c.active.function) (before ++ held k) → LandsStack source c.active.function e.locals (called_at source c.active.function f) d q c.frames k
       → Matches source pages calls (passes f before cs k e w) (plain.Running c)
   passes_related callees.Putchar before cs k e w c d m q all shared facts at call long holds lands = absurd call
   passes_related callees.Getchar before NoArguments k e w c d m q all shared facts at (here, end) long holds lands =
@@ -191,8 +191,8 @@ module _ (source : Program) (pages calls : ℕ) where
 
   -- what is known at each such step
   abbrev At_step : Expression → List Entry → Environment → World → Configuration → Type 0
-  At_step a k e w c = IsWell (step source (Running (Evaluating a) k e w)) × SharedAt source pages calls w c × DataIn source c.active.slots k e w c
-      × Holds c.active.slots (base_of source c.active.function) (held k)
+  At_step a k e w c = IsWell (step source (Running (Evaluating a) k e w)) × (shared : SharedAt source pages calls k e w c) × DataIn source shared.tables c.active.slots k e w c
+      × Holds shared.tables c.active.slots (base_of source c.active.function) (held k)
 
   abbrev IsBegun : Expression → List Entry → Environment → World → Configuration → Type 0
   IsBegun a k e w c = IsMatched source pages calls (Running (Evaluating a) k e w) (plain.Running c)
@@ -214,22 +214,22 @@ module _ (source : Program) (pages calls : ℕ) where
       → OperandBy (code_of source c.active.function) (bounds_at source c.active.function) (types_at source c.active.function) (source_of (starts_at source c.active.function) (Convert from to a))
       (ExpressionAt (code_of source c.active.function) (bounds_at source c.active.function) (types_at source c.active.function) a (source_slot (starts_at source c.active.function) (Convert from to a) (top source c.active.function k)) (top source c.active.function k) c.active.next m)
       (source_slot (starts_at source c.active.function) (Convert from to a) (top source c.active.function k)) o c.active.next m
-      → Holds c.active.slots (base_of source c.active.function) (held k) → ValueStack source c.active.function e.locals (given_at source c.active.function a) o m c.frames k
-      → EvaluatingAt source a e.locals c.active.function c.active.next c.active.slots c.frames k
+      → Holds shared.tables c.active.slots (base_of source c.active.function) (held k) → ValueStack source c.active.function e.locals (given_at source c.active.function a) o m c.frames k
+      → EvaluatingAt source shared.tables a e.locals c.active.function c.active.next c.active.slots c.frames k
   sources from to a k e w c o m at holds stack = by (are_as_wide from to) at
     where
       by : (same : Bool)
           → OperandBy (code_of source c.active.function) (bounds_at source c.active.function) (types_at source c.active.function) (if same then operand_of (starts_at source c.active.function) a else None)
           (ExpressionAt (code_of source c.active.function) (bounds_at source c.active.function) (types_at source c.active.function) a (if same then value_slot (starts_at source c.active.function) a (top source c.active.function k) else top source c.active.function k) (top source c.active.function k) c.active.next m)
           (if same then value_slot (starts_at source c.active.function) a (top source c.active.function k) else top source c.active.function k) o c.active.next m
-          → EvaluatingAt source a e.locals c.active.function c.active.next c.active.slots c.frames k
+          → EvaluatingAt source shared.tables a e.locals c.active.function c.active.next c.active.slots c.frames k
       by true at = as_operand o m at holds stack
       by false (is, at) = into_slot (top source c.active.function k) m at holds (in_temporary (omega arith) (subst (λ x. ValueStack source c.active.function e.locals (given_at source c.active.function a) x m c.frames k) is stack))
 
   -- what is assigned to a local comes to its slots at once, or is moved there once it is converted
   assigns_local : (there : Bool) (n : ℕ) (from to : Kind) (a : Expression) (k : List Entry) (e : Environment) (w : World) (c : Configuration) (object : ℕ) (o : Operand) (m : ℕ)
-      → converts_there from to ≡ there → e.locals n ≡ Some object → SharedAt source pages calls w c → DataIn source c.active.slots k e w c
-      → Holds c.active.slots (base_of source c.active.function) (held k)
+      → converts_there from to ≡ there → e.locals n ≡ Some object → (shared : SharedAt source pages calls k e w c) → DataIn source shared.tables c.active.slots k e w c
+      → Holds shared.tables c.active.slots (base_of source c.active.function) (held k)
       → o ≡ operands.Slot (slot_of (starts_at source c.active.function) n) → HasRoom (types_at source c.active.function) n to
       → InitialBy (code_of source c.active.function) (bounds_at source c.active.function) (types_at source c.active.function) there from to a (slot_of (starts_at source c.active.function) n) (top source c.active.function k) c.active.next m
       → HandsOnStack source c.active.function e.locals to o m c.frames k
@@ -413,8 +413,8 @@ module _ (source : Program) (pages calls : ℕ) where
   for_its_effect (typed.New x v t) k e w c q known (o, (is, at)) stack = absurd at
 
   -- a right operand without code, with the left one beside it
-  beside_left : (a : Expression) (k : List Entry) (e : Environment) (w : World) (c : Configuration) → IsWell (step source (Running (Evaluating a) k e w)) → SharedAt source pages calls w c → DataIn source c.active.slots k e w c
-      → RightAt source a e.locals c.active.function c.active.next c.active.slots c.frames k → IsBegun a k e w c
+  beside_left : (a : Expression) (k : List Entry) (e : Environment) (w : World) (c : Configuration) → IsWell (step source (Running (Evaluating a) k e w)) → (shared : SharedAt source pages calls k e w c) → DataIn source shared.tables c.active.slots k e w c
+      → RightAt source shared.tables a e.locals c.active.function c.active.next c.active.slots c.frames k → IsBegun a k e w c
   beside_left a (Needs (Apply u left) ∷ k) e w c well shared facts (l, r, known, is_left, holds, applied) =
       let found = reads a r (Needs (Apply u left) ∷ k) e w c known well facts in
       silently source pages calls (Running (Evaluating a) (Needs (Apply u left) ∷ k) e w) (Running (Given found.value) (Needs (Apply u left) ∷ k) e w) (plain.Running c) found.gives

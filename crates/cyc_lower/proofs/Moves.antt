@@ -49,13 +49,13 @@ moved_elsewhere slots words d (operands.Slot n) m some out = by (words == 1)
     by false = copied_elsewhere slots slots n words d m out
 
 -- words that are copied are the same value
-pub copied_is : {t : Tables} (v : Kinded) (from to : Words) (source many d : ℕ) → words_of_kind v.kind ≤ many → Is t v.kind v.value from source → Is t v.kind v.value (copied from source many to d) d
-copied_is v from to source many d few is =
-    Is-same v.kind v.value from (copied from source many to d) source d (λ i below. copied-inside from to source many d i (omega (arith, below, few))) is
+pub copied_is : (t : Tables) (v : Kinded) (from to : Words) (source many d : ℕ) → words_of_kind v.kind ≤ many → Is t v.kind v.value from source → Is t v.kind v.value (copied from source many to d) d
+copied_is t v from to source many d few is =
+    Is-same t v.kind v.value from (copied from source many to d) source d (λ i below. copied-inside from to source many d i (omega (arith, below, few))) is
 
-pub moved_is : {t : Tables} (v : Kinded) (slots : Words) (d : ℕ) (o : Operand) → IsIn t v slots o → Is t v.kind v.value (moved_slots slots (words_of_kind v.kind) d o) d
-moved_is v slots d (operands.Word n) is = IsWord-is v.kind v.value n (put slots d n) d (put-same slots d n) is
-moved_is {t} v slots d (operands.Slot n) is = by (words_of_kind v.kind == 1) refl
+pub moved_is : (t : Tables) (v : Kinded) (slots : Words) (d : ℕ) (o : Operand) → IsIn t v slots o → Is t v.kind v.value (moved_slots slots (words_of_kind v.kind) d o) d
+moved_is t v slots d (operands.Word n) is = IsWord-is t v.kind v.value n (put slots d n) d (put-same slots d n) is
+moved_is t v slots d (operands.Slot n) is = by (words_of_kind v.kind == 1) refl
   where
     one : (b : Bool) → (words_of_kind v.kind == 1) ≡ b → b ≡ true → (i : ℕ) → i < words_of_kind v.kind → put slots d (slots n) (d + i) ≡ slots (n + i)
     one b told is_one i below =
@@ -65,8 +65,8 @@ moved_is {t} v slots d (operands.Slot n) is = by (words_of_kind v.kind == 1) ref
         ap (put slots d (slots n)) at_d ∙ put-same slots d (slots n) ∙ ap slots at_n
 
     by : (b : Bool) → (words_of_kind v.kind == 1) ≡ b → Is t v.kind v.value (if b then put slots d (slots n) else copied slots n (words_of_kind v.kind) slots d) d
-    by true told = Is-same v.kind v.value slots (put slots d (slots n)) n d (one true told refl) is
-    by false told = copied_is v slots slots n (words_of_kind v.kind) d (omega arith) is
+    by true told = Is-same t v.kind v.value slots (put slots d (slots n)) n d (one true told refl) is
+    by false told = copied_is t v slots slots n (words_of_kind v.kind) d (omega arith) is
 
 -- a value that is copied to where it is stays as it was
 pub put_again : (slots : Words) (d w many m : ℕ) → 1 ≤ many → Outside d many m → slots m ≡ put slots d w m

@@ -38,7 +38,7 @@ use Rattle.cyc_lower.proofs.Evaluations.{IsStep, sources}
 module _ (source : Program) (pages calls : ℕ) where
   -- ---- regions
 
-  pub shared_opened : (w : World) (c : Configuration) → SharedAt source pages calls w c → SharedAt source pages calls (opened w) c
+  pub shared_opened : (w : World) (c : Configuration) → (shared : SharedAt source pages calls k e w c) → SharedAt source pages calls (opened w) c
   shared_opened w c s = record {
     same_output = s.same_output;
     same_input = s.same_input;
@@ -49,7 +49,7 @@ module _ (source : Program) (pages calls : ℕ) where
     fits = s.fits;
   }
 
-  pub shared_closed : (w : World) (c : Configuration) (number : ℕ) (r : Region) → slice_get w.regions number ≡ Some r → SharedAt source pages calls w c → SharedAt source pages calls (closed w number r) c
+  pub shared_closed : (w : World) (c : Configuration) (number : ℕ) (r : Region) → slice_get w.regions number ≡ Some r → (shared : SharedAt source pages calls k e w c) → SharedAt source pages calls (closed w number r) c
   shared_closed w c number r there s = record {
     same_output = s.same_output;
     same_input = s.same_input;
@@ -78,7 +78,7 @@ module _ (source : Program) (pages calls : ℕ) where
   returned : (a : Expression) (same : Bool) (locals : ℕ → Option ℕ) (g p : ℕ) (slots : Words) (frames : List Frame) (k : List Entry) (s m : ℕ)
       → ReturnedAt (code_of source g) (bounds_at source g) (types_at source g) (if same then operand_of (starts_at source g) a else None)
       (ExpressionAt (code_of source g) (bounds_at source g) (types_at source g) a (top source g k) (top source g k) p m) (top source g k) s p m
-      → Holds slots (base_of source g) (held k) → ValueStack source g locals (given_at source g a) (operands.Slot s) m frames k → EvaluatingAt source a locals g p slots frames k
+      → Holds shared.tables slots (base_of source g) (held k) → ValueStack source g locals (given_at source g a) (operands.Slot s) m frames k → EvaluatingAt source shared.tables a locals g p slots frames k
   returned a false locals g p slots frames k s m (is, at) holds stack =
       into_slot (top source g k) m at holds (in_temporary (omega arith) (subst (λ x. ValueStack source g locals (given_at source g a) (operands.Slot x) m frames k) is stack))
   returned (Copy (Local w n) t) true locals g p slots frames k s m (is, end) holds stack = as_operand (operands.Slot s) m (ap operands.Slot is, end) holds stack
@@ -127,27 +127,27 @@ module _ (source : Program) (pages calls : ℕ) where
 
   -- what a caller has waits behind the call
   abbrev pub Waits : Kind → Environment → List Entry → Frame → List Frame → Type 0
-  Waits kind outer k f rest = Holds f.caller.slots (base_of source f.caller.function) (held k) × LandsStack source f.caller.function outer.locals kind f.result f.caller.next rest k
+  Waits kind outer k f rest = Holds shared.tables f.caller.slots (base_of source f.caller.function) (held k) × LandsStack source f.caller.function outer.locals kind f.result f.caller.next rest k
 
   -- the caller goes on behind the call, with a temporary written
   comes_back : (g value results : ℕ) (slots globals : Words) (f : Frame) (frames : List Frame) (k : List Entry) (locals : ℕ → Option ℕ) (outer : Environment) (w : World)
-      → DataAt source g w.objects locals (outer ∷ callers k) slots globals (f ∷ frames)
-      → top source f.caller.function k ≤ f.result → Holds f.caller.slots (base_of source f.caller.function) (held k)
-      → DataAt source f.caller.function w.objects outer.locals (callers k) (copied slots value results f.caller.slots f.result) globals frames
+      → DataAt source shared.tables g w.objects locals (outer ∷ callers k) slots globals (f ∷ frames)
+      → top source f.caller.function k ≤ f.result → Holds shared.tables f.caller.slots (base_of source f.caller.function) (held k)
+      → DataAt source shared.tables f.caller.function w.objects outer.locals (callers k) (copied slots value results f.caller.slots f.result) globals frames
       × Holds (copied slots value results f.caller.slots f.result) (base_of source f.caller.function) (held k)
   comes_back g value results slots globals f frames k locals outer w facts least holds =
       let base = base_of source f.caller.function in (
-        data_returned source g w.objects locals outer (callers k) slots (copied slots value results f.caller.slots f.result) globals f frames
+        data_returned shared.tables source g w.objects locals outer (callers k) slots (copied slots value results f.caller.slots f.result) globals f frames
             (λ n less. copied-below slots f.caller.slots value results f.result n (omega (arith, less, least, height-least base (held k)))) facts,
-        Holds-same f.caller.slots (copied slots value results f.caller.slots f.result) base (held k)
+        Holds-same shared.tables f.caller.slots (copied slots value results f.caller.slots f.result) base (held k)
             (λ n less. copied-below slots f.caller.slots value results f.result n (omega (arith, less, least))) holds,
       )
 
   -- without a value
   leaves_call : (focus : Focus) (active : Activation) (frames : List Frame) (globals : Words) (store : StoreState) (output input : List ℕ) (k : List Entry) (e outer : Environment) (w : World) (s : ℕ)
       → step source (Running focus (Caller outer ∷ k) e w) ≡ Running Proceeding k outer w
-      → SharedAt source pages calls w (record { active = active; frames = frames; globals = globals; store = store; output = output; input = input })
-      → DataAt source active.function w.objects e.locals (outer ∷ callers k) active.slots globals frames
+      → SharedAt source pages calls (Caller outer ∷ k) e w (record { active = active; frames = frames; globals = globals; store = store; output = output; input = input })
+      → DataAt source shared.tables active.function w.objects e.locals (outer ∷ callers k) active.slots globals frames
       → At (code_of source active.function) active.next (instructions.Return s)
       → Below source frames (Waits (returned_at source active.function) outer k)
       → IsMatched source pages calls (Running focus (Caller outer ∷ k) e w) (plain.Running (record { active = active; frames = frames; globals = globals; store = store; output = output; input = input }))
@@ -161,9 +161,9 @@ module _ (source : Program) (pages calls : ℕ) where
 
   -- with a value
   hands_back : (v : Kinded) (active : Activation) (frames : List Frame) (globals : Words) (store : StoreState) (output input : List ℕ) (k : List Entry) (e outer : Environment) (w : World) (s : ℕ)
-      → SharedAt source pages calls w (record { active = active; frames = frames; globals = globals; store = store; output = output; input = input })
-      → DataAt source active.function w.objects e.locals (outer ∷ callers k) active.slots globals frames
-      → At (code_of source active.function) active.next (instructions.Return s) → Is v.kind v.value active.slots s → (routine_at (lower_program source) active.function).results ≡ words_of_kind v.kind
+      → SharedAt source pages calls (Caller outer ∷ k) e w (record { active = active; frames = frames; globals = globals; store = store; output = output; input = input })
+      → DataAt source shared.tables active.function w.objects e.locals (outer ∷ callers k) active.slots globals frames
+      → At (code_of source active.function) active.next (instructions.Return s) → Is shared.tables v.kind v.value active.slots s → (routine_at (lower_program source) active.function).results ≡ words_of_kind v.kind
       → Below source frames (Waits v.kind outer k)
       → IsMatched source pages calls (Running (Returning (Some v)) (Caller outer ∷ k) e w) (plain.Running (record { active = active; frames = frames; globals = globals; store = store; output = output; input = input }))
   hands_back v active [] globals store output input k e outer w s shared facts here is wide below = absurd below
@@ -173,7 +173,7 @@ module _ (source : Program) (pages calls : ℕ) where
       by_one source pages calls refl shared here
       (λ choice. (
         shared_returned w output input store (length frames) shared,
-        in_operand (operands.Slot f.result) back.0 (copied_is v active.slots f.caller.slots s results f.result (omega (arith, wide)) is) back.1 stack,
+        in_operand (operands.Slot f.result) back.0 (copied_is shared.tables v active.slots f.caller.slots s results f.result (omega (arith, wide)) is) back.1 stack,
       ))
   hands_back v active (f ∷ frames) globals store output input k e outer w s shared facts here is wide (holds, in_local below stack) =
       let results = (routine_at (lower_program source) active.function).results in
@@ -186,9 +186,9 @@ module _ (source : Program) (pages calls : ℕ) where
       (λ choice. (
         shared_returned w output input store (length frames) shared,
         ahead d
-            (f.caller.slots, λ n out. sym (elsewhere n out), data_returned source active.function w.objects e.locals outer (callers k) active.slots f.caller.slots globals f frames (λ n less. refl) facts)
-            (copied_is v active.slots f.caller.slots s results d (omega (arith, wide)) is)
-            (Holds-above f.caller.slots now base (held k) (λ n from. elsewhere n (inr (omega (arith, from, below)))) holds)
+            (f.caller.slots, λ n out. sym (elsewhere n out), data_returned shared.tables source active.function w.objects e.locals outer (callers k) active.slots f.caller.slots globals f frames (λ n less. refl) facts)
+            (copied_is shared.tables v active.slots f.caller.slots s results d (omega (arith, wide)) is)
+            (Holds-above shared.tables f.caller.slots now base (held k) (λ n from. elsewhere n (inr (omega (arith, from, below)))) holds)
             stack,
       ))
 
@@ -213,7 +213,7 @@ module _ (source : Program) (pages calls : ℕ) where
 
   declares : (n : ℕ) (t : Ty) (js : Items) (k : List Entry) (e : Environment) (w : World) (c : Configuration) (loop m q : ℕ)
       → IsWell (step source (Running Proceeding (Rest (MoreItems (Declare n t None) js) ∷ k) e w))
-      → SharedAt source pages calls w c → DataAt source c.active.function w.objects e.locals (callers k) c.active.slots c.globals c.frames
+      → (shared : SharedAt source pages calls k e w c) → DataAt source shared.tables c.active.function w.objects e.locals (callers k) c.active.slots c.globals c.frames
       → n < length (types_at source c.active.function) → c.active.next ≡ m
       → ItemsAt (code_of source c.active.function) (bounds_at source c.active.function) (types_at source c.active.function) js loop (base_of source c.active.function) m q
       → StatementStack source c.active.function loop q c.frames k
@@ -225,13 +225,13 @@ module _ (source : Program) (pages calls : ℕ) where
       (Running Proceeding (Rest js ∷ k) (with_local e n (length w.objects)) (made w x)) (plain.Running c)
       (is_declared (region_at w e.home) Proceeding n (kind_of t) None (Rest js ∷ k) e w well) (
         shared,
-        behind_statement loop (data_declared source g w.objects e (callers k) c.active.slots c.active.slots c.globals c.frames n 0 x few (omega arith) (λ m out. refl) (λ v has. absurd (none-some v has)) facts)
+        behind_statement loop (data_declared shared.tables source g w.objects e (callers k) c.active.slots c.active.slots c.globals c.frames n 0 x few (omega arith) (λ m out. refl) (λ v has. absurd (none-some v has)) facts)
             (q, subst (λ p. ItemsAt (code_of source g) (bounds_at source g) (types_at source g) js loop (base_of source g) p q) (sym end) items, stack),
       )
       (omega arith)
 
   joins : (k : List Entry) (e : Environment) (w : World) (c : Configuration) (loop q : ℕ)
-      → SharedAt source pages calls w c → DataAt source c.active.function w.objects e.locals (callers k) c.active.slots c.globals c.frames
+      → (shared : SharedAt source pages calls k e w c) → DataAt source shared.tables c.active.function w.objects e.locals (callers k) c.active.slots c.globals c.frames
       → Arrives source (code_of source c.active.function) c.active.next q → StatementStack source c.active.function loop q c.frames k
       → IsMatched source pages calls (Running Proceeding (Join ∷ k) e w) (plain.Running c)
   joins k e w c loop q shared facts (in_place end) stack =
@@ -244,7 +244,7 @@ module _ (source : Program) (pages calls : ℕ) where
   -- a local gets its initial value: it comes to its slots at once, or is moved there once it is converted
   initial_by : (there : Bool) (n : ℕ) (ty : Ty) (from to : Kind) (a : Expression) (js : Items) (k : List Entry) (e : Environment) (w : World) (c : Configuration) (loop m q : ℕ)
       → converts_there from to ≡ there
-      → SharedAt source pages calls w c → DataAt source c.active.function w.objects e.locals (callers k) c.active.slots c.globals c.frames
+      → (shared : SharedAt source pages calls k e w c) → DataAt source shared.tables c.active.function w.objects e.locals (callers k) c.active.slots c.globals c.frames
       → HasRoom (types_at source c.active.function) n to
       → InitialBy (code_of source c.active.function) (bounds_at source c.active.function) (types_at source c.active.function) there from to a (slot_of (starts_at source c.active.function) n) (base_of source c.active.function) c.active.next m
       → ItemsAt (code_of source c.active.function) (bounds_at source c.active.function) (types_at source c.active.function) js loop (base_of source c.active.function) m q
@@ -260,7 +260,7 @@ module _ (source : Program) (pages calls : ℕ) where
       (shared, facts, sources source pages calls from to a (Needs (ConvertTo from to (target_by a)) ∷ Needs (Initialise n (kind_of ty) js) ∷ k) e w c o s at_a tt (r, at_to, (loop, q, move, room, rest, stack)))
 
   initial : (n : ℕ) (ty : Ty) (from to : Kind) (a : Expression) (js : Items) (k : List Entry) (e : Environment) (w : World) (c : Configuration) (loop m q : ℕ)
-      → SharedAt source pages calls w c → DataAt source c.active.function w.objects e.locals (callers k) c.active.slots c.globals c.frames
+      → (shared : SharedAt source pages calls k e w c) → DataAt source shared.tables c.active.function w.objects e.locals (callers k) c.active.slots c.globals c.frames
       → HasRoom (types_at source c.active.function) n to
       → InitialAt (code_of source c.active.function) (bounds_at source c.active.function) (types_at source c.active.function) (Convert from to a) (slot_of (starts_at source c.active.function) n) (base_of source c.active.function) c.active.next m
       → ItemsAt (code_of source c.active.function) (bounds_at source c.active.function) (types_at source c.active.function) js loop (base_of source c.active.function) m q
@@ -273,7 +273,7 @@ module _ (source : Program) (pages calls : ℕ) where
       (omega arith)
 
   after_statement : (k : List Entry) (e : Environment) (w : World) (c : Configuration) (loop : ℕ) → IsWell (step source (Running Proceeding k e w))
-      → SharedAt source pages calls w c → DataAt source c.active.function w.objects e.locals (callers k) c.active.slots c.globals c.frames
+      → (shared : SharedAt source pages calls k e w c) → DataAt source shared.tables c.active.function w.objects e.locals (callers k) c.active.slots c.globals c.frames
       → StatementStack source c.active.function loop c.active.next c.frames k → IsMatched source pages calls (Running Proceeding k e w) (plain.Running c)
   after_statement (Rest NoItems ∷ k) e w c loop well shared facts (q, end, stack) =
       silently source pages calls (Running Proceeding (Rest NoItems ∷ k) e w) (Running Proceeding k e w) (plain.Running c) refl
@@ -303,7 +303,7 @@ module _ (source : Program) (pages calls : ℕ) where
   after_statement k e w c loop well shared facts stack = absurd stack
 
   after_call : (k : List Entry) (e : Environment) (w : World) (c : Configuration) (kind : Kind) (o : Operand) → IsWell (step source (Running Proceeding k e w))
-      → SharedAt source pages calls w c → DataAt source c.active.function w.objects e.locals (callers k) c.active.slots c.globals c.frames
+      → (shared : SharedAt source pages calls k e w c) → DataAt source shared.tables c.active.function w.objects e.locals (callers k) c.active.slots c.globals c.frames
       → ValueStack source c.active.function e.locals kind o c.active.next c.frames k → IsMatched source pages calls (Running Proceeding k e w) (plain.Running c)
   after_call (Needs a ∷ k) e w c kind o well shared facts stack = absurd (well refl)
   after_call (Discard ∷ k) e w c kind o well shared facts (loop, stack) =
@@ -382,8 +382,8 @@ module _ (source : Program) (pages calls : ℕ) where
   -- `main` returns, and no call waits
   ends_main : (i : Kind) (v : Value) (active : Activation) (frames : List Frame) (globals : Words) (store : StoreState) (output input : List ℕ) (k : List Entry) (e : Environment) (w : World) (s : ℕ)
       → IsWell (step source (Running (Returning (Some (record { kind = i; value = v }))) (Main ∷ k) e w))
-      → SharedAt source pages calls w (record { active = active; frames = frames; globals = globals; store = store; output = output; input = input })
-      → At (code_of source active.function) active.next (instructions.Return s) → Is i v active.slots s → IsLast source frames k
+      → SharedAt source pages calls (Caller outer ∷ k) e w (record { active = active; frames = frames; globals = globals; store = store; output = output; input = input })
+      → At (code_of source active.function) active.next (instructions.Return s) → Is shared.tables i v active.slots s → IsLast source frames k
       → IsMatched source pages calls (Running (Returning (Some (record { kind = i; value = v }))) (Main ∷ k) e w) (plain.Running (record { active = active; frames = frames; globals = globals; store = store; output = output; input = input }))
   ends_main i (Int a) active [] globals store output input [] e w s well shared here is last =
       by_one source pages calls refl shared here (λ choice. (ap (λ x. Returned (signed x)) (int_at i a active.slots s is), shared.same_output))

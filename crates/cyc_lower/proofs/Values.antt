@@ -233,8 +233,8 @@ module _ (source : Program) (pages calls : ℕ) where
 
   -- what is known of a value that stands in an operand
   abbrev pub Stands : Kinded → Operand → List Entry → Environment → World → Configuration → Type 0
-  Stands v o k e w c = SharedAt source pages calls w c × DataIn source c.active.slots k e w c × IsIn v c.active.slots o
-      × Holds c.active.slots (base_of source c.active.function) (held k)
+  Stands v o k e w c = (shared : SharedAt source pages calls k e w c) × DataIn source shared.tables c.active.slots k e w c × IsIn shared.tables v c.active.slots o
+      × Holds shared.tables c.active.slots (base_of source c.active.function) (held k)
 
   abbrev pub GoesBehind : Kinded → List Entry → Environment → World → Configuration → Type 0
   GoesBehind v k e w c = IsMatched source pages calls (Running (Given v) k e w) (plain.Running c)
@@ -289,8 +289,8 @@ module _ (source : Program) (pages calls : ℕ) where
 
   -- a conversion that raises nothing, of a value in the slots of a local that is about to get it
   converted_ahead : (from to i : Kind) (v : Value) (words : Words) (n : ℕ) (k : List Entry) (e : Environment) (w : World)
-      → IsWell (computed to (conversion to v) k e w) → converts_there from to ≡ true → Is i v words n
-      → (computed to (conversion to v) k e w ≡ Running (Given (of_kind to v)) k e w) × Is to v words n
+      → IsWell (computed to (conversion to v) k e w) → converts_there from to ≡ true → Is shared.tables i v words n
+      → (computed to (conversion to v) k e w ≡ Running (Given (of_kind to v)) k e w) × Is shared.tables to v words n
   converted_ahead from kinds.Int i (Int a) words n k e w well quiet is = (refl, kept_at i kinds.Int (Int a) words n refl is)
   converted_ahead from kinds.Nullable i Null words n k e w well quiet is = (refl, kept_at i kinds.Nullable Null words n refl is)
   converted_ahead from kinds.Fat i Null words n k e w well quiet is = (refl, kept_at i kinds.Fat Null words n refl is)
@@ -303,8 +303,8 @@ module _ (source : Program) (pages calls : ℕ) where
 
   -- its kind is the one that it is converted from, and it has as many words behind
   converts_ahead : (from to : Kind) (target : Option Kind) (v : Kinded) (n : ℕ) (k : List Entry) (e : Environment) (w : World) (c : Configuration)
-      → IsWell (step source (Running (Given v) (Needs (ConvertTo from to target) ∷ k) e w)) → converts_there from to ≡ true → Is v.kind v.value c.active.slots n
-      → (step source (Running (Given v) (Needs (ConvertTo from to target) ∷ k) e w) ≡ Running (Given (of_kind to v.value)) k e w) × Is to v.value c.active.slots n
+      → IsWell (step source (Running (Given v) (Needs (ConvertTo from to target) ∷ k) e w)) → converts_there from to ≡ true → Is shared.tables v.kind v.value c.active.slots n
+      → (step source (Running (Given v) (Needs (ConvertTo from to target) ∷ k) e w) ≡ Running (Given (of_kind to v.value)) k e w) × Is shared.tables to v.value c.active.slots n
       × (words_of_kind v.kind ≡ words_of_kind to)
   converts_ahead from to target v n k e w c well quiet is =
       let does = converts_kind from to target v k e w well in
@@ -365,8 +365,8 @@ module _ (source : Program) (pages calls : ℕ) where
   -- the division itself, of operands that are these words
   quotient : (u : Operator) (a b : ℕ) (l r : Operand) (d : ℕ) (k : List Entry) (e : Environment) (w : World) (c : Configuration) (q : ℕ)
       → ((x : ℕ) → plain_operators.has_no_result (binary_operator u) x ≡ (x == 0)) → ((x y : ℕ) → plain_operators.binary_result (binary_operator u) x y ≡ binary_word u x y)
-      → (b == 0) ≡ false → SharedAt source pages calls w c → DataIn source c.active.slots k e w c
-      → operand_word c.active.slots l ≡ a → operand_word c.active.slots r ≡ b → Holds c.active.slots (base_of source c.active.function) (held k)
+      → (b == 0) ≡ false → (shared : SharedAt source pages calls k e w c) → DataIn source shared.tables c.active.slots k e w c
+      → operand_word c.active.slots l ≡ a → operand_word c.active.slots r ≡ b → Holds shared.tables c.active.slots (base_of source c.active.function) (held k)
       → c.active.next + 1 ≡ q → LandsStack source c.active.function e.locals kinds.Int d q c.frames k
       → (choice : Choice) → Matches source pages calls (Running (Given (int_of (binary_word u a b))) k e w) (performed (lower_program source) choice c (instructions.Binary (binary_operator u) d l r))
   quotient u a b l r d k e w c q plain_test same nonzero shared facts is_left is holds end lands choice =
@@ -382,8 +382,8 @@ module _ (source : Program) (pages calls : ℕ) where
   tested_divides : (u : Operator) (i j : Kind) (a b : ℕ) (f : Bool) (l r : Operand) (d : ℕ) (k : List Entry) (e : Environment) (w : World) (c : Configuration) (m q : ℕ)
       → ((x : ℕ) → plain_operators.has_no_result (binary_operator u) x ≡ (x == 0)) → ((x : ℕ) → has_no_result u x ≡ (x == 0))
       → ((x y : ℕ) → plain_operators.binary_result (binary_operator u) x y ≡ binary_word u x y) → (b == 0) ≡ f
-      → SharedAt source pages calls w c → DataIn source c.active.slots k e w c
-      → operand_word c.active.slots l ≡ a → operand_word c.active.slots r ≡ b → Holds c.active.slots (base_of source c.active.function) (held k)
+      → (shared : SharedAt source pages calls k e w c) → DataIn source shared.tables c.active.slots k e w c
+      → operand_word c.active.slots l ≡ a → operand_word c.active.slots r ≡ b → Holds shared.tables c.active.slots (base_of source c.active.function) (held k)
       → CheckAt (code_of source c.active.function) (bounds_at source c.active.function) (types_at source c.active.function) division_by_zero r c.active.next m
       → At (code_of source c.active.function) m (instructions.Binary (binary_operator u) d l r) → m + 1 ≡ q
       → LandsStack source c.active.function e.locals kinds.Int d q c.frames k → GoesBehind (of_kind j (Int b)) (Needs (Apply u (of_kind i (Int a))) ∷ k) e w c
@@ -404,8 +404,8 @@ module _ (source : Program) (pages calls : ℕ) where
   divides : (u : Operator) (i j : Kind) (a b : ℕ) (l r : Operand) (d : ℕ) (k : List Entry) (e : Environment) (w : World) (c : Configuration) (q : ℕ)
       → ((x : ℕ) → plain_operators.has_no_result (binary_operator u) x ≡ (x == 0)) → ((x : ℕ) → has_no_result u x ≡ (x == 0))
       → ((x y : ℕ) → plain_operators.binary_result (binary_operator u) x y ≡ binary_word u x y)
-      → SharedAt source pages calls w c → DataIn source c.active.slots k e w c
-      → operand_word c.active.slots l ≡ a → operand_word c.active.slots r ≡ b → Holds c.active.slots (base_of source c.active.function) (held k)
+      → (shared : SharedAt source pages calls k e w c) → DataIn source shared.tables c.active.slots k e w c
+      → operand_word c.active.slots l ≡ a → operand_word c.active.slots r ≡ b → Holds shared.tables c.active.slots (base_of source c.active.function) (held k)
       → CheckedAt (code_of source c.active.function) (bounds_at source c.active.function) (types_at source c.active.function) u d l r c.active.next q
       → LandsStack source c.active.function e.locals kinds.Int d q c.frames k → GoesBehind (of_kind j (Int b)) (Needs (Apply u (of_kind i (Int a))) ∷ k) e w c
   divides u i j a b l (operands.Word (suc n)) d k e w c q plain_test test same shared facts is_left is holds (m, begin, here, end) lands =
@@ -419,8 +419,8 @@ module _ (source : Program) (pages calls : ℕ) where
       tested_divides u i j a b (b == 0) l (operands.Slot n) d k e w c m q plain_test test same refl shared facts is_left is holds check here end lands
 
   computes : (u : Operator) (i j : Kind) (a b : ℕ) (l r : Operand) (d : ℕ) (k : List Entry) (e : Environment) (w : World) (c : Configuration) (q : ℕ)
-      → SharedAt source pages calls w c → DataIn source c.active.slots k e w c
-      → operand_word c.active.slots l ≡ a → operand_word c.active.slots r ≡ b → Holds c.active.slots (base_of source c.active.function) (held k)
+      → (shared : SharedAt source pages calls k e w c) → DataIn source shared.tables c.active.slots k e w c
+      → operand_word c.active.slots l ≡ a → operand_word c.active.slots r ≡ b → Holds shared.tables c.active.slots (base_of source c.active.function) (held k)
       → OperatorAt (code_of source c.active.function) (bounds_at source c.active.function) (types_at source c.active.function) u d l r c.active.next q
       → LandsStack source c.active.function e.locals kinds.Int d q c.frames k → GoesBehind (of_kind j (Int b)) (Needs (Apply u (of_kind i (Int a))) ∷ k) e w c
   computes operators.Divide i j a b l r d k e w c q shared facts is_left is holds here lands =
@@ -437,7 +437,7 @@ module _ (source : Program) (pages calls : ℕ) where
   -- a condition that is a comparison is not computed
   compares_words : (u : Operator) (i j : Kind) (failing : Comparison) (a b : ℕ) (l r : Operand) (k : List Entry) (e : Environment) (w : World) (c : Configuration) → failing_comparison u ≡ Some failing
       → step source (Running (Given (of_kind j (Int b))) (Needs (Apply u (of_kind i (Int a))) ∷ k) e w) ≡ Running (Given (int_of (binary_word u a b))) k e w
-      → SharedAt source pages calls w c → DataIn source c.active.slots k e w c → operand_word c.active.slots l ≡ a → operand_word c.active.slots r ≡ b
+      → (shared : SharedAt source pages calls k e w c) → DataIn source shared.tables c.active.slots k e w c → operand_word c.active.slots l ≡ a → operand_word c.active.slots r ≡ b
       → ConditionStack source c.active.function failing l r c.active.next c.frames k → GoesBehind (of_kind j (Int b)) (Needs (Apply u (of_kind i (Int a))) ∷ k) e w c
   compares_words u i j failing a b l r k e w c is does shared facts is_left is_right stack =
       let x = operand_word c.active.slots l in
@@ -446,7 +446,7 @@ module _ (source : Program) (pages calls : ℕ) where
       (omega arith)
 
   compares_both : (u : Operator) (i j : Kind) (failing : Comparison) (a b : ℕ) (l r : Operand) (k : List Entry) (e : Environment) (w : World) (c : Configuration) → failing_comparison u ≡ Some failing
-      → SharedAt source pages calls w c → DataIn source c.active.slots k e w c → operand_word c.active.slots l ≡ a → operand_word c.active.slots r ≡ b
+      → (shared : SharedAt source pages calls k e w c) → DataIn source shared.tables c.active.slots k e w c → operand_word c.active.slots l ≡ a → operand_word c.active.slots r ≡ b
       → ConditionStack source c.active.function failing l r c.active.next c.frames k → GoesBehind (of_kind j (Int b)) (Needs (Apply u (of_kind i (Int a))) ∷ k) e w c
   compares_both operators.Divide i j failing a b l r k e w c is shared facts is_left is_right stack = absurd (none-some failing is)
   compares_both operators.Remainder i j failing a b l r k e w c is shared facts is_left is_right stack = absurd (none-some failing is)
@@ -455,23 +455,23 @@ module _ (source : Program) (pages calls : ℕ) where
 
   -- both operands are there
   applies_values : (u : Operator) (i j : Kind) (left v : Value) (k : List Entry) (e : Environment) (w : World) (c : Configuration)
-      → IsWell (step source (Running (Given (of_kind j v)) (Needs (Apply u (of_kind i left)) ∷ k) e w)) → SharedAt source pages calls w c → DataIn source c.active.slots k e w c
-      → ReadyAt source (of_kind j v) e.locals c.active.function c.active.next c.active.slots c.frames (Needs (Apply u (of_kind i left)) ∷ k)
+      → IsWell (step source (Running (Given (of_kind j v)) (Needs (Apply u (of_kind i left)) ∷ k) e w)) → (shared : SharedAt source pages calls k e w c) → DataIn source shared.tables c.active.slots k e w c
+      → ReadyAt source shared.tables (of_kind j v) e.locals c.active.function c.active.next c.active.slots c.frames (Needs (Apply u (of_kind i left)) ∷ k)
       → GoesBehind (of_kind j v) (Needs (Apply u (of_kind i left)) ∷ k) e w c
   applies_values u i j (Int a) (Int b) k e w c well shared facts (l, r, is_left, is, holds, to_slot (d, q, here, lands)) = computes u i j a b l r d k e w c q shared facts (int_is i a c.active.slots l is_left) (int_is j b c.active.slots r is) holds here lands
   applies_values u i j (Int a) (Int b) k e w c well shared facts (l, r, is_left, is, holds, to_jump (failing, fails, stack)) = compares_both u i j failing a b l r k e w c fails shared facts (int_is i a c.active.slots l is_left) (int_is j b c.active.slots r is) stack
   applies_values u i j left v k e w c well shared facts ready = absurd (well refl)
 
   applies : (u : Operator) (left v : Kinded) (k : List Entry) (e : Environment) (w : World) (c : Configuration)
-      → IsWell (step source (Running (Given v) (Needs (Apply u left) ∷ k) e w)) → SharedAt source pages calls w c → DataIn source c.active.slots k e w c
-      → ReadyAt source v e.locals c.active.function c.active.next c.active.slots c.frames (Needs (Apply u left) ∷ k) → GoesBehind v (Needs (Apply u left) ∷ k) e w c
+      → IsWell (step source (Running (Given v) (Needs (Apply u left) ∷ k) e w)) → (shared : SharedAt source pages calls k e w c) → DataIn source shared.tables c.active.slots k e w c
+      → ReadyAt source shared.tables v e.locals c.active.function c.active.next c.active.slots c.frames (Needs (Apply u left) ∷ k) → GoesBehind v (Needs (Apply u left) ∷ k) e w c
   applies u left v k e w c well shared facts ready = applies_values u left.kind v.kind left.value v.value k e w c well shared facts ready
 
   -- a pointer is compared with null
   compares_null : (u : PointerOperator) (peek : Option ℕ) (i j : Kind) (left v : Value) (d : ℕ) (k : List Entry) (e : Environment) (w : World) (c : Configuration)
       → IsWell (step source (Running (Given (of_kind j v)) (Needs (ApplyPointer peek u (of_kind i left)) ∷ k) e w)) → is_null_test u ≡ true
-      → SharedAt source pages calls w c → DataIn source c.active.slots k e w c
-      → Is i left c.active.slots (top source c.active.function k) → Holds c.active.slots (base_of source c.active.function) (held k)
+      → (shared : SharedAt source pages calls k e w c) → DataIn source shared.tables c.active.slots k e w c
+      → Is shared.tables i left c.active.slots (top source c.active.function k) → Holds shared.tables c.active.slots (base_of source c.active.function) (held k)
       → At (code_of source c.active.function) c.active.next (pointer_instruction u (operands.Slot (top source c.active.function k)) d)
       → LandsStack source c.active.function e.locals kinds.Int d (c.active.next + 1) c.frames k → GoesBehind (of_kind j v) (Needs (ApplyPointer peek u (of_kind i left)) ∷ k) e w c
   compares_null u peek i j (Thin object offset) v d k e w c well test shared facts is holds here lands = absurd (no_pointer_at i object offset c.active.slots (top source c.active.function k) is)
@@ -510,8 +510,8 @@ module _ (source : Program) (pages calls : ℕ) where
 
   -- where a word was negated once, a second time gives 0 or 1
   negated_twice : (t d : ℕ) (k : List Entry) (e : Environment) (w : World) (c : Configuration) (q : ℕ) → t ≡ truth (not (c.active.slots (top source c.active.function k) == 0))
-      → SharedAt source pages calls w c → DataIn source c.active.slots k e w c
-      → Holds c.active.slots (base_of source c.active.function) (held k) → c.active.next + 1 + 1 ≡ q → LandsStack source c.active.function e.locals kinds.Int d q c.frames k
+      → (shared : SharedAt source pages calls k e w c) → DataIn source shared.tables c.active.slots k e w c
+      → Holds shared.tables c.active.slots (base_of source c.active.function) (held k) → c.active.next + 1 + 1 ≡ q → LandsStack source c.active.function e.locals kinds.Int d q c.frames k
       → Related source pages calls (Given (int_of t)) k e w
       (advanced (with_slots (negated c k) (put (negated c k).active.slots d (truth ((negated c k).active.slots (top source c.active.function k) == 0)))))
   negated_twice t d k e w c q t_is shared facts holds end lands =
@@ -521,14 +521,14 @@ module _ (source : Program) (pages calls : ℕ) where
       let slots = put c.active.slots free x in
       landed_word source pages calls t (truth (slots free == 0)) d k e w (negated c k) q
       (ap (λ y. truth (y == 0)) (put-same c.active.slots free x) ∙ truth_twice (c.active.slots free == 0) ∙ sym t_is)
-      shared (data_above source c.active.function w.objects e.locals (callers k) c.active.slots slots c.globals c.frames free 1 (height-least base (held k)) (λ m out. put_elsewhere c.active.slots free x 1 m (omega arith) out) facts)
-      (Holds-same c.active.slots slots base (held k) (λ m below. put_elsewhere c.active.slots free x 1 m (omega arith) (inl below)) holds) end lands
+      shared (data_above shared.tables source c.active.function w.objects e.locals (callers k) c.active.slots slots c.globals c.frames free 1 (height-least base (held k)) (λ m out. put_elsewhere c.active.slots free x 1 m (omega arith) out) facts)
+      (Holds-same shared.tables c.active.slots slots base (held k) (λ m below. put_elsewhere c.active.slots free x 1 m (omega arith) (inl below)) holds) end lands
 
   decides_truth : (v : Kinded) (o : Operand) (k : List Entry) (e : Environment) (w : World) (c : Configuration) → Stands v o k e w c
       → ValueStack source c.active.function e.locals v.kind o c.active.next c.frames (Needs Decide ∷ k) → GoesBehind v (Needs Decide ∷ k) e w c
   decides_truth v o k e w c (shared, facts, is, holds) (d, q, there, (first, second, end), lands) =
       let x = c.active.slots (top source c.active.function k) in
-      let is_x : IsIn v c.active.slots (operands.Slot (top source c.active.function k)) = subst (IsIn v c.active.slots) there is in
+      let is_x : IsIn shared.tables v c.active.slots (operands.Slot (top source c.active.function k)) = subst (IsIn shared.tables v c.active.slots) there is in
       by_two source pages calls (negated c k)
       (ap (λ z. computed kinds.Int (truth_of z) k e w) (zero_is v c.active.slots (operands.Slot (top source c.active.function k)) is_x)) shared shared first (λ choice. refl) second (λ equal. omega (arith, equal))
       (λ choice. negated_twice (truth (not (x == 0))) d k e w c q refl shared facts holds end lands)
@@ -551,8 +551,8 @@ module _ (source : Program) (pages calls : ℕ) where
       → At (code_of source c.active.function) c.active.next i → ((choice : Choice) → plain_step.performed (lower_program source) choice c i ≡ plain.Running (at c m))
       → ((x : ℕ) → i ≢ instructions.Unary plain_unary.Not x (operands.Slot (top source c.active.function k)))
       → (c.active.slots (top source c.active.function k) == 0) ≡ f
-      → SharedAt source pages calls w c → DataIn source c.active.slots k e w c
-      → Holds c.active.slots (base_of source c.active.function) (held k)
+      → (shared : SharedAt source pages calls k e w c) → DataIn source shared.tables c.active.slots k e w c
+      → Holds shared.tables c.active.slots (base_of source c.active.function) (held k)
       → TruthAt (code_of source c.active.function) (bounds_at source c.active.function) (types_at source c.active.function) (top source c.active.function k) d m r
       → LandsStack source c.active.function e.locals kinds.Int d r c.frames (Needs (Chain os) ∷ k)
       → GoesBehind v (Needs (Chain (ThenTest u b os)) ∷ k) e w c
@@ -640,7 +640,7 @@ module _ (source : Program) (pages calls : ℕ) where
         as_operand r m
             (subst (λ n. OperandBy (code_of source g) (bounds_at source g) (types_at source g) (operand_of starts b) (ExpressionAt (code_of source g) (bounds_at source g) (types_at source g) b (value_slot starts b n) n c.active.next m) (value_slot starts b n) r c.active.next m)
             next at_right)
-            (subst (IsIn v c.active.slots) there is, holds)
+            (subst (IsIn shared.tables v c.active.slots) there is, holds)
             (subst (λ x. AppliedStack source g e.locals u x r m c.frames (Needs (Chain os) ∷ k)) there applied),
       )
       (omega arith)
@@ -659,14 +659,14 @@ module _ (source : Program) (pages calls : ℕ) where
       chain_goes_on (operand_of (starts_at source c.active.function) b) u b NoOperations v o k e w c r q well refl stands at_b (to_jump (failing, is, stack))
   chains (ThenTest u b os) v o k e w c well (shared, facts, is, holds) (to_slot (d, q, (m, r, there, jump, at_b, truths, ops), lands)) =
       tests u b os v (c.active.slots (top source c.active.function k) == 0) k e w c d q refl
-      (shared, facts, subst (IsIn v c.active.slots) there is, holds) (m, r, refl, jump, at_b, truths, ops) lands
+      (shared, facts, subst (IsIn shared.tables v c.active.slots) there is, holds) (m, r, refl, jump, at_b, truths, ops) lands
   chains (ThenPointer u typed.NullPointer os) v o k e w c well (shared, facts, is, holds) (to_slot (d, q, (there, test, here, ops), lands)) =
       let g = c.active.function in
       silently source pages calls (Running (Given v) (Needs (Chain (ThenPointer u typed.NullPointer os)) ∷ k) e w) (Running (Evaluating typed.NullPointer) (Needs (ApplyPointer None u v) ∷ Needs (Chain os) ∷ k) e w) (plain.Running c)
       (awaited (takes_kind u v.kind) (ApplyPointer None u v) typed.NullPointer os k e w well) (
         shared,
         facts,
-        as_operand (operands.Word 0) c.active.next (refl, refl) (subst (IsIn v c.active.slots) there is, holds)
+        as_operand (operands.Word 0) c.active.next (refl, refl) (subst (IsIn shared.tables v c.active.slots) there is, holds)
             (next_slot os d (top source g k), test, here, chain_lands os g e.locals d (c.active.next + 1) q c.frames k ops lands),
       )
       (omega arith)
@@ -710,7 +710,7 @@ module _ (source : Program) (pages calls : ℕ) where
 
   -- a step that ends so, behind one instruction or behind none
   hands_behind : {focus : Focus} {before : List Entry} {w0 : World} {i : Instruction} (v : Kinded) (k : List Entry) (e : Environment) (w : World) (c d : Configuration)
-      → step source (Running focus before e w0) ≡ Running (Given v) k e w → SharedAt source pages calls w0 c → SharedAt source pages calls w0 d
+      → step source (Running focus before e w0) ≡ Running (Given v) k e w → SharedAt source pages calls k e w0 c → SharedAt source pages calls k e w0 d
       → At (code_of source c.active.function) c.active.next i → ((choice : Choice) → performed (lower_program source) choice c i ≡ plain.Running d) → c.active.next ≢ d.active.next
       → Handed v k e w d → IsMatched source pages calls (Running focus before e w0) (plain.Running c)
   hands_behind {focus} {before} {w0} {i} v k e w c d does shared shared_d here first other (at_once related) =
@@ -719,7 +719,7 @@ module _ (source : Program) (pages calls : ℕ) where
       by_two source pages calls d does shared shared_d here first at other goes
 
   hands_at_once : (v : Kinded) (before : List Entry) (k : List Entry) (e : Environment) (w0 w : World) (c : Configuration)
-      → step source (Running (Given v) before e w0) ≡ Running (Given v) k e w → SharedAt source pages calls w0 c
+      → step source (Running (Given v) before e w0) ≡ Running (Given v) k e w → SharedAt source pages calls k e w0 c
       → weight (Running (Given v) k e w) < weight (Running (Given v) before e w0) → Handed v k e w c → GoesBehind v before e w0 c
   hands_at_once v before k e w0 w c does shared lighter (at_once related) = silently source pages calls (Running (Given v) before e w0) (Running (Given v) k e w) (plain.Running c) does related lighter
   hands_at_once v before k e w0 w c does shared lighter (by_copy i at goes) = by_one source pages calls does shared at goes
@@ -736,17 +736,17 @@ module _ (source : Program) (pages calls : ℕ) where
       let inside = slot-room (types_at source g) n (facts.2.within n object found).0 in
       let slots = moved_slots c.active.slots words slot o in
       let elsewhere : (m : ℕ) → Outside slot words m → slots m ≡ c.active.slots m = λ m out. moved_elsewhere c.active.slots words slot o m (kind_positive v.kind) out in
-      let moved = moved_is v c.active.slots slot o is in
+      let moved = moved_is shared.tables v c.active.slots slot o is in
       let after : Configuration = advanced (with_slots c slots) in
       let next = written w object 0 stored.at v.value in
       hands_behind v k e next c after stored.gives shared shared here (λ choice. moves (lower_program source) choice c words slot o) (λ same. omega (arith, same))
       (handed v to k e next after q end (
         shared,
-        data_assigned source g w.objects next.objects e.locals (callers k) c.active.slots slots c.globals c.frames n object v found
+        data_assigned shared.tables source g w.objects next.objects e.locals (callers k) c.active.slots slots c.globals c.frames n object v found
             (written_here w object stored.at v.value stored.object_there stored.cell_there v.kind stored.same) (written_elsewhere w object stored.at v.value stored.object_there stored.cell_there)
             (written_length w object stored.at v.value stored.object_there stored.cell_there) room moved elsewhere facts,
-        subst (IsIn v slots) (sym there) moved,
-        Holds-above c.active.slots slots (base_of source g) (held k) (λ m above. elsewhere m (inr (omega (arith, inside, room, above)))) holds,
+        subst (IsIn shared.tables v slots) (sym there) moved,
+        Holds-above shared.tables c.active.slots slots (base_of source g) (held k) (λ m above. elsewhere m (inr (omega (arith, inside, room, above)))) holds,
       ) hands)
   stores object v (Global n) o to k e w c q found well (shared, facts, is, holds) (here, end, there, few) hands =
       let g = c.active.function in
@@ -758,12 +758,12 @@ module _ (source : Program) (pages calls : ℕ) where
       hands_behind v k e next c after stored.gives shared shared here (λ choice. refl) (λ equal. omega (arith, equal))
       (handed v to k e next after q end (
         shared,
-        data_assigned_global source g w.objects next.objects e.locals (callers k) c.active.slots c.globals c.frames n v x
+        data_assigned_global shared.tables source g w.objects next.objects e.locals (callers k) c.active.slots c.globals c.frames n v x
             (global_there source pages calls g n few)
             (ap (contents next.objects) same ∙ written_here w object stored.at v.value stored.object_there stored.cell_there v.kind stored.same)
             (λ i other. written_elsewhere w object stored.at v.value stored.object_there stored.cell_there i (λ equal. other (equal ∙ sym same)))
             (written_length w object stored.at v.value stored.object_there stored.cell_there) (first_word v c.active.slots o is) facts,
-        subst (IsIn v c.active.slots) (sym there) is,
+        subst (IsIn shared.tables v c.active.slots) (sym there) is,
         holds,
       ) hands)
 
@@ -776,10 +776,10 @@ module _ (source : Program) (pages calls : ℕ) where
 
   -- the local has the value already
   catches_up : (object n : ℕ) (old : Words) (v : Kinded) (k : List Entry) (e : Environment) (w : World) (c : Configuration)
-      → e.locals n ≡ Some object → IsWell (stored_at (Thin object 0) v (Given v) k e w) → SharedAt source pages calls w c
-      → ((m : ℕ) → Outside (slot_of (starts_at source c.active.function) n) (words_of_kind v.kind) m → old m ≡ c.active.slots m) → DataIn source old k e w c
+      → e.locals n ≡ Some object → IsWell (stored_at (Thin object 0) v (Given v) k e w) → SharedAt source pages calls k e w c
+      → ((m : ℕ) → Outside (slot_of (starts_at source c.active.function) n) (words_of_kind v.kind) m → old m ≡ c.active.slots m) → DataIn source shared.tables old k e w c
       → HasRoom (types_at source c.active.function) n v.kind
-      → Is v.kind v.value c.active.slots (slot_of (starts_at source c.active.function) n) → Holds c.active.slots (base_of source c.active.function) (held k)
+      → Is shared.tables v.kind v.value c.active.slots (slot_of (starts_at source c.active.function) n) → Holds shared.tables c.active.slots (base_of source c.active.function) (held k)
       → HandsOnStack source c.active.function e.locals v.kind (operands.Slot (slot_of (starts_at source c.active.function) n)) c.active.next c.frames k → GoesBehind v (Needs (Store (Thin object 0)) ∷ k) e w c
   catches_up object n old v k e w c found well shared same facts room is holds hands =
       let g = c.active.function in
@@ -788,7 +788,7 @@ module _ (source : Program) (pages calls : ℕ) where
       hands_at_once v (Needs (Store (Thin object 0)) ∷ k) k e w next c stored.gives shared (omega arith)
       (handed v (operands.Slot (slot_of (starts_at source g) n)) k e next c c.active.next refl (
         shared,
-        data_assigned source g w.objects next.objects e.locals (callers k) old c.active.slots c.globals c.frames n object v found
+        data_assigned shared.tables source g w.objects next.objects e.locals (callers k) old c.active.slots c.globals c.frames n object v found
             (written_here w object stored.at v.value stored.object_there stored.cell_there v.kind stored.same) (written_elsewhere w object stored.at v.value stored.object_there stored.cell_there)
             (written_length w object stored.at v.value stored.object_there stored.cell_there) room is (λ m out. sym (same m out)) facts,
         is,
@@ -808,12 +808,12 @@ module _ (source : Program) (pages calls : ℕ) where
   hands_on callees.Getchar before cs v o k e w c (shared, facts, is, holds) (d, m, q, all, there, here, call, long, lands) =
       silently source pages calls (Running (Given v) (Needs (Pass callees.Getchar before cs) ∷ k) e w) (passes callees.Getchar (v ∷ before) cs k e w) (plain.Running c) refl
       (passes_related source pages calls callees.Getchar (v ∷ before) cs k e w c d m q all shared facts here call (omega (arith, long))
-      (subst (IsIn v c.active.slots) there is, holds) lands)
+      (subst (IsIn shared.tables v c.active.slots) there is, holds) lands)
       (omega (arith, passes_weight source pages calls callees.Getchar (v ∷ before) cs k e w))
   hands_on (callees.Function n) before cs v o k e w c (shared, facts, is, holds) (d, m, q, all, there, here, call, long, lands) =
       silently source pages calls (Running (Given v) (Needs (Pass (callees.Function n) before cs) ∷ k) e w) (passes (callees.Function n) (v ∷ before) cs k e w) (plain.Running c) refl
       (passes_related source pages calls (callees.Function n) (v ∷ before) cs k e w c d m q all shared facts here call (omega (arith, long))
-      (subst (IsIn v c.active.slots) there is, holds) lands)
+      (subst (IsIn shared.tables v c.active.slots) there is, holds) lands)
       (omega (arith, passes_weight source pages calls (callees.Function n) (v ∷ before) cs k e w))
 
   -- ---- what is done with the value of a whole expression
@@ -829,13 +829,13 @@ module _ (source : Program) (pages calls : ℕ) where
 
   -- and holds just that
   made_value : (n : ℕ) (kind : Kind) (js : Items) (v : Kinded) (k : List Entry) (e : Environment) (w : World) (slots : Words) (slot : ℕ) (types : List Ty)
-      → IsWell (step source (Running (Given v) (Needs (Initialise n kind js) ∷ k) e w)) → HasRoom types n v.kind → Is v.kind v.value slots slot
-      → (u : Kinded) → with_kind kind (Some v.value) ≡ Some u → Is u.kind u.value slots slot × HasRoom types n u.kind
+      → IsWell (step source (Running (Given v) (Needs (Initialise n kind js) ∷ k) e w)) → HasRoom types n v.kind → Is shared.tables v.kind v.value slots slot
+      → (u : Kinded) → with_kind kind (Some v.value) ≡ Some u → Is shared.tables u.kind u.value slots slot × HasRoom types n u.kind
   made_value n kind js v k e w slots slot types well room is u has =
       let made_it = declared (region_at w e.home) Proceeding n kind (Some v.value) (Rest js ∷ k) e w in
       let fits = is_fitting (is_kind v.kind kind) made_it w well in
       let u_is : v ≡ u = ap (λ i. of_kind i v.value) (same_kind v.kind kind fits) ∙ same_Some (of_kind kind v.value) u has in
-      subst (λ (x : Kinded). Is x.kind x.value slots slot × HasRoom types n x.kind) u_is (is, room)
+      subst (λ (x : Kinded). Is shared.tables x.kind x.value slots slot × HasRoom types n x.kind) u_is (is, room)
 
   initialises : (n : ℕ) (kind : Kind) (js : Items) (v : Kinded) (o : Operand) (k : List Entry) (e : Environment) (w : World) (c : Configuration)
       → IsWell (step source (Running (Given v) (Needs (Initialise n kind js) ∷ k) e w)) → Stands v o (Needs (Initialise n kind js) ∷ k) e w c
@@ -849,17 +849,17 @@ module _ (source : Program) (pages calls : ℕ) where
       (λ choice. subst (Matches source pages calls (Running Proceeding (Rest js ∷ k) (with_local e n (length w.objects)) (made w (variable e.home kind (Some v.value))))) (sym (moves (lower_program source) choice c words slot o)) (
         shared,
         behind_statement loop
-            (data_declared source g w.objects e (callers k) c.active.slots slots c.globals c.frames n words (variable e.home kind (Some v.value)) (room-inside (types_at source g) n v.kind room) room
+            (data_declared shared.tables source g w.objects e (callers k) c.active.slots slots c.globals c.frames n words (variable e.home kind (Some v.value)) (room-inside (types_at source g) n v.kind room) room
             (λ m out. moved_elsewhere c.active.slots words slot o m (kind_positive v.kind) out)
-            (made_value n kind js v k e w slots slot (types_at source g) well room (moved_is v c.active.slots slot o is)) facts)
+            (made_value n kind js v k e w slots slot (types_at source g) well room (moved_is shared.tables v c.active.slots slot o is)) facts)
             (q, items, stack),
       ))
 
   initialises_ahead : (n : ℕ) (old : Words) (kind : Kind) (js : Items) (v : Kinded) (k : List Entry) (e : Environment) (w : World) (c : Configuration) (loop : ℕ)
-      → IsWell (step source (Running (Given v) (Needs (Initialise n kind js) ∷ k) e w)) → SharedAt source pages calls w c
+      → IsWell (step source (Running (Given v) (Needs (Initialise n kind js) ∷ k) e w)) → SharedAt source pages calls k e w c
       → ((m : ℕ) → Outside (slot_of (starts_at source c.active.function) n) (words_of_kind v.kind) m → old m ≡ c.active.slots m)
-      → DataIn source old (Needs (Initialise n kind js) ∷ k) e w c
-      → HasRoom (types_at source c.active.function) n v.kind → Is v.kind v.value c.active.slots (slot_of (starts_at source c.active.function) n)
+      → DataIn source shared.tables old (Needs (Initialise n kind js) ∷ k) e w c
+      → HasRoom (types_at source c.active.function) n v.kind → Is shared.tables v.kind v.value c.active.slots (slot_of (starts_at source c.active.function) n)
       → StatementStack source c.active.function loop c.active.next c.frames (Rest js ∷ k) → GoesBehind v (Needs (Initialise n kind js) ∷ k) e w c
   initialises_ahead n old kind js v k e w c loop well shared same facts room is stack =
       let g = c.active.function in
@@ -869,7 +869,7 @@ module _ (source : Program) (pages calls : ℕ) where
       (makes_local n kind js v k e w well) (
         shared,
         behind_statement loop
-            (data_declared source g w.objects e (callers k) old c.active.slots c.globals c.frames n (words_of_kind v.kind) (variable e.home kind (Some v.value)) (room-inside (types_at source g) n v.kind room) room
+            (data_declared shared.tables source g w.objects e (callers k) old c.active.slots c.globals c.frames n (words_of_kind v.kind) (variable e.home kind (Some v.value)) (room-inside (types_at source g) n v.kind room) room
             (λ m out. sym (same m out)) (made_value n kind js v k e w c.active.slots slot (types_at source g) well room is) facts)
             stack,
       )
@@ -878,7 +878,7 @@ module _ (source : Program) (pages calls : ℕ) where
   -- a condition that has failed or not, by the comparison of two operands
   chooses : (s t : Statement) (v : Kinded) (f : Bool) (failing : Comparison) (l r : Operand) (k : List Entry) (e : Environment) (w : World) (c : Configuration)
       → is_zero v.value ≡ Some f → compares failing (operand_word c.active.slots l) (operand_word c.active.slots r) ≡ f
-      → SharedAt source pages calls w c → DataIn source c.active.slots (Needs (Choose s t) ∷ k) e w c
+      → (shared : SharedAt source pages calls k e w c) → DataIn source shared.tables c.active.slots (Needs (Choose s t) ∷ k) e w c
       → ConditionStack source c.active.function failing l r c.active.next c.frames (Needs (Choose s t) ∷ k) → GoesBehind v (Needs (Choose s t) ∷ k) e w c
   chooses s t v true failing l r k e w c fails told shared facts (loop, m, q, jump, at_s, over, at_t, stack) =
       by_one source pages calls (ap (λ (x : Option Bool). chosen x s t k e w) fails) shared jump
@@ -889,7 +889,7 @@ module _ (source : Program) (pages calls : ℕ) where
 
   loops : (a : Expression) (s : Statement) (v : Kinded) (f : Bool) (failing : Comparison) (l r : Operand) (k : List Entry) (e : Environment) (w : World) (c : Configuration)
       → is_zero v.value ≡ Some f → compares failing (operand_word c.active.slots l) (operand_word c.active.slots r) ≡ f
-      → SharedAt source pages calls w c → DataIn source c.active.slots (Needs (Test a s) ∷ k) e w c
+      → (shared : SharedAt source pages calls k e w c) → DataIn source shared.tables c.active.slots (Needs (Test a s) ∷ k) e w c
       → ConditionStack source c.active.function failing l r c.active.next c.frames (Needs (Test a s) ∷ k) → GoesBehind v (Needs (Test a s) ∷ k) e w c
   loops a s v true failing l r k e w c fails told shared facts (loop, outer, q, (x, y, m, n, leave, at_a, again, at_body, repeats, after), i, jump, at_s, back, stack) =
       by_two source pages calls (at c (break_target loop)) (ap (λ (z : Option Bool). looped z a s k e w) fails) shared shared
@@ -948,7 +948,7 @@ module _ (source : Program) (pages calls : ℕ) where
       loops a s v (operand_word c.active.slots o == 0) comparisons.Equal o (operands.Word 0) k e w c (zero_is v c.active.slots o is) refl shared facts stack
   stands_given v o (Needs Return ∷ k) e w c well (shared, facts, is, holds) (loop, q, s, there, here, single, stack) =
       silently source pages calls (Running (Given v) (Needs Return ∷ k) e w) (Running (Returning (Some v)) k e w) (plain.Running c) refl
-      (shared, facts, (loop, q, s, here, subst (IsIn v c.active.slots) there is, single, stack))
+      (shared, facts, (loop, q, s, here, subst (IsIn shared.tables v c.active.slots) there is, single, stack))
       (omega arith)
   stands_given v o (Needs (Follow pointer target) ∷ k) e w c well stands stack = follows_null pointer target v.kind v.value o k e w c well stands stack
   stands_given v o (Discard ∷ k) e w c well (shared, facts, is, holds) (loop, stack) =
@@ -958,7 +958,7 @@ module _ (source : Program) (pages calls : ℕ) where
   stands_given v o (Needs a ∷ k) e w c well stands stack = absurd stack
   stands_given v o (entry ∷ k) e w c well stands stack = absurd (well refl)
 
-  dropped_given : (v : Kinded) (k : List Entry) (e : Environment) (w : World) (c : Configuration) → SharedAt source pages calls w c → DataIn source c.active.slots k e w c
+  dropped_given : (v : Kinded) (k : List Entry) (e : Environment) (w : World) (c : Configuration) → (shared : SharedAt source pages calls k e w c) → DataIn source shared.tables c.active.slots k e w c
       → DroppedStack source c.active.function c.active.next c.frames k → GoesBehind v k e w c
   dropped_given v (Discard ∷ k) e w c shared facts (loop, stack) =
       silently source pages calls (Running (Given v) (Discard ∷ k) e w) (Running Proceeding k e w) (plain.Running c) refl
@@ -966,9 +966,9 @@ module _ (source : Program) (pages calls : ℕ) where
       (omega arith)
   dropped_given v k e w c shared facts stack = absurd stack
 
-  ahead_given : (v : Kinded) (n : ℕ) (old : Words) (k : List Entry) (e : Environment) (w : World) (c : Configuration) → IsWell (step source (Running (Given v) k e w)) → SharedAt source pages calls w c
-      → ((m : ℕ) → Outside n (words_of_kind v.kind) m → old m ≡ c.active.slots m) → DataIn source old k e w c
-      → Is v.kind v.value c.active.slots n → Holds c.active.slots (base_of source c.active.function) (held k)
+  ahead_given : (v : Kinded) (n : ℕ) (old : Words) (k : List Entry) (e : Environment) (w : World) (c : Configuration) → IsWell (step source (Running (Given v) k e w)) → SharedAt source pages calls k e w c
+      → ((m : ℕ) → Outside n (words_of_kind v.kind) m → old m ≡ c.active.slots m) → DataIn source shared.tables old k e w c
+      → Is shared.tables v.kind v.value c.active.slots n → Holds shared.tables c.active.slots (base_of source c.active.function) (held k)
       → AheadStack source c.active.function e.locals v.kind n c.active.next c.frames k → GoesBehind v k e w c
   ahead_given v n old (Needs (ConvertTo from to target) ∷ k) e w c well shared same facts is holds (quiet, stack) =
       let (does, now, wide) = converts_ahead from to target v n k e w c well quiet is in
@@ -983,15 +983,15 @@ module _ (source : Program) (pages calls : ℕ) where
       subst (λ p. GoesBehind v (Needs (Store p) ∷ k) e w c) (sym place_is)
       (catches_up object number old v k e w c found (subst (λ p. IsWell (stored_at p v (Given v) k e w)) place_is well) shared
       (subst (λ x. (m : ℕ) → Outside x (words_of_kind v.kind) m → old m ≡ c.active.slots m) (sym there) same) facts room
-      (subst (Is v.kind v.value c.active.slots) (sym there) is) holds
+      (subst (Is shared.tables v.kind v.value c.active.slots) (sym there) is) holds
       (subst (λ x. HandsOnStack source c.active.function e.locals v.kind (operands.Slot x) c.active.next c.frames k) (sym there) hands))
   ahead_given v n old (Needs (Initialise number kind js) ∷ k) e w c well shared same facts is holds (loop, q, there, room, items, stack) =
       initialises_ahead number old kind js v k e w c loop well shared
       (subst (λ x. (m : ℕ) → Outside x (words_of_kind v.kind) m → old m ≡ c.active.slots m) (sym there) same) facts
-      room (subst (Is v.kind v.value c.active.slots) (sym there) is) (q, items, stack)
+      room (subst (Is shared.tables v.kind v.value c.active.slots) (sym there) is) (q, items, stack)
   ahead_given v n old k e w c well shared same facts is holds stack = absurd stack
 
-  compared_given : (v : Kinded) (failing : Comparison) (l r : Operand) (k : List Entry) (e : Environment) (w : World) (c : Configuration) → SharedAt source pages calls w c → DataIn source c.active.slots k e w c
+  compared_given : (v : Kinded) (failing : Comparison) (l r : Operand) (k : List Entry) (e : Environment) (w : World) (c : Configuration) → (shared : SharedAt source pages calls k e w c) → DataIn source shared.tables c.active.slots k e w c
       → is_zero v.value ≡ Some (compares failing (operand_word c.active.slots l) (operand_word c.active.slots r))
       → ConditionStack source c.active.function failing l r c.active.next c.frames k → GoesBehind v k e w c
   compared_given v failing l r (Needs (Chain NoOperations) ∷ k) e w c shared facts fails stack =
@@ -1002,8 +1002,8 @@ module _ (source : Program) (pages calls : ℕ) where
   compared_given v failing l r (Needs (Test a s) ∷ k) e w c shared facts fails stack = loops a s v _ failing l r k e w c fails refl shared facts stack
   compared_given v failing l r k e w c shared facts fails stack = absurd stack
 
-  left_given : (v : Kinded) (k : List Entry) (e : Environment) (w : World) (c : Configuration) → IsWell (step source (Running (Given v) k e w)) → SharedAt source pages calls w c → DataIn source c.active.slots k e w c
-      → ReadyAt source v e.locals c.active.function c.active.next c.active.slots c.frames k → GoesBehind v k e w c
+  left_given : (v : Kinded) (k : List Entry) (e : Environment) (w : World) (c : Configuration) → IsWell (step source (Running (Given v) k e w)) → (shared : SharedAt source pages calls k e w c) → DataIn source shared.tables c.active.slots k e w c
+      → ReadyAt source shared.tables v e.locals c.active.function c.active.next c.active.slots c.frames k → GoesBehind v k e w c
   left_given v (Needs (Apply u left) ∷ k) e w c well shared facts ready = applies u left v k e w c well shared facts ready
   left_given v k e w c well shared facts ready = absurd ready
 
