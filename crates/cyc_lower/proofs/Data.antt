@@ -161,7 +161,7 @@ module _ (t : Tables) where
       (HoldsFrom-snoc slots (height base rest) (reverse vs) v (in_order slots base vs rest holds) (subst (Is t v.kind v.value slots) place is))
 
   -- arguments come into the first slots of a call
-  pub arguments_copied : (from to : Words) (source i many : ℕ) (vs : List Operand) → i + words_held vs ≤ many → HoldsFrom t from (source + i) vs → HoldsFrom (copied from source many to 0) i vs
+  pub arguments_copied : (from to : Words) (source i many : ℕ) (vs : List Operand) → i + words_held vs ≤ many → HoldsFrom t from (source + i) vs → HoldsFrom t (copied from source many to 0) i vs
   arguments_copied from to source i many [] few holds = tt
   arguments_copied from to source i many (v ∷ vs) few (is, holds) = (
     Is-same v.kind v.value from (copied from source many to 0) (source + i) i

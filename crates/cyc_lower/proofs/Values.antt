@@ -49,8 +49,11 @@ use Rattle.cyc_lower.proofs.Widths.{kind_positive, same_kind, HasRoom, Outside}
 use Rattle.cyc_lower.proofs.Moves.{moved_slots, moves, put_elsewhere, moved_elsewhere, moved_is}
 use Rattle.cyc_lower.specs.Lowering.{unary_operator, binary_operator, failing_comparison, operand_of, value_slot, next_slot, is_in, jump_if_zero, jump_if_nonzero, move_of, pointer_instruction, converts_there, break_target, lower_program}
 use Rattle.cyc_lower.proofs.Stands.{OperandBy, CopyBy, CopyAt, CheckAt, CheckedAt, OperatorAt, TruthAt, ExpressionAt, OperationsAt}
-use Rattle.cyc_lower.proofs.Relation.{Is, IsIn, with_kind, types_at, starts_at, Holds, held, contents, callers, in_place, by_jump, in_temporary, in_local, drops, leaves, copies, DataIn, SharedAt, StoreAt, to_slot, to_jump, ValueStack, ConditionStack, DroppedStack, AheadStack, LandsStack, HandsOnStack, AppliedStack, ReadyAt, as_operand, into_slot, as_right, in_operand, nowhere, ahead, compared, with_left, behind_statement, Related, Matches, code_of, bounds_at, base_of, top}
-use Rattle.cyc_lower.proofs.Data.{Is-first, height-least, Holds-same, Holds-above, data_above, data_assigned, data_assigned_global, data_declared}
+use Rattle.cyc_objects.specs.Tables.{Tables}
+use Rattle.cyc_objects.specs.Words.{Points, IsPartOf, Is}
+use Rattle.cyc_objects.proofs.Pointers.{not-null, part-not-null}
+use Rattle.cyc_lower.proofs.Relation.{IsWord, IsIn, with_kind, types_at, starts_at, Holds, held, contents, callers, in_place, by_jump, in_temporary, in_local, drops, leaves, copies, DataIn, SharedAt, StoreAt, to_slot, to_jump, ValueStack, ConditionStack, DroppedStack, AheadStack, LandsStack, HandsOnStack, AppliedStack, ReadyAt, as_operand, into_slot, as_right, in_operand, nowhere, ahead, compared, with_left, behind_statement, Related, Matches, code_of, bounds_at, base_of, top}
+use Rattle.cyc_lower.proofs.Data.{IsWord-is, one_word, height-least, Holds-same, Holds-above, data_above, data_assigned, data_assigned_global, data_declared}
 use Rattle.cyc_lower.proofs.Accesses.{IsWell, is_fitting, is_stored, written_here, written_elsewhere, written_length, is_declared}
 use Rattle.cyc_lower.proofs.Weights.{weight}
 use Rattle.cyc_lower.proofs.Relation.{StatementStack}
@@ -64,61 +67,94 @@ of_kind kind v = record { kind = kind; value = v }
 abbrev pub int_of : ℕ → Kinded
 int_of word = of_kind kinds.Int (Int word)
 
--- whether a value is zero is told by its first word
-zero_at : (kind : Kind) (v : Value) (words : Words) (p : ℕ) → Is kind v words p → is_zero v ≡ Some (words p == 0)
-zero_at kinds.Int (Int a) words p is = ap (λ y. Some (y == 0)) (sym is)
-zero_at kinds.Nullable Null words p is = ap (λ y. Some (y == 0)) (sym is)
-zero_at kinds.Fat Null words p is = ap (λ y. Some (y == 0)) (sym is)
-zero_at kind v words p is = absurd is
+-- what a value says of its words
+module _ (t : Tables) where
+  -- whether a value is zero is told by its first word
+  zero_at : (kind : Kind) (v : Value) (words : Words) (p : ℕ) → (is_zero v ≡ None → ⊥) → Is t kind v words p → is_zero v ≡ Some (words p == 0)
+  zero_at kinds.Int (Int a) words p some is = ap (λ y. Some (y == 0)) (sym is)
+  zero_at kinds.Nullable Null words p some is = ap (λ y. Some (y == 0)) (sym is)
+  zero_at kinds.Nullable (Thin object offset) words p some is = ap Some (sym (false_from_ne_true (words p == 0) (λ h. not-null is (eqb-true (words p) 0 h))))
+  zero_at kinds.NonNull (Thin object offset) words p some is = ap Some (sym (false_from_ne_true (words p == 0) (λ h. not-null is (eqb-true (words p) 0 h))))
+  zero_at kinds.Fat Null words p some is = ap (λ y. Some (y == 0)) (sym is)
+  zero_at kinds.Fat (Fat object start many index) words p some is = ap Some (sym (false_from_ne_true (words p == 0) (λ h. part-not-null is.0 (eqb-true (words p) 0 h))))
+  zero_at kinds.Handle (Handle region) words p some is = absurd (some refl)
+  zero_at kinds.Key (Key region) words p some is = absurd (some refl)
+  zero_at kind v words p some is = absurd is
 
-pub zero_is : (v : Kinded) (slots : Words) (o : Operand) → IsIn v slots o → is_zero v.value ≡ Some (operand_word slots o == 0)
-zero_is v slots (operands.Slot n) is = zero_at v.kind v.value slots n is
-zero_is v slots (operands.Word w) is = zero_at v.kind v.value (λ (i : ℕ). w) 0 is
+  -- the words of an operand, which are a value
+  pub in_words : (v : Kinded) (slots : Words) (o : Operand) → IsIn t v slots o → (words : Words) × (p : ℕ) × (words p ≡ operand_word slots o) × Is t v.kind v.value words p
+  in_words v slots (operands.Slot n) is = (slots, n, refl, is)
+  in_words v slots (operands.Word w) is = ((λ (i : ℕ). w), 0, refl, IsWord-is t v.kind v.value w (λ (i : ℕ). w) 0 refl is)
 
--- an int is its word, and null is 0
-pub int_at : (kind : Kind) (a : ℕ) (words : Words) (p : ℕ) → Is kind (Int a) words p → words p ≡ a
-int_at kinds.Int a words p is = is
-int_at kind a words p is = absurd is
+  pub zero_is : (v : Kinded) (slots : Words) (o : Operand) → (is_zero v.value ≡ None → ⊥) → IsIn t v slots o → is_zero v.value ≡ Some (operand_word slots o == 0)
+  zero_is v slots o some is =
+      let (words, p, same, is_it) = in_words v slots o is in
+      zero_at v.kind v.value words p some is_it ∙ ap (λ x. Some (x == 0)) same
 
-pub int_is : (kind : Kind) (a : ℕ) (slots : Words) (o : Operand) → IsIn (of_kind kind (Int a)) slots o → operand_word slots o ≡ a
-int_is kind a slots (operands.Slot n) is = int_at kind a slots n is
-int_is kind a slots (operands.Word w) is = int_at kind a (λ (i : ℕ). w) 0 is
+  -- an int is its word, and null is 0
+  pub int_at : (kind : Kind) (a : ℕ) (words : Words) (p : ℕ) → Is t kind (Int a) words p → words p ≡ a
+  int_at kinds.Int a words p is = is
+  int_at kind a words p is = absurd is
 
-null_at : (kind : Kind) (words : Words) (p : ℕ) → Is kind Null words p → words p ≡ 0
-null_at kinds.Nullable words p is = is
-null_at kinds.Fat words p is = is
-null_at kind words p is = absurd is
+  pub int_is : (kind : Kind) (a : ℕ) (slots : Words) (o : Operand) → IsIn t (of_kind kind (Int a)) slots o → operand_word slots o ≡ a
+  int_is kind a slots o is =
+      let (words, p, same, is_it) = in_words (of_kind kind (Int a)) slots o is in
+      sym same ∙ int_at kind a words p is_it
 
-pub null_is : (kind : Kind) (slots : Words) (o : Operand) → IsIn (of_kind kind Null) slots o → operand_word slots o ≡ 0
-null_is kind slots (operands.Slot n) is = null_at kind slots n is
-null_is kind slots (operands.Word w) is = null_at kind (λ (i : ℕ). w) 0 is
+  null_at : (kind : Kind) (words : Words) (p : ℕ) → Is t kind Null words p → words p ≡ 0
+  null_at kinds.Nullable words p is = is
+  null_at kinds.Fat words p is = is
+  null_at kind words p is = absurd is
 
--- the first word of a value
-pub first_word : (v : Kinded) (slots : Words) (o : Operand) → IsIn v slots o → Is v.kind v.value (λ (i : ℕ). operand_word slots o) 0
-first_word v slots (operands.Slot n) is = Is-first v.kind v.value slots (λ (i : ℕ). slots n) n 0 refl is
-first_word v slots (operands.Word w) is = is
+  pub null_is : (kind : Kind) (slots : Words) (o : Operand) → IsIn t (of_kind kind Null) slots o → operand_word slots o ≡ 0
+  null_is kind slots o is =
+      let (words, p, same, is_it) = in_words (of_kind kind Null) slots o is in
+      sym same ∙ null_at kind words p is_it
 
--- a value that is converted without a change keeps its words
+  -- a value of one word is told by it
+  pub first_word : (v : Kinded) (slots : Words) (o : Operand) → words_of_kind v.kind ≡ 1 → IsIn t v slots o → IsWord t v.kind v.value (operand_word slots o)
+  first_word v slots (operands.Slot n) single is = one_word t v.kind v.value slots n single is
+  first_word v slots (operands.Word w) single is = is
+
+  -- the address of a cell, which is not 0
+  points_at : (kind : Kind) (object offset : ℕ) (words : Words) (p : ℕ) → Is t kind (Thin object offset) words p → Points t object offset (words p)
+  points_at kinds.Nullable object offset words p is = is
+  points_at kinds.NonNull object offset words p is = is
+  points_at kind object offset words p is = absurd is
+
+  pub points_in : (kind : Kind) (object offset : ℕ) (slots : Words) (o : Operand) → IsIn t (of_kind kind (Thin object offset)) slots o → Points t object offset (operand_word slots o)
+  points_in kind object offset slots o is =
+      let (words, p, same, is_it) = in_words (of_kind kind (Thin object offset)) slots o is in
+      subst (Points t object offset) same (points_at kind object offset words p is_it)
+
+  pub not_zero : (kind : Kind) (object offset : ℕ) (slots : Words) (o : Operand) → IsIn t (of_kind kind (Thin object offset)) slots o → (operand_word slots o == 0) ≡ false
+  not_zero kind object offset slots o is =
+      false_from_ne_true (operand_word slots o == 0) (λ h. not-null (points_in kind object offset slots o is) (eqb-true (operand_word slots o) 0 h))
+
+  -- a value that is converted without a change keeps its words
+  kept_at : (from to : Kind) (v : Value) (words : Words) (p : ℕ) → conversion to v ≡ Gives v → Is t from v words p → Is t to v words p
+  kept_at from kinds.Int (Int a) words p gives is = int_at from a words p is
+  kept_at from kinds.Nullable Null words p gives is = null_at from words p is
+  kept_at from kinds.Fat Null words p gives is = null_at from words p is
+  kept_at from kinds.NonNull Null words p gives is = absurd (let f : Raises 1 ≡ Gives Null = gives in cc)
+  kept_at from kinds.Nullable (Thin object offset) words p gives is = points_at from object offset words p is
+  kept_at from kinds.NonNull (Thin object offset) words p gives is = points_at from object offset words p is
+  kept_at from kinds.Fat (Thin object offset) words p gives is = absurd (let f : Gives (Fat object offset 1 0) ≡ Gives (Thin object offset) = gives in cc)
+  kept_at kinds.Fat kinds.Fat (Fat object start many index) words p gives is = is
+  kept_at kinds.Fat kinds.Nullable (Fat object start many index) words p gives is = absurd (not_thinned (nat_lt index many) object start many index gives)
+  kept_at kinds.Fat kinds.NonNull (Fat object start many index) words p gives is = absurd (not_thinned (nat_lt index many) object start many index gives)
+  kept_at kinds.Handle kinds.Handle (Handle region) words p gives is = is
+  kept_at kinds.Key kinds.Key (Key region) words p gives is = is
+  kept_at from to v words p gives is = absurd (misfits from to v words p gives is)
+
+  kept_in : (from to : Kind) (v : Value) (slots : Words) (o : Operand) → conversion to v ≡ Gives v → IsIn t (of_kind from v) slots o → IsIn t (of_kind to v) slots o
+  kept_in from to v slots (operands.Slot n) gives is = kept_at from to v slots n gives is
+  kept_in from to v slots (operands.Word w) gives is = kept_word from to v w gives is
+
+-- a check that did not hold goes wrong
 first_holds : (a b : Bool) → (a && b) ≡ true → a ≡ true
 first_holds true b holds = refl
 first_holds false b holds = holds
-
-kept_at : (from to : Kind) (v : Value) (words : Words) (p : ℕ) → conversion to v ≡ Gives v → Is from v words p → Is to v words p
-kept_at kinds.Int kinds.Int (Int a) words p gives is = is
-kept_at kinds.Nullable kinds.Nullable Null words p gives is = is
-kept_at kinds.Nullable kinds.Fat Null words p gives is = is
-kept_at kinds.Fat kinds.Nullable Null words p gives is = is
-kept_at kinds.Fat kinds.Fat Null words p gives is = is
-kept_at kinds.Nullable kinds.NonNull Null words p gives is = absurd (let f : Raises 1 ≡ Gives Null = gives in cc)
-kept_at kinds.Fat kinds.NonNull Null words p gives is = absurd (let f : Raises 1 ≡ Gives Null = gives in cc)
-kept_at kinds.Int to (Int a) words p gives is = absurd (let f : Misfits ≡ Gives (Int a) = gives in cc)
-kept_at kinds.Nullable to Null words p gives is = absurd (let f : Misfits ≡ Gives Null = gives in cc)
-kept_at kinds.Fat to Null words p gives is = absurd (let f : Misfits ≡ Gives Null = gives in cc)
-kept_at from to v words p gives is = absurd is
-
-kept_in : (from to : Kind) (v : Value) (slots : Words) (o : Operand) → conversion to v ≡ Gives v → IsIn (of_kind from v) slots o → IsIn (of_kind to v) slots o
-kept_in from to v slots (operands.Slot n) gives is = kept_at from to v slots n gives is
-kept_in from to v slots (operands.Word w) gives is = kept_at from to v (λ (i : ℕ). w) 0 gives is
 
 -- a value that is converted where it is to be has as many words before
 pub as_wide : (from to : Kind) → converts_there from to ≡ true → words_of_kind from ≡ words_of_kind to
@@ -132,55 +168,6 @@ as_wide from kinds.Key quiet = eqb-true _ _ quiet
 goes_wrong : (fits : Bool) (w : World) → IsWell (if fits then wrong w else wrong w) → ⊥
 goes_wrong true w well = well refl
 goes_wrong false w well = well refl
-
-no_pointer_at : (kind : Kind) (object offset : ℕ) (words : Words) (p : ℕ) → Is kind (Thin object offset) words p → ⊥
-no_pointer_at kinds.Int object offset words p is = is
-no_pointer_at kinds.Nullable object offset words p is = is
-no_pointer_at kinds.NonNull object offset words p is = is
-no_pointer_at kinds.Fat object offset words p is = is
-no_pointer_at kinds.Handle object offset words p is = is
-no_pointer_at kinds.Key object offset words p is = is
-
-no_part_at : (kind : Kind) (object start many index : ℕ) (words : Words) (p : ℕ) → Is kind (Fat object start many index) words p → ⊥
-no_part_at kinds.Int object start many index words p is = is
-no_part_at kinds.Nullable object start many index words p is = is
-no_part_at kinds.NonNull object start many index words p is = is
-no_part_at kinds.Fat object start many index words p is = is
-no_part_at kinds.Handle object start many index words p is = is
-no_part_at kinds.Key object start many index words p is = is
-
-no_handle_at : (kind : Kind) (region : ℕ) (words : Words) (p : ℕ) → Is kind (Handle region) words p → ⊥
-no_handle_at kinds.Int region words p is = is
-no_handle_at kinds.Nullable region words p is = is
-no_handle_at kinds.NonNull region words p is = is
-no_handle_at kinds.Fat region words p is = is
-no_handle_at kinds.Handle region words p is = is
-no_handle_at kinds.Key region words p is = is
-
-no_key_at : (kind : Kind) (region : ℕ) (words : Words) (p : ℕ) → Is kind (Key region) words p → ⊥
-no_key_at kinds.Int region words p is = is
-no_key_at kinds.Nullable region words p is = is
-no_key_at kinds.NonNull region words p is = is
-no_key_at kinds.Fat region words p is = is
-no_key_at kinds.Handle region words p is = is
-no_key_at kinds.Key region words p is = is
-
--- no pointer but null is there yet
-no_pointer : (kind : Kind) (object offset : ℕ) (slots : Words) (o : Operand) → IsIn (of_kind kind (Thin object offset)) slots o → ⊥
-no_pointer kind object offset slots (operands.Slot n) is = no_pointer_at kind object offset slots n is
-no_pointer kind object offset slots (operands.Word w) is = no_pointer_at kind object offset (λ (i : ℕ). w) 0 is
-
-no_part : (kind : Kind) (object start many index : ℕ) (slots : Words) (o : Operand) → IsIn (of_kind kind (Fat object start many index)) slots o → ⊥
-no_part kind object start many index slots (operands.Slot n) is = no_part_at kind object start many index slots n is
-no_part kind object start many index slots (operands.Word w) is = no_part_at kind object start many index (λ (i : ℕ). w) 0 is
-
-no_handle : (kind : Kind) (region : ℕ) (slots : Words) (o : Operand) → IsIn (of_kind kind (Handle region)) slots o → ⊥
-no_handle kind region slots (operands.Slot n) is = no_handle_at kind region slots n is
-no_handle kind region slots (operands.Word w) is = no_handle_at kind region (λ (i : ℕ). w) 0 is
-
-no_key : (kind : Kind) (region : ℕ) (slots : Words) (o : Operand) → IsIn (of_kind kind (Key region)) slots o → ⊥
-no_key kind region slots (operands.Slot n) is = no_key_at kind region slots n is
-no_key kind region slots (operands.Word w) is = no_key_at kind region (λ (i : ℕ). w) 0 is
 
 -- ---- comparisons
 
