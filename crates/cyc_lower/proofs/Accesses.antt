@@ -122,7 +122,7 @@ is_declared Missing focus number kind content stack e w well = absurd (well refl
 
 -- ---- a region is closed
 
-found : (r : Option Region) (x : Region) → found_region r ≡ Found x → r ≡ Some x
+pub found : (r : Option Region) (x : Region) → found_region r ≡ Found x → r ≡ Some x
 found None x e = absurd (let f : Missing ≡ Found x = e in cc)
 found (Some r) x e = open_one r.is_open e
   where
@@ -145,3 +145,13 @@ pub is_closed : (focus : Focus) (number home : ℕ) (stack : List Entry) (e : En
 is_closed focus number home stack e w well =
     let (r, is, gives) = closes (region_at w number) focus number home stack e w well in
     record { region = r; there = found (slice_get w.regions number) r is; gives = gives }
+
+-- a variable is declared in a region that is there
+pub home_there : (focus : Focus) (number : ℕ) (kind : Kind) (content : Option Value) (stack : List Entry) (e : Environment) (w : World)
+    → IsWell (declared (region_at w e.home) focus number kind content stack e w) → (r : Region) × (slice_get w.regions e.home ≡ Some r)
+home_there focus number kind content stack e w well = by (region_at w e.home) refl well
+  where
+    by : (a : Access Region) → region_at w e.home ≡ a → IsWell (declared a focus number kind content stack e w) → (r : Region) × (slice_get w.regions e.home ≡ Some r)
+    by (Found r) is well = (r, found (slice_get w.regions e.home) r is)
+    by Closed is well = absurd (well refl)
+    by Missing is well = absurd (well refl)

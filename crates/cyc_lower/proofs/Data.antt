@@ -51,7 +51,7 @@ append_left [] y k below = absurd (omega arith)
 append_left (x ∷ xs) y zero below = refl
 append_left (x ∷ xs) y (suc k) below = append_left xs y k (omega arith)
 
-append_seam : {X : Type 0} (xs : List X) (y : X) → slice_get (xs ++ y ∷ []) (length xs) ≡ Some y
+pub append_seam : {X : Type 0} (xs : List X) (y : X) → slice_get (xs ++ y ∷ []) (length xs) ≡ Some y
 append_seam [] y = refl
 append_seam (x ∷ xs) y = append_seam xs y
 
@@ -435,7 +435,7 @@ module _ (t : Tables) where
 
 -- ---- tables that grow
 
-module _ {t u : Tables} (grows : Grows t u) where
+module _ (t u : Tables) (grows : Grows t u) where
   pub IsWord-grows : (kind : Kind) (v : Value) (word : ℕ) → IsWord t kind v word → IsWord u kind v word
   IsWord-grows kinds.Int v word is = Is-grows grows kinds.Int v (λ (i : ℕ). word) 0 is
   IsWord-grows kinds.Nullable v word is = Is-grows grows kinds.Nullable v (λ (i : ℕ). word) 0 is
