@@ -15,7 +15,7 @@ use Rattle.cyc_lower.proofs.Data.{append_seam, variables_grow}
 
 module _ (source : Program) (pages calls : ℕ) (k : List Entry) (e : Environment) (w : World) (c : Configuration) (s : SharedAt source pages calls k e w c) where
   -- a variable is declared
-  pub shared_declared : (n : ℕ) (r : Region) (kind : Kind) (content : Option Value) → slice_get w.regions e.home ≡ Some r
+  abbrev pub shared_declared : (n : ℕ) (r : Region) (kind : Kind) (content : Option Value) → slice_get w.regions e.home ≡ Some r
       → SharedAt source pages calls k (with_local e n (length w.objects)) (made w (variable e.home kind content)) c
   shared_declared n r kind content there = record {
     tables = with_row s.tables Variable;
@@ -32,7 +32,7 @@ module _ (source : Program) (pages calls : ℕ) (k : List Entry) (e : Environmen
   row_declared = ap (slice_get (with_row s.tables Variable).rows) (sym s.related.rows) ∙ append_seam s.tables.rows Variable
 
   -- a variable is assigned
-  pub shared_written : (object : ℕ) (at : Located) (v : Value) → slice_get w.objects object ≡ Some at.object → slice_get at.object.cells 0 ≡ Some at.cell
+  abbrev pub shared_written : (object : ℕ) (at : Located) (v : Value) → slice_get w.objects object ≡ Some at.object → slice_get at.object.cells 0 ≡ Some at.cell
       → slice_get s.tables.rows object ≡ Some Variable → SharedAt source pages calls k e (written w object 0 at v) c
   shared_written object at v there cell row = record {
     tables = s.tables;
@@ -45,7 +45,7 @@ module _ (source : Program) (pages calls : ℕ) (k : List Entry) (e : Environmen
   }
 
   -- the region of a block opens, and closes at the end of what is then waiting
-  pub shared_opened : SharedAt source pages calls (region_end e w ∷ k) (inside e w) (opened w) c
+  abbrev pub shared_opened : SharedAt source pages calls (region_end e w ∷ k) (inside e w) (opened w) c
   shared_opened = record {
     tables = with_handle s.tables None;
     same_output = s.same_output;
@@ -54,20 +54,20 @@ module _ (source : Program) (pages calls : ℕ) (k : List Entry) (e : Environmen
     variables =
         let grown = variables_grow s.tables (with_handle s.tables None) (Grows-handle s.tables None) (e.home ∷ homes k) s.variables in
         let new = handle-made s.related None in
-        (new, new, grown);
+        (new, (new, grown));
     few_pages = s.few_pages;
     fits = s.fits;
   }
 
 -- the region of a block closes, and its variables go on in that around it
-pub shared_closed : (source : Program) (pages calls : ℕ) (k : List Entry) (e : Environment) (w : World) (c : Configuration) (number home : ℕ) (r : Region)
+abbrev pub shared_closed : (source : Program) (pages calls : ℕ) (k : List Entry) (e : Environment) (w : World) (c : Configuration) (number home : ℕ) (r : Region)
     → slice_get w.regions number ≡ Some r → SharedAt source pages calls (CloseRegion number home ∷ k) e w c → SharedAt source pages calls k (record e { home = home }) (closed w number r) c
 shared_closed source pages calls k e w c number home r there s = record {
   tables = s.tables;
   same_output = s.same_output;
   same_input = s.same_input;
-  related = closed-variables s.related number r there s.variables.1;
-  variables = s.variables.2;
+  related = closed-variables s.related number r there s.variables.1.0;
+  variables = s.variables.1.1;
   few_pages = s.few_pages;
   fits = s.fits;
 }

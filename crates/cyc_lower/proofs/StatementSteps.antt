@@ -43,7 +43,7 @@ module _ (source : Program) (pages calls : ℕ) where
   -- ---- calls
 
   -- one call less waits
-  pub shared_returned : (w : World) (regions output input : List ℕ) (store : StoreState) (home waiting : ℕ) → Shared pages calls w (home ∷ regions) output input store (suc waiting) → Shared pages calls w regions output input store waiting
+  abbrev pub shared_returned : (w : World) (regions output input : List ℕ) (store : StoreState) (home waiting : ℕ) → Shared pages calls w (home ∷ regions) output input store (suc waiting) → Shared pages calls w regions output input store waiting
   shared_returned w regions output input store home waiting s = record {
     tables = s.tables;
     same_output = s.same_output;
@@ -57,14 +57,14 @@ module _ (source : Program) (pages calls : ℕ) where
   -- ---- statements
 
   -- a value that is returned comes to a slot, or is in that of a local
-  returned : (t : Tables) (a : Expression) (same : Bool) (locals : ℕ → Option ℕ) (g p : ℕ) (slots : Words) (frames : List Frame) (k : List Entry) (s m : ℕ)
+  returned : (tables : Tables) (a : Expression) (same : Bool) (locals : ℕ → Option ℕ) (g p : ℕ) (slots : Words) (frames : List Frame) (k : List Entry) (s m : ℕ)
       → ReturnedAt (code_of source g) (bounds_at source g) (types_at source g) (if same then operand_of (starts_at source g) a else None)
       (ExpressionAt (code_of source g) (bounds_at source g) (types_at source g) a (top source g k) (top source g k) p m) (top source g k) s p m
-      → Holds t slots (base_of source g) (held k) → ValueStack source g locals (given_at source g a) (operands.Slot s) m frames k → EvaluatingAt source t a locals g p slots frames k
-  returned t a false locals g p slots frames k s m (is, at) holds stack =
+      → Holds tables slots (base_of source g) (held k) → ValueStack source g locals (given_at source g a) (operands.Slot s) m frames k → EvaluatingAt source tables a locals g p slots frames k
+  returned tables a false locals g p slots frames k s m (is, at) holds stack =
       into_slot (top source g k) m at holds (in_temporary (omega arith) (subst (λ x. ValueStack source g locals (given_at source g a) (operands.Slot x) m frames k) is stack))
-  returned t (Copy (Local w n) t) true locals g p slots frames k s m (is, end) holds stack = as_operand (operands.Slot s) m (ap operands.Slot is, end) holds stack
-  returned t a true locals g p slots frames k s m (is, at) holds stack =
+  returned tables (Copy (Local w n) t) true locals g p slots frames k s m (is, end) holds stack = as_operand (operands.Slot s) m (ap operands.Slot is, end) holds stack
+  returned tables a true locals g p slots frames k s m (is, at) holds stack =
       into_slot (top source g k) m at holds (in_temporary (omega arith) (subst (λ x. ValueStack source g locals (given_at source g a) (operands.Slot x) m frames k) is stack))
 
   pub executing : (s : Statement) (k : List Entry) (e : Environment) (w : World) (c : Configuration) → IsStep source pages calls (Executing s) k e w c
@@ -121,7 +121,7 @@ module _ (source : Program) (pages calls : ℕ) where
       → DataAt source t g w.objects locals (record { locals = outer.locals; values = held k } ∷ callers k) slots globals (f ∷ frames)
       → top source f.caller.function k ≤ f.result
       → DataAt source t f.caller.function w.objects outer.locals (callers k) (copied slots value results f.caller.slots f.result) globals frames
-      × Holds (copied slots value results f.caller.slots f.result) (base_of source f.caller.function) (held k)
+      × Holds t (copied slots value results f.caller.slots f.result) (base_of source f.caller.function) (held k)
   comes_back t g value results slots globals f frames k locals outer w facts least =
       let base = base_of source f.caller.function in
       let holds = held_by_caller t source g w.objects locals (record { locals = outer.locals; values = held k }) (callers k) slots globals f frames facts in (
