@@ -37,8 +37,8 @@ use Rattle.cyc_lower.proofs.Widths.{kind_of_result, result_kind, same_kind, type
 use Rattle.cyc_lower.proofs.Values.{of_kind, int_is}
 use Rattle.cyc_objects.specs.Tables.{Variable, Tables, with_row, with_handle}
 use Rattle.cyc_objects.specs.Words.{Is}
-use Rattle.cyc_objects.proofs.Values.{Grows-row, Grows-handle}
-use Rattle.cyc_lower.proofs.Relation.{IsIn, words_held, Holds, HoldsFrom, held, callers, Shared, DataAt, DataIn, SharedAt, prints_only, gives_byte, StatementStack, LandsStack, PrintsStack, nowhere, behind_statement, Related, Matches, code_of, types_in, types_at, starts_at, parameters_in, parameters_at, bounds_in, bounds_at, called_at, returned_at, base_of, top}
+use Rattle.cyc_objects.proofs.Values.{Grows-row, Grows-handle, Is-grows}
+use Rattle.cyc_lower.proofs.Relation.{IsIn, words_held, Holds, HoldsFrom, held, callers, homes, Shared, DataAt, DataIn, SharedAt, prints_only, gives_byte, StatementStack, LandsStack, PrintsStack, nowhere, behind_statement, Related, Matches, code_of, types_in, types_at, starts_at, parameters_in, parameters_at, bounds_in, bounds_at, called_at, returned_at, base_of, top}
 use Rattle.cyc_lower.proofs.Data.{words-reverse, Holds-rest, in_order, arguments_copied, data_declared, data_called, data_grows, HoldsFrom-grows}
 use Rattle.cyc_lower.proofs.Accesses.{IsWell, is_fitting, is_declared, home_there}
 use Rattle.cyc_lower.proofs.Matched.{IsMatched, above, below, matching, silently, by_one, by_two_known, shared_within, shared_way, steps_to, place_in, known, lands_depth}
@@ -61,6 +61,7 @@ module _ (source : Program) (pages calls : ℕ) where
         few_pages = shared.few_pages;
         tables = shared.tables;
         related = shared.related;
+        globals = shared.globals;
         variables = shared.variables;
         fits = shared.fits;
       } in
@@ -78,6 +79,7 @@ module _ (source : Program) (pages calls : ℕ) where
     few_pages = shared.few_pages;
     tables = shared.tables;
     related = shared.related;
+    globals = shared.globals;
     variables = shared.variables;
     fits = shared.fits;
   }
@@ -148,6 +150,11 @@ module _ (source : Program) (pages calls : ℕ) where
       let made_it = declared (region_at w e.home) (Binding (suc n) types arguments body) n (kind_of t) (Some v.value) k e w in
       let fits = is_fitting (is_kind v.kind (kind_of t)) made_it w well in
       let does : step source (Running (Binding n (t ∷ types) (v ∷ arguments) body) k e w) ≡ made_it = ap (λ (b : Bool). if b then made_it else wrong w) fits in
+      let (r, home) = home_there (Binding (suc n) types arguments body) n (kind_of t) (Some v.value) k e w (subst IsWell does well) in
+      let grown = with_row shared.tables Variable in
+      let grows = Grows-row shared.tables Variable in
+      let more = data_grows shared.tables grown grows source g w.objects e.locals (callers k) c.active.slots c.globals c.frames facts in
+      let is_now = Is-grows grows v.kind v.value c.active.slots (words_of_all first) is in
       let kind_is : v.kind ≡ kind_of t = same_kind v.kind (kind_of t) fits in
       let wide : words_of_kind v.kind ≡ words_of t = ap words_of_kind kind_is ∙ type_words t in
       let there : slot_of (starts_at source g) n ≡ words_of_all first = ap (slot_of (starts_at source g)) (sym count) ∙ slot in
@@ -156,17 +163,17 @@ module _ (source : Program) (pages calls : ℕ) where
       silently source pages calls (Running (Binding n (t ∷ types) (v ∷ arguments) body) k e w)
       (Running (Binding (suc n) types arguments body) k (with_local e n (length w.objects)) (made w x)) (plain.Running c)
       (does ∙ is_declared (region_at w e.home) (Binding (suc n) types arguments body) n (kind_of t) (Some v.value) k e w (subst IsWell does well)) (
-        shared,
-        data_declared shared.tables source g w.objects e (callers k) c.active.slots c.active.slots c.globals c.frames n 0 x (omega (arith, local, count)) (omega arith) (λ i out. refl)
+        shared_declared source pages calls k e w c shared n r (kind_of t) (Some v.value) home,
+        data_declared grown source g w.objects e (callers k) c.active.slots c.active.slots c.globals c.frames n 0 x (omega (arith, local, count)) (omega arith) (row_declared source pages calls k e w c shared) (λ i out. refl)
             (λ u has.
             let u_is : v ≡ u = ap (λ i. of_kind i v.value) kind_is ∙ same_Some (of_kind (kind_of t) v.value) u has in
-            subst (λ (y : Kinded). Is y.kind y.value c.active.slots (slot_of (starts_at source g) n) × HasRoom (types_at source g) n y.kind) u_is (subst (Is shared.tables v.kind v.value c.active.slots) (sym there) is, room)) facts,
+            subst (λ (y : Kinded). Is y.kind y.value c.active.slots (slot_of (starts_at source g) n) × HasRoom (types_at source g) n y.kind) u_is (subst (Is grown v.kind v.value c.active.slots) (sym there) is_now, room)) more,
         (
           m,
           first ++ t ∷ [],
           items,
           stack,
-          subst (λ i. HoldsFrom shared.tables c.active.slots i arguments) (sym next) holds,
+          subst (λ i. HoldsFrom grown c.active.slots i arguments) (sym next) (HoldsFrom-grows shared.tables grown grows c.active.slots (words_of_all first + words_of_kind v.kind) arguments holds),
           own ∙ sym (append_assoc first (t ∷ []) types),
           let long : length (first ++ t ∷ []) ≡ length first + 1 = length-append first (t ∷ []) in omega (arith, long, count),
         ),
@@ -203,7 +210,7 @@ module _ (source : Program) (pages calls : ℕ) where
   -- a function has been called, with its arguments in the first slots
   pub entered : FunctionsStand → (n : ℕ) (h : Function) (arguments : List Kinded) (k : List Entry) (w : World) (slots globals : Words) (handlers : List Handler) (frames : List Frame) (store : StoreState) (output input : List ℕ)
       → slice_get source.functions n ≡ Some h
-      → Shared pages calls w.regions w.classes w.output w.input output input store (length frames)
+      → (shared : Shared pages calls w (no_locals.home ∷ homes k) output input store (length frames))
       → DataAt source shared.tables n w.objects (λ (number : ℕ). None) (callers k) slots globals frames
       → HoldsFrom shared.tables slots 0 arguments → ((m : ℕ) → At (code_of source n) m (instructions.Return (base_of source n)) → StatementStack source n 0 m frames k)
       → Related source pages calls (Entering h arguments) k no_locals w
@@ -285,13 +292,14 @@ module _ (source : Program) (pages calls : ℕ) where
                   few_pages = shared.few_pages;
                   tables = shared.tables;
                   related = shared.related;
-                  variables = (refl_globals, shared.variables);
+                  globals = shared.globals;
+                  variables = (shared.globals, shared.variables);
                   fits = fine;
                 })
-                (data_called shared.tables source g n w.objects e (callers k) c.active.slots slots c.globals frame c.frames refl refl facts)
+                (data_called shared.tables source g n w.objects e (held k) (callers k) c.active.slots slots c.globals frame c.frames refl refl (Holds-rest shared.tables c.active.slots base before (held k) holds) facts)
                 (arguments_copied shared.tables c.active.slots choice.contents d 0 (words_held before) (reverse before) (omega (arith, words-reverse before))
                 (subst (λ (i : ℕ). HoldsFrom shared.tables c.active.slots i (reverse before)) (let z : d ≡ d + 0 = omega arith in z) (in_order shared.tables c.active.slots base before (held k) holds)))
-                (λ m at_end. (base_of source n, at_end, (Holds-rest shared.tables c.active.slots base before (held k) holds, back))))
+                (λ m at_end. (base_of source n, at_end, back)))
           ]
 
   -- one argument too many

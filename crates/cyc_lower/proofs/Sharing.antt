@@ -5,7 +5,7 @@ use Rattle.cyc_types.specs.declared.typed.Kind.{Kind}
 use Rattle.cyc_types.specs.TypedTrees.{Program}
 use Rattle.cyc_plain.specs.State.{Configuration}
 use Rattle.cyc_meaning.specs.Values.{Value}
-use Rattle.cyc_meaning.specs.State.{Stack, Region, World, Environment, Located, variable, made, written, opened, closed, with_local, Entry, CloseRegion}
+use Rattle.cyc_meaning.specs.State.{Stack, Region, World, globals_number, Environment, Located, variable, made, written, opened, closed, with_local, Entry, CloseRegion, Caller}
 use Rattle.cyc_meaning.specs.Step.{inside, region_end}
 use Rattle.cyc_objects.specs.Tables.{Variable, Tables, with_row, with_handle}
 use Rattle.cyc_objects.proofs.Values.{Grows-row, Grows-handle}
@@ -22,6 +22,7 @@ module _ (source : Program) (pages calls : ℕ) (k : List Entry) (e : Environmen
     same_output = s.same_output;
     same_input = s.same_input;
     related = declared s.related e.home r kind content there s.variables.0;
+    globals = s.globals;
     variables = variables_grow s.tables (with_row s.tables Variable) (Grows-row s.tables Variable) (e.home ∷ homes k) s.variables;
     few_pages = s.few_pages;
     fits = s.fits;
@@ -39,6 +40,7 @@ module _ (source : Program) (pages calls : ℕ) (k : List Entry) (e : Environmen
     same_output = s.same_output;
     same_input = s.same_input;
     related = assigned s.related object 0 at.object at.cell v there cell row;
+    globals = s.globals;
     variables = s.variables;
     few_pages = s.few_pages;
     fits = s.fits;
@@ -51,6 +53,7 @@ module _ (source : Program) (pages calls : ℕ) (k : List Entry) (e : Environmen
     same_output = s.same_output;
     same_input = s.same_input;
     related = opened-variables s.related Stack refl;
+    globals = (Grows-handle s.tables None).handles globals_number None s.globals;
     variables =
         let grown = variables_grow s.tables (with_handle s.tables None) (Grows-handle s.tables None) (e.home ∷ homes k) s.variables in
         let new = handle-made s.related None in
@@ -67,7 +70,22 @@ shared_closed source pages calls k e w c number home r there s = record {
   same_output = s.same_output;
   same_input = s.same_input;
   related = closed-variables s.related number r there s.variables.1.0;
+  globals = s.globals;
   variables = s.variables.1.1;
+  few_pages = s.few_pages;
+  fits = s.fits;
+}
+
+-- a call is left by an exception
+abbrev pub shared_left : (source : Program) (pages calls : ℕ) (k : List Entry) (e outer : Environment) (w : World) (c : Configuration) → SharedAt source pages calls (Caller outer ∷ k) e w c
+    → SharedAt source pages calls k outer w c
+shared_left source pages calls k e outer w c s = record {
+  tables = s.tables;
+  same_output = s.same_output;
+  same_input = s.same_input;
+  related = s.related;
+  globals = s.globals;
+  variables = s.variables.1;
   few_pages = s.few_pages;
   fits = s.fits;
 }

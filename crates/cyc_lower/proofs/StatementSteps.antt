@@ -31,7 +31,7 @@ use Rattle.cyc_lower.proofs.Stands.{ExpressionAt, InitialAt, InitialBy, Returned
 use Rattle.cyc_objects.specs.Tables.{Variable, Tables, with_row, with_handle}
 use Rattle.cyc_objects.specs.Words.{Is}
 use Rattle.cyc_objects.proofs.Values.{Grows-row, Grows-handle}
-use Rattle.cyc_lower.proofs.Sharing.{shared_declared, row_declared, shared_opened, shared_closed}
+use Rattle.cyc_lower.proofs.Sharing.{shared_declared, row_declared, shared_opened, shared_closed, shared_left}
 use Rattle.cyc_lower.proofs.Relation.{types_in, types_at, starts_at, given_at, returned_at, Holds, held, callers, homes, Shared, DataAt, SharedAt, in_temporary, in_local, ValueStack, AheadStack, StatementStack, LandsStack, Related, EvaluatingAt, as_operand, into_slot, for_effect, as_condition, in_operand, ahead, behind_statement, behind_call, behind_wrong, Below, IsLast, Arrives, in_place, by_jump, code_of, bounds_in, bounds_at, base_of, top}
 use Rattle.cyc_lower.proofs.Data.{height-least, Holds-same, Holds-above, data_declared, data_returned, data_grows, held_by_caller}
 use Rattle.cyc_lower.proofs.Values.{int_at}
@@ -49,6 +49,7 @@ module _ (source : Program) (pages calls : ℕ) where
     same_output = s.same_output;
     same_input = s.same_input;
     related = s.related;
+    globals = s.globals;
     variables = s.variables.1;
     few_pages = s.few_pages;
     fits = omega (arith, s.fits);
@@ -456,7 +457,7 @@ module _ (source : Program) (pages calls : ℕ) where
       (shared_closed source pages calls k e w c region home found.region found.there shared, fits, plain_stack, s, here, is)
       (omega arith)
   throwing tag value (Caller outer ∷ k) e w c well (shared, fits, plain_stack, s, here, is) =
-      silently source pages calls (Running (Throwing tag value) (Caller outer ∷ k) e w) (Running (Throwing tag value) k outer w) (plain.Running c) refl (shared, omega (arith, fits), plain_stack, s, here, is) (omega arith)
+      silently source pages calls (Running (Throwing tag value) (Caller outer ∷ k) e w) (Running (Throwing tag value) k outer w) (plain.Running c) refl (shared_left source pages calls k e outer w c shared, omega (arith, fits), plain_stack, s, here, is) (omega arith)
   throwing tag value (NeedsPlace a ∷ k) e w c well (shared, fits, plain_stack, s, here, is) =
       silently source pages calls (Running (Throwing tag value) (NeedsPlace a ∷ k) e w) (Running (Throwing tag value) k e w) (plain.Running c) refl (shared, fits, plain_stack, s, here, is) (omega arith)
   throwing tag value (CloseLexical region ∷ k) e w c well (shared, fits, plain_stack, s, here, is) = absurd plain_stack

@@ -67,6 +67,11 @@ of_kind kind v = record { kind = kind; value = v }
 abbrev pub int_of : ℕ → Kinded
 int_of word = of_kind kinds.Int (Int word)
 
+-- no fat pointer is what one is thinned to
+not_thinned : (object start index : ℕ) (b : Bool) {many : ℕ} → (let r : Result = if b then Gives (Thin object (start + index)) else Raises array_bounds in r) ≡ Gives (Fat object start many index) → ⊥
+not_thinned object start index true gives = let f : Gives (Thin object (start + index)) ≡ Gives (Fat object start _ index) = gives in cc
+not_thinned object start index false gives = let f : Raises array_bounds ≡ Gives (Fat object start _ index) = gives in cc
+
 -- what a value says of its words
 module _ (t : Tables) where
   -- whether a value is zero is told by its first word
@@ -141,8 +146,8 @@ module _ (t : Tables) where
   kept_at from kinds.NonNull (Thin object offset) words p gives is = points_at from object offset words p is
   kept_at from kinds.Fat (Thin object offset) words p gives is = absurd (let f : Gives (Fat object offset 1 0) ≡ Gives (Thin object offset) = gives in cc)
   kept_at kinds.Fat kinds.Fat (Fat object start many index) words p gives is = is
-  kept_at kinds.Fat kinds.Nullable (Fat object start many index) words p gives is = absurd (not_thinned (nat_lt index many) object start many index gives)
-  kept_at kinds.Fat kinds.NonNull (Fat object start many index) words p gives is = absurd (not_thinned (nat_lt index many) object start many index gives)
+  kept_at kinds.Fat kinds.Nullable (Fat object start many index) words p gives is = absurd (not_thinned object start index (nat_lt index many) gives)
+  kept_at kinds.Fat kinds.NonNull (Fat object start many index) words p gives is = absurd (not_thinned object start index (nat_lt index many) gives)
   kept_at kinds.Handle kinds.Handle (Handle region) words p gives is = is
   kept_at kinds.Key kinds.Key (Key region) words p gives is = is
   kept_at from to v words p gives is = absurd (misfits from to v words p gives is)
