@@ -152,6 +152,16 @@ module _ (t : Tables) where
   kept_at kinds.Key kinds.Key (Key region) words p gives is = is
   kept_at from to v words p gives is = absurd (misfits from to v words p gives is)
 
+  kept_word : (from to : Kind) (v : Value) (w : ℕ) → conversion to v ≡ Gives v → IsWord t from v w → IsWord t to v w
+  kept_word from kinds.Fat Null w gives is = null_at from (λ (i : ℕ). w) 0 (IsWord-is t from Null w (λ (i : ℕ). w) 0 refl is)
+  kept_word from to v w gives is = single to
+    where
+      now : Is t to v (λ (i : ℕ). w) 0
+      now = kept_at from to v (λ (i : ℕ). w) 0 gives (IsWord-is t from v w (λ (i : ℕ). w) 0 refl is)
+
+      single : (kind : Kind) → IsWord t to v w
+      single kind = one_word t to v (λ (i : ℕ). w) 0 ONE now
+
   kept_in : (from to : Kind) (v : Value) (slots : Words) (o : Operand) → conversion to v ≡ Gives v → IsIn t (of_kind from v) slots o → IsIn t (of_kind to v) slots o
   kept_in from to v slots (operands.Slot n) gives is = kept_at from to v slots n gives is
   kept_in from to v slots (operands.Word w) gives is = kept_word from to v w gives is
@@ -240,7 +250,7 @@ module _ (source : Program) (pages calls : ℕ) where
       → c.active.next ≡ q → ValueStack source c.active.function e.locals to o q c.frames k → GoesBehind (of_kind i v) (Needs (ConvertTo from to target) ∷ k) e w c
   kept_value from to target i v o k e w c q gives does (shared, facts, is, holds) end stack =
       silently source pages calls (Running (Given (of_kind i v)) (Needs (ConvertTo from to target) ∷ k) e w) (Running (Given (of_kind to v)) k e w) (plain.Running c) does
-      (shared, in_operand o facts (kept_in i to v c.active.slots o gives is) holds (subst (λ r. ValueStack source c.active.function e.locals to o r c.frames k) (sym end) stack))
+      (shared, in_operand o facts (kept_in shared.tables i to v c.active.slots o gives is) holds (subst (λ r. ValueStack source c.active.function e.locals to o r c.frames k) (sym end) stack))
       (omega arith)
 
   -- a value is converted from its own kind
@@ -256,7 +266,7 @@ module _ (source : Program) (pages calls : ℕ) where
   converted from kinds.Nullable target i Null o k e w c well does stands (q, end, stack) = kept_value from kinds.Nullable target i Null o k e w c q refl does stands end stack
   converted from kinds.Fat target i Null o k e w c well does stands (q, end, stack) = kept_value from kinds.Fat target i Null o k e w c q refl does stands end stack
   converted from kinds.NonNull target i Null o k e w c well does (shared, facts, is, holds) (q, (jump, uncaught, end), stack) =
-      let zero_word = null_is i c.active.slots o is in
+      let zero_word = null_is shared.tables i c.active.slots o is in
       by_one source pages calls does shared jump
       (λ choice. not_taken (Running (Throwing 1 0) k e w) c (not (operand_word c.active.slots o == 0)) q (ap (λ x. not (x == 0)) zero_word) (
         shared,
@@ -280,27 +290,27 @@ module _ (source : Program) (pages calls : ℕ) where
       converted from to target v.kind v.value o k e w c (subst IsWell does well) does stands stack
 
   -- a conversion that raises nothing, of a value in the slots of a local that is about to get it
-  converted_ahead : (from to i : Kind) (v : Value) (words : Words) (n : ℕ) (k : List Entry) (e : Environment) (w : World)
-      → IsWell (computed to (conversion to v) k e w) → converts_there from to ≡ true → Is shared.tables i v words n
-      → (computed to (conversion to v) k e w ≡ Running (Given (of_kind to v)) k e w) × Is shared.tables to v words n
-  converted_ahead from kinds.Int i (Int a) words n k e w well quiet is = (refl, kept_at i kinds.Int (Int a) words n refl is)
-  converted_ahead from kinds.Nullable i Null words n k e w well quiet is = (refl, kept_at i kinds.Nullable Null words n refl is)
-  converted_ahead from kinds.Fat i Null words n k e w well quiet is = (refl, kept_at i kinds.Fat Null words n refl is)
-  converted_ahead from kinds.NonNull i Null words n k e w well quiet is = absurd (let f : false ≡ true = quiet in cc)
-  converted_ahead from to i (Thin object offset) words n k e w well quiet is = absurd (no_pointer i object offset words (operands.Slot n) is)
-  converted_ahead from to i (Fat object start many index) words n k e w well quiet is = absurd (no_part i object start many index words (operands.Slot n) is)
-  converted_ahead from to i (Handle region) words n k e w well quiet is = absurd (no_handle i region words (operands.Slot n) is)
-  converted_ahead from to i (Key region) words n k e w well quiet is = absurd (no_key i region words (operands.Slot n) is)
-  converted_ahead from to i v words n k e w well quiet is = absurd (well refl)
+  converted_ahead : (t : Tables) (from to i : Kind) (v : Value) (words : Words) (n : ℕ) (k : List Entry) (e : Environment) (w : World)
+      → IsWell (computed to (conversion to v) k e w) → converts_there from to ≡ true → Is t i v words n
+      → (computed to (conversion to v) k e w ≡ Running (Given (of_kind to v)) k e w) × Is t to v words n
+  converted_ahead t from kinds.Int i (Int a) words n k e w well quiet is = (refl, kept_at t i kinds.Int (Int a) words n refl is)
+  converted_ahead t from kinds.Nullable i Null words n k e w well quiet is = (refl, kept_at t i kinds.Nullable Null words n refl is)
+  converted_ahead t from kinds.Fat i Null words n k e w well quiet is = (refl, kept_at t i kinds.Fat Null words n refl is)
+  converted_ahead t from kinds.NonNull i Null words n k e w well quiet is = absurd (let f : false ≡ true = quiet in cc)
+  converted_ahead t from to i (Thin object offset) words n k e w well quiet is = absurd (no_pointer i object offset words (operands.Slot n) is)
+  converted_ahead t from to i (Fat object start many index) words n k e w well quiet is = absurd (no_part i object start many index words (operands.Slot n) is)
+  converted_ahead t from to i (Handle region) words n k e w well quiet is = absurd (no_handle i region words (operands.Slot n) is)
+  converted_ahead t from to i (Key region) words n k e w well quiet is = absurd (no_key i region words (operands.Slot n) is)
+  converted_ahead t from to i v words n k e w well quiet is = absurd (well refl)
 
   -- its kind is the one that it is converted from, and it has as many words behind
-  converts_ahead : (from to : Kind) (target : Option Kind) (v : Kinded) (n : ℕ) (k : List Entry) (e : Environment) (w : World) (c : Configuration)
-      → IsWell (step source (Running (Given v) (Needs (ConvertTo from to target) ∷ k) e w)) → converts_there from to ≡ true → Is shared.tables v.kind v.value c.active.slots n
-      → (step source (Running (Given v) (Needs (ConvertTo from to target) ∷ k) e w) ≡ Running (Given (of_kind to v.value)) k e w) × Is shared.tables to v.value c.active.slots n
+  converts_ahead : (t : Tables) (from to : Kind) (target : Option Kind) (v : Kinded) (n : ℕ) (k : List Entry) (e : Environment) (w : World) (c : Configuration)
+      → IsWell (step source (Running (Given v) (Needs (ConvertTo from to target) ∷ k) e w)) → converts_there from to ≡ true → Is t v.kind v.value c.active.slots n
+      → (step source (Running (Given v) (Needs (ConvertTo from to target) ∷ k) e w) ≡ Running (Given (of_kind to v.value)) k e w) × Is t to v.value c.active.slots n
       × (words_of_kind v.kind ≡ words_of_kind to)
-  converts_ahead from to target v n k e w c well quiet is =
+  converts_ahead t from to target v n k e w c well quiet is =
       let does = converts_kind from to target v k e w well in
-      let (goes, now) = converted_ahead from to v.kind v.value c.active.slots n k e w (subst IsWell does well) quiet is in
+      let (goes, now) = converted_ahead t from to v.kind v.value c.active.slots n k e w (subst IsWell does well) quiet is in
       let fits = first_holds (is_kind v.kind from) (leads_to w target (followed v.value)) (is_fitting (is_kind v.kind from && leads_to w target (followed v.value)) (computed to (conversion to v.value) k e w) w well) in
       (does ∙ goes, now, ap words_of_kind (same_kind v.kind from fits) ∙ as_wide from to quiet)
 
@@ -318,7 +328,7 @@ module _ (source : Program) (pages calls : ℕ) where
       let x = operand_word c.active.slots o in
       by_one source pages calls (ap (λ r. computed kinds.Int r k e w) result) shared here
       (λ choice. landed_word source pages calls (plain_operators.unary_result (unary_operator u) a) (plain_operators.unary_result (unary_operator u) x) d k e w c (c.active.next + 1)
-      (ap (plain_operators.unary_result (unary_operator u)) (int_is i a c.active.slots o is)) shared facts holds refl lands)
+      (ap (plain_operators.unary_result (unary_operator u)) (int_is shared.tables i a c.active.slots o is)) shared facts holds refl lands)
 
   operates_value : (u : UnaryOperator) (i : Kind) (v : Value) (o : Operand) (k : List Entry) (e : Environment) (w : World) (c : Configuration)
       → IsWell (step source (Running (Given (of_kind i v)) (Needs (Operate u) ∷ k) e w)) → Stands (of_kind i v) o k e w c
@@ -331,7 +341,7 @@ module _ (source : Program) (pages calls : ℕ) where
   operates_value unary.Complement i Null o k e w c well stands stack = absurd (well refl)
   operates_value unary.Not i Null o k e w c well (shared, facts, is, holds) (d, here, lands) =
       by_one source pages calls refl shared here
-      (λ choice. landed_word source pages calls 1 (truth (operand_word c.active.slots o == 0)) d k e w c (c.active.next + 1) (ap (λ x. truth (x == 0)) (null_is i c.active.slots o is)) shared facts holds refl lands)
+      (λ choice. landed_word source pages calls 1 (truth (operand_word c.active.slots o == 0)) d k e w c (c.active.next + 1) (ap (λ x. truth (x == 0)) (null_is shared.tables i c.active.slots o is)) shared facts holds refl lands)
   operates_value unary.Negate i (Int a) o k e w c well stands stack = operates_word unary.Negate i a o k e w c refl stands stack
   operates_value unary.Complement i (Int a) o k e w c well stands stack = operates_word unary.Complement i a o k e w c refl stands stack
   operates_value unary.Not i (Int a) o k e w c well stands stack = operates_word unary.Not i a o k e w c refl stands stack
@@ -450,8 +460,8 @@ module _ (source : Program) (pages calls : ℕ) where
       → IsWell (step source (Running (Given (of_kind j v)) (Needs (Apply u (of_kind i left)) ∷ k) e w)) → (shared : SharedAt source pages calls k e w c) → DataIn source shared.tables c.active.slots k e w c
       → ReadyAt source shared.tables (of_kind j v) e.locals c.active.function c.active.next c.active.slots c.frames (Needs (Apply u (of_kind i left)) ∷ k)
       → GoesBehind (of_kind j v) (Needs (Apply u (of_kind i left)) ∷ k) e w c
-  applies_values u i j (Int a) (Int b) k e w c well shared facts (l, r, is_left, is, holds, to_slot (d, q, here, lands)) = computes u i j a b l r d k e w c q shared facts (int_is i a c.active.slots l is_left) (int_is j b c.active.slots r is) holds here lands
-  applies_values u i j (Int a) (Int b) k e w c well shared facts (l, r, is_left, is, holds, to_jump (failing, fails, stack)) = compares_both u i j failing a b l r k e w c fails shared facts (int_is i a c.active.slots l is_left) (int_is j b c.active.slots r is) stack
+  applies_values u i j (Int a) (Int b) k e w c well shared facts (l, r, is_left, is, holds, to_slot (d, q, here, lands)) = computes u i j a b l r d k e w c q shared facts (int_is shared.tables i a c.active.slots l is_left) (int_is shared.tables j b c.active.slots r is) holds here lands
+  applies_values u i j (Int a) (Int b) k e w c well shared facts (l, r, is_left, is, holds, to_jump (failing, fails, stack)) = compares_both u i j failing a b l r k e w c fails shared facts (int_is shared.tables i a c.active.slots l is_left) (int_is shared.tables j b c.active.slots r is) stack
   applies_values u i j left v k e w c well shared facts ready = absurd (well refl)
 
   applies : (u : Operator) (left v : Kinded) (k : List Entry) (e : Environment) (w : World) (c : Configuration)
@@ -470,16 +480,16 @@ module _ (source : Program) (pages calls : ℕ) where
   compares_null u peek i j (Fat object start many index) v d k e w c well test shared facts is holds here lands = absurd (no_part_at i object start many index c.active.slots (top source c.active.function k) is)
   compares_null pointers.ThinIsNull peek i j Null Null d k e w c well test shared facts is holds here lands =
       by_one source pages calls refl shared here
-      (λ choice. landed_word source pages calls 1 (truth (c.active.slots (top source c.active.function k) == 0)) d k e w c (c.active.next + 1) (ap (λ x. truth (x == 0)) (null_at i c.active.slots (top source c.active.function k) is)) shared facts holds refl lands)
+      (λ choice. landed_word source pages calls 1 (truth (c.active.slots (top source c.active.function k) == 0)) d k e w c (c.active.next + 1) (ap (λ x. truth (x == 0)) (null_at shared.tables i c.active.slots (top source c.active.function k) is)) shared facts holds refl lands)
   compares_null pointers.ThinIsNotNull peek i j Null Null d k e w c well test shared facts is holds here lands =
       by_one source pages calls refl shared here
-      (λ choice. landed_word source pages calls 0 (truth (not (c.active.slots (top source c.active.function k) == 0))) d k e w c (c.active.next + 1) (ap (λ x. truth (not (x == 0))) (null_at i c.active.slots (top source c.active.function k) is)) shared facts holds refl lands)
+      (λ choice. landed_word source pages calls 0 (truth (not (c.active.slots (top source c.active.function k) == 0))) d k e w c (c.active.next + 1) (ap (λ x. truth (not (x == 0))) (null_at shared.tables i c.active.slots (top source c.active.function k) is)) shared facts holds refl lands)
   compares_null pointers.FatIsNull peek i j Null Null d k e w c well test shared facts is holds here lands =
       by_one source pages calls refl shared here
-      (λ choice. landed_word source pages calls 1 (truth (c.active.slots (top source c.active.function k) == 0)) d k e w c (c.active.next + 1) (ap (λ x. truth (x == 0)) (null_at i c.active.slots (top source c.active.function k) is)) shared facts holds refl lands)
+      (λ choice. landed_word source pages calls 1 (truth (c.active.slots (top source c.active.function k) == 0)) d k e w c (c.active.next + 1) (ap (λ x. truth (x == 0)) (null_at shared.tables i c.active.slots (top source c.active.function k) is)) shared facts holds refl lands)
   compares_null pointers.FatIsNotNull peek i j Null Null d k e w c well test shared facts is holds here lands =
       by_one source pages calls refl shared here
-      (λ choice. landed_word source pages calls 0 (truth (not (c.active.slots (top source c.active.function k) == 0))) d k e w c (c.active.next + 1) (ap (λ x. truth (not (x == 0))) (null_at i c.active.slots (top source c.active.function k) is)) shared facts holds refl lands)
+      (λ choice. landed_word source pages calls 0 (truth (not (c.active.slots (top source c.active.function k) == 0))) d k e w c (c.active.next + 1) (ap (λ x. truth (not (x == 0))) (null_at shared.tables i c.active.slots (top source c.active.function k) is)) shared facts holds refl lands)
   compares_null pointers.AddFat peek i j left v d k e w c well test shared facts is holds here lands = absurd (let f : false ≡ true = test in cc)
   compares_null pointers.SubtractFat peek i j left v d k e w c well test shared facts is holds here lands = absurd (let f : false ≡ true = test in cc)
   compares_null pointers.EqualThin peek i j left v d k e w c well test shared facts is holds here lands = absurd (let f : false ≡ true = test in cc)
@@ -553,8 +563,8 @@ module _ (source : Program) (pages calls : ℕ) where
       let free = top source c.active.function k in
       let there = at c m in
       by_three source pages calls there (negated there k) does shared
-      (shared_within source pages calls w there shared) (shared_way source pages calls (Given v) (Needs (Chain (ThenTest u b os)) ∷ k) e w there shared)
-      (shared_within source pages calls w (negated there k) shared) (shared_way source pages calls (Given v) (Needs (Chain (ThenTest u b os)) ∷ k) e w (negated there k) shared)
+      (shared_within source pages calls k e w there shared) (shared_way source pages calls (Given v) (Needs (Chain (ThenTest u b os)) ∷ k) e w there shared)
+      (shared_within source pages calls k e w (negated there k) shared) (shared_way source pages calls (Given v) (Needs (Chain (ThenTest u b os)) ∷ k) e w (negated there k) shared)
       here jumps first (λ choice. refl) second
       (other_place code c.active.next m i (instructions.Unary plain_unary.Not free (operands.Slot free)) here first (other free))
       (other_place code c.active.next (m + 1) i (instructions.Unary plain_unary.Not d (operands.Slot free)) here second (other d)) (λ equal. omega (arith, equal))
@@ -689,7 +699,7 @@ module _ (source : Program) (pages calls : ℕ) where
       at_once (landed_there v d k e w c q (subst (λ x. Stands v (operands.Slot x) k e w c) (eqb-true n d same) stands) end lands)
   copied true v (operands.Word n) d k e w c q same stands end lands = absurd (let f : false ≡ true = same in cc)
   copied false v o d k e w c q same (shared, facts, is, holds) (here, end) lands =
-      by_copy (move_of (words_of_kind v.kind) d o) here (λ choice. landed_moved source pages calls v o d k e w c q choice is shared facts holds end lands)
+      by_copy (move_of (words_of_kind v.kind) d o) here (λ choice. landed_moved source pages calls v o d k e w c q choice shared is facts holds end lands)
 
   handed : (v : Kinded) (o : Operand) (k : List Entry) (e : Environment) (w : World) (c : Configuration) (q : ℕ) → c.active.next ≡ q → Stands v o k e w c
       → HandsOnStack source c.active.function e.locals v.kind o q c.frames k → Handed v k e w c
@@ -702,7 +712,7 @@ module _ (source : Program) (pages calls : ℕ) where
 
   -- a step that ends so, behind one instruction or behind none
   hands_behind : {focus : Focus} {before : List Entry} {w0 : World} {i : Instruction} (v : Kinded) (k : List Entry) (e : Environment) (w : World) (c d : Configuration)
-      → step source (Running focus before e w0) ≡ Running (Given v) k e w → SharedAt source pages calls k e w0 c → SharedAt source pages calls k e w0 d
+      → step source (Running focus before e w0) ≡ Running (Given v) k e w → SharedAt source pages calls before e w0 c → SharedAt source pages calls before e w0 d
       → At (code_of source c.active.function) c.active.next i → ((choice : Choice) → performed (lower_program source) choice c i ≡ plain.Running d) → c.active.next ≢ d.active.next
       → Handed v k e w d → IsMatched source pages calls (Running focus before e w0) (plain.Running c)
   hands_behind {focus} {before} {w0} {i} v k e w c d does shared shared_d here first other (at_once related) =
@@ -711,7 +721,7 @@ module _ (source : Program) (pages calls : ℕ) where
       by_two source pages calls d does shared shared_d here first at other goes
 
   hands_at_once : (v : Kinded) (before : List Entry) (k : List Entry) (e : Environment) (w0 w : World) (c : Configuration)
-      → step source (Running (Given v) before e w0) ≡ Running (Given v) k e w → SharedAt source pages calls k e w0 c
+      → step source (Running (Given v) before e w0) ≡ Running (Given v) k e w → SharedAt source pages calls before e w0 c
       → weight (Running (Given v) k e w) < weight (Running (Given v) before e w0) → Handed v k e w c → GoesBehind v before e w0 c
   hands_at_once v before k e w0 w c does shared lighter (at_once related) = silently source pages calls (Running (Given v) before e w0) (Running (Given v) k e w) (plain.Running c) does related lighter
   hands_at_once v before k e w0 w c does shared lighter (by_copy i at goes) = by_one source pages calls does shared at goes
@@ -754,7 +764,7 @@ module _ (source : Program) (pages calls : ℕ) where
             (global_there source pages calls g n few)
             (ap (contents next.objects) same ∙ written_here w object stored.at v.value stored.object_there stored.cell_there v.kind stored.same)
             (λ i other. written_elsewhere w object stored.at v.value stored.object_there stored.cell_there i (λ equal. other (equal ∙ sym same)))
-            (written_length w object stored.at v.value stored.object_there stored.cell_there) (first_word v c.active.slots o is) facts,
+            (written_length w object stored.at v.value stored.object_there stored.cell_there) (first_word shared.tables v c.active.slots o is) facts,
         subst (IsIn shared.tables v c.active.slots) (sym there) is,
         holds,
       ) hands)
@@ -820,14 +830,14 @@ module _ (source : Program) (pages calls : ℕ) where
       does ∙ is_declared (region_at w e.home) Proceeding n kind (Some v.value) (Rest js ∷ k) e w (subst IsWell does well)
 
   -- and holds just that
-  made_value : (n : ℕ) (kind : Kind) (js : Items) (v : Kinded) (k : List Entry) (e : Environment) (w : World) (slots : Words) (slot : ℕ) (types : List Ty)
-      → IsWell (step source (Running (Given v) (Needs (Initialise n kind js) ∷ k) e w)) → HasRoom types n v.kind → Is shared.tables v.kind v.value slots slot
-      → (u : Kinded) → with_kind kind (Some v.value) ≡ Some u → Is shared.tables u.kind u.value slots slot × HasRoom types n u.kind
-  made_value n kind js v k e w slots slot types well room is u has =
+  made_value : (t : Tables) (n : ℕ) (kind : Kind) (js : Items) (v : Kinded) (k : List Entry) (e : Environment) (w : World) (slots : Words) (slot : ℕ) (types : List Ty)
+      → IsWell (step source (Running (Given v) (Needs (Initialise n kind js) ∷ k) e w)) → HasRoom types n v.kind → Is t v.kind v.value slots slot
+      → (u : Kinded) → with_kind kind (Some v.value) ≡ Some u → Is t u.kind u.value slots slot × HasRoom types n u.kind
+  made_value t n kind js v k e w slots slot types well room is u has =
       let made_it = declared (region_at w e.home) Proceeding n kind (Some v.value) (Rest js ∷ k) e w in
       let fits = is_fitting (is_kind v.kind kind) made_it w well in
       let u_is : v ≡ u = ap (λ i. of_kind i v.value) (same_kind v.kind kind fits) ∙ same_Some (of_kind kind v.value) u has in
-      subst (λ (x : Kinded). Is shared.tables x.kind x.value slots slot × HasRoom types n x.kind) u_is (is, room)
+      subst (λ (x : Kinded). Is t x.kind x.value slots slot × HasRoom types n x.kind) u_is (is, room)
 
   initialises : (n : ℕ) (kind : Kind) (js : Items) (v : Kinded) (o : Operand) (k : List Entry) (e : Environment) (w : World) (c : Configuration)
       → IsWell (step source (Running (Given v) (Needs (Initialise n kind js) ∷ k) e w)) → Stands v o (Needs (Initialise n kind js) ∷ k) e w c
@@ -901,7 +911,7 @@ module _ (source : Program) (pages calls : ℕ) where
       → IsWell (step source (Running (Given (of_kind i v)) (Needs (Follow pointer target) ∷ k) e w)) → Stands (of_kind i v) o k e w c
       → ValueStack source c.active.function e.locals i o c.active.next c.frames (Needs (Follow pointer target) ∷ k) → GoesBehind (of_kind i v) (Needs (Follow pointer target) ∷ k) e w c
   follows_null pointer target i Null o k e w c well (shared, facts, is, holds) (q, (jump, uncaught, end), place) =
-      let zero_word = null_is i c.active.slots o is in
+      let zero_word = null_is shared.tables i c.active.slots o is in
       let does : step source (Running (Given (of_kind i Null)) (Needs (Follow pointer target) ∷ k) e w) ≡ Running (Throwing 1 0) k e w
       = ap (λ (b : Bool). if b then Running (Throwing 1 0) k e w else wrong w) (is_fitting (is_kind i pointer && leads_to w target (followed Null)) (Running (Throwing 1 0) k e w) w well) in
       by_one source pages calls does shared jump
@@ -963,7 +973,7 @@ module _ (source : Program) (pages calls : ℕ) where
       → Is shared.tables v.kind v.value c.active.slots n → Holds shared.tables c.active.slots (base_of source c.active.function) (held k)
       → AheadStack source c.active.function e.locals v.kind n c.active.next c.frames k → GoesBehind v k e w c
   ahead_given v n old (Needs (ConvertTo from to target) ∷ k) e w c well shared same facts is holds (quiet, stack) =
-      let (does, now, wide) = converts_ahead from to target v n k e w c well quiet is in
+      let (does, now, wide) = converts_ahead shared.tables from to target v n k e w c well quiet is in
       silently source pages calls (Running (Given v) (Needs (ConvertTo from to target) ∷ k) e w) (Running (Given (of_kind to v.value)) k e w) (plain.Running c) does
       (shared, ahead n (old, subst (λ many. (m : ℕ) → Outside n many m → old m ≡ c.active.slots m) wide same, facts) now holds stack)
       (omega arith)
