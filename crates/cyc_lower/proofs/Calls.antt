@@ -167,7 +167,7 @@ module _ (source : Program) (pages calls : ℕ) where
         data_declared grown source g w.objects e (callers k) c.active.slots c.active.slots c.globals c.frames n 0 x (omega (arith, local, count)) (omega arith) (row_declared source pages calls k e w c shared) (λ i out. refl)
             (λ u has.
             let u_is : v ≡ u = ap (λ i. of_kind i v.value) kind_is ∙ same_Some (of_kind (kind_of t) v.value) u has in
-            subst (λ (y : Kinded). Is y.kind y.value c.active.slots (slot_of (starts_at source g) n) × HasRoom (types_at source g) n y.kind) u_is (subst (Is grown v.kind v.value c.active.slots) (sym there) is_now, room)) more,
+            subst (λ (y : Kinded). Is grown y.kind y.value c.active.slots (slot_of (starts_at source g) n) × HasRoom (types_at source g) n y.kind) u_is (subst (Is grown v.kind v.value c.active.slots) (sym there) is_now, room)) more,
         (
           m,
           first ++ t ∷ [],

@@ -1,6 +1,6 @@
 -- The steps that hand a value on.
 use Rattle.std.proofs.Common.{◌≡◌, ◌≢◌, ℕ, zero, suc, ◌+◌, ◌<◌, Bool, true, false, not, List, [], ◌∷◌, Option, None, Some, slice_get, refl, sym, ap, subst, ◌∙◌, arith, inl, inr, length}
-use Rattle.std.specs.Prelude.{ℤ, ◌==◌, ◌&&◌, ◌<ℤ◌, ◌≤ℤ◌, int_le, int_lt, if◌then◌else◌}
+use Rattle.std.specs.Prelude.{ℤ, nat_lt, ◌==◌, ◌&&◌, ◌<ℤ◌, ◌≤ℤ◌, int_le, int_lt, if◌then◌else◌}
 use Rattle.std.proofs.lemmas.Int.{ints}
 use Rattle.std.proofs.lemmas.Bool.{eqb-true, false_from_ne_true}
 use Rattle.std.proofs.lemmas.Option.{same_Some, none-some}
@@ -37,10 +37,10 @@ use Rattle.cyc_plain.proofs.SlotLaws.{put-same}
 use Rattle.cyc_plain.specs.Straight.{At}
 use Rattle.cyc_types.specs.Types.{Ty}
 use Rattle.cyc_meaning.specs.Values.{Value, Int, Null, Thin, Fat, Handle, Key, Operand as Kinded, is_kind, words_of_kind}
-use Rattle.cyc_meaning.specs.Operators.{Gives, Raises, Misfits, has_no_result, binary_word, is_zero, unary_result, truth_result, truth_of, division_by_zero}
+use Rattle.cyc_meaning.specs.Operators.{Result, Gives, Raises, Misfits, has_no_result, binary_word, is_zero, unary_result, truth_result, truth_of, division_by_zero, array_bounds}
 use Rattle.cyc_meaning.specs.Pointers.{takes_kind, followed}
 use Rattle.cyc_meaning.specs.Conversion.{conversion}
-use Rattle.cyc_meaning.specs.State.{World, Environment, with_local, made, variable, written, region_at, Awaiting, ConvertTo, Operate, Chain, Apply, ApplyPointer, Follow, Decide, Store, Pass, Initialise, Choose, Test, Return, Entry, Needs, Discard, Rest, Join, Loop, Focus, Evaluating, Given, Executing, Proceeding, Calling, Returning, Throwing, State, Running}
+use Rattle.cyc_meaning.specs.State.{Region, World, Environment, with_local, made, variable, written, region_at, Awaiting, ConvertTo, Operate, Chain, Apply, ApplyPointer, Follow, Decide, Store, Pass, Initialise, Choose, Test, Return, Entry, Needs, Discard, Rest, Join, Loop, Focus, Evaluating, Given, Executing, Proceeding, Calling, Returning, Throwing, State, Running}
 use Rattle.cyc_meaning.specs.Step.{leads_to, wrong, object_of, computed, stored_at, declared, passes, tested, awaits_right, chosen, looped, step}
 use Rattle.cyc_lower.specs.Slots.{slot_of}
 use Rattle.cyc_lower.specs.Lowerable.{is_null_test}
@@ -52,9 +52,12 @@ use Rattle.cyc_lower.proofs.Stands.{OperandBy, CopyBy, CopyAt, CheckAt, CheckedA
 use Rattle.cyc_objects.specs.Tables.{Tables}
 use Rattle.cyc_objects.specs.Words.{Points, IsPartOf, Is}
 use Rattle.cyc_objects.proofs.Pointers.{not-null, part-not-null}
+use Rattle.cyc_objects.specs.Tables.{Variable, with_row}
+use Rattle.cyc_objects.proofs.Values.{Grows-row, Is-grows}
+use Rattle.cyc_lower.proofs.Sharing.{shared_declared, row_declared, shared_written}
 use Rattle.cyc_lower.proofs.Relation.{IsWord, IsIn, with_kind, types_at, starts_at, Holds, held, contents, callers, in_place, by_jump, in_temporary, in_local, drops, leaves, copies, DataIn, SharedAt, StoreAt, to_slot, to_jump, ValueStack, ConditionStack, DroppedStack, AheadStack, LandsStack, HandsOnStack, AppliedStack, ReadyAt, as_operand, into_slot, as_right, in_operand, nowhere, ahead, compared, with_left, behind_statement, Related, Matches, code_of, bounds_at, base_of, top}
-use Rattle.cyc_lower.proofs.Data.{IsWord-is, one_word, height-least, Holds-same, Holds-above, data_above, data_assigned, data_assigned_global, data_declared}
-use Rattle.cyc_lower.proofs.Accesses.{IsWell, is_fitting, is_stored, written_here, written_elsewhere, written_length, is_declared}
+use Rattle.cyc_lower.proofs.Data.{IsWord-is, one_word, height-least, Holds-same, Holds-above, data_above, data_assigned, data_assigned_global, data_declared, data_grows}
+use Rattle.cyc_lower.proofs.Accesses.{IsWell, is_fitting, is_stored, written_here, written_elsewhere, written_length, is_declared, home_there}
 use Rattle.cyc_lower.proofs.Weights.{weight}
 use Rattle.cyc_lower.proofs.Relation.{StatementStack}
 use Rattle.cyc_lower.proofs.Matched.{IsMatched, silently, by_one, by_two, by_three, shared_way, shared_within, lands_depth, value_depth, place_depth, lands_plain, value_plain, place_plain}
@@ -743,14 +746,14 @@ module _ (source : Program) (pages calls : ℕ) where
       let next = written w object 0 stored.at v.value in
       hands_behind v k e next c after stored.gives shared shared here (λ choice. moves (lower_program source) choice c words slot o) (λ same. omega (arith, same))
       (handed v to k e next after q end (
-        shared,
+        shared_written source pages calls k e w after shared object stored.at v.value stored.object_there stored.cell_there (facts.2.rows n object found),
         data_assigned shared.tables source g w.objects next.objects e.locals (callers k) c.active.slots slots c.globals c.frames n object v found
             (written_here w object stored.at v.value stored.object_there stored.cell_there v.kind stored.same) (written_elsewhere w object stored.at v.value stored.object_there stored.cell_there)
             (written_length w object stored.at v.value stored.object_there stored.cell_there) room moved elsewhere facts,
         subst (IsIn shared.tables v slots) (sym there) moved,
         Holds-above shared.tables c.active.slots slots (base_of source g) (held k) (λ m above. elsewhere m (inr (omega (arith, inside, room, above)))) holds,
       ) hands)
-  stores object v (Global n) o to k e w c q found well (shared, facts, is, holds) (here, end, there, few) hands =
+  stores object v (Global n) o to k e w c q found well (shared, facts, is, holds) (here, end, there, few, single) hands =
       let g = c.active.function in
       let x = operand_word c.active.slots o in
       let stored = is_stored object v (Given v) k e w well in
@@ -759,12 +762,12 @@ module _ (source : Program) (pages calls : ℕ) where
       let next = written w object 0 stored.at v.value in
       hands_behind v k e next c after stored.gives shared shared here (λ choice. refl) (λ equal. omega (arith, equal))
       (handed v to k e next after q end (
-        shared,
+        shared_written source pages calls k e w after shared object stored.at v.value stored.object_there stored.cell_there (ap (slice_get shared.tables.rows) (sym same) ∙ (facts.4 n (global_there source pages calls g n few)).0),
         data_assigned_global shared.tables source g w.objects next.objects e.locals (callers k) c.active.slots c.globals c.frames n v x
             (global_there source pages calls g n few)
             (ap (contents next.objects) same ∙ written_here w object stored.at v.value stored.object_there stored.cell_there v.kind stored.same)
             (λ i other. written_elsewhere w object stored.at v.value stored.object_there stored.cell_there i (λ equal. other (equal ∙ sym same)))
-            (written_length w object stored.at v.value stored.object_there stored.cell_there) (first_word shared.tables v c.active.slots o is) facts,
+            (written_length w object stored.at v.value stored.object_there stored.cell_there) (first_word shared.tables v c.active.slots o single is) facts,
         subst (IsIn shared.tables v c.active.slots) (sym there) is,
         holds,
       ) hands)
@@ -777,19 +780,19 @@ module _ (source : Program) (pages calls : ℕ) where
       (stores object v l o to k e w c q (sym (object_of_same l e) ∙ found) (subst (λ p. IsWell (stored_at p v (Given v) k e w)) place_is well) stands here hands)
 
   -- the local has the value already
-  catches_up : (object n : ℕ) (old : Words) (v : Kinded) (k : List Entry) (e : Environment) (w : World) (c : Configuration)
+  catches_up : (object n : ℕ) (old : Words) (v : Kinded) (k : List Entry) (e : Environment) (w : World) (c : Configuration) (shared : SharedAt source pages calls k e w c)
       → e.locals n ≡ Some object → IsWell (stored_at (Thin object 0) v (Given v) k e w) → SharedAt source pages calls k e w c
       → ((m : ℕ) → Outside (slot_of (starts_at source c.active.function) n) (words_of_kind v.kind) m → old m ≡ c.active.slots m) → DataIn source shared.tables old k e w c
       → HasRoom (types_at source c.active.function) n v.kind
       → Is shared.tables v.kind v.value c.active.slots (slot_of (starts_at source c.active.function) n) → Holds shared.tables c.active.slots (base_of source c.active.function) (held k)
       → HandsOnStack source c.active.function e.locals v.kind (operands.Slot (slot_of (starts_at source c.active.function) n)) c.active.next c.frames k → GoesBehind v (Needs (Store (Thin object 0)) ∷ k) e w c
-  catches_up object n old v k e w c found well shared same facts room is holds hands =
+  catches_up object n old v k e w c shared found well same facts room is holds hands =
       let g = c.active.function in
       let stored = is_stored object v (Given v) k e w well in
       let next = written w object 0 stored.at v.value in
       hands_at_once v (Needs (Store (Thin object 0)) ∷ k) k e w next c stored.gives shared (omega arith)
       (handed v (operands.Slot (slot_of (starts_at source g) n)) k e next c c.active.next refl (
-        shared,
+        shared_written source pages calls k e w c shared object stored.at v.value stored.object_there stored.cell_there (facts.2.rows n object found),
         data_assigned shared.tables source g w.objects next.objects e.locals (callers k) old c.active.slots c.globals c.frames n object v found
             (written_here w object stored.at v.value stored.object_there stored.cell_there v.kind stored.same) (written_elsewhere w object stored.at v.value stored.object_there stored.cell_there)
             (written_length w object stored.at v.value stored.object_there stored.cell_there) room is (λ m out. sym (same m out)) facts,
@@ -829,6 +832,15 @@ module _ (source : Program) (pages calls : ℕ) where
       ap (λ (b : Bool). if b then made_it else wrong w) (is_fitting (is_kind v.kind kind) made_it w well) in
       does ∙ is_declared (region_at w e.home) Proceeding n kind (Some v.value) (Rest js ∷ k) e w (subst IsWell does well)
 
+  -- in a region that is there
+  makes_home : (n : ℕ) (kind : Kind) (js : Items) (v : Kinded) (k : List Entry) (e : Environment) (w : World) → IsWell (step source (Running (Given v) (Needs (Initialise n kind js) ∷ k) e w))
+      → (r : Region) × (slice_get w.regions e.home ≡ Some r)
+  makes_home n kind js v k e w well =
+      let made_it = declared (region_at w e.home) Proceeding n kind (Some v.value) (Rest js ∷ k) e w in
+      let does : step source (Running (Given v) (Needs (Initialise n kind js) ∷ k) e w) ≡ made_it =
+      ap (λ (b : Bool). if b then made_it else wrong w) (is_fitting (is_kind v.kind kind) made_it w well) in
+      home_there Proceeding n kind (Some v.value) (Rest js ∷ k) e w (subst IsWell does well)
+
   -- and holds just that
   made_value : (t : Tables) (n : ℕ) (kind : Kind) (js : Items) (v : Kinded) (k : List Entry) (e : Environment) (w : World) (slots : Words) (slot : ℕ) (types : List Ty)
       → IsWell (step source (Running (Given v) (Needs (Initialise n kind js) ∷ k) e w)) → HasRoom types n v.kind → Is t v.kind v.value slots slot
@@ -846,33 +858,41 @@ module _ (source : Program) (pages calls : ℕ) where
       let g = c.active.function in
       let words = words_of_kind v.kind in
       let slot = slot_of (starts_at source g) n in
+      let (r, home) = makes_home n kind js v k e w well in
+      let grown = with_row shared.tables Variable in
+      let grows = Grows-row shared.tables Variable in
       let slots = moved_slots c.active.slots words slot o in
       by_one source pages calls (makes_local n kind js v k e w well) shared here
       (λ choice. subst (Matches source pages calls (Running Proceeding (Rest js ∷ k) (with_local e n (length w.objects)) (made w (variable e.home kind (Some v.value))))) (sym (moves (lower_program source) choice c words slot o)) (
-        shared,
+        shared_declared source pages calls k e w (advanced (with_slots c slots)) shared n r kind (Some v.value) home,
         behind_statement loop
-            (data_declared shared.tables source g w.objects e (callers k) c.active.slots slots c.globals c.frames n words (variable e.home kind (Some v.value)) (room-inside (types_at source g) n v.kind room) room
+            (data_declared grown source g w.objects e (callers k) c.active.slots slots c.globals c.frames n words (variable e.home kind (Some v.value)) (room-inside (types_at source g) n v.kind room) room (row_declared source pages calls k e w c shared)
             (λ m out. moved_elsewhere c.active.slots words slot o m (kind_positive v.kind) out)
-            (made_value n kind js v k e w slots slot (types_at source g) well room (moved_is shared.tables v c.active.slots slot o is)) facts)
+            (made_value grown n kind js v k e w slots slot (types_at source g) well room (Is-grows grows v.kind v.value slots slot (moved_is shared.tables v c.active.slots slot o is)))
+            (data_grows shared.tables grown grows source g w.objects e.locals (callers k) c.active.slots c.globals c.frames facts))
             (q, items, stack),
       ))
 
-  initialises_ahead : (n : ℕ) (old : Words) (kind : Kind) (js : Items) (v : Kinded) (k : List Entry) (e : Environment) (w : World) (c : Configuration) (loop : ℕ)
+  initialises_ahead : (n : ℕ) (old : Words) (kind : Kind) (js : Items) (v : Kinded) (k : List Entry) (e : Environment) (w : World) (c : Configuration) (loop : ℕ) (shared : SharedAt source pages calls k e w c)
       → IsWell (step source (Running (Given v) (Needs (Initialise n kind js) ∷ k) e w)) → SharedAt source pages calls k e w c
       → ((m : ℕ) → Outside (slot_of (starts_at source c.active.function) n) (words_of_kind v.kind) m → old m ≡ c.active.slots m)
       → DataIn source shared.tables old (Needs (Initialise n kind js) ∷ k) e w c
       → HasRoom (types_at source c.active.function) n v.kind → Is shared.tables v.kind v.value c.active.slots (slot_of (starts_at source c.active.function) n)
       → StatementStack source c.active.function loop c.active.next c.frames (Rest js ∷ k) → GoesBehind v (Needs (Initialise n kind js) ∷ k) e w c
-  initialises_ahead n old kind js v k e w c loop well shared same facts room is stack =
+  initialises_ahead n old kind js v k e w c loop shared well same facts room is stack =
       let g = c.active.function in
+      let (r, home) = makes_home n kind js v k e w well in
+      let grown = with_row shared.tables Variable in
+      let grows = Grows-row shared.tables Variable in
       let slot = slot_of (starts_at source g) n in
       silently source pages calls (Running (Given v) (Needs (Initialise n kind js) ∷ k) e w)
       (Running Proceeding (Rest js ∷ k) (with_local e n (length w.objects)) (made w (variable e.home kind (Some v.value)))) (plain.Running c)
       (makes_local n kind js v k e w well) (
-        shared,
+        shared_declared source pages calls k e w c shared n r kind (Some v.value) home,
         behind_statement loop
-            (data_declared shared.tables source g w.objects e (callers k) old c.active.slots c.globals c.frames n (words_of_kind v.kind) (variable e.home kind (Some v.value)) (room-inside (types_at source g) n v.kind room) room
-            (λ m out. sym (same m out)) (made_value n kind js v k e w c.active.slots slot (types_at source g) well room is) facts)
+            (data_declared grown source g w.objects e (callers k) old c.active.slots c.globals c.frames n (words_of_kind v.kind) (variable e.home kind (Some v.value)) (room-inside (types_at source g) n v.kind room) room (row_declared source pages calls k e w c shared)
+            (λ m out. sym (same m out)) (made_value grown n kind js v k e w c.active.slots slot (types_at source g) well room (Is-grows grows v.kind v.value c.active.slots slot is))
+            (data_grows shared.tables grown grows source g w.objects e.locals (callers k) old c.globals c.frames facts))
             stack,
       )
       (omega arith)
@@ -983,12 +1003,12 @@ module _ (source : Program) (pages calls : ℕ) where
       (omega arith)
   ahead_given v n old (Needs (Store place) ∷ k) e w c well shared same facts is holds (number, object, place_is, found, there, room, hands) =
       subst (λ p. GoesBehind v (Needs (Store p) ∷ k) e w c) (sym place_is)
-      (catches_up object number old v k e w c found (subst (λ p. IsWell (stored_at p v (Given v) k e w)) place_is well) shared
+      (catches_up object number old v k e w c shared found (subst (λ p. IsWell (stored_at p v (Given v) k e w)) place_is well)
       (subst (λ x. (m : ℕ) → Outside x (words_of_kind v.kind) m → old m ≡ c.active.slots m) (sym there) same) facts room
       (subst (Is shared.tables v.kind v.value c.active.slots) (sym there) is) holds
       (subst (λ x. HandsOnStack source c.active.function e.locals v.kind (operands.Slot x) c.active.next c.frames k) (sym there) hands))
   ahead_given v n old (Needs (Initialise number kind js) ∷ k) e w c well shared same facts is holds (loop, q, there, room, items, stack) =
-      initialises_ahead number old kind js v k e w c loop well shared
+      initialises_ahead number old kind js v k e w c loop shared well
       (subst (λ x. (m : ℕ) → Outside x (words_of_kind v.kind) m → old m ≡ c.active.slots m) (sym there) same) facts
       room (subst (Is shared.tables v.kind v.value c.active.slots) (sym there) is) (q, items, stack)
   ahead_given v n old k e w c well shared same facts is holds stack = absurd stack
