@@ -42,6 +42,8 @@ use Rattle.cyc_meaning.specs.Pointers.{takes_kind, followed}
 use Rattle.cyc_meaning.specs.Conversion.{conversion}
 use Rattle.cyc_meaning.specs.State.{Region, World, Environment, with_local, made, variable, written, region_at, Awaiting, ConvertTo, Operate, Chain, Apply, ApplyPointer, Follow, Decide, Store, Pass, Initialise, Choose, Test, Return, Entry, Needs, Discard, Rest, Join, Loop, Focus, Evaluating, Given, Executing, Proceeding, Calling, Returning, Throwing, State, Running}
 use Rattle.cyc_meaning.specs.Step.{leads_to, wrong, object_of, computed, stored_at, declared, passes, tested, awaits_right, chosen, looped, step}
+use Rattle.cyc_meaning.specs.State.{status_of}
+use Rattle.cyc_meaning.specs.SourceMachine.{status_in}
 use Rattle.cyc_lower.specs.Slots.{slot_of}
 use Rattle.cyc_lower.specs.Lowerable.{is_null_test}
 use Rattle.cyc_lower.proofs.Slots.{slot-room, room-inside}
@@ -336,26 +338,22 @@ module _ (source : Program) (pages calls : ℕ) where
   operates_value : (u : UnaryOperator) (i : Kind) (v : Value) (o : Operand) (k : List Entry) (e : Environment) (w : World) (c : Configuration)
       → IsWell (step source (Running (Given (of_kind i v)) (Needs (Operate u) ∷ k) e w)) → Stands (of_kind i v) o k e w c
       → OperatesAt u o k e c → GoesBehind (of_kind i v) (Needs (Operate u) ∷ k) e w c
-  operates_value u i (Thin object offset) o k e w c well (shared, facts, is, holds) stack = absurd (no_pointer i object offset c.active.slots o is)
-  operates_value u i (Fat object start many index) o k e w c well (shared, facts, is, holds) stack = absurd (no_part i object start many index c.active.slots o is)
-  operates_value u i (Handle region) o k e w c well (shared, facts, is, holds) stack = absurd (no_handle i region c.active.slots o is)
-  operates_value u i (Key region) o k e w c well (shared, facts, is, holds) stack = absurd (no_key i region c.active.slots o is)
-  operates_value unary.Negate i Null o k e w c well stands stack = absurd (well refl)
-  operates_value unary.Complement i Null o k e w c well stands stack = absurd (well refl)
-  operates_value unary.Not i Null o k e w c well (shared, facts, is, holds) (d, here, lands) =
-      by_one source pages calls refl shared here
-      (λ choice. landed_word source pages calls 1 (truth (operand_word c.active.slots o == 0)) d k e w c (c.active.next + 1) (ap (λ x. truth (x == 0)) (null_is shared.tables i c.active.slots o is)) shared facts holds refl lands)
+  operates_value unary.Not i v o k e w c well (shared, facts, is, holds) (d, here, lands) =
+      let x = operand_word c.active.slots o in
+      by_one source pages calls
+      (ap (λ z. computed kinds.Int (truth_result z) k e w) (zero_is shared.tables (of_kind i v) c.active.slots o (λ none. well (ap (λ z. status_in (status_of (computed kinds.Int (truth_result z) k e w))) none)) is)) shared here
+      (λ choice. landed_word source pages calls (truth (x == 0)) (truth (x == 0)) d k e w c (c.active.next + 1) refl shared facts holds refl lands)
   operates_value unary.Negate i (Int a) o k e w c well stands stack = operates_word unary.Negate i a o k e w c refl stands stack
   operates_value unary.Complement i (Int a) o k e w c well stands stack = operates_word unary.Complement i a o k e w c refl stands stack
-  operates_value unary.Not i (Int a) o k e w c well stands stack = operates_word unary.Not i a o k e w c refl stands stack
+  operates_value u i v o k e w c well stands stack = absurd (well refl)
 
   -- a condition that is negated is not computed
-  negates : (v : Kinded) (o : Operand) (k : List Entry) (e : Environment) (w : World) (c : Configuration) → Stands v o k e w c
+  negates : (v : Kinded) (o : Operand) (k : List Entry) (e : Environment) (w : World) (c : Configuration) → IsWell (step source (Running (Given v) (Needs (Operate unary.Not) ∷ k) e w)) → Stands v o k e w c
       → ConditionStack source c.active.function comparisons.NotEqual o (operands.Word 0) c.active.next c.frames k → GoesBehind v (Needs (Operate unary.Not) ∷ k) e w c
-  negates v o k e w c (shared, facts, is, holds) stack =
+  negates v o k e w c well (shared, facts, is, holds) stack =
       let x = operand_word c.active.slots o in
       silently source pages calls (Running (Given v) (Needs (Operate unary.Not) ∷ k) e w) (Running (Given (int_of (truth (x == 0)))) k e w) (plain.Running c)
-      (ap (λ z. computed kinds.Int (truth_result z) k e w) (zero_is v c.active.slots o is))
+      (ap (λ z. computed kinds.Int (truth_result z) k e w) (zero_is shared.tables v c.active.slots o (λ none. well (ap (λ z. status_in (status_of (computed kinds.Int (truth_result z) k e w))) none)) is))
       (shared, compared comparisons.NotEqual o (operands.Word 0) facts (ap Some (untrue (x == 0))) stack)
       (omega arith)
 
@@ -363,7 +361,7 @@ module _ (source : Program) (pages calls : ℕ) where
       → IsWell (step source (Running (Given v) (Needs (Operate u) ∷ k) e w)) → Stands v o k e w c
       → ValueStack source c.active.function e.locals v.kind o c.active.next c.frames (Needs (Operate u) ∷ k) → GoesBehind v (Needs (Operate u) ∷ k) e w c
   operates u v o k e w c well stands (to_slot here) = operates_value u v.kind v.value o k e w c well stands here
-  operates u v o k e w c well stands (to_jump (is, stack)) = subst (λ x. GoesBehind v (Needs (Operate x) ∷ k) e w c) (sym is) (negates v o k e w c stands stack)
+  operates u v o k e w c well stands (to_jump (is, stack)) = subst (λ x. GoesBehind v (Needs (Operate x) ∷ k) e w c) (sym is) (negates v o k e w c (subst (λ x. IsWell (step source (Running (Given v) (Needs (Operate x) ∷ k) e w))) is well) stands stack)
 
   -- ---- divisions
 
@@ -529,13 +527,13 @@ module _ (source : Program) (pages calls : ℕ) where
       shared (data_above shared.tables source c.active.function w.objects e.locals (callers k) c.active.slots slots c.globals c.frames free 1 (height-least base (held k)) (λ m out. put_elsewhere c.active.slots free x 1 m (omega arith) out) facts)
       (Holds-same shared.tables c.active.slots slots base (held k) (λ m below. put_elsewhere c.active.slots free x 1 m (omega arith) (inl below)) holds) end lands
 
-  decides_truth : (v : Kinded) (o : Operand) (k : List Entry) (e : Environment) (w : World) (c : Configuration) → Stands v o k e w c
+  decides_truth : (v : Kinded) (o : Operand) (k : List Entry) (e : Environment) (w : World) (c : Configuration) → IsWell (step source (Running (Given v) (Needs Decide ∷ k) e w)) → Stands v o k e w c
       → ValueStack source c.active.function e.locals v.kind o c.active.next c.frames (Needs Decide ∷ k) → GoesBehind v (Needs Decide ∷ k) e w c
-  decides_truth v o k e w c (shared, facts, is, holds) (d, q, there, (first, second, end), lands) =
+  decides_truth v o k e w c well (shared, facts, is, holds) (d, q, there, (first, second, end), lands) =
       let x = c.active.slots (top source c.active.function k) in
       let is_x : IsIn shared.tables v c.active.slots (operands.Slot (top source c.active.function k)) = subst (IsIn shared.tables v c.active.slots) there is in
       by_two source pages calls (negated c k)
-      (ap (λ z. computed kinds.Int (truth_of z) k e w) (zero_is v c.active.slots (operands.Slot (top source c.active.function k)) is_x)) shared shared first (λ choice. refl) second (λ equal. omega (arith, equal))
+      (ap (λ z. computed kinds.Int (truth_of z) k e w) (zero_is shared.tables v c.active.slots (operands.Slot (top source c.active.function k)) (λ none. well (ap (λ z. status_in (status_of (computed kinds.Int (truth_of z) k e w))) none)) is_x)) shared shared first (λ choice. refl) second (λ equal. omega (arith, equal))
       (λ choice. negated_twice (truth (not (x == 0))) d k e w c q refl shared facts holds end lands)
 
   -- ---- chains
@@ -579,28 +577,29 @@ module _ (source : Program) (pages calls : ℕ) where
 
   -- in a place with a test, both ways
   tests : (u : LogicalOperator) (b : Expression) (os : Operations) (v : Kinded) (f : Bool) (k : List Entry) (e : Environment) (w : World) (c : Configuration) (d q : ℕ)
+      → IsWell (step source (Running (Given v) (Needs (Chain (ThenTest u b os)) ∷ k) e w))
       → (c.active.slots (top source c.active.function k) == 0) ≡ f → Stands v (operands.Slot (top source c.active.function k)) k e w c
       → OperationsAt (code_of source c.active.function) (bounds_at source c.active.function) (types_at source c.active.function) (ThenTest u b os) (operands.Slot (top source c.active.function k)) d (top source c.active.function k) c.active.next q
       → LandsStack source c.active.function e.locals kinds.Int d q c.frames k → GoesBehind v (Needs (Chain (ThenTest u b os)) ∷ k) e w c
-  tests logical.AndThen b os v true k e w c d q told (shared, facts, is, holds) (m, r, there, jump, at_b, truths, ops) lands =
-      let does = ap (λ (x : Option Bool). tested x logical.AndThen b os k e w) (zero_is v c.active.slots (operands.Slot (top source c.active.function k)) is ∙ ap Some told) in
+  tests logical.AndThen b os v true k e w c d q well told (shared, facts, is, holds) (m, r, there, jump, at_b, truths, ops) lands =
+      let does = ap (λ (x : Option Bool). tested x logical.AndThen b os k e w) (zero_is shared.tables v c.active.slots (operands.Slot (top source c.active.function k)) (λ none. well (ap (λ x. status_in (status_of (tested x logical.AndThen b os k e w))) none)) is ∙ ap Some told) in
       decided_at_once logical.AndThen b os v true k e w c _ (next_slot os d (top source c.active.function k)) m r does jump (λ choice. ap (λ x. plain_step.branches c x m) told)
       (λ x same. let f : jump_if_zero _ m ≡ instructions.Unary plain_unary.Not x _ = same in cc) told shared facts holds truths
       (chain_lands os c.active.function e.locals d r q c.frames k ops lands)
-  tests logical.AndThen b os v false k e w c d q told (shared, facts, is, holds) (m, r, there, jump, at_b, truths, ops) lands =
+  tests logical.AndThen b os v false k e w c d q well told (shared, facts, is, holds) (m, r, there, jump, at_b, truths, ops) lands =
       let free = top source c.active.function k in
-      let does = ap (λ (x : Option Bool). tested x logical.AndThen b os k e w) (zero_is v c.active.slots (operands.Slot (top source c.active.function k)) is ∙ ap Some told) in
+      let does = ap (λ (x : Option Bool). tested x logical.AndThen b os k e w) (zero_is shared.tables v c.active.slots (operands.Slot (top source c.active.function k)) (λ none. well (ap (λ x. status_in (status_of (tested x logical.AndThen b os k e w))) none)) is ∙ ap Some told) in
       by_one source pages calls does shared jump
       (λ choice. not_taken (Running (Evaluating b) (Needs Decide ∷ Needs (Chain os) ∷ k) e w) c _ m told
       (shared, facts, into_slot free m at_b holds (in_temporary (omega arith) (next_slot os d free, r, refl, truths, chain_lands os c.active.function e.locals d r q c.frames k ops lands))))
-  tests logical.OrElse b os v true k e w c d q told (shared, facts, is, holds) (m, r, there, jump, at_b, truths, ops) lands =
+  tests logical.OrElse b os v true k e w c d q well told (shared, facts, is, holds) (m, r, there, jump, at_b, truths, ops) lands =
       let free = top source c.active.function k in
-      let does = ap (λ (x : Option Bool). tested x logical.OrElse b os k e w) (zero_is v c.active.slots (operands.Slot (top source c.active.function k)) is ∙ ap Some told) in
+      let does = ap (λ (x : Option Bool). tested x logical.OrElse b os k e w) (zero_is shared.tables v c.active.slots (operands.Slot (top source c.active.function k)) (λ none. well (ap (λ x. status_in (status_of (tested x logical.OrElse b os k e w))) none)) is ∙ ap Some told) in
       by_one source pages calls does shared jump
       (λ choice. not_taken (Running (Evaluating b) (Needs Decide ∷ Needs (Chain os) ∷ k) e w) c _ m (ap not told)
       (shared, facts, into_slot free m at_b holds (in_temporary (omega arith) (next_slot os d free, r, refl, truths, chain_lands os c.active.function e.locals d r q c.frames k ops lands))))
-  tests logical.OrElse b os v false k e w c d q told (shared, facts, is, holds) (m, r, there, jump, at_b, truths, ops) lands =
-      let does = ap (λ (x : Option Bool). tested x logical.OrElse b os k e w) (zero_is v c.active.slots (operands.Slot (top source c.active.function k)) is ∙ ap Some told) in
+  tests logical.OrElse b os v false k e w c d q well told (shared, facts, is, holds) (m, r, there, jump, at_b, truths, ops) lands =
+      let does = ap (λ (x : Option Bool). tested x logical.OrElse b os k e w) (zero_is shared.tables v c.active.slots (operands.Slot (top source c.active.function k)) (λ none. well (ap (λ x. status_in (status_of (tested x logical.OrElse b os k e w))) none)) is ∙ ap Some told) in
       decided_at_once logical.OrElse b os v false k e w c _ (next_slot os d (top source c.active.function k)) m r does jump (λ choice. ap (λ x. plain_step.branches c (not x) m) told)
       (λ x same. let f : jump_if_nonzero _ m ≡ instructions.Unary plain_unary.Not x _ = same in cc) told shared facts holds truths
       (chain_lands os c.active.function e.locals d r q c.frames k ops lands)
@@ -663,7 +662,7 @@ module _ (source : Program) (pages calls : ℕ) where
   chains (ThenCompute u b NoOperations) v o k e w c well stands (to_jump (failing, r, q, (is, at_b), stack)) =
       chain_goes_on (operand_of (starts_at source c.active.function) b) u b NoOperations v o k e w c r q well refl stands at_b (to_jump (failing, is, stack))
   chains (ThenTest u b os) v o k e w c well (shared, facts, is, holds) (to_slot (d, q, (m, r, there, jump, at_b, truths, ops), lands)) =
-      tests u b os v (c.active.slots (top source c.active.function k) == 0) k e w c d q refl
+      tests u b os v (c.active.slots (top source c.active.function k) == 0) k e w c d q well refl
       (shared, facts, subst (IsIn shared.tables v c.active.slots) there is, holds) (m, r, refl, jump, at_b, truths, ops) lands
   chains (ThenPointer u typed.NullPointer os) v o k e w c well (shared, facts, is, holds) (to_slot (d, q, (there, test, here, ops), lands)) =
       let g = c.active.function in
@@ -960,14 +959,14 @@ module _ (source : Program) (pages calls : ℕ) where
       applies u left v k e w c well shared facts (operands.Slot (top source c.active.function k), o, is_left, is, holds, applied)
   stands_given v o (Needs (ApplyPointer peek u left) ∷ k) e w c well (shared, facts, is, (is_left, holds)) (d, test, here, lands) =
       compares_null u peek left.kind v.kind left.value v.value d k e w c well test shared facts is_left holds here lands
-  stands_given v o (Needs Decide ∷ k) e w c well stands stack = decides_truth v o k e w c stands stack
+  stands_given v o (Needs Decide ∷ k) e w c well stands stack = decides_truth v o k e w c well stands stack
   stands_given v o (Needs (Store place) ∷ k) e w c well stands stack = stores_at place v o k e w c well stands stack
   stands_given v o (Needs (Pass f before cs) ∷ k) e w c well stands stack = hands_on f before cs v o k e w c stands stack
   stands_given v o (Needs (Initialise n kind js) ∷ k) e w c well stands stack = initialises n kind js v o k e w c well stands stack
   stands_given v o (Needs (Choose s t) ∷ k) e w c well (shared, facts, is, holds) stack =
-      chooses s t v (operand_word c.active.slots o == 0) comparisons.Equal o (operands.Word 0) k e w c (zero_is v c.active.slots o is) refl shared facts stack
+      chooses s t v (operand_word c.active.slots o == 0) comparisons.Equal o (operands.Word 0) k e w c (zero_is shared.tables v c.active.slots o (λ none. well (ap (λ x. status_in (status_of (chosen x s t k e w))) none)) is) refl shared facts stack
   stands_given v o (Needs (Test a s) ∷ k) e w c well (shared, facts, is, holds) stack =
-      loops a s v (operand_word c.active.slots o == 0) comparisons.Equal o (operands.Word 0) k e w c (zero_is v c.active.slots o is) refl shared facts stack
+      loops a s v (operand_word c.active.slots o == 0) comparisons.Equal o (operands.Word 0) k e w c (zero_is shared.tables v c.active.slots o (λ none. well (ap (λ x. status_in (status_of (looped x a s k e w))) none)) is) refl shared facts stack
   stands_given v o (Needs Return ∷ k) e w c well (shared, facts, is, holds) (loop, q, s, there, here, single, stack) =
       silently source pages calls (Running (Given v) (Needs Return ∷ k) e w) (Running (Returning (Some v)) k e w) (plain.Running c) refl
       (shared, facts, (loop, q, s, here, subst (IsIn shared.tables v c.active.slots) there is, single, stack))
@@ -988,7 +987,7 @@ module _ (source : Program) (pages calls : ℕ) where
       (omega arith)
   dropped_given v k e w c shared facts stack = absurd stack
 
-  ahead_given : (v : Kinded) (n : ℕ) (old : Words) (k : List Entry) (e : Environment) (w : World) (c : Configuration) → IsWell (step source (Running (Given v) k e w)) → SharedAt source pages calls k e w c
+  ahead_given : (v : Kinded) (n : ℕ) (old : Words) (k : List Entry) (e : Environment) (w : World) (c : Configuration) → IsWell (step source (Running (Given v) k e w)) → (shared : SharedAt source pages calls k e w c)
       → ((m : ℕ) → Outside n (words_of_kind v.kind) m → old m ≡ c.active.slots m) → DataIn source shared.tables old k e w c
       → Is shared.tables v.kind v.value c.active.slots n → Holds shared.tables c.active.slots (base_of source c.active.function) (held k)
       → AheadStack source c.active.function e.locals v.kind n c.active.next c.frames k → GoesBehind v k e w c
