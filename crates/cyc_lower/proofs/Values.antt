@@ -141,6 +141,26 @@ module _ (t : Tables) where
   not_zero kind object offset slots o is =
       false_from_ne_true (operand_word slots o == 0) (λ h. not-null (points_in kind object offset slots o is) (eqb-true (operand_word slots o) 0 h))
 
+  part_at : (kind : Kind) (object start many index : ℕ) (words : Words) (p : ℕ) → Is t kind (Fat object start many index) words p → Is t kinds.Fat (Fat object start many index) words p
+  part_at kinds.Fat object start many index words p is = is
+  part_at kind object start many index words p is = absurd is
+
+  handle_at : (kind : Kind) (region : ℕ) (words : Words) (p : ℕ) → Is t kind (Handle region) words p → Is t kinds.Handle (Handle region) words p
+  handle_at kinds.Handle region words p is = is
+  handle_at kind region words p is = absurd is
+
+  key_at : (kind : Kind) (region : ℕ) (words : Words) (p : ℕ) → Is t kind (Key region) words p → Is t kinds.Key (Key region) words p
+  key_at kinds.Key region words p is = is
+  key_at kind region words p is = absurd is
+
+  -- one word is no fat pointer
+  no_fat : (kind : Kind) (v : Value) (w : ℕ) → conversion kinds.Fat v ≡ Gives v → IsWord t kind v w → (v ≡ Null → ⊥) → ⊥
+  no_fat kind Null w gives is other = other refl
+  no_fat kind (Thin object offset) w gives is other = let f : Gives (Fat object offset 1 0) ≡ Gives (Thin object offset) = gives in cc
+  no_fat kinds.Fat (Fat object start many index) w gives is other = is
+  no_fat kind (Fat object start many index) w gives is other = is
+  no_fat kind v w gives is other = let f : Misfits ≡ Gives v = gives in cc
+
   -- a value that is converted without a change keeps its words
   kept_at : (from to : Kind) (v : Value) (words : Words) (p : ℕ) → conversion to v ≡ Gives v → Is t from v words p → Is t to v words p
   kept_at from kinds.Int (Int a) words p gives is = int_at from a words p is
@@ -150,22 +170,22 @@ module _ (t : Tables) where
   kept_at from kinds.Nullable (Thin object offset) words p gives is = points_at from object offset words p is
   kept_at from kinds.NonNull (Thin object offset) words p gives is = points_at from object offset words p is
   kept_at from kinds.Fat (Thin object offset) words p gives is = absurd (let f : Gives (Fat object offset 1 0) ≡ Gives (Thin object offset) = gives in cc)
-  kept_at kinds.Fat kinds.Fat (Fat object start many index) words p gives is = is
-  kept_at kinds.Fat kinds.Nullable (Fat object start many index) words p gives is = absurd (not_thinned object start index (nat_lt index many) gives)
-  kept_at kinds.Fat kinds.NonNull (Fat object start many index) words p gives is = absurd (not_thinned object start index (nat_lt index many) gives)
-  kept_at kinds.Handle kinds.Handle (Handle region) words p gives is = is
-  kept_at kinds.Key kinds.Key (Key region) words p gives is = is
-  kept_at from to v words p gives is = absurd (misfits from to v words p gives is)
+  kept_at from kinds.Fat (Fat object start many index) words p gives is = part_at from object start many index words p is
+  kept_at from kinds.Nullable (Fat object start many index) words p gives is = absurd (not_thinned object start index (nat_lt index many) gives)
+  kept_at from kinds.NonNull (Fat object start many index) words p gives is = absurd (not_thinned object start index (nat_lt index many) gives)
+  kept_at from kinds.Handle (Handle region) words p gives is = handle_at from region words p is
+  kept_at from kinds.Key (Key region) words p gives is = key_at from region words p is
+  kept_at from to v words p gives is = absurd (let f : Misfits ≡ Gives v = gives in cc)
 
   kept_word : (from to : Kind) (v : Value) (w : ℕ) → conversion to v ≡ Gives v → IsWord t from v w → IsWord t to v w
-  kept_word from kinds.Fat Null w gives is = null_at from (λ (i : ℕ). w) 0 (IsWord-is t from Null w (λ (i : ℕ). w) 0 refl is)
-  kept_word from to v w gives is = single to
-    where
-      now : Is t to v (λ (i : ℕ). w) 0
-      now = kept_at from to v (λ (i : ℕ). w) 0 gives (IsWord-is t from v w (λ (i : ℕ). w) 0 refl is)
-
-      single : (kind : Kind) → IsWord t to v w
-      single kind = one_word t to v (λ (i : ℕ). w) 0 ONE now
+  kept_word from kinds.Fat Null w gives is = kept_at from kinds.Fat Null (λ (i : ℕ). w) 0 gives (IsWord-is t from Null w (λ (i : ℕ). w) 0 refl is)
+  kept_word kinds.Fat kinds.Fat (Fat object start many index) w gives is = absurd is
+  kept_word from kinds.Fat v w gives is = absurd (no_fat from v w gives is (λ same. let f : v ≡ Null = same in cc))
+  kept_word from kinds.Int v w gives is = kept_at from kinds.Int v (λ (i : ℕ). w) 0 gives (IsWord-is t from v w (λ (i : ℕ). w) 0 refl is)
+  kept_word from kinds.Nullable v w gives is = kept_at from kinds.Nullable v (λ (i : ℕ). w) 0 gives (IsWord-is t from v w (λ (i : ℕ). w) 0 refl is)
+  kept_word from kinds.NonNull v w gives is = kept_at from kinds.NonNull v (λ (i : ℕ). w) 0 gives (IsWord-is t from v w (λ (i : ℕ). w) 0 refl is)
+  kept_word from kinds.Handle v w gives is = kept_at from kinds.Handle v (λ (i : ℕ). w) 0 gives (IsWord-is t from v w (λ (i : ℕ). w) 0 refl is)
+  kept_word from kinds.Key v w gives is = kept_at from kinds.Key v (λ (i : ℕ). w) 0 gives (IsWord-is t from v w (λ (i : ℕ). w) 0 refl is)
 
   kept_in : (from to : Kind) (v : Value) (slots : Words) (o : Operand) → conversion to v ≡ Gives v → IsIn t (of_kind from v) slots o → IsIn t (of_kind to v) slots o
   kept_in from to v slots (operands.Slot n) gives is = kept_at from to v slots n gives is
@@ -780,7 +800,7 @@ module _ (source : Program) (pages calls : ℕ) where
 
   -- the local has the value already
   catches_up : (object n : ℕ) (old : Words) (v : Kinded) (k : List Entry) (e : Environment) (w : World) (c : Configuration) (shared : SharedAt source pages calls k e w c)
-      → e.locals n ≡ Some object → IsWell (stored_at (Thin object 0) v (Given v) k e w) → SharedAt source pages calls k e w c
+      → e.locals n ≡ Some object → IsWell (stored_at (Thin object 0) v (Given v) k e w)
       → ((m : ℕ) → Outside (slot_of (starts_at source c.active.function) n) (words_of_kind v.kind) m → old m ≡ c.active.slots m) → DataIn source shared.tables old k e w c
       → HasRoom (types_at source c.active.function) n v.kind
       → Is shared.tables v.kind v.value c.active.slots (slot_of (starts_at source c.active.function) n) → Holds shared.tables c.active.slots (base_of source c.active.function) (held k)
@@ -873,7 +893,7 @@ module _ (source : Program) (pages calls : ℕ) where
       ))
 
   initialises_ahead : (n : ℕ) (old : Words) (kind : Kind) (js : Items) (v : Kinded) (k : List Entry) (e : Environment) (w : World) (c : Configuration) (loop : ℕ) (shared : SharedAt source pages calls k e w c)
-      → IsWell (step source (Running (Given v) (Needs (Initialise n kind js) ∷ k) e w)) → SharedAt source pages calls k e w c
+      → IsWell (step source (Running (Given v) (Needs (Initialise n kind js) ∷ k) e w))
       → ((m : ℕ) → Outside (slot_of (starts_at source c.active.function) n) (words_of_kind v.kind) m → old m ≡ c.active.slots m)
       → DataIn source shared.tables old (Needs (Initialise n kind js) ∷ k) e w c
       → HasRoom (types_at source c.active.function) n v.kind → Is shared.tables v.kind v.value c.active.slots (slot_of (starts_at source c.active.function) n)
