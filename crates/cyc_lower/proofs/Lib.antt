@@ -35,5 +35,7 @@ pub mod Slots
 pub mod LocalSlots
 pub mod Widths
 pub mod Moves
+-- the words of places that a pointer leads to
+pub mod PlaceWords
 -- worked examples
 pub mod Examples
