@@ -378,7 +378,7 @@ abbrev {name} : t.Program
 # --- Programs with the ending of their runs ---
 
 HERE = os.path.dirname(os.path.abspath(__file__))
-SHORT = 500
+STEPS_STATED = 500
 ACCEPTED = """-- Programs that the rules accept, run through the ends of their scopes: none is dead or wrong. Each is proved by computation."""
 REFUSED = """-- Programs that the rules refuse, as the trees that a checker would make without the rules of that one code: each is dead or wrong.
 -- Each is proved by computation."""
@@ -430,7 +430,7 @@ def stated(head, text):
 {comment}abbrev {name} : t.Program
 {name} = {Writer(program).program_tree()}
 
-{name}_ends : status_of (run {name} [] {SHORT}) ≡ {end}
+{name}_ends : status_of (run {name} [] {STEPS_STATED}) ≡ {end}
 unfolding slt_of sar_of div_of rem_of
 {name}_ends = refl
 """

@@ -4,11 +4,9 @@ use Rattle.std.specs.Prelude.{if◌then◌else◌, nat_lt}
 use Rattle.std.proofs.lemmas.Bool.{ltb-true}
 use Rattle.cyc_syntax.specs.declared.tree.PointerKind.{PointerKind}
 use Rattle.cyc_syntax.specs.declared.tree.PointerKind.TheVariants as marks
-use Rattle.cyc_types.specs.declared.region.Region.{Region}
 use Rattle.cyc_types.specs.declared.typed.Kind.TheVariants as kinds
 use Rattle.cyc_types.specs.declared.typed.Operator.{Operator}
 use Rattle.cyc_types.specs.declared.typed.UnaryOperator.TheVariants as unary
-use Rattle.cyc_types.specs.Outlives.{RegionContext, IsGiven, itself, given, through}
 use Rattle.cyc_types.specs.Types.{Ty, ValueType}
 use Rattle.cyc_types.specs.Types as types
 use Rattle.cyc_types.specs.typing.Tests.{is_tested}
@@ -29,12 +27,6 @@ outlasts_through : (a b c : Life) → Outlasts a b → Outlasts b c → Outlasts
 outlasts_through a b c (alike _) second = second
 outlasts_through a b c (for_ever _) second = for_ever c
 outlasts_through a b c (with_globals _) second = with_globals c
-
--- Where what is given agrees, so does all that follows from it.
-pub given_agree : (c : RegionContext) (n : Lives) → ((a b : Region) → IsGiven c a b → Outlasts (n a) (n b)) → AgreesWith c n
-given_agree c n agree a b (itself _) = alike (n a)
-given_agree c n agree a b (given _ _ is) = agree a b is
-given_agree c n agree a d (through _ b _ first second) = outlasts_through (n a) (n b) (n d) (given_agree c n agree a b first) (given_agree c n agree b d second)
 
 module _ (g : Typing) where
   -- ---- ints
