@@ -96,7 +96,7 @@ module _ (code : List Instruction) (bounds : Numbering) (types : List Ty) where
         × CopyAt code (passed_words c) o d m q
     ExpressionAt (Assign (Global n) c ty) d t p q =
         (o : Operand) × (m : ℕ)
-        × ((r : ℕ) × ConvertedOperandAt c t o p r × (n < bounds.globals) × At code r (instructions.StoreGlobal n o) × (r + 1 ≡ m))
+        × ((r : ℕ) × ConvertedOperandAt c t o p r × (n < bounds.globals) × (words_of_kind (passed_kind c) ≡ 1) × At code r (instructions.StoreGlobal n o) × (r + 1 ≡ m))
         × CopyAt code (passed_words c) o d m q
     ExpressionAt (Load x) d t p q = DereferenceAt x d t p q
     ExpressionAt a d t p q = ⊥
@@ -186,7 +186,7 @@ module _ (code : List Instruction) (bounds : Numbering) (types : List Ty) where
   abbrev pub AssignmentAt : Lvalue → Converted → Operand → (t p q : ℕ) → Type 0
   AssignmentAt (Local w n) c o t p q = (o ≡ operands.Slot (slot_of (starts_of types) n)) × HasRoom types n (passed_kind c) × InitialAt c (slot_of (starts_of types) n) t p q
   AssignmentAt (Global n) c o t p q =
-      (r : ℕ) × ConvertedOperandAt c t o p r × (n < bounds.globals) × At code r (instructions.StoreGlobal n o) × (r + 1 ≡ q)
+      (r : ℕ) × ConvertedOperandAt c t o p r × (n < bounds.globals) × (words_of_kind (passed_kind c) ≡ 1) × At code r (instructions.StoreGlobal n o) × (r + 1 ≡ q)
 
   -- the value of an expression is dropped
   abbrev pub DiscardedAt : Expression → (t p q : ℕ) → Type 0
