@@ -78,4 +78,5 @@ module _ (source : Program) (pages calls : ℕ) where
       (landed source pages calls v after d k e w c (c.active.next + 1) shared
       (subst (λ i. Is shared.tables i found.value after d) found.same (stands after d (put-same c.active.slots d (c.store.memory word))))
       (λ m out. put_elsewhere c.active.slots d (c.store.memory word) (words_of_kind kind) m (kind_positive kind) out) facts holds refl lands))
+  given_place (Thin object offset) k e w c well (shared, facts, (o, more, points, holds, place)) = absurd place
   given_place place k e w c well (shared, facts, at) = absurd at
