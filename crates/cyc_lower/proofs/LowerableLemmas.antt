@@ -17,7 +17,7 @@ module _ (b : Numbering) where
     lowerable a numbered = absurd numbered
 
     lowerable_converted : (c : Converted) → IsNumberedConverted b c → IsLowerableConverted b c
-    lowerable_converted (Convert from to a) numbered = lowerable a numbered
+    lowerable_converted (Convert from to a) (numbered, narrow_from, narrow_to) = lowerable a numbered
 
     lowerable_arguments : (cs : Arguments) → AreNumberedArguments b cs → AreLowerableArguments b cs
     lowerable_arguments NoArguments numbered = tt
