@@ -5,11 +5,11 @@ use Rattle.std.proofs.lemmas.Option.{none-some, same_Some}
 use Rattle.cyc_words.specs.Simulation.{Failed}
 use Rattle.cyc_types.specs.declared.typed.Kind.{Kind}
 use Rattle.cyc_meaning.specs.Values.{Value, Operand, Cell, is_kind}
-use Rattle.cyc_meaning.specs.State.{Sort, Heap, Globals, Stack, Lexical, Dynamic, Region, Object, World, Access, Found, Closed, Missing, found_region, region_at, is_live, Located, located, cell_in, cell_at, stack_region, closed, written, has_pages, counted, Environment, with_local, made, variable, Entry, Focus, Given, State, Running, status_of}
+use Rattle.cyc_meaning.specs.State.{Region, Object, World, Access, Found, Closed, Missing, found_region, region_at, is_live, Located, located, cell_in, cell_at, closed, written, Environment, with_local, made, variable, Entry, Focus, Given, State, Running, status_of}
 use Rattle.cyc_meaning.specs.Step.{wrong, read, loaded, loaded_from, stored, declared, closing}
 use Rattle.cyc_meaning.specs.SourceMachine.{status_in}
 use Rattle.cyc_lower.proofs.Widths.{same_kind}
-use Rattle.cyc_lower.proofs.Relation.{with_kind, content_of_cell, content_of, contents, IsQuietSort, AreQuiet}
+use Rattle.cyc_lower.proofs.Relation.{with_kind, content_of_cell, content_of, contents}
 use Rattle.cyc_lower.proofs.Data.{get_set_same, get_set_other}
 
 abbrev pub IsWell : State → Type 0
@@ -122,7 +122,7 @@ is_declared Missing focus number kind content stack e w well = absurd (well refl
 
 -- ---- a region is closed
 
-found : (r : Option Region) (x : Region) → found_region r ≡ Found x → r ≡ Some x
+pub found : (r : Option Region) (x : Region) → found_region r ≡ Found x → r ≡ Some x
 found None x e = absurd (let f : Missing ≡ Found x = e in cc)
 found (Some r) x e = open_one r.is_open e
   where
@@ -146,35 +146,12 @@ is_closed focus number home stack e w well =
     let (r, is, gives) = closes (region_at w number) focus number home stack e w well in
     record { region = r; there = found (slice_get w.regions number) r is; gives = gives }
 
--- ---- regions of variables count no pages
-
-pub quiet_opened : (regions : List Region) → AreQuiet regions → AreQuiet (regions ++ stack_region ∷ [])
-quiet_opened [] quiet = (tt, tt)
-quiet_opened (r ∷ regions) (first, rest) = (first, quiet_opened regions rest)
-
-pub quiet_closed : (regions : List Region) (n : ℕ) (r : Region) → AreQuiet regions → slice_get regions n ≡ Some r → AreQuiet (set regions n (record r { is_open = false }))
-quiet_closed [] n r quiet at = absurd (none-some r at)
-quiet_closed (s ∷ regions) zero r (first, rest) at = (subst (λ (x : Region). IsQuietSort x.sort) (same_Some s r at) first, rest)
-quiet_closed (s ∷ regions) (suc n) r (first, rest) at = (first, quiet_closed regions n r rest at)
-
-pages_alike : (sort : Sort) (b c : Bool) → IsQuietSort sort → has_pages sort b ≡ has_pages sort c
-pages_alike Heap b c quiet = refl
-pages_alike Globals b c quiet = refl
-pages_alike Stack b c quiet = refl
-pages_alike Lexical b c quiet = absurd quiet
-pages_alike Dynamic b c quiet = absurd quiet
-
-abbrev counted_with : Bool → List ℕ → List (List ℕ) → List (List ℕ)
-counted_with b blocks regions = if b then blocks ∷ regions else regions
-
-pub counted_opened : (regions : List Region) → counted (regions ++ stack_region ∷ []) ≡ counted regions
-counted_opened [] = refl
-counted_opened (r ∷ regions) = ap (counted_with (has_pages r.sort r.is_open) r.blocks) (counted_opened regions)
-
-pub counted_closed : (regions : List Region) (n : ℕ) (r : Region) → AreQuiet regions → slice_get regions n ≡ Some r → counted (set regions n (record r { is_open = false })) ≡ counted regions
-counted_closed [] n r quiet at = absurd (none-some r at)
-counted_closed (s ∷ regions) zero r (first, rest) at =
-    let same : s ≡ r = same_Some s r at in
-    ap (λ (x : Region). counted_with (has_pages x.sort false) x.blocks (counted regions)) (sym same)
-    ∙ ap (λ b. counted_with b s.blocks (counted regions)) (pages_alike s.sort false s.is_open first)
-counted_closed (s ∷ regions) (suc n) r (first, rest) at = ap (counted_with (has_pages s.sort s.is_open) s.blocks) (counted_closed regions n r rest at)
+-- a variable is declared in a region that is there
+pub home_there : (focus : Focus) (number : ℕ) (kind : Kind) (content : Option Value) (stack : List Entry) (e : Environment) (w : World)
+    → IsWell (declared (region_at w e.home) focus number kind content stack e w) → (r : Region) × (slice_get w.regions e.home ≡ Some r)
+home_there focus number kind content stack e w well = by (region_at w e.home) refl well
+  where
+    by : (a : Access Region) → region_at w e.home ≡ a → IsWell (declared a focus number kind content stack e w) → (r : Region) × (slice_get w.regions e.home ≡ Some r)
+    by (Found r) is well = (r, found (slice_get w.regions e.home) r is)
+    by Closed is well = absurd (well refl)
+    by Missing is well = absurd (well refl)

@@ -35,12 +35,15 @@ use Rattle.cyc_lower.specs.Slots.{starts_of, slot_of}
 use Rattle.cyc_lower.proofs.Slots.{slot-parameter, words-parameter, slot_types-many, words-append}
 use Rattle.cyc_lower.proofs.Widths.{kind_of_result, result_kind, same_kind, type_words, words_in, HasRoom}
 use Rattle.cyc_lower.proofs.Values.{of_kind, int_is}
-use Rattle.cyc_lower.proofs.Relation.{Is, IsIn, words_held, Holds, HoldsFrom, held, callers, Shared, DataAt, DataIn, SharedAt, prints_only, gives_byte, StatementStack, LandsStack, PrintsStack, nowhere, behind_statement, Related, Matches, code_of, types_in, types_at, starts_at, parameters_in, parameters_at, bounds_in, bounds_at, called_at, returned_at, base_of, top}
-use Rattle.cyc_lower.proofs.Data.{words-reverse, Holds-rest, in_order, arguments_copied, data_declared, data_called}
-use Rattle.cyc_lower.proofs.Accesses.{IsWell, is_fitting, is_declared}
+use Rattle.cyc_objects.specs.Tables.{Variable, Tables, with_row, with_handle}
+use Rattle.cyc_objects.specs.Words.{Is}
+use Rattle.cyc_objects.proofs.Values.{Grows-row, Grows-handle, Is-grows}
+use Rattle.cyc_lower.proofs.Relation.{IsIn, words_held, Holds, HoldsFrom, held, callers, homes, Shared, DataAt, DataIn, SharedAt, prints_only, gives_byte, StatementStack, LandsStack, PrintsStack, nowhere, behind_statement, Related, Matches, code_of, types_in, types_at, starts_at, parameters_in, parameters_at, bounds_in, bounds_at, called_at, returned_at, base_of, top}
+use Rattle.cyc_lower.proofs.Data.{words-reverse, Holds-rest, in_order, arguments_copied, data_declared, data_called, data_grows, HoldsFrom-grows}
+use Rattle.cyc_lower.proofs.Accesses.{IsWell, is_fitting, is_declared, home_there}
 use Rattle.cyc_lower.proofs.Matched.{IsMatched, above, below, matching, silently, by_one, by_two_known, shared_within, shared_way, steps_to, place_in, known, lands_depth}
 use Rattle.cyc_lower.proofs.Evaluations.{IsStep, landed_word, lands_at}
-use Rattle.cyc_lower.proofs.StatementSteps.{shared_opened}
+use Rattle.cyc_lower.proofs.Sharing.{shared_declared, row_declared, shared_opened}
 
 module _ (source : Program) (pages calls : ℕ) where
   -- ---- services
@@ -52,13 +55,14 @@ module _ (source : Program) (pages calls : ℕ) where
       let read : Configuration = record c { input = drop 1 c.input } in
       let word = unwrap_or (slice_get c.input 0) (2 ^ 32 - 1) in
       let byte = unwrap_or (slice_get w.input 0) (2 ^ 32 - 1) in
-      let shared_read : SharedAt source pages calls next read = record {
+      let shared_read : SharedAt source pages calls k e next read = record {
         same_output = shared.same_output;
         same_input = ap (drop 1) shared.same_input;
         few_pages = shared.few_pages;
-        quiet = shared.quiet;
-        same_sizes = shared.same_sizes;
-        same_classes = shared.same_classes;
+        tables = shared.tables;
+        related = shared.related;
+        globals = shared.globals;
+        variables = shared.variables;
         fits = shared.fits;
       } in
       by_one source pages calls refl shared here
@@ -67,26 +71,27 @@ module _ (source : Program) (pages calls : ℕ) where
   low_byte_of : (a : ℕ) → bit_and a 255 ≡ a % 256
   low_byte_of a = and_numeral a 254 refl
 
-  shared_printed : (a x : ℕ) (w : World) (c : Configuration) → SharedAt source pages calls w c → x ≡ a
-      → SharedAt source pages calls (record w { output = w.output ++ a % 256 ∷ [] }) (advanced (record c { output = c.output ++ x % 256 ∷ [] }))
-  shared_printed a x w c shared is = record {
+  abbrev shared_printed : (a x : ℕ) (k : List Entry) (e : Environment) (w : World) (c : Configuration) → (shared : SharedAt source pages calls k e w c) → x ≡ a
+      → SharedAt source pages calls k e (record w { output = w.output ++ a % 256 ∷ [] }) (advanced (record c { output = c.output ++ x % 256 ∷ [] }))
+  shared_printed a x k e w c shared is = record {
     same_output = ap (λ (l : List ℕ). l ++ x % 256 ∷ []) shared.same_output ∙ ap (λ y. w.output ++ y % 256 ∷ []) is;
     same_input = shared.same_input;
     few_pages = shared.few_pages;
-    quiet = shared.quiet;
-    same_sizes = shared.same_sizes;
-    same_classes = shared.same_classes;
+    tables = shared.tables;
+    related = shared.related;
+    globals = shared.globals;
+    variables = shared.variables;
     fits = shared.fits;
   }
 
   -- the byte is printed, and then its value is dropped, or comes to a slot
   prints : (i : Kind) (a : ℕ) (o : Operand) (k : List Entry) (e : Environment) (w : World) (c : Configuration)
-      → SharedAt source pages calls w c → DataIn source c.active.slots k e w c → operand_word c.active.slots o ≡ a → Holds c.active.slots (base_of source c.active.function) (held k)
+      → (shared : SharedAt source pages calls k e w c) → DataIn source shared.tables c.active.slots k e w c → operand_word c.active.slots o ≡ a → Holds shared.tables c.active.slots (base_of source c.active.function) (held k)
       → PrintsStack source c.active.function e.locals o c.active.next c.frames k
       → IsMatched source pages calls (Running (Calling callees.Putchar (record { kind = i; value = Int a } ∷ [])) k e w) (plain.Running c)
   prints i a o k e w c shared facts is holds (write, prints_only stack) =
       by_one source pages calls refl shared write
-      (λ choice. (shared_printed a (operand_word c.active.slots o) w c shared is, nowhere facts stack))
+      (λ choice. (shared_printed a (operand_word c.active.slots o) k e w c shared is, nowhere facts stack))
   prints i a o k e w c shared facts is holds (write, gives_byte d low lands) =
       let x = operand_word c.active.slots o in
       let s = Running (Calling callees.Putchar (record { kind = i; value = Int a } ∷ [])) k e w in
@@ -94,10 +99,10 @@ module _ (source : Program) (pages calls : ℕ) where
       let after = Running (Given (record { kind = kinds.Int; value = Int (a % 256) })) k e next in
       let first : Configuration = advanced (record c { output = c.output ++ x % 256 ∷ [] }) in
       let last : Configuration = advanced (with_slots first (put c.active.slots d (bit_and x 255))) in
-      let shared_next : SharedAt source pages calls next first = shared_printed a x w c shared is in
+      let shared_next : SharedAt source pages calls k e next first = shared_printed a x k e w c shared is in
       let done : Related source pages calls (Given (record { kind = kinds.Int; value = Int (a % 256) })) k e next last =
       landed_word source pages calls (a % 256) (bit_and x 255) d k e next first (c.active.next + 1 + 1) (low_byte_of x ∙ ap (λ y. y % 256) is) shared_next facts holds refl lands in
-      by_two_known source pages calls first refl shared (shared_within source pages calls next first shared_next)
+      by_two_known source pages calls first refl shared (shared_within source pages calls k e next first shared_next)
       (way_after (above source pages calls) (below source pages calls) (matching source pages calls) s after (plain.Running first)
       (steps_to source pages calls s after (plain.Running last) refl done) (IsPrefix-append w.output (a % 256 ∷ [])) refl shared_next.same_output)
       write (λ choice. refl) low (λ same. omega (arith, same)) (λ choice. done)
@@ -106,15 +111,18 @@ module _ (source : Program) (pages calls : ℕ) where
   prints_value i (Int a) k e w c well (shared, facts, (u, o, single, is, holds, stack)) =
       let v : Kinded = record { kind = i; value = Int a } in
       let same : v ≡ u = let f : v ∷ [] ≡ u ∷ [] = single in cc in
-      prints i a o k e w c shared facts (int_is i a c.active.slots o (subst (λ (x : Kinded). IsIn x c.active.slots o) (sym same) is)) holds stack
+      prints i a o k e w c shared facts (int_is shared.tables i a c.active.slots o (subst (λ (x : Kinded). IsIn shared.tables x c.active.slots o) (sym same) is)) holds stack
   prints_value i v k e w c well related = absurd (well refl)
 
   -- ---- the parameters of a call
 
   pub entering : (h : Function) (arguments : List Kinded) (k : List Entry) (e : Environment) (w : World) (c : Configuration) → IsStep source pages calls (Entering h arguments) k e w c
   entering h arguments k e w c well (shared, facts, (m, items, stack, holds, own)) =
-      silently source pages calls (Running (Entering h arguments) k e w) (Running (Binding 0 h.parameters arguments h.body) (region_end e w ∷ k) (inside e w) (opened w)) (plain.Running c) refl
-      (shared_opened source pages calls w c shared, facts, (m, [], items, stack, holds, own, refl))
+      silently source pages calls (Running (Entering h arguments) k e w) (Running (Binding 0 h.parameters arguments h.body) (region_end e w ∷ k) (inside e w) (opened w)) (plain.Running c) refl (
+        shared_opened source pages calls k e w c shared,
+        data_grows shared.tables (with_handle shared.tables None) (Grows-handle shared.tables None) source c.active.function w.objects e.locals (callers k) c.active.slots c.globals c.frames facts,
+        (m, [], items, stack, HoldsFrom-grows shared.tables (with_handle shared.tables None) (Grows-handle shared.tables None) c.active.slots 0 arguments holds, own, refl),
+      )
       (omega arith)
 
   -- a parameter is a local, whose slots are behind those of the parameters before it
@@ -141,6 +149,11 @@ module _ (source : Program) (pages calls : ℕ) where
       let made_it = declared (region_at w e.home) (Binding (suc n) types arguments body) n (kind_of t) (Some v.value) k e w in
       let fits = is_fitting (is_kind v.kind (kind_of t)) made_it w well in
       let does : step source (Running (Binding n (t ∷ types) (v ∷ arguments) body) k e w) ≡ made_it = ap (λ (b : Bool). if b then made_it else wrong w) fits in
+      let (r, home) = home_there (Binding (suc n) types arguments body) n (kind_of t) (Some v.value) k e w (subst IsWell does well) in
+      let grown = with_row shared.tables Variable in
+      let grows = Grows-row shared.tables Variable in
+      let more = data_grows shared.tables grown grows source g w.objects e.locals (callers k) c.active.slots c.globals c.frames facts in
+      let is_now = Is-grows grows v.kind v.value c.active.slots (words_of_all first) is in
       let kind_is : v.kind ≡ kind_of t = same_kind v.kind (kind_of t) fits in
       let wide : words_of_kind v.kind ≡ words_of t = ap words_of_kind kind_is ∙ type_words t in
       let there : slot_of (starts_at source g) n ≡ words_of_all first = ap (slot_of (starts_at source g)) (sym count) ∙ slot in
@@ -149,17 +162,17 @@ module _ (source : Program) (pages calls : ℕ) where
       silently source pages calls (Running (Binding n (t ∷ types) (v ∷ arguments) body) k e w)
       (Running (Binding (suc n) types arguments body) k (with_local e n (length w.objects)) (made w x)) (plain.Running c)
       (does ∙ is_declared (region_at w e.home) (Binding (suc n) types arguments body) n (kind_of t) (Some v.value) k e w (subst IsWell does well)) (
-        shared,
-        data_declared source g w.objects e (callers k) c.active.slots c.active.slots c.globals c.frames n 0 x (omega (arith, local, count)) (omega arith) (λ i out. refl)
+        shared_declared source pages calls k e w c shared n r (kind_of t) (Some v.value) home,
+        data_declared grown source g w.objects e (callers k) c.active.slots c.active.slots c.globals c.frames n 0 x (omega (arith, local, count)) (omega arith) (row_declared source pages calls k e w c shared) (λ i out. refl)
             (λ u has.
             let u_is : v ≡ u = ap (λ i. of_kind i v.value) kind_is ∙ same_Some (of_kind (kind_of t) v.value) u has in
-            subst (λ (y : Kinded). Is y.kind y.value c.active.slots (slot_of (starts_at source g) n) × HasRoom (types_at source g) n y.kind) u_is (subst (Is v.kind v.value c.active.slots) (sym there) is, room)) facts,
+            subst (λ (y : Kinded). Is grown y.kind y.value c.active.slots (slot_of (starts_at source g) n) × HasRoom (types_at source g) n y.kind) u_is (subst (Is grown v.kind v.value c.active.slots) (sym there) is_now, room)) more,
         (
           m,
           first ++ t ∷ [],
           items,
           stack,
-          subst (λ i. HoldsFrom c.active.slots i arguments) (sym next) holds,
+          subst (λ i. HoldsFrom grown c.active.slots i arguments) (sym next) (HoldsFrom-grows shared.tables grown grows c.active.slots (words_of_all first + words_of_kind v.kind) arguments holds),
           own ∙ sym (append_assoc first (t ∷ []) types),
           let long : length (first ++ t ∷ []) ≡ length first + 1 = length-append first (t ∷ []) in omega (arith, long, count),
         ),
@@ -196,9 +209,9 @@ module _ (source : Program) (pages calls : ℕ) where
   -- a function has been called, with its arguments in the first slots
   pub entered : FunctionsStand → (n : ℕ) (h : Function) (arguments : List Kinded) (k : List Entry) (w : World) (slots globals : Words) (handlers : List Handler) (frames : List Frame) (store : StoreState) (output input : List ℕ)
       → slice_get source.functions n ≡ Some h
-      → Shared pages calls w.regions w.classes w.output w.input output input store (length frames)
-      → DataAt source n w.objects (λ (number : ℕ). None) (callers k) slots globals frames
-      → HoldsFrom slots 0 arguments → ((m : ℕ) → At (code_of source n) m (instructions.Return (base_of source n)) → StatementStack source n 0 m frames k)
+      → (shared : Shared pages calls w (no_locals.home ∷ homes k) output input store (length frames))
+      → DataAt source shared.tables n w.objects (λ (number : ℕ). None) (callers k) slots globals frames
+      → HoldsFrom shared.tables slots 0 arguments → ((m : ℕ) → At (code_of source n) m (instructions.Return (base_of source n)) → StatementStack source n 0 m frames k)
       → Related source pages calls (Entering h arguments) k no_locals w
       (record { active = record { function = n; next = 0; slots = slots; handlers = handlers }; frames = frames; globals = globals; store = store; output = output; input = input })
   entered stand n h arguments k w slots globals handlers frames store output input there shared facts holds stack =
@@ -208,7 +221,7 @@ module _ (source : Program) (pages calls : ℕ) where
   -- no more calls fit: both runs are full
   full : (k : List Entry) (e : Environment) (w : World) (c : Configuration) (focus : Focus) (next : State) (n first many into : ℕ)
       → step source (Running focus k e w) ≡ next → is_within pages calls next ≡ false
-      → SharedAt source pages calls w c → At (code_of source c.active.function) c.active.next (instructions.Call n first many into)
+      → (shared : SharedAt source pages calls k e w c) → At (code_of source c.active.function) c.active.next (instructions.Call n first many into)
       → calls < suc (suc (length c.frames))
       → IsMatched source pages calls (Running focus k e w) (plain.Running c)
   full k e w c focus next n first many into does over shared here past =
@@ -276,15 +289,16 @@ module _ (source : Program) (pages calls : ℕ) where
                   same_output = shared.same_output;
                   same_input = shared.same_input;
                   few_pages = shared.few_pages;
-                  quiet = shared.quiet;
-                  same_sizes = shared.same_sizes;
-                  same_classes = shared.same_classes;
+                  tables = shared.tables;
+                  related = shared.related;
+                  globals = shared.globals;
+                  variables = (shared.globals, shared.variables);
                   fits = fine;
                 })
-                (data_called source g n w.objects e (callers k) c.active.slots slots c.globals frame c.frames refl refl facts)
-                (arguments_copied c.active.slots choice.contents d 0 (words_held before) (reverse before) (omega (arith, words-reverse before))
-                (subst (λ (i : ℕ). HoldsFrom c.active.slots i (reverse before)) (let z : d ≡ d + 0 = omega arith in z) (in_order c.active.slots base before (held k) holds)))
-                (λ m at_end. (base_of source n, at_end, (Holds-rest c.active.slots base before (held k) holds, back))))
+                (data_called shared.tables source g n w.objects e (held k) (callers k) c.active.slots slots c.globals frame c.frames refl refl (Holds-rest shared.tables c.active.slots base before (held k) holds) facts)
+                (arguments_copied shared.tables c.active.slots choice.contents d 0 (words_held before) (reverse before) (omega (arith, words-reverse before))
+                (subst (λ (i : ℕ). HoldsFrom shared.tables c.active.slots i (reverse before)) (let z : d ≡ d + 0 = omega arith in z) (in_order shared.tables c.active.slots base before (held k) holds)))
+                (λ m at_end. (base_of source n, at_end, back)))
           ]
 
   -- one argument too many

@@ -9,30 +9,21 @@ use Rattle.cyc_plain.specs.State.{Words, put, copied, Frame}
 use Rattle.cyc_plain.proofs.SlotLaws.{put-same, put-other, copied-inside}
 use Rattle.cyc_types.specs.declared.typed.Kind.{Kind}
 use Rattle.cyc_types.specs.declared.typed.Kind.TheVariants as kinds
-use Rattle.cyc_meaning.specs.Values.{Value, Int, Null, Operand, words_of_kind}
+use Rattle.cyc_meaning.specs.Values.{Value, Int, Null, Thin, Handle, Key, Operand, words_of_kind}
 use Rattle.cyc_meaning.specs.State.{Object, Environment, with_local}
 use Rattle.cyc_types.specs.Types.{Ty}
 use Rattle.cyc_meaning.specs.FrameCount.{words_of_all}
 use Rattle.cyc_lower.specs.Slots.{starts_of, slot_of}
 use Rattle.cyc_lower.proofs.Widths.{kind_positive, words_in, HasRoom, Outside}
 use Rattle.cyc_lower.proofs.Slots.{slot-room, slot-apart}
-use Rattle.cyc_lower.proofs.Relation.{Is, words_held, height, Holds, HoldsFrom, content_of, contents, LocalsHold, GlobalsHold, FramesHold, DataAt, types_at, starts_at, base_of}
+use Rattle.cyc_plain.specs.declared.instruction.Operand.{Operand as Place}
+use Rattle.cyc_plain.specs.declared.instruction.Operand.TheVariants as operands
+use Rattle.cyc_objects.specs.Tables.{Variable, Tables, Grows}
+use Rattle.cyc_objects.specs.Words.{Points, Is}
+use Rattle.cyc_objects.proofs.Values.{Is-grows, Is-same as words_same}
+use Rattle.cyc_lower.proofs.Relation.{IsWord, IsIn, Waiting, AreOfVariables, words_held, height, Holds, HoldsFrom, content_of, contents, LocalsHold, GlobalsHold, FramesHold, DataAt, types_at, starts_at, base_of}
 
 -- ---- values in slots
-
--- the first word tells all
-pub Is-first : (kind : Kind) (v : Value) (words other : Words) (p q : ℕ) → other q ≡ words p → Is kind v words p → Is kind v other q
-Is-first kinds.Int (Int a) words other p q same is = same ∙ is
-Is-first kinds.Nullable Null words other p q same is = same ∙ is
-Is-first kinds.Fat Null words other p q same is = same ∙ is
-Is-first kind v words other p q same is = absurd is
-
--- equal words are the same value
-pub Is-same : (kind : Kind) (v : Value) (words other : Words) (p q : ℕ) → ((i : ℕ) → i < words_of_kind kind → other (q + i) ≡ words (p + i)) → Is kind v words p → Is kind v other q
-Is-same kind v words other p q same is =
-    let at_p : p + 0 ≡ p = omega arith in
-    let at_q : q + 0 ≡ q = omega arith in
-    Is-first kind v words other p q (sym (ap other at_q) ∙ same 0 (omega (arith, kind_positive kind)) ∙ ap words at_p) is
 
 pub height-is : (base : ℕ) (vs : List Operand) → height base vs ≡ base + words_held vs
 height-is base [] = omega arith
@@ -53,56 +44,6 @@ pub words-reverse : (vs : List Operand) → words_held (reverse vs) ≡ words_he
 words-reverse [] = refl
 words-reverse (v ∷ vs) = omega (arith, ap words_held (reverse-append (v ∷ []) vs), words-append (reverse vs) (v ∷ []), words-reverse vs)
 
--- slots that are equal below some slot hold the same values there
-pub Holds-same : (slots other : Words) (base : ℕ) (vs : List Operand) → ((n : ℕ) → n < height base vs → other n ≡ slots n) → Holds slots base vs → Holds other base vs
-Holds-same slots other base [] same holds = tt
-Holds-same slots other base (v ∷ vs) same (is, holds) = (
-  Is-same v.kind v.value slots other (height base vs) (height base vs) (λ i below. same (height base vs + i) (omega (arith, below))) is,
-  Holds-same slots other base vs (λ n below. same n (omega (arith, below))) holds,
-)
-
--- the same, where locals may differ
-pub Holds-above : (slots other : Words) (base : ℕ) (vs : List Operand) → ((n : ℕ) → base ≤ n → other n ≡ slots n) → Holds slots base vs → Holds other base vs
-Holds-above slots other base [] same holds = tt
-Holds-above slots other base (v ∷ vs) same (is, holds) = (
-  Is-same v.kind v.value slots other (height base vs) (height base vs) (λ i below. same (height base vs + i) (omega (arith, height-least base vs))) is,
-  Holds-above slots other base vs same holds,
-)
-
-pub Holds-rest : (slots : Words) (base : ℕ) (vs rest : List Operand) → Holds slots base (vs ++ rest) → Holds slots base rest
-Holds-rest slots base [] rest holds = holds
-Holds-rest slots base (v ∷ vs) rest (is, holds) = Holds-rest slots base vs rest holds
-
-HoldsFrom-snoc : (slots : Words) (first : ℕ) (vs : List Operand) (v : Operand) → HoldsFrom slots first vs → Is v.kind v.value slots (first + words_held vs) → HoldsFrom slots first (vs ++ v ∷ [])
-HoldsFrom-snoc slots first [] v holds is = (subst (Is v.kind v.value slots) (let e : first + 0 ≡ first = omega arith in e) is, tt)
-HoldsFrom-snoc slots first (u ∷ vs) v (is_u, holds) is = (
-  is_u,
-  HoldsFrom-snoc slots (first + words_of_kind u.kind) vs v holds
-      (subst (Is v.kind v.value slots) (let e : first + (words_held vs + words_of_kind u.kind) ≡ first + words_of_kind u.kind + words_held vs = omega arith in e) is),
-)
-
--- values that were pushed one by one stand in order
-pub in_order : (slots : Words) (base : ℕ) (vs rest : List Operand) → Holds slots base (vs ++ rest) → HoldsFrom slots (height base rest) (reverse vs)
-in_order slots base [] rest holds = tt
-in_order slots base (v ∷ vs) rest (is, holds) =
-    let place : height base (vs ++ rest) ≡ height base rest + words_held (reverse vs) = omega (arith, height-append base vs rest, words-reverse vs) in
-    subst (HoldsFrom slots (height base rest)) (sym (reverse-append (v ∷ []) vs))
-    (HoldsFrom-snoc slots (height base rest) (reverse vs) v (in_order slots base vs rest holds) (subst (Is v.kind v.value slots) place is))
-
--- arguments come into the first slots of a call
-pub arguments_copied : (from to : Words) (source i many : ℕ) (vs : List Operand) → i + words_held vs ≤ many → HoldsFrom from (source + i) vs → HoldsFrom (copied from source many to 0) i vs
-arguments_copied from to source i many [] few holds = tt
-arguments_copied from to source i many (v ∷ vs) few (is, holds) = (
-  Is-same v.kind v.value from (copied from source many to 0) (source + i) i
-      (λ j below.
-      let start : i + j ≡ 0 + (i + j) = omega arith in
-      let there : source + (i + j) ≡ source + i + j = omega arith in
-      ap (copied from source many to 0) start ∙ copied-inside from to source many 0 (i + j) (omega (arith, few, below)) ∙ ap from there)
-      is,
-  arguments_copied from to source (i + words_of_kind v.kind) many vs (omega (arith, few))
-      (subst (λ n. HoldsFrom from n vs) (let e : source + i + words_of_kind v.kind ≡ source + (i + words_of_kind v.kind) = omega arith in e) holds),
-)
-
 -- ---- objects
 
 append_left : {X : Type 0} (xs : List X) (y : X) (k : ℕ) → k < length xs → slice_get (xs ++ y ∷ []) k ≡ slice_get xs k
@@ -110,7 +51,7 @@ append_left [] y k below = absurd (omega arith)
 append_left (x ∷ xs) y zero below = refl
 append_left (x ∷ xs) y (suc k) below = append_left xs y k (omega arith)
 
-append_seam : {X : Type 0} (xs : List X) (y : X) → slice_get (xs ++ y ∷ []) (length xs) ≡ Some y
+pub append_seam : {X : Type 0} (xs : List X) (y : X) → slice_get (xs ++ y ∷ []) (length xs) ≡ Some y
 append_seam [] y = refl
 append_seam (x ∷ xs) y = append_seam xs y
 
@@ -138,24 +79,6 @@ SameBetween low high objects others = (o : ℕ) → low ≤ o → o < high → c
 
 -- ---- the locals of a call
 
-pub locals_kept : (types : List Ty) (objects others : List Object) (locals : ℕ → Option ℕ) (low high : ℕ) (slots : Words)
-    → SameBetween low high objects others → LocalsHold types objects locals low high slots → LocalsHold types others locals low high slots
-locals_kept types objects others locals low high slots same hold = record {
-  within = hold.within;
-  apart = hold.apart;
-  holds = λ number object v at has.
-      let inside = hold.within number object at in
-      hold.holds number object v at (sym (same object inside.1 inside.2) ∙ has);
-}
-
--- the words of a local's value, with other slots that are equal where the local has its own
-local_same : (types : List Ty) (slots other : Words) (number : ℕ) (v : Operand) → number < length types → HasRoom types number v.kind
-    → ((m : ℕ) → slot_of (starts_of types) number ≤ m → m < slot_of (starts_of types) number + words_in types number → other m ≡ slots m)
-    → Is v.kind v.value slots (slot_of (starts_of types) number) → Is v.kind v.value other (slot_of (starts_of types) number)
-local_same types slots other number v inside room same is =
-    let slot = slot_of (starts_of types) number in
-    Is-same v.kind v.value slots other slot slot (λ i below. same (slot + i) (omega arith) (omega (arith, below, room))) is
-
 -- what is outside of the words of one local, for another
 other_outside : (types : List Ty) (n number many m : ℕ) → n < length types → number < length types → n ≢ number → many ≤ words_in types number
     → slot_of (starts_of types) n ≤ m → m < slot_of (starts_of types) n + words_in types n → Outside (slot_of (starts_of types) number) many m
@@ -164,42 +87,6 @@ other_outside types n number many m inside there other few from to = elim (slot-
   | inr behind ↦ inr (omega (arith, behind, from, few))
 ]
 
-pub locals_same_slots : (types : List Ty) (objects : List Object) (locals : ℕ → Option ℕ) (low high : ℕ) (slots other : Words)
-    → ((n : ℕ) → n < words_of_all types → other n ≡ slots n) → LocalsHold types objects locals low high slots → LocalsHold types objects locals low high other
-locals_same_slots types objects locals low high slots other same hold = record {
-  within = hold.within;
-  apart = hold.apart;
-  holds = λ number object v at has.
-      let inside = (hold.within number object at).0 in
-      let (is, room) = hold.holds number object v at has in
-      (local_same types slots other number v inside room (λ m from to. same m (omega (arith, to, slot-room types number inside))) is, room);
-}
-
--- a local is assigned: the words of its value differ, and no others
-pub locals_assigned : (types : List Ty) (objects others : List Object) (locals : ℕ → Option ℕ) (low high : ℕ) (slots after : Words) (number object : ℕ) (v : Operand)
-    → locals number ≡ Some object → contents others object ≡ Some v → ((o : ℕ) → o ≢ object → contents others o ≡ contents objects o)
-    → HasRoom types number v.kind → Is v.kind v.value after (slot_of (starts_of types) number)
-    → ((m : ℕ) → Outside (slot_of (starts_of types) number) (words_of_kind v.kind) m → after m ≡ slots m)
-    → LocalsHold types objects locals low high slots → LocalsHold types others locals low high after
-locals_assigned types objects others locals low high slots after number object v here now same room is elsewhere hold = record {
-  within = hold.within;
-  apart = hold.apart;
-  holds = λ n o u at has. elim (cases_eq n number) [
-    | inl equal ↦
-        let o_is : o ≡ object = same_Some o object (sym at ∙ ap locals equal ∙ here) in
-        let u_is : v ≡ u = same_Some v u (sym now ∙ sym (ap (contents others) o_is) ∙ has) in
-        subst (λ m. Is u.kind u.value after (slot_of (starts_of types) m) × HasRoom types m u.kind) (sym equal)
-        (subst (λ (x : Operand). Is x.kind x.value after (slot_of (starts_of types) number) × HasRoom types number x.kind) u_is (is, room))
-    | inr other ↦
-        let inside = (hold.within n o at).0 in
-        let (is_u, room_u) = hold.holds n o u at (sym (same o (λ e. other (hold.apart n number object (at ∙ ap Some e) here))) ∙ has) in (
-          local_same types slots after n u inside room_u
-              (λ m from to. elsewhere m (other_outside types n number (words_of_kind v.kind) m inside (hold.within number object here).0 other room from to)) is_u,
-          room_u,
-        )
-  ];
-}
-
 local_new : (locals : ℕ → Option ℕ) (number object : ℕ) → (if number == number then Some object else locals number) ≡ Some object
 local_new locals number object = ap (λ (b : Bool). if b then Some object else locals number) (eq-eqb number number refl)
 
@@ -207,186 +94,405 @@ local_other : (locals : ℕ → Option ℕ) (number other object : ℕ) → othe
 local_other locals number other object apart =
     ap (λ (b : Bool). if b then Some object else locals other) (false_from_ne_true (other == number) (λ h. apart (eqb-true other number h)))
 
--- a local is declared, whose object is the one made last, and so many words of it are written
-pub locals_declared : (types : List Ty) (objects : List Object) (e : Environment) (low : ℕ) (slots other : Words) (number many : ℕ) (x : Object)
-    → number < length types → many ≤ words_in types number → low ≤ length objects
-    → ((m : ℕ) → Outside (slot_of (starts_of types) number) many m → other m ≡ slots m)
-    → ((v : Operand) → content_of (Some x) ≡ Some v → Is v.kind v.value other (slot_of (starts_of types) number) × HasRoom types number v.kind)
-    → LocalsHold types objects e.locals low (length objects) slots
-    → LocalsHold types (objects ++ x ∷ []) (with_local e number (length objects)).locals low (length (objects ++ x ∷ [])) other
-locals_declared types objects e low slots other number many x below few low_is same is hold =
-    let locals = e.locals in
-    let long : length (objects ++ x ∷ []) ≡ length objects + 1 = length-append objects (x ∷ []) in
-    record {
-      within = λ n o at. elim (cases_eq n number) [
-        | inl equal ↦
-            let o_is : length objects ≡ o = same_Some (length objects) o (sym (local_new locals number (length objects)) ∙ ap (with_local e number (length objects)).locals (sym equal) ∙ at) in
-            (omega (arith, equal, below), omega (arith, o_is, low_is), omega (arith, o_is, long))
-        | inr apart ↦
-            let old = hold.within n o (sym (local_other locals number n (length objects) apart) ∙ at) in
-            (old.0, old.1, omega (arith, old.2, long))
-      ];
-      apart = λ n m o at_n at_m. elim (cases_eq n number) [
-        | inl n_is ↦ elim (cases_eq m number) [
-          | inl m_is ↦ n_is ∙ sym m_is
-          | inr m_not ↦
-              let o_is : length objects ≡ o = same_Some (length objects) o (sym (local_new locals number (length objects)) ∙ ap (with_local e number (length objects)).locals (sym n_is) ∙ at_n) in
-              let old = hold.within m o (sym (local_other locals number m (length objects) m_not) ∙ at_m) in
-              absurd (omega (arith, o_is, old.2))
-        ]
-        | inr n_not ↦ elim (cases_eq m number) [
-          | inl m_is ↦
-              let o_is : length objects ≡ o = same_Some (length objects) o (sym (local_new locals number (length objects)) ∙ ap (with_local e number (length objects)).locals (sym m_is) ∙ at_m) in
-              let old = hold.within n o (sym (local_other locals number n (length objects) n_not) ∙ at_n) in
-              absurd (omega (arith, o_is, old.2))
-          | inr m_not ↦ hold.apart n m o (sym (local_other locals number n (length objects) n_not) ∙ at_n) (sym (local_other locals number m (length objects) m_not) ∙ at_m)
-        ]
-      ];
-      holds = λ n o v at has. elim (cases_eq n number) [
-        | inl equal ↦
-            let o_is : length objects ≡ o = same_Some (length objects) o (sym (local_new locals number (length objects)) ∙ ap (with_local e number (length objects)).locals (sym equal) ∙ at) in
-            subst (λ m. Is v.kind v.value other (slot_of (starts_of types) m) × HasRoom types m v.kind) (sym equal) (is v (sym (contents_new objects x) ∙ ap (contents (objects ++ x ∷ [])) o_is ∙ has))
-        | inr apart ↦
-            let at_old = sym (local_other locals number n (length objects) apart) ∙ at in
-            let old = hold.within n o at_old in
-            let (is_v, room) = hold.holds n o v at_old (sym (contents_made objects x o old.2) ∙ has) in
-            (local_same types slots other n v old.0 room (λ m from to. same m (other_outside types n number many m old.0 below apart few from to)) is_v, room)
-      ];
-    }
-
--- no local is there before the first is declared
-pub no_locals_hold : (types : List Ty) (objects : List Object) (low high : ℕ) (slots : Words) → LocalsHold types objects (λ (number : ℕ). None) low high slots
-no_locals_hold types objects low high slots = record {
-  within = λ number object at. absurd (none-some object at);
-  apart = λ number other object at at_other. absurd (none-some object at);
-  holds = λ number object v at has. absurd (none-some object at);
-}
-
-pub locals_raised : (types : List Ty) (objects : List Object) (locals : ℕ → Option ℕ) (low high higher : ℕ) (slots : Words) → high ≤ higher
-    → LocalsHold types objects locals low high slots → LocalsHold types objects locals low higher slots
-locals_raised types objects locals low high higher slots raised hold = record {
-  within = λ number object at. let inside = hold.within number object at in (inside.0, inside.1, omega (arith, inside.2, raised));
-  apart = hold.apart;
-  holds = hold.holds;
-}
-
 -- ---- the calls that wait, and the globals
 
-module _ (source : Program) where
-  abbrev global_count : ℕ
-  global_count = length source.globals
+-- ---- what is said of values
 
-  pub globals_below : (objects : List Object) (high : ℕ) (frames : List Frame) (outer : List Environment) → FramesHold source objects high frames outer → global_count ≤ high
-  globals_below objects high [] [] hold = hold
-  globals_below objects high [] (e ∷ outer) hold = absurd hold
-  globals_below objects high (f ∷ frames) [] hold = absurd hold
-  globals_below objects high (f ∷ frames) (e ∷ outer) (low, below, hold, rest) = omega (arith, globals_below objects low frames outer rest, below)
+module _ (t : Tables) where
+  pub IsWord-is : (kind : Kind) (v : Value) (word : ℕ) (words : Words) (p : ℕ) → words p ≡ word → IsWord t kind v word → Is t kind v words p
+  IsWord-is kinds.Int (Int a) word words p same is = same ∙ is
+  IsWord-is kinds.Nullable Null word words p same is = same ∙ is
+  IsWord-is kinds.Nullable (Thin object offset) word words p same is = subst (Points t object offset) (sym same) is
+  IsWord-is kinds.NonNull (Thin object offset) word words p same is = subst (Points t object offset) (sym same) is
+  IsWord-is kinds.Fat Null word words p same is = same ∙ is
+  IsWord-is kinds.Handle (Handle region) word words p same is = is ∙ ap (λ x. Some (Some x)) (sym same)
+  IsWord-is kinds.Key (Key region) word words p same is = is ∙ ap (λ x. Some (Some x)) (sym same)
+  IsWord-is kind v word words p same is = absurd is
 
-  pub frames_kept : (objects others : List Object) (high : ℕ) (frames : List Frame) (outer : List Environment) → SameBetween global_count high objects others → FramesHold source objects high frames outer → FramesHold source others high frames outer
-  frames_kept objects others high [] [] same hold = hold
-  frames_kept objects others high [] (e ∷ outer) same hold = absurd hold
-  frames_kept objects others high (f ∷ frames) [] same hold = absurd hold
-  frames_kept objects others high (f ∷ frames) (e ∷ outer) same (low, below, hold, rest) =
-      let above = globals_below objects low frames outer rest in (
+  -- a value of one word is told by it
+  pub one_word : (kind : Kind) (v : Value) (words : Words) (p : ℕ) → words_of_kind kind ≡ 1 → Is t kind v words p → IsWord t kind v (words p)
+  one_word kinds.Int (Int a) words p one is = is
+  one_word kinds.Nullable Null words p one is = is
+  one_word kinds.Nullable (Thin object offset) words p one is = is
+  one_word kinds.NonNull (Thin object offset) words p one is = is
+  one_word kinds.Fat v words p one is = absurd (omega (arith, one))
+  one_word kinds.Handle (Handle region) words p one is = is
+  one_word kinds.Key (Key region) words p one is = is
+  one_word kind v words p one is = absurd is
+
+  -- equal words are the same value
+  pub Is-same : (kind : Kind) (v : Value) (words other : Words) (p q : ℕ) → ((i : ℕ) → i < words_of_kind kind → other (q + i) ≡ words (p + i)) → Is t kind v words p → Is t kind v other q
+  Is-same kind v words other p q same is = words_same t kind v words other p q same is
+
+  -- slots that are equal below some slot hold the same values there
+  pub Holds-same : (slots other : Words) (base : ℕ) (vs : List Operand) → ((n : ℕ) → n < height base vs → other n ≡ slots n) → Holds t slots base vs → Holds t other base vs
+  Holds-same slots other base [] same holds = tt
+  Holds-same slots other base (v ∷ vs) same (is, holds) = (
+    Is-same v.kind v.value slots other (height base vs) (height base vs) (λ i below. same (height base vs + i) (omega (arith, below))) is,
+    Holds-same slots other base vs (λ n below. same n (omega (arith, below))) holds,
+  )
+
+  -- the same, where locals may differ
+  pub Holds-above : (slots other : Words) (base : ℕ) (vs : List Operand) → ((n : ℕ) → base ≤ n → other n ≡ slots n) → Holds t slots base vs → Holds t other base vs
+  Holds-above slots other base [] same holds = tt
+  Holds-above slots other base (v ∷ vs) same (is, holds) = (
+    Is-same v.kind v.value slots other (height base vs) (height base vs) (λ i below. same (height base vs + i) (omega (arith, height-least base vs))) is,
+    Holds-above slots other base vs same holds,
+  )
+
+  pub Holds-rest : (slots : Words) (base : ℕ) (vs rest : List Operand) → Holds t slots base (vs ++ rest) → Holds t slots base rest
+  Holds-rest slots base [] rest holds = holds
+  Holds-rest slots base (v ∷ vs) rest (is, holds) = Holds-rest slots base vs rest holds
+
+  HoldsFrom-snoc : (slots : Words) (first : ℕ) (vs : List Operand) (v : Operand) → HoldsFrom t slots first vs → Is t v.kind v.value slots (first + words_held vs) → HoldsFrom t slots first (vs ++ v ∷ [])
+  HoldsFrom-snoc slots first [] v holds is = (subst (Is t v.kind v.value slots) (let e : first + 0 ≡ first = omega arith in e) is, tt)
+  HoldsFrom-snoc slots first (u ∷ vs) v (is_u, holds) is = (
+    is_u,
+    HoldsFrom-snoc slots (first + words_of_kind u.kind) vs v holds
+        (subst (Is t v.kind v.value slots) (let e : first + (words_held vs + words_of_kind u.kind) ≡ first + words_of_kind u.kind + words_held vs = omega arith in e) is),
+  )
+
+  -- values that were pushed one by one stand in order
+  pub in_order : (slots : Words) (base : ℕ) (vs rest : List Operand) → Holds t slots base (vs ++ rest) → HoldsFrom t slots (height base rest) (reverse vs)
+  in_order slots base [] rest holds = tt
+  in_order slots base (v ∷ vs) rest (is, holds) =
+      let place : height base (vs ++ rest) ≡ height base rest + words_held (reverse vs) = omega (arith, height-append base vs rest, words-reverse vs) in
+      subst (HoldsFrom t slots (height base rest)) (sym (reverse-append (v ∷ []) vs))
+      (HoldsFrom-snoc slots (height base rest) (reverse vs) v (in_order slots base vs rest holds) (subst (Is t v.kind v.value slots) place is))
+
+  -- arguments come into the first slots of a call
+  pub arguments_copied : (from to : Words) (source i many : ℕ) (vs : List Operand) → i + words_held vs ≤ many → HoldsFrom t from (source + i) vs → HoldsFrom t (copied from source many to 0) i vs
+  arguments_copied from to source i many [] few holds = tt
+  arguments_copied from to source i many (v ∷ vs) few (is, holds) = (
+    Is-same v.kind v.value from (copied from source many to 0) (source + i) i
+        (λ j below.
+        let start : i + j ≡ 0 + (i + j) = omega arith in
+        let there : source + (i + j) ≡ source + i + j = omega arith in
+        ap (copied from source many to 0) start ∙ copied-inside from to source many 0 (i + j) (omega (arith, few, below)) ∙ ap from there)
+        is,
+    arguments_copied from to source (i + words_of_kind v.kind) many vs (omega (arith, few))
+        (subst (λ n. HoldsFrom t from n vs) (let e : source + i + words_of_kind v.kind ≡ source + (i + words_of_kind v.kind) = omega arith in e) holds),
+  )
+
+  pub locals_kept : (types : List Ty) (objects others : List Object) (locals : ℕ → Option ℕ) (low high : ℕ) (slots : Words)
+      → SameBetween low high objects others → LocalsHold t types objects locals low high slots → LocalsHold t types others locals low high slots
+  locals_kept types objects others locals low high slots same hold = record {
+    within = hold.within;
+    apart = hold.apart;
+    rows = hold.rows;
+    holds = λ number object v at has.
+        let inside = hold.within number object at in
+        hold.holds number object v at (sym (same object inside.1 inside.2) ∙ has);
+  }
+
+  -- the words of a local's value, with other slots that are equal where the local has its own
+  local_same : (types : List Ty) (slots other : Words) (number : ℕ) (v : Operand) → number < length types → HasRoom types number v.kind
+      → ((m : ℕ) → slot_of (starts_of types) number ≤ m → m < slot_of (starts_of types) number + words_in types number → other m ≡ slots m)
+      → Is t v.kind v.value slots (slot_of (starts_of types) number) → Is t v.kind v.value other (slot_of (starts_of types) number)
+  local_same types slots other number v inside room same is =
+      let slot = slot_of (starts_of types) number in
+      Is-same v.kind v.value slots other slot slot (λ i below. same (slot + i) (omega arith) (omega (arith, below, room))) is
+
+  pub locals_same_slots : (types : List Ty) (objects : List Object) (locals : ℕ → Option ℕ) (low high : ℕ) (slots other : Words)
+      → ((n : ℕ) → n < words_of_all types → other n ≡ slots n) → LocalsHold t types objects locals low high slots → LocalsHold t types objects locals low high other
+  locals_same_slots types objects locals low high slots other same hold = record {
+    within = hold.within;
+    apart = hold.apart;
+    rows = hold.rows;
+    holds = λ number object v at has.
+        let inside = (hold.within number object at).0 in
+        let (is, room) = hold.holds number object v at has in
+        (local_same types slots other number v inside room (λ m from to. same m (omega (arith, to, slot-room types number inside))) is, room);
+  }
+
+  -- a local is assigned: the words of its value differ, and no others
+  pub locals_assigned : (types : List Ty) (objects others : List Object) (locals : ℕ → Option ℕ) (low high : ℕ) (slots after : Words) (number object : ℕ) (v : Operand)
+      → locals number ≡ Some object → contents others object ≡ Some v → ((o : ℕ) → o ≢ object → contents others o ≡ contents objects o)
+      → HasRoom types number v.kind → Is t v.kind v.value after (slot_of (starts_of types) number)
+      → ((m : ℕ) → Outside (slot_of (starts_of types) number) (words_of_kind v.kind) m → after m ≡ slots m)
+      → LocalsHold t types objects locals low high slots → LocalsHold t types others locals low high after
+  locals_assigned types objects others locals low high slots after number object v here now same room is elsewhere hold = record {
+    within = hold.within;
+    apart = hold.apart;
+    rows = hold.rows;
+    holds = λ n o u at has. elim (cases_eq n number) [
+      | inl equal ↦
+          let o_is : o ≡ object = same_Some o object (sym at ∙ ap locals equal ∙ here) in
+          let u_is : v ≡ u = same_Some v u (sym now ∙ sym (ap (contents others) o_is) ∙ has) in
+          subst (λ m. Is t u.kind u.value after (slot_of (starts_of types) m) × HasRoom types m u.kind) (sym equal)
+          (subst (λ (x : Operand). Is t x.kind x.value after (slot_of (starts_of types) number) × HasRoom types number x.kind) u_is (is, room))
+      | inr other ↦
+          let inside = (hold.within n o at).0 in
+          let (is_u, room_u) = hold.holds n o u at (sym (same o (λ e. other (hold.apart n number object (at ∙ ap Some e) here))) ∙ has) in (
+            local_same types slots after n u inside room_u
+                (λ m from to. elsewhere m (other_outside types n number (words_of_kind v.kind) m inside (hold.within number object here).0 other room from to)) is_u,
+            room_u,
+          )
+    ];
+  }
+
+  -- a local is declared, whose object is the one made last, and so many words of it are written
+  pub locals_declared : (types : List Ty) (objects : List Object) (e : Environment) (low : ℕ) (slots other : Words) (number many : ℕ) (x : Object)
+      → number < length types → many ≤ words_in types number → low ≤ length objects → slice_get t.rows (length objects) ≡ Some Variable
+      → ((m : ℕ) → Outside (slot_of (starts_of types) number) many m → other m ≡ slots m)
+      → ((v : Operand) → content_of (Some x) ≡ Some v → Is t v.kind v.value other (slot_of (starts_of types) number) × HasRoom types number v.kind)
+      → LocalsHold t types objects e.locals low (length objects) slots
+      → LocalsHold t types (objects ++ x ∷ []) (with_local e number (length objects)).locals low (length (objects ++ x ∷ [])) other
+  locals_declared types objects e low slots other number many x below few low_is row same is hold =
+      let locals = e.locals in
+      let long : length (objects ++ x ∷ []) ≡ length objects + 1 = length-append objects (x ∷ []) in
+      record {
+        within = λ n o at. elim (cases_eq n number) [
+          | inl equal ↦
+              let o_is : length objects ≡ o = same_Some (length objects) o (sym (local_new locals number (length objects)) ∙ ap (with_local e number (length objects)).locals (sym equal) ∙ at) in
+              (omega (arith, equal, below), omega (arith, o_is, low_is), omega (arith, o_is, long))
+          | inr apart ↦
+              let old = hold.within n o (sym (local_other locals number n (length objects) apart) ∙ at) in
+              (old.0, old.1, omega (arith, old.2, long))
+        ];
+        apart = λ n m o at_n at_m. elim (cases_eq n number) [
+          | inl n_is ↦ elim (cases_eq m number) [
+            | inl m_is ↦ n_is ∙ sym m_is
+            | inr m_not ↦
+                let o_is : length objects ≡ o = same_Some (length objects) o (sym (local_new locals number (length objects)) ∙ ap (with_local e number (length objects)).locals (sym n_is) ∙ at_n) in
+                let old = hold.within m o (sym (local_other locals number m (length objects) m_not) ∙ at_m) in
+                absurd (omega (arith, o_is, old.2))
+          ]
+          | inr n_not ↦ elim (cases_eq m number) [
+            | inl m_is ↦
+                let o_is : length objects ≡ o = same_Some (length objects) o (sym (local_new locals number (length objects)) ∙ ap (with_local e number (length objects)).locals (sym m_is) ∙ at_m) in
+                let old = hold.within n o (sym (local_other locals number n (length objects) n_not) ∙ at_n) in
+                absurd (omega (arith, o_is, old.2))
+            | inr m_not ↦ hold.apart n m o (sym (local_other locals number n (length objects) n_not) ∙ at_n) (sym (local_other locals number m (length objects) m_not) ∙ at_m)
+          ]
+        ];
+        rows = λ n o at. elim (cases_eq n number) [
+          | inl equal ↦
+              let o_is : length objects ≡ o = same_Some (length objects) o (sym (local_new locals number (length objects)) ∙ ap (with_local e number (length objects)).locals (sym equal) ∙ at) in
+              ap (slice_get t.rows) (sym o_is) ∙ row
+          | inr apart ↦ hold.rows n o (sym (local_other locals number n (length objects) apart) ∙ at)
+        ];
+        holds = λ n o v at has. elim (cases_eq n number) [
+          | inl equal ↦
+              let o_is : length objects ≡ o = same_Some (length objects) o (sym (local_new locals number (length objects)) ∙ ap (with_local e number (length objects)).locals (sym equal) ∙ at) in
+              subst (λ m. Is t v.kind v.value other (slot_of (starts_of types) m) × HasRoom types m v.kind) (sym equal) (is v (sym (contents_new objects x) ∙ ap (contents (objects ++ x ∷ [])) o_is ∙ has))
+          | inr apart ↦
+              let at_old = sym (local_other locals number n (length objects) apart) ∙ at in
+              let old = hold.within n o at_old in
+              let (is_v, room) = hold.holds n o v at_old (sym (contents_made objects x o old.2) ∙ has) in
+              (local_same types slots other n v old.0 room (λ m from to. same m (other_outside types n number many m old.0 below apart few from to)) is_v, room)
+        ];
+      }
+
+  -- no local is there before the first is declared
+  pub no_locals_hold : (types : List Ty) (objects : List Object) (low high : ℕ) (slots : Words) → LocalsHold t types objects (λ (number : ℕ). None) low high slots
+  no_locals_hold types objects low high slots = record {
+    within = λ number object at. absurd (none-some object at);
+    apart = λ number other object at at_other. absurd (none-some object at);
+    rows = λ number object at. absurd (none-some object at);
+    holds = λ number object v at has. absurd (none-some object at);
+  }
+
+  pub locals_raised : (types : List Ty) (objects : List Object) (locals : ℕ → Option ℕ) (low high higher : ℕ) (slots : Words) → high ≤ higher
+      → LocalsHold t types objects locals low high slots → LocalsHold t types objects locals low higher slots
+  locals_raised types objects locals low high higher slots raised hold = record {
+    within = λ number object at. let inside = hold.within number object at in (inside.0, inside.1, omega (arith, inside.2, raised));
+    apart = hold.apart;
+    rows = hold.rows;
+    holds = hold.holds;
+  }
+
+  module _ (source : Program) where
+    abbrev global_count : ℕ
+    global_count = length source.globals
+
+    pub globals_below : (objects : List Object) (high : ℕ) (frames : List Frame) (outer : List Waiting) → FramesHold source t objects high frames outer → global_count ≤ high
+    globals_below objects high [] [] hold = hold
+    globals_below objects high [] (e ∷ outer) hold = absurd hold
+    globals_below objects high (f ∷ frames) [] hold = absurd hold
+    globals_below objects high (f ∷ frames) (e ∷ outer) (low, below, (hold, values), rest) = omega (arith, globals_below objects low frames outer rest, below)
+
+    pub frames_kept : (objects others : List Object) (high : ℕ) (frames : List Frame) (outer : List Waiting) → SameBetween global_count high objects others → FramesHold source t objects high frames outer → FramesHold source t others high frames outer
+    frames_kept objects others high [] [] same hold = hold
+    frames_kept objects others high [] (e ∷ outer) same hold = absurd hold
+    frames_kept objects others high (f ∷ frames) [] same hold = absurd hold
+    frames_kept objects others high (f ∷ frames) (e ∷ outer) same (low, below, (hold, values), rest) =
+        let above = globals_below objects low frames outer rest in (
+          low,
+          below,
+          (locals_kept (types_at source f.caller.function) objects others e.locals low high f.caller.slots (λ o from to. same o (omega (arith, above, from)) to) hold, values),
+          frames_kept objects others low frames outer (λ o from to. same o from (omega (arith, to, below))) rest,
+        )
+
+    pub globals_kept : (objects others : List Object) (words : Words) → SameBetween 0 global_count objects others → GlobalsHold t global_count objects words → GlobalsHold t global_count others words
+    globals_kept objects others words same hold number below =
+        let (row, is) = hold number below in
+        (row, λ v has. is v (sym (same number (omega arith) below) ∙ has))
+
+    -- ---- all data
+
+    pub data_same : (g : ℕ) (objects : List Object) (locals : ℕ → Option ℕ) (outer : List Waiting) (slots other globals : Words) (frames : List Frame)
+        → ((n : ℕ) → n < base_of source g → other n ≡ slots n) → DataAt source t g objects locals outer slots globals frames → DataAt source t g objects locals outer other globals frames
+    data_same g objects locals outer slots other globals frames same (low, below, hold, waiting, words) =
+        (low, below, locals_same_slots (types_at source g) objects locals low (length objects) slots other same hold, waiting, words)
+
+    -- words are written behind the locals
+    pub data_above : (g : ℕ) (objects : List Object) (locals : ℕ → Option ℕ) (outer : List Waiting) (slots after globals : Words) (frames : List Frame) (n many : ℕ)
+        → base_of source g ≤ n → ((m : ℕ) → Outside n many m → after m ≡ slots m) → DataAt source t g objects locals outer slots globals frames → DataAt source t g objects locals outer after globals frames
+    data_above g objects locals outer slots after globals frames n many above same facts =
+        data_same g objects locals outer slots after globals frames (λ m below. same m (inl (omega (arith, below, above)))) facts
+
+    pub data_assigned : (g : ℕ) (objects others : List Object) (locals : ℕ → Option ℕ) (outer : List Waiting) (slots after globals : Words) (frames : List Frame) (number object : ℕ) (v : Operand)
+        → locals number ≡ Some object → contents others object ≡ Some v → ((o : ℕ) → o ≢ object → contents others o ≡ contents objects o) → length others ≡ length objects
+        → HasRoom (types_at source g) number v.kind → Is t v.kind v.value after (slot_of (starts_at source g) number)
+        → ((m : ℕ) → Outside (slot_of (starts_at source g) number) (words_of_kind v.kind) m → after m ≡ slots m)
+        → DataAt source t g objects locals outer slots globals frames → DataAt source t g others locals outer after globals frames
+    data_assigned g objects others locals outer slots after globals frames number object v here now same long room is elsewhere (low, below, hold, waiting, words) =
+        let inside = hold.within number object here in
+        let above = globals_below objects low frames outer waiting in
+        let not : (o : ℕ) → o < low → o ≢ object = λ o less e. absurd (omega (arith, e, less, inside.1)) in (
+          low,
+          omega (arith, below, long),
+          subst (λ high. LocalsHold t (types_at source g) others locals low high after) (sym long)
+              (locals_assigned (types_at source g) objects others locals low (length objects) slots after number object v here now same room is elsewhere hold),
+          frames_kept objects others low frames outer (λ o from to. same o (not o to)) waiting,
+          globals_kept objects others globals (λ o from to. same o (not o (omega (arith, to, above)))) words,
+        )
+
+    pub data_assigned_global : (g : ℕ) (objects others : List Object) (locals : ℕ → Option ℕ) (outer : List Waiting) (slots globals : Words) (frames : List Frame) (number : ℕ) (v : Operand) (w : ℕ)
+        → number < global_count → contents others number ≡ Some v → ((o : ℕ) → o ≢ number → contents others o ≡ contents objects o) → length others ≡ length objects → IsWord t v.kind v.value w
+        → DataAt source t g objects locals outer slots globals frames → DataAt source t g others locals outer slots (put globals number w) frames
+    data_assigned_global g objects others locals outer slots globals frames number v w few now same long is (low, below, hold, waiting, words) =
+        let above = globals_below objects low frames outer waiting in
+        let not : (o : ℕ) → global_count ≤ o → o ≢ number = λ o from e. absurd (omega (arith, e, from, few)) in (
+          low,
+          omega (arith, below, long),
+          subst (λ high. LocalsHold t (types_at source g) others locals low high slots) (sym long)
+              (locals_kept (types_at source g) objects others locals low (length objects) slots (λ o from to. same o (not o (omega (arith, above, from)))) hold),
+          frames_kept objects others low frames outer (λ o from to. same o (not o from)) waiting,
+          λ n less.
+              let (row, held) = words n less in (
+                row,
+                λ u has. elim (cases_eq n number) [
+                  | inl equal ↦
+                      let u_is : v ≡ u = same_Some v u (sym now ∙ sym (ap (contents others) equal) ∙ has) in
+                      subst (λ (x : Operand). IsWord t x.kind x.value (put globals number w n)) u_is
+                      (subst (IsWord t v.kind v.value) (sym (ap (put globals number w) equal ∙ put-same globals number w)) is)
+                  | inr other ↦ subst (IsWord t u.kind u.value) (sym (put-other globals number n w other)) (held u (sym (same n other) ∙ has))
+                ],
+              ),
+        )
+
+    pub data_declared : (g : ℕ) (objects : List Object) (e : Environment) (outer : List Waiting) (slots other globals : Words) (frames : List Frame) (number many : ℕ) (x : Object)
+        → number < length (types_at source g) → many ≤ words_in (types_at source g) number → slice_get t.rows (length objects) ≡ Some Variable
+        → ((m : ℕ) → Outside (slot_of (starts_at source g) number) many m → other m ≡ slots m)
+        → ((v : Operand) → content_of (Some x) ≡ Some v → Is t v.kind v.value other (slot_of (starts_at source g) number) × HasRoom (types_at source g) number v.kind)
+        → DataAt source t g objects e.locals outer slots globals frames → DataAt source t g (objects ++ x ∷ []) (with_local e number (length objects)).locals outer other globals frames
+    data_declared g objects e outer slots other globals frames number many x inside few row same is (low, below, hold, waiting, words) =
+        let above = globals_below objects low frames outer waiting in (
+          low,
+          omega (arith, below, length-append objects (x ∷ [])),
+          locals_declared (types_at source g) objects e low slots other number many x inside few below row same is hold,
+          frames_kept objects (objects ++ x ∷ []) low frames outer (λ o from to. contents_made objects x o (omega (arith, to, below))) waiting,
+          globals_kept objects (objects ++ x ∷ []) globals (λ o from to. contents_made objects x o (omega (arith, to, above, below))) words,
+        )
+
+    -- the callee has no locals yet, and its caller waits
+    pub data_called : (g callee : ℕ) (objects : List Object) (e : Environment) (values : List Operand) (outer : List Waiting) (slots other globals : Words) (f : Frame) (frames : List Frame)
+        → f.caller.function ≡ g → f.caller.slots ≡ slots → Holds t slots (base_of source g) values → DataAt source t g objects e.locals outer slots globals frames → DataAt source t callee objects (λ (number : ℕ). None) (record { locals = e.locals; values = values } ∷ outer) other globals (f ∷ frames)
+    data_called g callee objects e values outer slots other globals f frames function_is slots_are holds (low, below, hold, waiting, words) = (
+      length objects,
+      omega arith,
+      no_locals_hold (types_at source callee) objects (length objects) (length objects) other,
+      (
         low,
         below,
-        locals_kept (types_at source f.caller.function) objects others e.locals low high f.caller.slots (λ o from to. same o (omega (arith, above, from)) to) hold,
-        frames_kept objects others low frames outer (λ o from to. same o from (omega (arith, to, below))) rest,
-      )
+        (
+          subst (λ n. LocalsHold t (types_at source n) objects e.locals low (length objects) f.caller.slots) (sym function_is)
+              (subst (λ (s : Words). LocalsHold t (types_at source g) objects e.locals low (length objects) s) (sym slots_are) hold),
+          subst (λ n. Holds t f.caller.slots (base_of source n) values) (sym function_is) (subst (λ (s : Words). Holds t s (base_of source g) values) (sym slots_are) holds),
+        ),
+        waiting,
+      ),
+      words,
+    )
 
-  pub globals_kept : (objects others : List Object) (words : Words) → SameBetween 0 global_count objects others → GlobalsHold global_count objects words → GlobalsHold global_count others words
-  globals_kept objects others words same hold number v below has = hold number v below (sym (same number (omega arith) below) ∙ has)
-
-  -- ---- all data
-
-  pub data_same : (g : ℕ) (objects : List Object) (locals : ℕ → Option ℕ) (outer : List Environment) (slots other globals : Words) (frames : List Frame)
-      → ((n : ℕ) → n < base_of source g → other n ≡ slots n) → DataAt source g objects locals outer slots globals frames → DataAt source g objects locals outer other globals frames
-  data_same g objects locals outer slots other globals frames same (low, below, hold, waiting, words) =
-      (low, below, locals_same_slots (types_at source g) objects locals low (length objects) slots other same hold, waiting, words)
-
-  -- words are written behind the locals
-  pub data_above : (g : ℕ) (objects : List Object) (locals : ℕ → Option ℕ) (outer : List Environment) (slots after globals : Words) (frames : List Frame) (n many : ℕ)
-      → base_of source g ≤ n → ((m : ℕ) → Outside n many m → after m ≡ slots m) → DataAt source g objects locals outer slots globals frames → DataAt source g objects locals outer after globals frames
-  data_above g objects locals outer slots after globals frames n many above same facts =
-      data_same g objects locals outer slots after globals frames (λ m below. same m (inl (omega (arith, below, above)))) facts
-
-  pub data_assigned : (g : ℕ) (objects others : List Object) (locals : ℕ → Option ℕ) (outer : List Environment) (slots after globals : Words) (frames : List Frame) (number object : ℕ) (v : Operand)
-      → locals number ≡ Some object → contents others object ≡ Some v → ((o : ℕ) → o ≢ object → contents others o ≡ contents objects o) → length others ≡ length objects
-      → HasRoom (types_at source g) number v.kind → Is v.kind v.value after (slot_of (starts_at source g) number)
-      → ((m : ℕ) → Outside (slot_of (starts_at source g) number) (words_of_kind v.kind) m → after m ≡ slots m)
-      → DataAt source g objects locals outer slots globals frames → DataAt source g others locals outer after globals frames
-  data_assigned g objects others locals outer slots after globals frames number object v here now same long room is elsewhere (low, below, hold, waiting, words) =
-      let inside = hold.within number object here in
-      let above = globals_below objects low frames outer waiting in
-      let not : (o : ℕ) → o < low → o ≢ object = λ o less e. absurd (omega (arith, e, less, inside.1)) in (
-        low,
-        omega (arith, below, long),
-        subst (λ high. LocalsHold (types_at source g) others locals low high after) (sym long)
-            (locals_assigned (types_at source g) objects others locals low (length objects) slots after number object v here now same room is elsewhere hold),
-        frames_kept objects others low frames outer (λ o from to. same o (not o to)) waiting,
-        globals_kept objects others globals (λ o from to. same o (not o (omega (arith, to, above)))) words,
-      )
-
-  pub data_assigned_global : (g : ℕ) (objects others : List Object) (locals : ℕ → Option ℕ) (outer : List Environment) (slots globals : Words) (frames : List Frame) (number : ℕ) (v : Operand) (w : ℕ)
-      → number < global_count → contents others number ≡ Some v → ((o : ℕ) → o ≢ number → contents others o ≡ contents objects o) → length others ≡ length objects → Is v.kind v.value (λ (i : ℕ). w) 0
-      → DataAt source g objects locals outer slots globals frames → DataAt source g others locals outer slots (put globals number w) frames
-  data_assigned_global g objects others locals outer slots globals frames number v w few now same long is (low, below, hold, waiting, words) =
-      let above = globals_below objects low frames outer waiting in
-      let not : (o : ℕ) → global_count ≤ o → o ≢ number = λ o from e. absurd (omega (arith, e, from, few)) in (
-        low,
-        omega (arith, below, long),
-        subst (λ high. LocalsHold (types_at source g) others locals low high slots) (sym long)
-            (locals_kept (types_at source g) objects others locals low (length objects) slots (λ o from to. same o (not o (omega (arith, above, from)))) hold),
-        frames_kept objects others low frames outer (λ o from to. same o (not o from)) waiting,
-        λ n u less has. elim (cases_eq n number) [
-          | inl equal ↦
-              let u_is : v ≡ u = same_Some v u (sym now ∙ sym (ap (contents others) equal) ∙ has) in
-              subst (λ (x : Operand). Is x.kind x.value (put globals number w) n) u_is
-              (Is-first v.kind v.value (λ (i : ℕ). w) (put globals number w) 0 n (ap (put globals number w) equal ∙ put-same globals number w) is)
-          | inr other ↦ Is-first u.kind u.value globals (put globals number w) n n (put-other globals number n w other) (words n u less (sym (same n other) ∙ has))
-        ],
-      )
-
-  pub data_declared : (g : ℕ) (objects : List Object) (e : Environment) (outer : List Environment) (slots other globals : Words) (frames : List Frame) (number many : ℕ) (x : Object)
-      → number < length (types_at source g) → many ≤ words_in (types_at source g) number
-      → ((m : ℕ) → Outside (slot_of (starts_at source g) number) many m → other m ≡ slots m)
-      → ((v : Operand) → content_of (Some x) ≡ Some v → Is v.kind v.value other (slot_of (starts_at source g) number) × HasRoom (types_at source g) number v.kind)
-      → DataAt source g objects e.locals outer slots globals frames → DataAt source g (objects ++ x ∷ []) (with_local e number (length objects)).locals outer other globals frames
-  data_declared g objects e outer slots other globals frames number many x inside few same is (low, below, hold, waiting, words) =
-      let above = globals_below objects low frames outer waiting in (
-        low,
-        omega (arith, below, length-append objects (x ∷ [])),
-        locals_declared (types_at source g) objects e low slots other number many x inside few below same is hold,
-        frames_kept objects (objects ++ x ∷ []) low frames outer (λ o from to. contents_made objects x o (omega (arith, to, below))) waiting,
-        globals_kept objects (objects ++ x ∷ []) globals (λ o from to. contents_made objects x o (omega (arith, to, above, below))) words,
-      )
-
-  -- the callee has no locals yet, and its caller waits
-  pub data_called : (g callee : ℕ) (objects : List Object) (e : Environment) (outer : List Environment) (slots other globals : Words) (f : Frame) (frames : List Frame)
-      → f.caller.function ≡ g → f.caller.slots ≡ slots → DataAt source g objects e.locals outer slots globals frames → DataAt source callee objects (λ (number : ℕ). None) (e ∷ outer) other globals (f ∷ frames)
-  data_called g callee objects e outer slots other globals f frames function_is slots_are (low, below, hold, waiting, words) = (
-    length objects,
-    omega arith,
-    no_locals_hold (types_at source callee) objects (length objects) (length objects) other,
-    (
-      low,
-      below,
-      subst (λ n. LocalsHold (types_at source n) objects e.locals low (length objects) f.caller.slots) (sym function_is)
-          (subst (λ (s : Words). LocalsHold (types_at source g) objects e.locals low (length objects) s) (sym slots_are) hold),
+    -- the caller goes on, with a temporary written
+    pub data_returned : (g : ℕ) (objects : List Object) (locals : ℕ → Option ℕ) (e : Waiting) (outer : List Waiting) (slots other globals : Words) (f : Frame) (frames : List Frame)
+        → ((n : ℕ) → n < base_of source f.caller.function → other n ≡ f.caller.slots n)
+        → DataAt source t g objects locals (e ∷ outer) slots globals (f ∷ frames) → DataAt source t f.caller.function objects e.locals outer other globals frames
+    data_returned g objects locals e outer slots other globals f frames same (low, below, hold, (under, less, (waits, values), waiting), words) = (
+      under,
+      omega (arith, below, less),
+      locals_same_slots (types_at source f.caller.function) objects e.locals under (length objects) f.caller.slots other same
+          (locals_raised (types_at source f.caller.function) objects e.locals under low (length objects) f.caller.slots below waits),
       waiting,
+      words,
+    )
+
+    -- what the caller holds
+    pub held_by_caller : (g : ℕ) (objects : List Object) (locals : ℕ → Option ℕ) (e : Waiting) (outer : List Waiting) (slots globals : Words) (f : Frame) (frames : List Frame)
+        → DataAt source t g objects locals (e ∷ outer) slots globals (f ∷ frames) → Holds t f.caller.slots (base_of source f.caller.function) e.values
+    held_by_caller g objects locals e outer slots globals f frames (low, below, hold, (under, less, (waits, values), waiting), words) = values
+
+-- ---- tables that grow
+
+module _ (t u : Tables) (grows : Grows t u) where
+  pub IsWord-grows : (kind : Kind) (v : Value) (word : ℕ) → IsWord t kind v word → IsWord u kind v word
+  IsWord-grows kinds.Int v word is = Is-grows grows kinds.Int v (λ (i : ℕ). word) 0 is
+  IsWord-grows kinds.Nullable v word is = Is-grows grows kinds.Nullable v (λ (i : ℕ). word) 0 is
+  IsWord-grows kinds.NonNull v word is = Is-grows grows kinds.NonNull v (λ (i : ℕ). word) 0 is
+  IsWord-grows kinds.Fat Null word is = is
+  IsWord-grows kinds.Handle v word is = Is-grows grows kinds.Handle v (λ (i : ℕ). word) 0 is
+  IsWord-grows kinds.Key v word is = Is-grows grows kinds.Key v (λ (i : ℕ). word) 0 is
+  IsWord-grows kind v word is = absurd is
+
+  pub IsIn-grows : (v : Operand) (slots : Words) (o : Place) → IsIn t v slots o → IsIn u v slots o
+  IsIn-grows v slots (operands.Slot n) is = Is-grows grows v.kind v.value slots n is
+  IsIn-grows v slots (operands.Word w) is = IsWord-grows v.kind v.value w is
+
+  pub Holds-grows : (slots : Words) (base : ℕ) (vs : List Operand) → Holds t slots base vs → Holds u slots base vs
+  Holds-grows slots base [] holds = tt
+  Holds-grows slots base (v ∷ vs) (is, holds) = (Is-grows grows v.kind v.value slots (height base vs) is, Holds-grows slots base vs holds)
+
+  pub HoldsFrom-grows : (slots : Words) (first : ℕ) (vs : List Operand) → HoldsFrom t slots first vs → HoldsFrom u slots first vs
+  HoldsFrom-grows slots first [] holds = tt
+  HoldsFrom-grows slots first (v ∷ vs) (is, holds) = (Is-grows grows v.kind v.value slots first is, HoldsFrom-grows slots (first + words_of_kind v.kind) vs holds)
+
+  locals_grow : (types : List Ty) (objects : List Object) (locals : ℕ → Option ℕ) (low high : ℕ) (slots : Words) → LocalsHold t types objects locals low high slots
+      → LocalsHold u types objects locals low high slots
+  locals_grow types objects locals low high slots hold = record {
+    within = hold.within;
+    apart = hold.apart;
+    rows = λ number object at. grows.rows object Variable (hold.rows number object at);
+    holds = λ number object v at has. let (is, room) = hold.holds number object v at has in (Is-grows grows v.kind v.value slots (slot_of (starts_of types) number) is, room);
+  }
+
+  frames_grow : (source : Program) (objects : List Object) (high : ℕ) (frames : List Frame) (outer : List Waiting) → FramesHold source t objects high frames outer → FramesHold source u objects high frames outer
+  frames_grow source objects high [] [] hold = hold
+  frames_grow source objects high [] (x ∷ outer) hold = absurd hold
+  frames_grow source objects high (f ∷ frames) [] hold = absurd hold
+  frames_grow source objects high (f ∷ frames) (x ∷ outer) (low, below, (hold, values), rest) = (
+    low,
+    below,
+    (
+      locals_grow (types_at source f.caller.function) objects x.locals low high f.caller.slots hold,
+      Holds-grows f.caller.slots (base_of source f.caller.function) x.values values,
     ),
-    words,
+    frames_grow source objects low frames outer rest,
   )
 
-  -- the caller goes on, with a temporary written
-  pub data_returned : (g : ℕ) (objects : List Object) (locals : ℕ → Option ℕ) (e : Environment) (outer : List Environment) (slots other globals : Words) (f : Frame) (frames : List Frame)
-      → ((n : ℕ) → n < base_of source f.caller.function → other n ≡ f.caller.slots n)
-      → DataAt source g objects locals (e ∷ outer) slots globals (f ∷ frames) → DataAt source f.caller.function objects e.locals outer other globals frames
-  data_returned g objects locals e outer slots other globals f frames same (low, below, hold, (under, less, waits, waiting), words) = (
-    under,
-    omega (arith, below, less),
-    locals_same_slots (types_at source f.caller.function) objects e.locals under (length objects) f.caller.slots other same
-        (locals_raised (types_at source f.caller.function) objects e.locals under low (length objects) f.caller.slots below waits),
-    waiting,
-    words,
+  -- all data stay
+  pub data_grows : (source : Program) (g : ℕ) (objects : List Object) (locals : ℕ → Option ℕ) (outer : List Waiting) (slots globals : Words) (frames : List Frame)
+      → DataAt source t g objects locals outer slots globals frames → DataAt source u g objects locals outer slots globals frames
+  data_grows source g objects locals outer slots globals frames (low, below, hold, waiting, words) = (
+    low,
+    below,
+    locals_grow (types_at source g) objects locals low (length objects) slots hold,
+    frames_grow source objects low frames outer waiting,
+    λ number few. let (row, is) = words number few in (grows.rows number Variable row, λ v has. IsWord-grows v.kind v.value (globals number) (is v has)),
   )
+
+  pub variables_grow : (regions : List ℕ) → AreOfVariables t regions → AreOfVariables u regions
+  variables_grow [] are = tt
+  variables_grow (region ∷ regions) (one, all) = (grows.handles region None one, variables_grow regions all)

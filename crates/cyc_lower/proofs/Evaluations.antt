@@ -10,7 +10,7 @@ use Rattle.cyc_types.specs.declared.typed.Kind.TheVariants as kinds
 use Rattle.cyc_types.specs.declared.typed.UnaryOperator.TheVariants as unary
 use Rattle.cyc_types.specs.declared.typed.Operator.{Operator}
 use Rattle.cyc_types.specs.Types.{Ty, ValueType}
-use Rattle.cyc_types.specs.TypedTrees.{Dereference, Target, Lvalue, Local, Global, Expression, Number, Copy, Call, Unary, Binary, Assign, Converted, Convert, Arguments, NoArguments, MoreArguments, Operations, NoOperations, ThenCompute, ThenTest, ThenPointer, Function, Program}
+use Rattle.cyc_types.specs.TypedTrees.{type_of_place, Dereference, Target, Lvalue, Local, Global, Expression, Number, Copy, Call, Unary, Binary, Assign, Converted, Convert, Arguments, NoArguments, MoreArguments, Operations, NoOperations, ThenCompute, ThenTest, ThenPointer, Function, Program}
 use Rattle.cyc_types.specs.TypedTrees as typed
 use Rattle.cyc_plain.specs.declared.instruction.Comparison.{Comparison}
 use Rattle.cyc_plain.specs.declared.instruction.Comparison.TheVariants as comparisons
@@ -33,8 +33,10 @@ use Rattle.cyc_lower.proofs.Moves.{moved_slots, moves, put_elsewhere, moved_else
 use Rattle.cyc_lower.specs.Lowering.{failing_comparison, operand_of, value_slot, source_of, source_slot, are_as_wide, converts_there, all_passed, move_of, left_with, slot_with, compared_or, compared_of, lower_program}
 use Rattle.cyc_lower.proofs.Weights.{weight, stack_weight, expression_weight, arguments_weight}
 use Rattle.cyc_lower.proofs.Stands.{CopyBy, CopyAt, OperandBy, InitialBy, ExpressionAt, ArgumentsAt, ValueAt, PairAt, ConditionAt, AssignmentAt, PrintedAt, DiscardedAt}
-use Rattle.cyc_lower.proofs.Relation.{Is, IsIn, types_at, starts_at, given_at, called_at, words_held, height, Holds, held, contents, callers, in_temporary, in_local, drops, leaves, copies, prints_only, gives_byte, DataIn, SharedAt, CallAt, to_slot, to_jump, ValueStack, ConditionStack, DroppedStack, AheadStack, LandsStack, HandsOnStack, PrintsStack, RightAt, EvaluatingAt, as_operand, into_slot, for_effect, as_right, as_condition, in_operand, ahead, with_left, Related, Matches, code_of, bounds_in, bounds_at, base_of, top}
-use Rattle.cyc_lower.proofs.Data.{Is-first, height-least, Holds-same, Holds-above, data_above}
+use Rattle.cyc_objects.specs.Tables.{Tables}
+use Rattle.cyc_objects.specs.Words.{Is}
+use Rattle.cyc_lower.proofs.Relation.{IsIn, types_at, starts_at, given_at, called_at, words_held, height, Holds, held, contents, callers, in_temporary, in_local, drops, leaves, copies, prints_only, gives_byte, DataIn, SharedAt, CallAt, to_slot, to_jump, ValueStack, PlaceStack, ConditionStack, DroppedStack, AheadStack, LandsStack, HandsOnStack, PrintsStack, RightAt, EvaluatingAt, as_operand, into_slot, for_effect, as_right, as_condition, in_operand, ahead, with_left, Related, Matches, code_of, bounds_in, bounds_at, base_of, top}
+use Rattle.cyc_lower.proofs.Data.{IsWord-is, height-least, Holds-same, Holds-above, data_above}
 use Rattle.cyc_lower.proofs.Accesses.{IsWell, is_loaded}
 use Rattle.cyc_lower.proofs.Matched.{IsMatched, silently, by_one}
 
@@ -49,48 +51,48 @@ module _ (source : Program) (pages calls : ℕ) where
   IsStep focus k e w c = IsWell (step source (Running focus k e w)) → Related source pages calls focus k e w c → IsMatched source pages calls (Running focus k e w) (plain.Running c)
 
   -- a value comes to a slot and those behind it, and the next instruction is the one behind
-  pub landed : (v : Kinded) (after : Words) (d : ℕ) (k : List Entry) (e : Environment) (w : World) (c : Configuration) (q : ℕ) → Is v.kind v.value after d
+  pub landed : (v : Kinded) (after : Words) (d : ℕ) (k : List Entry) (e : Environment) (w : World) (c : Configuration) (q : ℕ) (shared : SharedAt source pages calls k e w c) → Is shared.tables v.kind v.value after d
       → ((m : ℕ) → Outside d (words_of_kind v.kind) m → after m ≡ c.active.slots m)
-      → SharedAt source pages calls w c → DataIn source c.active.slots k e w c → Holds c.active.slots (base_of source c.active.function) (held k)
+      → DataIn source shared.tables c.active.slots k e w c → Holds shared.tables c.active.slots (base_of source c.active.function) (held k)
       → c.active.next + 1 ≡ q → LandsStack source c.active.function e.locals v.kind d q c.frames k
       → Related source pages calls (Given v) k e w (advanced (with_slots c after))
-  landed v after d k e w c q is same shared facts holds end (in_temporary least stack) =
+  landed v after d k e w c q shared is same facts holds end (in_temporary least stack) =
       let base = base_of source c.active.function in (
         shared,
         in_operand (operands.Slot d)
-            (data_above source c.active.function w.objects e.locals (callers k) c.active.slots after c.globals c.frames d (words_of_kind v.kind) (omega (arith, least, height-least base (held k))) same facts)
+            (data_above shared.tables source c.active.function w.objects e.locals (callers k) c.active.slots after c.globals c.frames d (words_of_kind v.kind) (omega (arith, least, height-least base (held k))) same facts)
             is
-            (Holds-same c.active.slots after base (held k) (λ m below. same m (inl (omega (arith, below, least)))) holds)
+            (Holds-same shared.tables c.active.slots after base (held k) (λ m below. same m (inl (omega (arith, below, least)))) holds)
             (subst (λ r. ValueStack source c.active.function e.locals v.kind (operands.Slot d) r c.frames k) (sym end) stack),
       )
-  landed v after d k e w c q is same shared facts holds end (in_local below stack) =
+  landed v after d k e w c q shared is same facts holds end (in_local below stack) =
       let base = base_of source c.active.function in (
         shared,
         ahead d (c.active.slots, λ m out. sym (same m out), facts)
             is
-            (Holds-above c.active.slots after base (held k) (λ m above. same m (inr (omega (arith, below, above)))) holds)
+            (Holds-above shared.tables c.active.slots after base (held k) (λ m above. same m (inr (omega (arith, below, above)))) holds)
             (subst (λ r. AheadStack source c.active.function e.locals v.kind d r c.frames k) (sym end) stack),
       )
 
   -- the same for an int
   pub landed_word : (a word d : ℕ) (k : List Entry) (e : Environment) (w : World) (c : Configuration) (q : ℕ) → word ≡ a
-      → SharedAt source pages calls w c → DataIn source c.active.slots k e w c → Holds c.active.slots (base_of source c.active.function) (held k)
+      → (shared : SharedAt source pages calls k e w c) → DataIn source shared.tables c.active.slots k e w c → Holds shared.tables c.active.slots (base_of source c.active.function) (held k)
       → c.active.next + 1 ≡ q → LandsStack source c.active.function e.locals kinds.Int d q c.frames k
       → Related source pages calls (Given (record { kind = kinds.Int; value = Int a })) k e w (advanced (with_slots c (put c.active.slots d word)))
   landed_word a word d k e w c q is shared facts holds end lands =
-      landed (record { kind = kinds.Int; value = Int a }) (put c.active.slots d word) d k e w c q (put-same c.active.slots d word ∙ is)
-      (λ m out. put_elsewhere c.active.slots d word 1 m (omega arith) out) shared facts holds end lands
+      landed (record { kind = kinds.Int; value = Int a }) (put c.active.slots d word) d k e w c q shared (put-same c.active.slots d word ∙ is)
+      (λ m out. put_elsewhere c.active.slots d word 1 m (omega arith) out) facts holds end lands
 
   -- a value that is moved from an operand
-  pub landed_moved : (v : Kinded) (o : Operand) (d : ℕ) (k : List Entry) (e : Environment) (w : World) (c : Configuration) (q : ℕ) (choice : Choice) → IsIn v c.active.slots o
-      → SharedAt source pages calls w c → DataIn source c.active.slots k e w c → Holds c.active.slots (base_of source c.active.function) (held k)
+  pub landed_moved : (v : Kinded) (o : Operand) (d : ℕ) (k : List Entry) (e : Environment) (w : World) (c : Configuration) (q : ℕ) (choice : Choice) (shared : SharedAt source pages calls k e w c) → IsIn shared.tables v c.active.slots o
+      → DataIn source shared.tables c.active.slots k e w c → Holds shared.tables c.active.slots (base_of source c.active.function) (held k)
       → c.active.next + 1 ≡ q → LandsStack source c.active.function e.locals v.kind d q c.frames k
       → Matches source pages calls (Running (Given v) k e w) (performed (lower_program source) choice c (move_of (words_of_kind v.kind) d o))
-  landed_moved v o d k e w c q choice is shared facts holds end lands =
+  landed_moved v o d k e w c q choice shared is facts holds end lands =
       let words = words_of_kind v.kind in
       subst (Matches source pages calls (Running (Given v) k e w)) (sym (moves (lower_program source) choice c words d o))
-      (landed v (moved_slots c.active.slots words d o) d k e w c q (moved_is v c.active.slots d o is)
-      (λ m out. moved_elsewhere c.active.slots words d o m (kind_positive v.kind) out) shared facts holds end lands)
+      (landed v (moved_slots c.active.slots words d o) d k e w c q shared (moved_is shared.tables v c.active.slots d o is)
+      (λ m out. moved_elsewhere c.active.slots words d o m (kind_positive v.kind) out) facts holds end lands)
 
   -- what stands behind a slot, at an equal place
   pub lands_at : (g : ℕ) (locals : ℕ → Option ℕ) (kind : Kind) (d p q : ℕ) (frames : List Frame) (k : List Entry) → p ≡ q → LandsStack source g locals kind d q frames k
@@ -105,52 +107,52 @@ module _ (source : Program) (pages calls : ℕ) where
   -- ---- operands without code
 
   -- the value of such an expression is found in the operand
-  pub record IsRead (a : Expression) (o : Operand) (k : List Entry) (e : Environment) (w : World) (c : Configuration) : Type 0 where
+  pub record IsRead (t : Tables) (a : Expression) (o : Operand) (k : List Entry) (e : Environment) (w : World) (c : Configuration) : Type 0 where
     pub value : Kinded
     pub gives : step source (Running (Evaluating a) k e w) ≡ Running (Given value) k e w
-    pub is : IsIn value c.active.slots o
+    pub is : IsIn t value c.active.slots o
     pub same : value.kind ≡ given_at source c.active.function a
     pub some : expression_weight a ≡ 1
 
-  pub reads : (a : Expression) (o : Operand) (k : List Entry) (e : Environment) (w : World) (c : Configuration) → operand_of (starts_at source c.active.function) a ≡ Some o → IsWell (step source (Running (Evaluating a) k e w))
-      → DataIn source c.active.slots k e w c → IsRead a o k e w c
-  reads (Number n) o k e w c known well facts =
+  pub reads : (tables : Tables) (a : Expression) (o : Operand) (k : List Entry) (e : Environment) (w : World) (c : Configuration) → operand_of (starts_at source c.active.function) a ≡ Some o → IsWell (step source (Running (Evaluating a) k e w))
+      → DataIn source tables c.active.slots k e w c → IsRead tables a o k e w c
+  reads tables (Number n) o k e w c known well facts =
       record {
         value = record { kind = kinds.Int; value = Int n };
         gives = refl;
-        is = subst (IsIn (record { kind = kinds.Int; value = Int n }) c.active.slots) (same_Some (operands.Word n) o known) refl;
+        is = subst (IsIn tables (record { kind = kinds.Int; value = Int n }) c.active.slots) (same_Some (operands.Word n) o known) refl;
         same = refl;
         some = refl;
       }
-  reads typed.NullPointer o k e w c known well facts =
+  reads tables typed.NullPointer o k e w c known well facts =
       record {
         value = record { kind = kinds.Nullable; value = Null };
         gives = refl;
-        is = subst (IsIn (record { kind = kinds.Nullable; value = Null }) c.active.slots) (same_Some (operands.Word 0) o known) refl;
+        is = subst (IsIn tables (record { kind = kinds.Nullable; value = Null }) c.active.slots) (same_Some (operands.Word 0) o known) refl;
         same = refl;
         some = refl;
       }
-  reads (Copy (Local p n) t) o k e w c known well (low, below, hold, waiting, words) =
+  reads tables (Copy (Local p n) t) o k e w c known well (low, below, hold, waiting, words) =
       let found = is_loaded (kind_of t) (e.locals n) k e w well in
       record {
         value = record { kind = kind_of t; value = found.value };
         gives = found.gives;
-        is = subst (IsIn (record { kind = kind_of t; value = found.value }) c.active.slots) (same_Some (operands.Slot (slot_of (starts_at source c.active.function) n)) o known)
+        is = subst (IsIn tables (record { kind = kind_of t; value = found.value }) c.active.slots) (same_Some (operands.Slot (slot_of (starts_at source c.active.function) n)) o known)
             (hold.holds n found.number (record { kind = kind_of t; value = found.value }) found.there found.has).0;
         same = refl;
         some = refl;
       }
-  reads a o k e w c known well facts = absurd (none-some o known)
+  reads tables a o k e w c known well facts = absurd (none-some o known)
 
   -- ---- calls
 
   -- the next argument is evaluated, or the call is made
   pub passes_related : (f : Callee) (before : List Kinded) (cs : Arguments) (k : List Entry) (e : Environment) (w : World) (c : Configuration) (d m q all : ℕ)
-      → SharedAt source pages calls w c → DataIn source c.active.slots k e w c
+      → (shared : SharedAt source pages calls k e w c) → DataIn source shared.tables c.active.slots k e w c
       → ArgumentsAt (code_of source c.active.function) (bounds_at source c.active.function) (types_at source c.active.function) cs (height (base_of source c.active.function) (before ++ held k)) c.active.next m
       → CallAt source c.active.function f all (top source c.active.function k) d m q
       → words_held before + all_passed cs ≡ all
-      → Holds c.active.slots (base_of source c.active.function) (before ++ held k) → LandsStack source c.active.function e.locals (called_at source c.active.function f) d q c.frames k
+      → Holds shared.tables c.active.slots (base_of source c.active.function) (before ++ held k) → LandsStack source c.active.function e.locals (called_at source c.active.function f) d q c.frames k
       → Matches source pages calls (passes f before cs k e w) (plain.Running c)
   passes_related callees.Putchar before cs k e w c d m q all shared facts at call long holds lands = absurd call
   passes_related callees.Getchar before NoArguments k e w c d m q all shared facts at (here, end) long holds lands =
@@ -191,8 +193,8 @@ module _ (source : Program) (pages calls : ℕ) where
 
   -- what is known at each such step
   abbrev At_step : Expression → List Entry → Environment → World → Configuration → Type 0
-  At_step a k e w c = IsWell (step source (Running (Evaluating a) k e w)) × SharedAt source pages calls w c × DataIn source c.active.slots k e w c
-      × Holds c.active.slots (base_of source c.active.function) (held k)
+  At_step a k e w c = IsWell (step source (Running (Evaluating a) k e w)) × (shared : SharedAt source pages calls k e w c) × DataIn source shared.tables c.active.slots k e w c
+      × Holds shared.tables c.active.slots (base_of source c.active.function) (held k)
 
   abbrev IsBegun : Expression → List Entry → Environment → World → Configuration → Type 0
   IsBegun a k e w c = IsMatched source pages calls (Running (Evaluating a) k e w) (plain.Running c)
@@ -200,7 +202,7 @@ module _ (source : Program) (pages calls : ℕ) where
   known_operand : (a : Expression) (o : Operand) (k : List Entry) (e : Environment) (w : World) (c : Configuration) (q : ℕ) → operand_of (starts_at source c.active.function) a ≡ Some o → c.active.next ≡ q → At_step a k e w c
       → ValueStack source c.active.function e.locals (given_at source c.active.function a) o q c.frames k → IsBegun a k e w c
   known_operand a o k e w c q known end (well, shared, facts, holds) stack =
-      let found = reads a o k e w c known well facts in
+      let found = reads shared.tables a o k e w c known well facts in
       silently source pages calls (Running (Evaluating a) k e w) (Running (Given found.value) k e w) (plain.Running c) found.gives (
         shared,
         in_operand o facts found.is holds
@@ -210,26 +212,26 @@ module _ (source : Program) (pages calls : ℕ) where
       (omega (arith, found.some))
 
   -- a value that is to be converted: in an operand, or in a temporary where its words change
-  pub sources : (from to : Kind) (a : Expression) (k : List Entry) (e : Environment) (w : World) (c : Configuration) (o : Operand) (m : ℕ)
+  pub sources : (t : Tables) (from to : Kind) (a : Expression) (k : List Entry) (e : Environment) (w : World) (c : Configuration) (o : Operand) (m : ℕ)
       → OperandBy (code_of source c.active.function) (bounds_at source c.active.function) (types_at source c.active.function) (source_of (starts_at source c.active.function) (Convert from to a))
       (ExpressionAt (code_of source c.active.function) (bounds_at source c.active.function) (types_at source c.active.function) a (source_slot (starts_at source c.active.function) (Convert from to a) (top source c.active.function k)) (top source c.active.function k) c.active.next m)
       (source_slot (starts_at source c.active.function) (Convert from to a) (top source c.active.function k)) o c.active.next m
-      → Holds c.active.slots (base_of source c.active.function) (held k) → ValueStack source c.active.function e.locals (given_at source c.active.function a) o m c.frames k
-      → EvaluatingAt source a e.locals c.active.function c.active.next c.active.slots c.frames k
-  sources from to a k e w c o m at holds stack = by (are_as_wide from to) at
+      → Holds t c.active.slots (base_of source c.active.function) (held k) → ValueStack source c.active.function e.locals (given_at source c.active.function a) o m c.frames k
+      → EvaluatingAt source t a e.locals c.active.function c.active.next c.active.slots c.frames k
+  sources t from to a k e w c o m at holds stack = by (are_as_wide from to) at
     where
       by : (same : Bool)
           → OperandBy (code_of source c.active.function) (bounds_at source c.active.function) (types_at source c.active.function) (if same then operand_of (starts_at source c.active.function) a else None)
           (ExpressionAt (code_of source c.active.function) (bounds_at source c.active.function) (types_at source c.active.function) a (if same then value_slot (starts_at source c.active.function) a (top source c.active.function k) else top source c.active.function k) (top source c.active.function k) c.active.next m)
           (if same then value_slot (starts_at source c.active.function) a (top source c.active.function k) else top source c.active.function k) o c.active.next m
-          → EvaluatingAt source a e.locals c.active.function c.active.next c.active.slots c.frames k
+          → EvaluatingAt source t a e.locals c.active.function c.active.next c.active.slots c.frames k
       by true at = as_operand o m at holds stack
       by false (is, at) = into_slot (top source c.active.function k) m at holds (in_temporary (omega arith) (subst (λ x. ValueStack source c.active.function e.locals (given_at source c.active.function a) x m c.frames k) is stack))
 
   -- what is assigned to a local comes to its slots at once, or is moved there once it is converted
   assigns_local : (there : Bool) (n : ℕ) (from to : Kind) (a : Expression) (k : List Entry) (e : Environment) (w : World) (c : Configuration) (object : ℕ) (o : Operand) (m : ℕ)
-      → converts_there from to ≡ there → e.locals n ≡ Some object → SharedAt source pages calls w c → DataIn source c.active.slots k e w c
-      → Holds c.active.slots (base_of source c.active.function) (held k)
+      → converts_there from to ≡ there → e.locals n ≡ Some object → (shared : SharedAt source pages calls k e w c) → DataIn source shared.tables c.active.slots k e w c
+      → Holds shared.tables c.active.slots (base_of source c.active.function) (held k)
       → o ≡ operands.Slot (slot_of (starts_at source c.active.function) n) → HasRoom (types_at source c.active.function) n to
       → InitialBy (code_of source c.active.function) (bounds_at source c.active.function) (types_at source c.active.function) there from to a (slot_of (starts_at source c.active.function) n) (top source c.active.function k) c.active.next m
       → HandsOnStack source c.active.function e.locals to o m c.frames k
@@ -244,7 +246,7 @@ module _ (source : Program) (pages calls : ℕ) where
       )
   assigns_local false n from to a k e w c object o m lands found shared facts holds there room (x, r, s, at_a, at_to, move, end) hands =
       let place : Lvalue = Local (record { line = 0; column = 0 }) n in
-      (shared, facts, sources from to a (Needs (ConvertTo from to (target_by a)) ∷ Needs (Store (Thin object 0)) ∷ k) e w c x r at_a holds (s, at_to, (place, o, m, (move, end, there, room), (object, refl, found), hands)))
+      (shared, facts, sources shared.tables from to a (Needs (ConvertTo from to (target_by a)) ∷ Needs (Store (Thin object 0)) ∷ k) e w c x r at_a holds (s, at_to, (place, o, m, (move, end, there, room), (object, refl, found), hands)))
 
   -- a place is assigned, and then the value of the assignment is handed on
   assigns : (l : Lvalue) (from to : Kind) (a : Expression) (t : ValueType) (k : List Entry) (e : Environment) (w : World) (c : Configuration) (object : Option ℕ) (o : Operand) (m : ℕ)
@@ -259,11 +261,11 @@ module _ (source : Program) (pages calls : ℕ) where
       (ap (λ x. assigned x (Convert from to a) k e w) found)
       (assigns_local (converts_there from to) n from to a k e w c object o m refl found shared facts holds there room at hands)
       (omega arith)
-  assigns (Global n) from to a t k e w c (Some object) o m found (well, shared, facts, holds) (s, (r, at_a, at_to), few, store, end) hands =
+  assigns (Global n) from to a t k e w c (Some object) o m found (well, shared, facts, holds) (s, (r, at_a, at_to), few, single, store, end) hands =
       silently source pages calls (Running (Evaluating (Assign (Global n) (Convert from to a) t)) k e w)
       (Running (Evaluating a) (Needs (ConvertTo from to (target_by a)) ∷ Needs (Store (Thin object 0)) ∷ k) e w) (plain.Running c)
       (ap (λ x. assigned x (Convert from to a) k e w) found)
-      (shared, facts, sources from to a (Needs (ConvertTo from to (target_by a)) ∷ Needs (Store (Thin object 0)) ∷ k) e w c o r at_a holds (s, at_to, (Global n, o, m, (store, end, refl, few), (object, refl, found), hands)))
+      (shared, facts, sources shared.tables from to a (Needs (ConvertTo from to (target_by a)) ∷ Needs (Store (Thin object 0)) ∷ k) e w c o r at_a holds (s, at_to, (Global n, o, m, (store, end, refl, few, single), (object, refl, found), hands)))
       (omega arith)
 
   -- a byte is printed
@@ -274,7 +276,7 @@ module _ (source : Program) (pages calls : ℕ) where
   prints (MoreArguments (Convert from to a) NoArguments) t k e w c o m (well, shared, facts, holds) (s, at_a, at_to) (write, stack) =
       silently source pages calls (Running (Evaluating (Call callees.Putchar (MoreArguments (Convert from to a) NoArguments) t)) k e w)
       (Running (Evaluating a) (Needs (ConvertTo from to (target_by a)) ∷ Needs (Pass callees.Putchar [] NoArguments) ∷ k) e w) (plain.Running c) refl
-      (shared, facts, sources from to a (Needs (ConvertTo from to (target_by a)) ∷ Needs (Pass callees.Putchar [] NoArguments) ∷ k) e w c o s at_a holds (m, at_to, (refl, refl, write, stack)))
+      (shared, facts, sources shared.tables from to a (Needs (ConvertTo from to (target_by a)) ∷ Needs (Pass callees.Putchar [] NoArguments) ∷ k) e w c o s at_a holds (m, at_to, (refl, refl, write, stack)))
       (omega arith)
   prints (MoreArguments c' (MoreArguments c'' cs)) t k e w c o m known at stack = absurd at
 
@@ -310,23 +312,23 @@ module _ (source : Program) (pages calls : ℕ) where
       by_one source pages calls refl shared at (λ choice. landed_word n n d k e w c q refl shared facts holds end lands)
   comes typed.NullPointer k e w c d q (well, shared, facts, holds) (at, end) lands =
       let v : Kinded = record { kind = kinds.Nullable; value = Null } in
-      by_one source pages calls refl shared at (λ choice. landed_moved v (operands.Word 0) d k e w c q choice refl shared facts holds end lands)
+      by_one source pages calls refl shared at (λ choice. landed_moved v (operands.Word 0) d k e w c q choice shared refl facts holds end lands)
   comes (Copy (Local p n) t) k e w c d q (well, shared, facts, holds) (at, end) lands =
       let g = c.active.function in
       let found = is_loaded (kind_of t) (e.locals n) k e w well in
       let v : Kinded = record { kind = kind_of t; value = found.value } in
       let o = operands.Slot (slot_of (starts_at source g) n) in
       by_one source pages calls found.gives shared (subst (λ x. CodeAt (code_of source g) c.active.next (move_of x d o)) (sym (type_words t)) at)
-      (λ choice. landed_moved v o d k e w c q choice (facts.2.holds n found.number v found.there found.has).0 shared facts holds end lands)
+      (λ choice. landed_moved v o d k e w c q choice shared (facts.2.holds n found.number v found.there found.has).0 facts holds end lands)
   comes (Copy (Global n) t) k e w c d q (well, shared, facts, holds) (few, at, end) lands =
       let found = is_loaded (kind_of t) (Some n) k e w well in
       let v : Kinded = record { kind = kind_of t; value = found.value } in
       let word = c.globals n in
       let same : n ≡ found.number = same_Some n found.number found.there in
-      let is = facts.4 n v (global_there c.active.function n few) (ap (contents w.objects) same ∙ found.has) in
+      let is = (facts.4 n (global_there c.active.function n few)).1 v (ap (contents w.objects) same ∙ found.has) in
       by_one source pages calls found.gives shared at
-      (λ choice. landed v (put c.active.slots d word) d k e w c q (Is-first v.kind v.value c.globals (put c.active.slots d word) n d (put-same c.active.slots d word) is)
-      (λ m out. put_elsewhere c.active.slots d word (words_of_kind v.kind) m (kind_positive v.kind) out) shared facts holds end lands)
+      (λ choice. landed v (put c.active.slots d word) d k e w c q shared (IsWord-is shared.tables v.kind v.value word (put c.active.slots d word) d (put-same c.active.slots d word) is)
+      (λ m out. put_elsewhere c.active.slots d word (words_of_kind v.kind) m (kind_positive v.kind) out) facts holds end lands)
   comes (Call callees.Putchar cs t) k e w c d q known (o, m, at, write, low, end) lands =
       prints cs t k e w c o m known at (write, gives_byte d low (lands_at c.active.function e.locals kinds.Int d (m + 1 + 1) q c.frames k end lands))
   comes (Call callees.Getchar cs t) k e w c d q known (m, at, here, end) lands = calls_out callees.Getchar cs t k e w c d m q known at (here, end) lands
@@ -348,9 +350,10 @@ module _ (source : Program) (pages calls : ℕ) where
   comes (Binary a os t) k e w c d q known (l, m, at_a, at) lands = absurd at
   comes (Assign (Local p n) (Convert from to a) t) k e w c d q known (o, m, at, copy) lands = assigns (Local p n) from to a t k e w c (object_of e (Local p n)) o m refl known at (copies d q copy lands)
   comes (Assign (Global n) (Convert from to a) t) k e w c d q known (o, m, at, copy) lands = assigns (Global n) from to a t k e w c (object_of e (Global n)) o m refl known at (copies d q copy lands)
-  comes (typed.Load (Target pointer a ty)) k e w c d q (well, shared, facts, holds) (o, m, r, at_a, check, load, end) lands =
-      silently source pages calls (Running (Evaluating (typed.Load (Target pointer a ty))) k e w) (Running (Locating (Target pointer a ty)) (NeedsPlace (LoadFrom (kind_of ty)) ∷ k) e w) (plain.Running c) refl
-      (shared, facts, (o, m, at_a, holds, (r, check, (d, load, lands_at c.active.function e.locals (kind_of ty) d (r + 1) q c.frames k end lands))))
+  comes (typed.Load x) k e w c d q (well, shared, facts, holds) (o, offset, r, at, single, load, end) lands =
+      let kind = kind_of (type_of_place x) in
+      silently source pages calls (Running (Evaluating (typed.Load x)) k e w) (Running (Locating x) (NeedsPlace (LoadFrom kind) ∷ k) e w) (plain.Running c) refl
+      (shared, facts, (o, offset, r, at, holds, (d, load, type_words (type_of_place x) ∙ single, lands_at c.active.function e.locals kind d (r + 1) q c.frames k end lands)))
       (omega arith)
   comes a k e w c d q known at lands = absurd at
 
@@ -413,10 +416,10 @@ module _ (source : Program) (pages calls : ℕ) where
   for_its_effect (typed.New x v t) k e w c q known (o, (is, at)) stack = absurd at
 
   -- a right operand without code, with the left one beside it
-  beside_left : (a : Expression) (k : List Entry) (e : Environment) (w : World) (c : Configuration) → IsWell (step source (Running (Evaluating a) k e w)) → SharedAt source pages calls w c → DataIn source c.active.slots k e w c
-      → RightAt source a e.locals c.active.function c.active.next c.active.slots c.frames k → IsBegun a k e w c
+  beside_left : (a : Expression) (k : List Entry) (e : Environment) (w : World) (c : Configuration) → IsWell (step source (Running (Evaluating a) k e w)) → (shared : SharedAt source pages calls k e w c) → DataIn source shared.tables c.active.slots k e w c
+      → RightAt source shared.tables a e.locals c.active.function c.active.next c.active.slots c.frames k → IsBegun a k e w c
   beside_left a (Needs (Apply u left) ∷ k) e w c well shared facts (l, r, known, is_left, holds, applied) =
-      let found = reads a r (Needs (Apply u left) ∷ k) e w c known well facts in
+      let found = reads shared.tables a r (Needs (Apply u left) ∷ k) e w c known well facts in
       silently source pages calls (Running (Evaluating a) (Needs (Apply u left) ∷ k) e w) (Running (Given found.value) (Needs (Apply u left) ∷ k) e w) (plain.Running c) found.gives
       (shared, with_left facts (l, r, is_left, found.is, holds, applied))
       (omega (arith, found.some))
@@ -462,11 +465,11 @@ module _ (source : Program) (pages calls : ℕ) where
 
   -- a place that a pointer leads to: the pointer is evaluated
   pub locating : (x : Dereference) (k : List Entry) (e : Environment) (w : World) (c : Configuration) → IsStep (Locating x) k e w c
-  locating (Target pointer a t) k e w c well (shared, facts, (o, m, at_a, holds, stack)) =
+  locating (Target pointer a t) k e w c well (shared, facts, (o, offset, q, (m, at_a, thin, check, none), holds, place)) =
       silently source pages calls (Running (Locating (Target pointer a t)) k e w) (Running (Evaluating a) (Needs (Follow pointer (target_of t)) ∷ k) e w) (plain.Running c) refl
-      (shared, facts, as_operand o m at_a holds stack)
+      (shared, facts, as_operand o m at_a holds (q, thin, check, subst (λ b. PlaceStack source c.active.function e.locals o b q c.frames k) none place))
       (omega arith)
-  locating x k e w c well (shared, facts, at) = absurd at
+  locating x k e w c well (shared, facts, (o, offset, q, at, holds, place)) = absurd at
 
   pub evaluating : (a : Expression) (k : List Entry) (e : Environment) (w : World) (c : Configuration) → IsStep (Evaluating a) k e w c
   evaluating a k e w c well (shared, facts, as_operand o q at holds stack) = operand a k e w c o q (well, shared, facts, holds) at stack

@@ -1,9 +1,34 @@
 -- A tree of the int language whose numbers are in range is lowered.
-use Rattle.std.proofs.Common.{ℕ, Bool, true, List, [], ◌∷◌, length, Option, None, Some}
+use Rattle.std.proofs.Common.{◌≡◌, ℕ, Bool, true, List, [], ◌∷◌, length, Option, None, Some, refl, sym, ◌∙◌}
+use Rattle.std.proofs.lemmas.Bool.{eq-eqb}
+use Rattle.cyc_types.specs.declared.typed.Kind.{Kind}
+use Rattle.cyc_types.specs.declared.typed.Kind.TheVariants as kinds
+use Rattle.cyc_types.specs.Built.{is_built_kind}
 use Rattle.cyc_types.specs.Types.{Ty}
-use Rattle.cyc_types.specs.TypedTrees.{Expression, Number, Copy, Call, Unary, Binary, Assign, Converted, Convert, Arguments, NoArguments, MoreArguments, Operations, NoOperations, ThenCompute, ThenTest, Statement, Block, Empty, Evaluate, If, While, Return, Break, Continue, Items, NoItems, MoreItems, Execute, Declare, Signature, Function, Program}
-use Rattle.cyc_types.specs.Numbered.{Numbering, signatures_of, IsNumbered, IsNumberedConverted, AreNumberedArguments, AreNumberedOperations, IsNumberedReturn, IsNumberedInitial, IsNumberedStatement, AreNumberedItems, numbering_of, AreNumberedFunctions, IsNumberedProgram}
-use Rattle.cyc_lower.specs.Lowerable.{IsLowerable, IsLowerableConverted, AreLowerableArguments, AreLowerableOperations, IsLowerableReturn, IsLowerableInitial, IsLowerableStatement, AreLowerableItems, AreLowerableFunctions, IsLowerableProgram}
+use Rattle.cyc_types.specs.TypedTrees.{Lvalue, Local, Global, Expression, Number, Copy, Call, Unary, Binary, Assign, Converted, Convert, Arguments, NoArguments, MoreArguments, Operations, NoOperations, ThenCompute, ThenTest, Statement, Block, Empty, Evaluate, If, While, Return, Break, Continue, Items, NoItems, MoreItems, Execute, Declare, Signature, Function, Program}
+use Rattle.cyc_types.specs.Numbered.{Numbering, IsWithin, signatures_of, IsNumbered, IsNumberedConverted, AreNumberedArguments, AreNumberedOperations, IsNumberedReturn, IsNumberedInitial, IsNumberedStatement, AreNumberedItems, numbering_of, AreNumberedFunctions, IsNumberedProgram}
+use Rattle.cyc_meaning.specs.Values.{words_of_kind}
+use Rattle.cyc_lower.specs.Lowering.{are_as_wide, passed_words}
+use Rattle.cyc_lower.specs.Lowerable.{HasPlace, IsLowerable, IsLowerableConverted, AreLowerableArguments, AreLowerableOperations, IsLowerableReturn, IsLowerableInitial, IsLowerableStatement, AreLowerableItems, AreLowerableFunctions, IsLowerableProgram}
+
+-- a kind that is built has one word
+one_word : (kind : Kind) → is_built_kind kind ≡ true → words_of_kind kind ≡ 1
+one_word kinds.Int built = refl
+one_word kinds.Nullable built = refl
+one_word kinds.NonNull built = refl
+one_word kind built = absurd (cc)
+
+-- a conversion between kinds of one word
+abbrev IsNarrow : Converted → Type 0
+IsNarrow (Convert from to a) = (are_as_wide from to ≡ true) × (words_of_kind to ≡ 1)
+
+narrow_converted : (b : Numbering) (c : Converted) → IsNumberedConverted b c → IsNarrow c
+narrow_converted b (Convert from to a) (numbered, built_from, built_to) =
+    (eq-eqb (words_of_kind from) (words_of_kind to) (one_word from built_from ∙ sym (one_word to built_to)), one_word to built_to)
+
+has_place : (b : Numbering) (l : Lvalue) (c : Converted) → IsWithin b l → IsNarrow c → HasPlace b l (passed_words c)
+has_place b (Local p n) (Convert from to a) within narrow = within
+has_place b (Global n) (Convert from to a) within (wide, single) = (within, single)
 
 module _ (b : Numbering) where
   mutual
@@ -13,11 +38,11 @@ module _ (b : Numbering) where
     lowerable (Call f cs t) (s, signature, many, same, numbered) = (s, signature, many, lowerable_arguments cs numbered)
     lowerable (Unary o a) numbered = lowerable a numbered
     lowerable (Binary a os t) (one, all) = (lowerable a one, lowerable_operations os all)
-    lowerable (Assign l c t) (within, numbered) = (within, lowerable_converted c numbered)
+    lowerable (Assign l c t) (within, numbered) = (has_place b l c within (narrow_converted b c numbered), lowerable_converted c numbered)
     lowerable a numbered = absurd numbered
 
     lowerable_converted : (c : Converted) → IsNumberedConverted b c → IsLowerableConverted b c
-    lowerable_converted (Convert from to a) numbered = lowerable a numbered
+    lowerable_converted (Convert from to a) (numbered, built_from, built_to) = ((narrow_converted b (Convert from to a) (numbered, built_from, built_to)).0, lowerable a numbered)
 
     lowerable_arguments : (cs : Arguments) → AreNumberedArguments b cs → AreLowerableArguments b cs
     lowerable_arguments NoArguments numbered = tt

@@ -8,8 +8,8 @@ use Rattle.cyc_types.specs.declared.typed.Kind.{Kind}
 use Rattle.cyc_types.specs.declared.typed.Kind.TheVariants as kinds
 use Rattle.cyc_types.specs.declared.typed.Callee.TheVariants as callees
 use Rattle.cyc_types.specs.declared.typed.Operator.{Operator}
-use Rattle.cyc_types.specs.TypedTrees.{Target, Expression, NoOperations, Program}
-use Rattle.cyc_meaning.specs.Values.{Operand as Kinded}
+use Rattle.cyc_types.specs.TypedTrees.{Expression, NoOperations, Program}
+use Rattle.cyc_meaning.specs.Values.{Thin, Operand as Kinded}
 use Rattle.cyc_plain.specs.declared.instruction.Comparison.{Comparison}
 use Rattle.cyc_plain.specs.declared.instruction.Comparison.TheVariants as comparisons
 use Rattle.cyc_plain.specs.declared.instruction.Operand.{Operand}
@@ -27,9 +27,11 @@ use Rattle.cyc_words.proofs.Matching.{by_none, way_before}
 use Rattle.cyc_plain.proofs.Steps.{step_performs, place_known}
 use Rattle.cyc_plain.specs.Straight.{At}
 use Rattle.cyc_words.specs.Demand.{demand_of}
-use Rattle.cyc_meaning.specs.State.{World, Environment, ConvertTo, Operate, Chain, Apply, ApplyPointer, Follow, LoadFrom, Decide, Store, Pass, Initialise, Choose, Test, Return, Entry, Needs, NeedsPlace, Discard, Rest, Join, Loop, CloseRegion, Caller, Main, counted, calls_in, Focus, Evaluating, Locating, Given, Executing, Proceeding, Calling, Entering, Binding, Breaking, Continuing, Returning, Throwing, State, Running, Ended, Dead, Wrong, output_of, input_of, status_of}
-use Rattle.cyc_meaning.specs.Step.{target_of, step}
+use Rattle.cyc_meaning.specs.State.{World, Environment, ConvertTo, Operate, Chain, Apply, ApplyPointer, Follow, LoadFrom, Decide, Store, Pass, Initialise, Choose, Test, Return, Entry, Needs, NeedsPlace, Discard, Rest, Join, Loop, CloseRegion, Caller, Main, counted, calls_in, Focus, Evaluating, Locating, Given, GivenPlace, Executing, Proceeding, Calling, Entering, Binding, Breaking, Continuing, Returning, Throwing, State, Running, Ended, Dead, Wrong, output_of, input_of, status_of}
+use Rattle.cyc_meaning.specs.Step.{step}
 use Rattle.cyc_meaning.specs.Run.{is_within, limited_step}
+use Rattle.cyc_objects.specs.Tables.{Tables}
+use Rattle.cyc_objects.proofs.RegionLemmas.{counted-same}
 use Rattle.cyc_lower.specs.Lowering.{compared_of, lower_program}
 use Rattle.cyc_meaning.specs.SourceMachine.{status_in, source_machine}
 use Rattle.cyc_lower.proofs.Weights.{weight}
@@ -91,14 +93,14 @@ module _ (source : Program) where
     value_depth g locals kind o p frames (Needs (Choose s t) ∷ k) (loop, r, q, at, at_s, jump, at_t, stack) = statement_depth g loop q frames k stack
     value_depth g locals kind o p frames (Needs (Test a s) ∷ k) (loop, outer, q, at, r, jump, body, back, stack) = statement_depth g outer q frames k stack
     value_depth g locals kind o p frames (Needs Return ∷ k) (loop, q, s, is, at, one, stack) = statement_depth g loop q frames k stack
-    value_depth g locals kind o p frames (Needs (Follow pointer target) ∷ k) (q, check, place) = place_depth g locals o q frames k place
+    value_depth g locals kind o p frames (Needs (Follow pointer target) ∷ k) (q, thin, check, place) = place_depth g locals o 0 q frames k place
     value_depth g locals kind o p frames (Discard ∷ k) (loop, stack) = statement_depth g loop p frames k stack
     value_depth g locals kind o p frames (entry ∷ k) stack = absurd stack
 
-    pub place_depth : (g : ℕ) (locals : ℕ → Option ℕ) (o : Operand) (p : ℕ) (frames : List Frame) (k : List Entry) → PlaceStack source g locals o p frames k → HasDepth frames k
-    place_depth g locals o p frames (NeedsPlace (LoadFrom cell) ∷ k) (d, at, lands) =
+    pub place_depth : (g : ℕ) (locals : ℕ → Option ℕ) (o : Operand) (c p : ℕ) (frames : List Frame) (k : List Entry) → PlaceStack source g locals o c p frames k → HasDepth frames k
+    place_depth g locals o c p frames (NeedsPlace (LoadFrom cell) ∷ k) (d, at, single, lands) =
         by_lands lands (λ stack. value_depth g locals cell (operands.Slot d) (p + 1) frames k stack) (λ stack. ahead_depth g locals cell d (p + 1) frames k stack)
-    place_depth g locals o p frames k place = absurd place
+    place_depth g locals o c p frames k place = absurd place
 
     pub condition_depth : (g : ℕ) (failing : Comparison) (l r : Operand) (p : ℕ) (frames : List Frame) (k : List Entry) → ConditionStack source g failing l r p frames k → HasDepth frames k
     condition_depth g failing l r p frames (Needs (Chain NoOperations) ∷ k) stack = condition_depth g failing l r p frames k stack
@@ -125,7 +127,7 @@ module _ (source : Program) where
     statement_depth g loop p frames (Loop a s ∷ k) (outer, q, at, jump, stack) = statement_depth g outer q frames k stack
     statement_depth g loop p frames (CloseRegion r h ∷ k) stack = statement_depth g loop p frames k stack
     statement_depth g loop p [] (Caller e ∷ k) (s, at, below) = absurd below
-    statement_depth g loop p (f ∷ frames) (Caller e ∷ k) (s, at, (holds, lands)) =
+    statement_depth g loop p (f ∷ frames) (Caller e ∷ k) (s, at, lands) =
         omega (arith, by_lands lands (λ stack. value_depth f.caller.function e.locals (returned_at source g) (operands.Slot f.result) f.caller.next frames k stack) (λ stack. ahead_depth f.caller.function e.locals (returned_at source g) f.result f.caller.next frames k stack))
     statement_depth g loop p [] (Main ∷ []) (s, at, last) = omega arith
     statement_depth g loop p (f ∷ frames) (Main ∷ k) (s, at, last) = absurd last
@@ -165,14 +167,14 @@ module _ (source : Program) where
     value_plain g locals kind o p frames (Needs (Choose s t) ∷ k) (loop, r, q, at, at_s, jump, at_t, stack) = statement_plain g loop q frames k stack
     value_plain g locals kind o p frames (Needs (Test a s) ∷ k) (loop, outer, q, at, r, jump, body, back, stack) = statement_plain g outer q frames k stack
     value_plain g locals kind o p frames (Needs Return ∷ k) (loop, q, s, is, at, one, stack) = statement_plain g loop q frames k stack
-    value_plain g locals kind o p frames (Needs (Follow pointer target) ∷ k) (q, check, place) = place_plain g locals o q frames k place
+    value_plain g locals kind o p frames (Needs (Follow pointer target) ∷ k) (q, thin, check, place) = place_plain g locals o 0 q frames k place
     value_plain g locals kind o p frames (Discard ∷ k) (loop, stack) = statement_plain g loop p frames k stack
     value_plain g locals kind o p frames (entry ∷ k) stack = absurd stack
 
-    pub place_plain : (g : ℕ) (locals : ℕ → Option ℕ) (o : Operand) (p : ℕ) (frames : List Frame) (k : List Entry) → PlaceStack source g locals o p frames k → IsPlainStack k
-    place_plain g locals o p frames (NeedsPlace (LoadFrom cell) ∷ k) (d, at, lands) =
+    pub place_plain : (g : ℕ) (locals : ℕ → Option ℕ) (o : Operand) (c p : ℕ) (frames : List Frame) (k : List Entry) → PlaceStack source g locals o c p frames k → IsPlainStack k
+    place_plain g locals o c p frames (NeedsPlace (LoadFrom cell) ∷ k) (d, at, single, lands) =
         by_lands lands (λ stack. value_plain g locals cell (operands.Slot d) (p + 1) frames k stack) (λ stack. ahead_plain g locals cell d (p + 1) frames k stack)
-    place_plain g locals o p frames k place = absurd place
+    place_plain g locals o c p frames k place = absurd place
 
     pub condition_plain : (g : ℕ) (failing : Comparison) (l r : Operand) (p : ℕ) (frames : List Frame) (k : List Entry) → ConditionStack source g failing l r p frames k → IsPlainStack k
     condition_plain g failing l r p frames (Needs (Chain NoOperations) ∷ k) stack = condition_plain g failing l r p frames k stack
@@ -199,7 +201,7 @@ module _ (source : Program) where
     statement_plain g loop p frames (Loop a s ∷ k) (outer, q, at, jump, stack) = statement_plain g outer q frames k stack
     statement_plain g loop p frames (CloseRegion r h ∷ k) stack = statement_plain g loop p frames k stack
     statement_plain g loop p [] (Caller e ∷ k) (s, at, below) = absurd below
-    statement_plain g loop p (f ∷ frames) (Caller e ∷ k) (s, at, (holds, lands)) =
+    statement_plain g loop p (f ∷ frames) (Caller e ∷ k) (s, at, lands) =
         by_lands lands (λ stack. value_plain f.caller.function e.locals (returned_at source g) (operands.Slot f.result) f.caller.next frames k stack) (λ stack. ahead_plain f.caller.function e.locals (returned_at source g) f.result f.caller.next frames k stack)
     statement_plain g loop p [] (Main ∷ []) (s, at, last) = tt
     statement_plain g loop p (f ∷ frames) (Main ∷ k) (s, at, last) = absurd last
@@ -219,60 +221,61 @@ module _ (source : Program) where
   applied_depth g locals u l r p frames k (to_slot (d, q, at, lands)) = lands_depth g locals kinds.Int d q frames k lands
   applied_depth g locals u l r p frames k (to_jump (failing, is, stack)) = condition_depth g failing l r p frames k stack
 
-  right_depth : (a : Expression) (locals : ℕ → Option ℕ) (g p : ℕ) (slots : ℕ → ℕ) (frames : List Frame) (k : List Entry) → RightAt source a locals g p slots frames k → HasDepth frames k
-  right_depth a locals g p slots frames (Needs (Apply u left) ∷ k) (l, r, known, is, holds, applied) = applied_depth g locals u l r p frames k applied
-  right_depth a locals g p slots frames k right = absurd right
+  right_depth : (t : Tables) (a : Expression) (locals : ℕ → Option ℕ) (g p : ℕ) (slots : ℕ → ℕ) (frames : List Frame) (k : List Entry) → RightAt source t a locals g p slots frames k → HasDepth frames k
+  right_depth t a locals g p slots frames (Needs (Apply u left) ∷ k) (l, r, known, is, holds, applied) = applied_depth g locals u l r p frames k applied
+  right_depth t a locals g p slots frames k right = absurd right
 
-  ready_depth : (v : Kinded) (locals : ℕ → Option ℕ) (g p : ℕ) (slots : ℕ → ℕ) (frames : List Frame) (k : List Entry) → ReadyAt source v locals g p slots frames k → HasDepth frames k
-  ready_depth v locals g p slots frames (Needs (Apply u left) ∷ k) (l, r, is_left, is, holds, applied) = applied_depth g locals u l r p frames k applied
-  ready_depth v locals g p slots frames k ready = absurd ready
+  ready_depth : (t : Tables) (v : Kinded) (locals : ℕ → Option ℕ) (g p : ℕ) (slots : ℕ → ℕ) (frames : List Frame) (k : List Entry) → ReadyAt source t v locals g p slots frames k → HasDepth frames k
+  ready_depth t v locals g p slots frames (Needs (Apply u left) ∷ k) (l, r, is_left, is, holds, applied) = applied_depth g locals u l r p frames k applied
+  ready_depth t v locals g p slots frames k ready = absurd ready
 
-  evaluating_depth : (a : Expression) (locals : ℕ → Option ℕ) (g p : ℕ) (slots : ℕ → ℕ) (frames : List Frame) (k : List Entry) → EvaluatingAt source a locals g p slots frames k → HasDepth frames k
-  evaluating_depth a locals g p slots frames k (as_operand o q at holds stack) = value_depth g locals (given_at source g a) o q frames k stack
-  evaluating_depth a locals g p slots frames k (into_slot d q at holds lands) = lands_depth g locals (given_at source g a) d q frames k lands
-  evaluating_depth a locals g p slots frames k (for_effect q at holds stack) = dropped_depth g q frames k stack
-  evaluating_depth a locals g p slots frames k (as_right right) = right_depth a locals g p slots frames k right
-  evaluating_depth a locals g p slots frames k (as_condition l r q at holds stack) = condition_depth g (compared_of a).failing l r q frames k stack
+  evaluating_depth : (t : Tables) (a : Expression) (locals : ℕ → Option ℕ) (g p : ℕ) (slots : ℕ → ℕ) (frames : List Frame) (k : List Entry) → EvaluatingAt source t a locals g p slots frames k → HasDepth frames k
+  evaluating_depth t a locals g p slots frames k (as_operand o q at holds stack) = value_depth g locals (given_at source g a) o q frames k stack
+  evaluating_depth t a locals g p slots frames k (into_slot d q at holds lands) = lands_depth g locals (given_at source g a) d q frames k lands
+  evaluating_depth t a locals g p slots frames k (for_effect q at holds stack) = dropped_depth g q frames k stack
+  evaluating_depth t a locals g p slots frames k (as_right right) = right_depth t a locals g p slots frames k right
+  evaluating_depth t a locals g p slots frames k (as_condition l r q at holds stack) = condition_depth g (compared_of a).failing l r q frames k stack
 
   -- what a related state shares
-  pub shared_of : (pages calls : ℕ) (focus : Focus) (k : List Entry) (e : Environment) (w : World) (c : Configuration) → Related source pages calls focus k e w c → SharedAt source pages calls w c
+  pub shared_of : (pages calls : ℕ) (focus : Focus) (k : List Entry) (e : Environment) (w : World) (c : Configuration) → Related source pages calls focus k e w c → SharedAt source pages calls k e w c
   shared_of pages calls (Throwing tag value) k e w c r = r.0
   shared_of pages calls (Given v) k e w c r = r.0
   shared_of pages calls Proceeding k e w c r = r.0
   shared_of pages calls focus k e w c r = r.0
 
-  depth_going : (focus : Focus) (k : List Entry) (locals : ℕ → Option ℕ) (g p : ℕ) (slots : ℕ → ℕ) (frames : List Frame) → FocusAt source focus k locals g p slots frames → HasDepth frames k
-  depth_going (Evaluating a) k locals g p slots frames at = evaluating_depth a locals g p slots frames k at
-  depth_going (Locating (Target pointer a t)) k locals g p slots frames (o, m, at, holds, stack) = value_depth g locals (given_at source g a) o m frames (Needs (Follow pointer (target_of t)) ∷ k) stack
-  depth_going (Executing s) k locals g p slots frames (loop, q, at, stack) = statement_depth g loop q frames k stack
-  depth_going (Calling callees.Putchar before) k locals g p slots frames (v, o, single, is, holds, prints) = prints_depth g locals o p frames k prints
-  depth_going (Calling callees.Getchar before) k locals g p slots frames (d, q, at, holds, lands) = lands_depth g locals kinds.Int d q frames k lands
-  depth_going (Calling (callees.Function n) before) k locals g p slots frames (d, q, at, holds, lands) = lands_depth g locals (called_at source g (callees.Function n)) d q frames k lands
-  depth_going (Entering h arguments) k locals g p slots frames (m, at, stack, holds, few) = statement_depth g 0 m frames k stack
-  depth_going (Binding n types arguments body) k locals g p slots frames (m, first, at, stack, holds, few, count) = statement_depth g 0 m frames k stack
-  depth_going Breaking k locals g p slots frames (loop, q, at, stack) = statement_depth g loop q frames k stack
-  depth_going Continuing k locals g p slots frames (loop, q, at, stack) = statement_depth g loop q frames k stack
-  depth_going (Returning (Some v)) k locals g p slots frames (loop, q, s, at, is, one, stack) = statement_depth g loop q frames k stack
-  depth_going (Returning None) k locals g p slots frames (loop, q, s, at, stack) = statement_depth g loop q frames k stack
-  depth_going focus k locals g p slots frames at = absurd at
+  depth_going : (t : Tables) (focus : Focus) (k : List Entry) (locals : ℕ → Option ℕ) (g p : ℕ) (slots : ℕ → ℕ) (frames : List Frame) → FocusAt source t focus k locals g p slots frames → HasDepth frames k
+  depth_going t (Evaluating a) k locals g p slots frames at = evaluating_depth t a locals g p slots frames k at
+  depth_going t (Locating x) k locals g p slots frames (o, c, q, at, holds, place) = place_depth g locals o c q frames k place
+  depth_going t (GivenPlace (Thin object offset)) k locals g p slots frames (o, c, points, holds, place) = place_depth g locals o c p frames k place
+  depth_going t (Executing s) k locals g p slots frames (loop, q, at, stack) = statement_depth g loop q frames k stack
+  depth_going t (Calling callees.Putchar before) k locals g p slots frames (v, o, single, is, holds, prints) = prints_depth g locals o p frames k prints
+  depth_going t (Calling callees.Getchar before) k locals g p slots frames (d, q, at, holds, lands) = lands_depth g locals kinds.Int d q frames k lands
+  depth_going t (Calling (callees.Function n) before) k locals g p slots frames (d, q, at, holds, lands) = lands_depth g locals (called_at source g (callees.Function n)) d q frames k lands
+  depth_going t (Entering h arguments) k locals g p slots frames (m, at, stack, holds, few) = statement_depth g 0 m frames k stack
+  depth_going t (Binding n types arguments body) k locals g p slots frames (m, first, at, stack, holds, few, count) = statement_depth g 0 m frames k stack
+  depth_going t Breaking k locals g p slots frames (loop, q, at, stack) = statement_depth g loop q frames k stack
+  depth_going t Continuing k locals g p slots frames (loop, q, at, stack) = statement_depth g loop q frames k stack
+  depth_going t (Returning (Some v)) k locals g p slots frames (loop, q, s, at, is, one, stack) = statement_depth g loop q frames k stack
+  depth_going t (Returning None) k locals g p slots frames (loop, q, s, at, stack) = statement_depth g loop q frames k stack
+  depth_going t focus k locals g p slots frames at = absurd at
 
-  depth_given : (v : Kinded) (k : List Entry) (e : Environment) (w : World) (c : Configuration) → GivenAt source v k e w c → HasDepth c.frames k
-  depth_given v k e w c (in_operand o facts is holds stack) = value_depth c.active.function e.locals v.kind o c.active.next c.frames k stack
-  depth_given v k e w c (nowhere facts stack) = dropped_depth c.active.function c.active.next c.frames k stack
-  depth_given v k e w c (ahead n facts is holds stack) = ahead_depth c.active.function e.locals v.kind n c.active.next c.frames k stack
-  depth_given v k e w c (compared failing l r facts zero stack) = condition_depth c.active.function failing l r c.active.next c.frames k stack
-  depth_given v k e w c (with_left facts ready) = ready_depth v e.locals c.active.function c.active.next c.active.slots c.frames k ready
+  depth_given : (t : Tables) (v : Kinded) (k : List Entry) (e : Environment) (w : World) (c : Configuration) → GivenAt source t v k e w c → HasDepth c.frames k
+  depth_given t v k e w c (in_operand o facts is holds stack) = value_depth c.active.function e.locals v.kind o c.active.next c.frames k stack
+  depth_given t v k e w c (nowhere facts stack) = dropped_depth c.active.function c.active.next c.frames k stack
+  depth_given t v k e w c (ahead n facts is holds stack) = ahead_depth c.active.function e.locals v.kind n c.active.next c.frames k stack
+  depth_given t v k e w c (compared failing l r facts zero stack) = condition_depth c.active.function failing l r c.active.next c.frames k stack
+  depth_given t v k e w c (with_left facts ready) = ready_depth t v e.locals c.active.function c.active.next c.active.slots c.frames k ready
 
-  depth_proceeding : (k : List Entry) (e : Environment) (w : World) (c : Configuration) → ProceedingAt source k e w c → HasDepth c.frames k
-  depth_proceeding k e w c (behind_statement loop facts stack) = statement_depth c.active.function loop c.active.next c.frames k stack
-  depth_proceeding k e w c (behind_call kind o facts stack) = value_depth c.active.function e.locals kind o c.active.next c.frames k stack
-  depth_proceeding k e w c (behind_wrong kind n stack) = ahead_depth c.active.function e.locals kind n c.active.next c.frames k stack
+  depth_proceeding : (t : Tables) (k : List Entry) (e : Environment) (w : World) (c : Configuration) → ProceedingAt source t k e w c → HasDepth c.frames k
+  depth_proceeding t k e w c (behind_statement loop facts stack) = statement_depth c.active.function loop c.active.next c.frames k stack
+  depth_proceeding t k e w c (behind_call kind o facts stack) = value_depth c.active.function e.locals kind o c.active.next c.frames k stack
+  depth_proceeding t k e w c (behind_wrong kind n stack) = ahead_depth c.active.function e.locals kind n c.active.next c.frames k stack
 
   depth_fits : (pages calls : ℕ) (focus : Focus) (k : List Entry) (e : Environment) (w : World) (c : Configuration) → Related source pages calls focus k e w c → calls_in k ≤ calls
   depth_fits pages calls (Throwing tag value) k e w c r = r.1
-  depth_fits pages calls (Given v) k e w c (shared, at) = omega (arith, depth_given v k e w c at, shared.fits)
-  depth_fits pages calls Proceeding k e w c (shared, at) = omega (arith, depth_proceeding k e w c at, shared.fits)
-  depth_fits pages calls focus k e w c r = omega (arith, depth_going focus k e.locals c.active.function c.active.next c.active.slots c.frames r.2, r.0.fits)
+  depth_fits pages calls (Given v) k e w c (shared, at) = omega (arith, depth_given shared.tables v k e w c at, shared.fits)
+  depth_fits pages calls Proceeding k e w c (shared, at) = omega (arith, depth_proceeding shared.tables k e w c at, shared.fits)
+  depth_fits pages calls focus k e w c r = omega (arith, depth_going r.0.tables focus k e.locals c.active.function c.active.next c.active.slots c.frames r.2, r.0.fits)
 
 module _ (source : Program) (pages calls : ℕ) where
   abbrev pub above : Machine
@@ -286,11 +289,12 @@ module _ (source : Program) (pages calls : ℕ) where
   pub related_within : (focus : Focus) (k : List Entry) (e : Environment) (w : World) (c : Configuration) → Related source pages calls focus k e w c → is_within pages calls (Running focus k e w) ≡ true
   related_within focus k e w c r =
       let s = shared_of source pages calls focus k e w c r in
-      let demands : demand c.store ≡ demand_of (counted w.regions) w.classes = ap (λ l. demand_of l c.store.classes) s.same_sizes ∙ ap (demand_of (counted w.regions)) s.same_classes in
+      let demands : demand c.store ≡ demand_of (counted w.regions) w.classes =
+      ap (λ l. demand_of l c.store.classes) (sym (counted-same s.related.regions)) ∙ ap (demand_of (counted w.regions)) s.related.classes in
       and_from _ _ (le-leb _ pages (omega (arith, demands, s.few_pages))) (le-leb _ calls (depth_fits source pages calls focus k e w c r))
 
-  pub shared_within : (w : World) (c : Configuration) → SharedAt source pages calls w c → plain_step.is_within pages calls (plain.Running c) ≡ true
-  shared_within w c s = and_from _ _ (le-leb _ pages s.few_pages) (le-leb _ calls s.fits)
+  pub shared_within : (k : List Entry) (e : Environment) (w : World) (c : Configuration) → SharedAt source pages calls k e w c → plain_step.is_within pages calls (plain.Running c) ≡ true
+  shared_within k e w c s = and_from _ _ (le-leb _ pages s.few_pages) (le-leb _ calls s.fits)
 
   pub matches_within : (s : State) (t : plain.State) → Matches source pages calls s t → is_within pages calls s ≡ true
   matches_within (Running focus k e w) (plain.Running c) m = related_within focus k e w c m
@@ -301,7 +305,7 @@ module _ (source : Program) (pages calls : ℕ) where
   matches_within (Wrong output input) t m = absurd m
 
   pub matches_within_below : (s : State) (t : plain.State) → Matches source pages calls s t → plain_step.is_within pages calls t ≡ true
-  matches_within_below (Running focus k e w) (plain.Running c) m = shared_within w c (shared_of source pages calls focus k e w c m)
+  matches_within_below (Running focus k e w) (plain.Running c) m = shared_within k e w c (shared_of source pages calls focus k e w c m)
   matches_within_below (Running focus k e w) (plain.Ended ending output input) m = absurd m
   matches_within_below (Running focus k e w) (plain.Stuck output input) m = absurd m
   matches_within_below (Ended ending output input) (plain.Running c) m = absurd m
@@ -400,7 +404,7 @@ module _ (source : Program) (pages calls : ℕ) where
   }
 
   -- on the way, as long as what is shared is as before
-  pub shared_way : (focus : Focus) (k : List Entry) (e : Environment) (w : World) (c : Configuration) → SharedAt source pages calls w c → IsOnTheWay above below (Running focus k e w) (plain.Running c)
+  pub shared_way : (focus : Focus) (k : List Entry) (e : Environment) (w : World) (c : Configuration) → SharedAt source pages calls k e w c → IsOnTheWay above below (Running focus k e w) (plain.Running c)
   shared_way focus k e w c shared = way_before above below matching (Running focus k e w) (plain.Running c) refl shared.same_output
 
   abbrev pub place_in : Configuration → CodePlace
@@ -414,7 +418,7 @@ module _ (source : Program) (pages calls : ℕ) where
 
   -- one instruction
   pub by_one : {focus : Focus} {k : List Entry} {e : Environment} {w : World} {c : Configuration} {next : State} {i : Instruction}
-      → step source (Running focus k e w) ≡ next → SharedAt source pages calls w c
+      → step source (Running focus k e w) ≡ next → SharedAt source pages calls k e w c
       → At (code_of source c.active.function) c.active.next i
       → ((choice : Choice) → Matches source pages calls next (performed (lower_program source) choice c i))
       → IsMatched (Running focus k e w) (plain.Running c)
@@ -424,7 +428,7 @@ module _ (source : Program) (pages calls : ℕ) where
 
   -- two, of which the first is known
   pub by_two_known : {focus : Focus} {k : List Entry} {e : Environment} {w : World} {c : Configuration} {next : State} {i j : Instruction} (d : Configuration)
-      → step source (Running focus k e w) ≡ next → SharedAt source pages calls w c
+      → step source (Running focus k e w) ≡ next → SharedAt source pages calls k e w c
       → plain_step.is_within pages calls (plain.Running d) ≡ true → IsOnTheWay above below (Running focus k e w) (plain.Running d)
       → At (code_of source c.active.function) c.active.next i → ((choice : Choice) → performed (lower_program source) choice c i ≡ plain.Running d)
       → At (code_of source d.active.function) d.active.next j → c.active.next ≢ d.active.next
@@ -439,17 +443,17 @@ module _ (source : Program) (pages calls : ℕ) where
 
   -- two, of which the first shows nothing
   pub by_two : {focus : Focus} {k : List Entry} {e : Environment} {w : World} {c : Configuration} {next : State} {i j : Instruction} (d : Configuration)
-      → step source (Running focus k e w) ≡ next → SharedAt source pages calls w c → SharedAt source pages calls w d
+      → step source (Running focus k e w) ≡ next → SharedAt source pages calls k e w c → SharedAt source pages calls k e w d
       → At (code_of source c.active.function) c.active.next i → ((choice : Choice) → performed (lower_program source) choice c i ≡ plain.Running d)
       → At (code_of source d.active.function) d.active.next j → c.active.next ≢ d.active.next
       → ((choice : Choice) → Matches source pages calls next (performed (lower_program source) choice d j))
       → IsMatched (Running focus k e w) (plain.Running c)
   by_two {focus} {k} {e} {w} {c} {next} {i} {j} d does shared shared_d at first at_d other goes =
-      by_two_known d does shared (shared_within w d shared_d) (shared_way focus k e w d shared_d) at first at_d other goes
+      by_two_known d does shared (shared_within k e w d shared_d) (shared_way focus k e w d shared_d) at first at_d other goes
 
   -- three, of which the first two are known
   pub by_three : {focus : Focus} {k : List Entry} {e : Environment} {w : World} {c : Configuration} {next : State} {i j l : Instruction} (d f : Configuration)
-      → step source (Running focus k e w) ≡ next → SharedAt source pages calls w c
+      → step source (Running focus k e w) ≡ next → SharedAt source pages calls k e w c
       → plain_step.is_within pages calls (plain.Running d) ≡ true → IsOnTheWay above below (Running focus k e w) (plain.Running d)
       → plain_step.is_within pages calls (plain.Running f) ≡ true → IsOnTheWay above below (Running focus k e w) (plain.Running f)
       → At (code_of source c.active.function) c.active.next i → ((choice : Choice) → performed (lower_program source) choice c i ≡ plain.Running d)

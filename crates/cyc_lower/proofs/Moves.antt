@@ -1,5 +1,6 @@
 -- What slots hold after a value has been moved.
-use Rattle.std.proofs.Common.{◌≡◌, ℕ, ◌≤◌, Bool, true, false, refl, sym, arith, inl, inr}
+use Rattle.std.proofs.Common.{◌≡◌, ℕ, ◌+◌, ◌<◌, ◌≤◌, Bool, true, false, refl, sym, ap, ◌∙◌, arith, inl, inr}
+use Rattle.std.proofs.lemmas.Bool.{eqb-true}
 use Rattle.std.specs.Prelude.{◌==◌, if◌then◌else◌}
 use Rattle.cyc_plain.specs.declared.instruction.Operand.{Operand}
 use Rattle.cyc_plain.specs.declared.instruction.Operand.TheVariants as operands
@@ -11,8 +12,10 @@ use Rattle.cyc_plain.proofs.SlotLaws.{put-same, put-other, copied-inside, copied
 use Rattle.cyc_meaning.specs.Values.{Operand as Kinded, words_of_kind}
 use Rattle.cyc_lower.specs.Lowering.{move_of}
 use Rattle.cyc_lower.proofs.Widths.{Outside}
-use Rattle.cyc_lower.proofs.Relation.{Is, IsIn}
-use Rattle.cyc_lower.proofs.Data.{Is-first, Is-same}
+use Rattle.cyc_objects.specs.Tables.{Tables}
+use Rattle.cyc_objects.specs.Words.{Is}
+use Rattle.cyc_lower.proofs.Relation.{IsIn}
+use Rattle.cyc_lower.proofs.Data.{IsWord-is, Is-same}
 
 abbrev pub moved_slots : Words → (words d : ℕ) → Operand → Words
 moved_slots slots words d (operands.Slot n) = if words == 1 then put slots d (slots n) else copied slots n words slots d
@@ -46,17 +49,24 @@ moved_elsewhere slots words d (operands.Slot n) m some out = by (words == 1)
     by false = copied_elsewhere slots slots n words d m out
 
 -- words that are copied are the same value
-pub copied_is : (v : Kinded) (from to : Words) (source many d : ℕ) → words_of_kind v.kind ≤ many → Is v.kind v.value from source → Is v.kind v.value (copied from source many to d) d
-copied_is v from to source many d few is =
-    Is-same v.kind v.value from (copied from source many to d) source d (λ i below. copied-inside from to source many d i (omega (arith, below, few))) is
+pub copied_is : (t : Tables) (v : Kinded) (from to : Words) (source many d : ℕ) → words_of_kind v.kind ≤ many → Is t v.kind v.value from source → Is t v.kind v.value (copied from source many to d) d
+copied_is t v from to source many d few is =
+    Is-same t v.kind v.value from (copied from source many to d) source d (λ i below. copied-inside from to source many d i (omega (arith, below, few))) is
 
-pub moved_is : (v : Kinded) (slots : Words) (d : ℕ) (o : Operand) → IsIn v slots o → Is v.kind v.value (moved_slots slots (words_of_kind v.kind) d o) d
-moved_is v slots d (operands.Word n) is = Is-first v.kind v.value (λ (i : ℕ). n) (put slots d n) 0 d (put-same slots d n) is
-moved_is v slots d (operands.Slot n) is = by (words_of_kind v.kind == 1)
+pub moved_is : (t : Tables) (v : Kinded) (slots : Words) (d : ℕ) (o : Operand) → IsIn t v slots o → Is t v.kind v.value (moved_slots slots (words_of_kind v.kind) d o) d
+moved_is t v slots d (operands.Word n) is = IsWord-is t v.kind v.value n (put slots d n) d (put-same slots d n) is
+moved_is t v slots d (operands.Slot n) is = by (words_of_kind v.kind == 1) refl
   where
-    by : (one : Bool) → Is v.kind v.value (if one then put slots d (slots n) else copied slots n (words_of_kind v.kind) slots d) d
-    by true = Is-first v.kind v.value slots (put slots d (slots n)) n d (put-same slots d (slots n)) is
-    by false = copied_is v slots slots n (words_of_kind v.kind) d (omega arith) is
+    one : (b : Bool) → (words_of_kind v.kind == 1) ≡ b → b ≡ true → (i : ℕ) → i < words_of_kind v.kind → put slots d (slots n) (d + i) ≡ slots (n + i)
+    one b told is_one i below =
+        let single : words_of_kind v.kind ≡ 1 = eqb-true (words_of_kind v.kind) 1 (told ∙ is_one) in
+        let at_d : d + i ≡ d = omega (arith, below, single) in
+        let at_n : n ≡ n + i = omega (arith, below, single) in
+        ap (put slots d (slots n)) at_d ∙ put-same slots d (slots n) ∙ ap slots at_n
+
+    by : (b : Bool) → (words_of_kind v.kind == 1) ≡ b → Is t v.kind v.value (if b then put slots d (slots n) else copied slots n (words_of_kind v.kind) slots d) d
+    by true told = Is-same t v.kind v.value slots (put slots d (slots n)) n d (one true told refl) is
+    by false told = copied_is t v slots slots n (words_of_kind v.kind) d (omega arith) is
 
 -- a value that is copied to where it is stays as it was
 pub put_again : (slots : Words) (d w many m : ℕ) → 1 ≤ many → Outside d many m → slots m ≡ put slots d w m

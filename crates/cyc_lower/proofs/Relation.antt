@@ -1,5 +1,6 @@
 -- What a state of the source and one of the plain program have in common while the one is matched by the other.
 use Rattle.std.proofs.Common.{◌≡◌, ℕ, suc, ◌+◌, ◌≤◌, ◌<◌, true, List, [], ◌∷◌, ◌++◌, length, Option, None, Some, slice_get}
+use Rattle.cyc_words.specs.Word.{add_of}
 use Rattle.cyc_types.specs.declared.typed.Kind.{Kind}
 use Rattle.cyc_types.specs.declared.typed.Kind.TheVariants as kinds
 use Rattle.cyc_types.specs.declared.typed.Callee.{Callee}
@@ -7,9 +8,12 @@ use Rattle.cyc_types.specs.declared.typed.UnaryOperator.TheVariants as unary
 use Rattle.cyc_types.specs.declared.typed.Operator.{Operator}
 use Rattle.cyc_types.specs.declared.typed.Callee.TheVariants as callees
 use Rattle.cyc_types.specs.Types.{Ty}
-use Rattle.cyc_types.specs.TypedTrees.{Target, Lvalue, Local, Global, Expression, NoArguments, NoOperations, Statement, Function, Program}
+use Rattle.cyc_types.specs.TypedTrees.{Lvalue, Local, Global, Expression, NoArguments, NoOperations, Statement, Function, Program}
 use Rattle.cyc_types.specs.Numbered.{Numbering, numbering_of, signatures_of}
-use Rattle.cyc_store.specs.State.{StoreState, sizes_in, demand}
+use Rattle.cyc_store.specs.State.{StoreState, demand}
+use Rattle.cyc_objects.specs.Tables.{Variable, Tables}
+use Rattle.cyc_objects.specs.Words.{Points, Is}
+use Rattle.cyc_objects.specs.Related as objects
 use Rattle.cyc_plain.specs.declared.instruction.Comparison.{Comparison}
 use Rattle.cyc_plain.specs.declared.instruction.Comparison.TheVariants as comparisons
 use Rattle.cyc_plain.specs.Operators.{compares}
@@ -22,31 +26,29 @@ use Rattle.cyc_plain.specs.State.{Words, Frame, Configuration}
 use Rattle.cyc_plain.specs.Step.{operand_word}
 use Rattle.cyc_plain.specs.State as plain
 use Rattle.cyc_plain.specs.Straight.{At}
-use Rattle.cyc_meaning.specs.Values.{Value, Int, Null, Thin, Operand as Kinded, Cell, words_of_kind}
-use Rattle.cyc_meaning.specs.State.{Sort, Heap, Globals, Stack, Lexical, Dynamic, Region, Object, World, counted, Environment, ConvertTo, Operate, Chain, Apply, ApplyPointer, Follow, LoadFrom, Decide, Store, Pass, Initialise, Choose, Test, Return, Entry, Needs, NeedsPlace, Discard, Rest, Join, Loop, CloseRegion, CloseLexical, EndLoan, Handler, Caller, Main, calls_in, Focus, Evaluating, Locating, Given, Executing, Proceeding, Calling, Entering, Binding, Breaking, Continuing, Returning, Throwing, State, Running, Ended}
-use Rattle.cyc_meaning.specs.Step.{target_of, object_of}
+use Rattle.cyc_meaning.specs.Values.{Value, Int, Null, Thin, Operand as Kinded, Cell, is_thin, words_of_kind}
+use Rattle.cyc_meaning.specs.State.{Object, World, globals_number, Environment, ConvertTo, Operate, Chain, Apply, ApplyPointer, Follow, LoadFrom, Decide, Store, Pass, Initialise, Choose, Test, Return, Entry, Needs, NeedsPlace, Discard, Rest, Join, Loop, CloseRegion, CloseLexical, EndLoan, Handler, Caller, Main, calls_in, Focus, Evaluating, Locating, Given, GivenPlace, Executing, Proceeding, Calling, Entering, Binding, Breaking, Continuing, Returning, Throwing, State, Running, Ended}
+use Rattle.cyc_meaning.specs.Step.{object_of}
 use Rattle.cyc_meaning.specs.Operators.{null_exception, is_zero}
 use Rattle.cyc_meaning.specs.FrameCount.{words_of_all}
 use Rattle.cyc_lower.specs.Slots.{starts_of, slot_of}
 use Rattle.cyc_lower.specs.Lowerable.{is_null_test}
 use Rattle.cyc_lower.specs.Lowering.{slot_types, unary_operator, failing_comparison, operand_of, move_of, pointer_instruction, low_byte, converts_there, all_passed, compared_of, break_target, continue_target, results_of, lower_program}
 use Rattle.cyc_lower.proofs.Widths.{kind_of_result, given, called_kind, HasRoom, Outside}
-use Rattle.cyc_lower.proofs.Stands.{CheckAt, ConversionAt, OperatorAt, TruthAt, CopyAt, ExpressionAt, ArgumentsAt, OperationsAt, ValueAt, ConditionAt, FailingAt, ComparesAt, DiscardedAt, StatementAt, ItemsAt}
+use Rattle.cyc_lower.proofs.Stands.{CheckAt, ConversionAt, PlaceAt, OperatorAt, TruthAt, CopyAt, ExpressionAt, ArgumentsAt, OperationsAt, ValueAt, ConditionAt, FailingAt, ComparesAt, DiscardedAt, StatementAt, ItemsAt}
 
 -- ---- values in slots
 
--- The words from a place on are a value of a kind. Of a fat null pointer the first is 0, and the others are anything. No pointer but
--- null is there yet.
-abbrev pub Is : Kind → Value → Words → (place : ℕ) → Type 0
-Is kinds.Int (Int a) words place = words place ≡ a
-Is kinds.Nullable Null words place = words place ≡ 0
-Is kinds.Fat Null words place = words place ≡ 0
-Is kind v words place = ⊥
+-- One word is a value: any but a fat pointer that is not null.
+abbrev pub IsWord : Tables → Kind → Value → (word : ℕ) → Type 0
+IsWord t kinds.Fat Null word = word ≡ 0
+IsWord t kinds.Fat v word = ⊥
+IsWord t kind v word = Is t kind v (λ (i : ℕ). word) 0
 
--- the same for those that an operand stands for
-abbrev pub IsIn : Kinded → Words → Operand → Type 0
-IsIn v slots (operands.Slot n) = Is v.kind v.value slots n
-IsIn v slots (operands.Word w) = Is v.kind v.value (λ (i : ℕ). w) 0
+-- the words of an operand are a value
+abbrev pub IsIn : Tables → Kinded → Words → Operand → Type 0
+IsIn t v slots (operands.Slot n) = Is t v.kind v.value slots n
+IsIn t v slots (operands.Word w) = IsWord t v.kind v.value w
 
 abbrev pub words_held : List Kinded → ℕ
 words_held [] = 0
@@ -57,14 +59,14 @@ abbrev pub height : ℕ → List Kinded → ℕ
 height base [] = base
 height base (v ∷ vs) = height base vs + words_of_kind v.kind
 
-abbrev pub Holds : Words → ℕ → List Kinded → Type 0
-Holds slots base [] = Unit {0}
-Holds slots base (v ∷ vs) = Is v.kind v.value slots (height base vs) × Holds slots base vs
+abbrev pub Holds : Tables → Words → ℕ → List Kinded → Type 0
+Holds t slots base [] = Unit {0}
+Holds t slots base (v ∷ vs) = Is t v.kind v.value slots (height base vs) × Holds t slots base vs
 
 -- values in order from this slot on
-abbrev pub HoldsFrom : Words → ℕ → List Kinded → Type 0
-HoldsFrom slots first [] = Unit {0}
-HoldsFrom slots first (v ∷ vs) = Is v.kind v.value slots first × HoldsFrom slots (first + words_of_kind v.kind) vs
+abbrev pub HoldsFrom : Tables → Words → ℕ → List Kinded → Type 0
+HoldsFrom t slots first [] = Unit {0}
+HoldsFrom t slots first (v ∷ vs) = Is t v.kind v.value slots first × HoldsFrom t slots (first + words_of_kind v.kind) vs
 
 -- the values of the running call that are inside the entries of a stack
 abbrev pub held : List Entry → List Kinded
@@ -105,21 +107,34 @@ contents objects number = content_of (slice_get objects number)
 
 -- The locals of a call, which have these types and whose objects are all from `low` on and below `high`: the slots of each have what
 -- it holds, and there is room for it.
-pub record LocalsHold (types : List Ty) (objects : List Object) (locals : ℕ → Option ℕ) (low high : ℕ) (slots : Words) : Type 0 where
+pub record LocalsHold (t : Tables) (types : List Ty) (objects : List Object) (locals : ℕ → Option ℕ) (low high : ℕ) (slots : Words) : Type 0 where
   pub within : (number object : ℕ) → locals number ≡ Some object → (number < length types) × (low ≤ object) × (object < high)
   pub apart : (number other object : ℕ) → locals number ≡ Some object → locals other ≡ Some object → number ≡ other
+  pub rows : (number object : ℕ) → locals number ≡ Some object → slice_get t.rows object ≡ Some Variable
   pub holds : (number object : ℕ) (v : Kinded) → locals number ≡ Some object → contents objects object ≡ Some v
-      → Is v.kind v.value slots (slot_of (starts_of types) number) × HasRoom types number v.kind
+      → Is t v.kind v.value slots (slot_of (starts_of types) number) × HasRoom types number v.kind
 
 -- a global has one word yet
-abbrev pub GlobalsHold : (globals : ℕ) → List Object → Words → Type 0
-GlobalsHold globals objects words = (number : ℕ) (v : Kinded) → number < globals → contents objects number ≡ Some v → Is v.kind v.value words number
+abbrev pub GlobalsHold : Tables → (globals : ℕ) → List Object → Words → Type 0
+GlobalsHold t globals objects words =
+    (number : ℕ) → number < globals → (slice_get t.rows number ≡ Some Variable) × ((v : Kinded) → contents objects number ≡ Some v → IsWord t v.kind v.value (words number))
 
--- the environments of the calls that wait
-abbrev pub callers : List Entry → List Environment
+-- a call that waits: its locals, and the values that it holds
+pub record Waiting : Type 0 where
+  pub locals : ℕ → Option ℕ
+  pub values : List Kinded
+
+abbrev pub callers : List Entry → List Waiting
 callers [] = []
-callers (Caller e ∷ k) = e ∷ callers k
+callers (Caller e ∷ k) = record { locals = e.locals; values = held k } ∷ callers k
 callers (entry ∷ k) = callers k
+
+-- the regions of variables that entries name
+abbrev pub homes : List Entry → List ℕ
+homes [] = []
+homes (CloseRegion region home ∷ k) = region ∷ home ∷ homes k
+homes (Caller e ∷ k) = e.home ∷ homes k
+homes (entry ∷ k) = homes k
 
 -- nothing waits that catches an exception or is more than variables: no `try`, no region of a program
 abbrev pub IsPlainStack : List Entry → Type 0
@@ -129,28 +144,27 @@ IsPlainStack (EndLoan lent ∷ k) = ⊥
 IsPlainStack (Handler handler ∷ k) = ⊥
 IsPlainStack (entry ∷ k) = IsPlainStack k
 
--- ---- regions
+-- ---- what is shared
 
-abbrev pub IsQuietSort : Sort → Type 0
-IsQuietSort Heap = Unit {0}
-IsQuietSort Globals = Unit {0}
-IsQuietSort Stack = Unit {0}
-IsQuietSort Lexical = ⊥
-IsQuietSort Dynamic = ⊥
+-- these regions are of variables
+abbrev pub AreOfVariables : Tables → List ℕ → Type 0
+AreOfVariables t [] = Unit {0}
+AreOfVariables t (region ∷ regions) = (slice_get t.handles region ≡ Some None) × AreOfVariables t regions
 
--- no region is one that a program declares
-abbrev pub AreQuiet : List Region → Type 0
-AreQuiet [] = Unit {0}
-AreQuiet (r ∷ regions) = IsQuietSort r.sort × AreQuiet regions
+-- the world but for what is printed and read
+abbrev pub silent : World → World
+silent w = record w { output = []; input = [] }
 
--- What all calls share, but for the globals: what is printed and read, the sizes of the blocks, and with them the demand, and the
--- calls that wait. Demand and calls are within limits.
-pub record Shared (pages calls : ℕ) (regions : List Region) (classes output input : List ℕ) (plain_output plain_input : List ℕ) (store : StoreState) (waiting : ℕ) : Type 0 where
-  pub same_output : plain_output ≡ output
-  pub same_input : plain_input ≡ input
-  pub quiet : AreQuiet regions
-  pub same_sizes : sizes_in store.regions ≡ counted regions
-  pub same_classes : store.classes ≡ classes
+-- What all calls share, but for the globals: what is printed and read, the tables by which objects and regions stand in the store, and
+-- the calls that wait. Demand and calls are within limits.
+pub record Shared (pages calls : ℕ) (w : World) (regions : List ℕ) (plain_output plain_input : List ℕ) (store : StoreState) (waiting : ℕ) : Type 0 where
+  pub tables : Tables
+  pub same_output : plain_output ≡ w.output
+  pub same_input : plain_input ≡ w.input
+  pub related : objects.Related tables (silent w) store
+  -- the region of the globals is of variables, and so are these
+  pub globals : slice_get tables.handles globals_number ≡ Some None
+  pub variables : AreOfVariables tables regions
   pub few_pages : demand store ≤ pages
   pub fits : suc waiting ≤ calls
 
@@ -206,17 +220,19 @@ module _ (source : Program) where
   -- ---- data
 
   -- the calls that wait, whose objects lie apart by order: those of an older call have smaller numbers
-  abbrev pub FramesHold : List Object → (high : ℕ) → List Frame → List Environment → Type 0
-  FramesHold objects high [] [] = length source.globals ≤ high
-  FramesHold objects high (f ∷ frames) (e ∷ outer) = (low : ℕ) × (low ≤ high) × LocalsHold (types_at f.caller.function) objects e.locals low high f.caller.slots × FramesHold objects low frames outer
-  FramesHold objects high [] (e ∷ outer) = ⊥
-  FramesHold objects high (f ∷ frames) [] = ⊥
+  abbrev pub FramesHold : Tables → List Object → (high : ℕ) → List Frame → List Waiting → Type 0
+  FramesHold t objects high [] [] = length source.globals ≤ high
+  FramesHold t objects high (f ∷ frames) (x ∷ outer) =
+      (low : ℕ) × (low ≤ high) × (LocalsHold t (types_at f.caller.function) objects x.locals low high f.caller.slots × Holds t f.caller.slots (base_of f.caller.function) x.values)
+      × FramesHold t objects low frames outer
+  FramesHold t objects high [] (x ∷ outer) = ⊥
+  FramesHold t objects high (f ∷ frames) [] = ⊥
 
-  abbrev pub DataAt : ℕ → List Object → (ℕ → Option ℕ) → List Environment → Words → Words → List Frame → Type 0
-  DataAt g objects locals outer slots globals frames = (low : ℕ) × (low ≤ length objects)
-      × LocalsHold (types_at g) objects locals low (length objects) slots
-      × FramesHold objects low frames outer
-      × GlobalsHold (length source.globals) objects globals
+  abbrev pub DataAt : Tables → ℕ → List Object → (ℕ → Option ℕ) → List Waiting → Words → Words → List Frame → Type 0
+  DataAt t g objects locals outer slots globals frames = (low : ℕ) × (low ≤ length objects)
+      × LocalsHold t (types_at g) objects locals low (length objects) slots
+      × FramesHold t objects low frames outer
+      × GlobalsHold t (length source.globals) objects globals
 
   -- ---- the control stack and the code
 
@@ -286,7 +302,7 @@ module _ (source : Program) where
       At (code_of g) p (move_of (words_of_kind kind) (slot_of (starts_at g) n) from) × (p + 1 ≡ q) × (to ≡ operands.Slot (slot_of (starts_at g) n))
       × HasRoom (types_at g) n kind
   StoreAt g kind (Global n) from to p q =
-      At (code_of g) p (instructions.StoreGlobal n from) × (p + 1 ≡ q) × (to ≡ from) × (n < (bounds_at g).globals)
+      At (code_of g) p (instructions.StoreGlobal n from) × (p + 1 ≡ q) × (to ≡ from) × (n < (bounds_at g).globals) × (words_of_kind kind ≡ 1)
 
   -- what this function returns is of this kind
   abbrev pub IsReturned : (g : ℕ) → Kind → Type 0
@@ -304,7 +320,7 @@ module _ (source : Program) where
     pub ValueStack : (g : ℕ) → (ℕ → Option ℕ) → Kind → Operand → (p : ℕ) → List Frame → List Entry → Type 0
     ValueStack g locals kind o p frames [] = ⊥
     ValueStack g locals kind o p frames (Needs (ConvertTo from to target) ∷ k) =
-        (q : ℕ) × ConversionAt (code_of g) (bounds_at g) (types_at g) to o p q × ValueStack g locals to o q frames k
+        (q : ℕ) × ConversionAt (code_of g) (bounds_at g) (types_at g) from to o p q × ValueStack g locals to o q frames k
     ValueStack g locals kind o p frames (Needs (Operate operator) ∷ k) =
         Yields ((d : ℕ) × At (code_of g) p (instructions.Unary (unary_operator operator) d o)
         × Lands (base_of g) (top g k) d 1 (ValueStack g locals kinds.Int (operands.Slot d) (p + 1) frames k) (AheadStack g locals kinds.Int d (p + 1) frames k))
@@ -348,16 +364,16 @@ module _ (source : Program) where
         (loop : ℕ) × (q : ℕ) × (s : ℕ) × (o ≡ operands.Slot s) × At (code_of g) p (instructions.Return s) × IsReturned g kind
         × StatementStack g loop q frames k
     ValueStack g locals kind o p frames (Needs (Follow pointer target) ∷ k) =
-        (q : ℕ) × CheckAt (code_of g) (bounds_at g) (types_at g) null_exception o p q × PlaceStack g locals o q frames k
+        (q : ℕ) × (is_thin pointer ≡ true) × CheckAt (code_of g) (bounds_at g) (types_at g) null_exception o p q × PlaceStack g locals o 0 q frames k
     ValueStack g locals kind o p frames (Discard ∷ k) = (loop : ℕ) × StatementStack g loop p frames k
     ValueStack g locals kind o p frames (entry ∷ k) = ⊥
 
-    -- the same for a place, whose address stands in an operand
-    pub PlaceStack : (g : ℕ) → (ℕ → Option ℕ) → Operand → (p : ℕ) → List Frame → List Entry → Type 0
-    PlaceStack g locals o p frames (NeedsPlace (LoadFrom cell) ∷ k) =
-        (d : ℕ) × At (code_of g) p (instructions.Load d o 0)
+    -- the same for a place, whose address is the word of an operand and so many bytes more
+    pub PlaceStack : (g : ℕ) → (ℕ → Option ℕ) → Operand → (c p : ℕ) → List Frame → List Entry → Type 0
+    PlaceStack g locals o c p frames (NeedsPlace (LoadFrom cell) ∷ k) =
+        (d : ℕ) × At (code_of g) p (instructions.Load d o c) × (words_of_kind cell ≡ 1)
         × Lands (base_of g) (top g k) d (words_of_kind cell) (ValueStack g locals cell (operands.Slot d) (p + 1) frames k) (AheadStack g locals cell d (p + 1) frames k)
-    PlaceStack g locals o p frames k = ⊥
+    PlaceStack g locals o c p frames k = ⊥
 
     -- the same for a condition, which fails where this comparison holds
     pub ConditionStack : (g : ℕ) → Comparison → (l r : Operand) → (p : ℕ) → List Frame → List Entry → Type 0
@@ -395,8 +411,7 @@ module _ (source : Program) where
     StatementStack g loop p frames (CloseRegion region home ∷ k) = StatementStack g loop p frames k
     StatementStack g loop p frames (Caller e ∷ k) =
         (s : ℕ) × At (code_of g) p (instructions.Return s)
-        × Below frames (λ f rest. Holds f.caller.slots (base_of f.caller.function) (held k)
-        × Lands (base_of f.caller.function) (top f.caller.function k) f.result (words_of_kind (returned_at g))
+        × Below frames (λ f rest. Lands (base_of f.caller.function) (top f.caller.function k) f.result (words_of_kind (returned_at g))
         (ValueStack f.caller.function e.locals (returned_at g) (operands.Slot f.result) f.caller.next rest k)
         (AheadStack f.caller.function e.locals (returned_at g) f.result f.caller.next rest k))
     StatementStack g loop p frames (Main ∷ k) = (s : ℕ) × At (code_of g) p (instructions.Return s) × IsLast frames k
@@ -425,106 +440,109 @@ module _ (source : Program) where
   -- ---- the focus
 
   -- A right operand without code: the left one may be without code too, and both are read at once.
-  abbrev pub RightAt : Expression → (ℕ → Option ℕ) → (g p : ℕ) → Words → List Frame → List Entry → Type 0
-  RightAt a locals g p slots frames (Needs (Apply operator left) ∷ k) =
-      (l : Operand) × (r : Operand) × (operand_of (starts_at g) a ≡ Some r) × IsIn left slots l × Holds slots (base_of g) (held k)
+  abbrev pub RightAt : Tables → Expression → (ℕ → Option ℕ) → (g p : ℕ) → Words → List Frame → List Entry → Type 0
+  RightAt t a locals g p slots frames (Needs (Apply operator left) ∷ k) =
+      (l : Operand) × (r : Operand) × (operand_of (starts_at g) a ≡ Some r) × IsIn t left slots l × Holds t slots (base_of g) (held k)
       × AppliedStack g locals operator l r p frames k
-  RightAt a locals g p slots frames k = ⊥
+  RightAt t a locals g p slots frames k = ⊥
 
   -- both operands are there
-  abbrev pub ReadyAt : Kinded → (ℕ → Option ℕ) → (g p : ℕ) → Words → List Frame → List Entry → Type 0
-  ReadyAt v locals g p slots frames (Needs (Apply operator left) ∷ k) =
-      (l : Operand) × (r : Operand) × IsIn left slots l × IsIn v slots r × Holds slots (base_of g) (held k)
+  abbrev pub ReadyAt : Tables → Kinded → (ℕ → Option ℕ) → (g p : ℕ) → Words → List Frame → List Entry → Type 0
+  ReadyAt t v locals g p slots frames (Needs (Apply operator left) ∷ k) =
+      (l : Operand) × (r : Operand) × IsIn t left slots l × IsIn t v slots r × Holds t slots (base_of g) (held k)
       × AppliedStack g locals operator l r p frames k
-  ReadyAt v locals g p slots frames k = ⊥
+  ReadyAt t v locals g p slots frames k = ⊥
 
   -- the code of an expression, by where its value is to be
-  pub data EvaluatingAt (a : Expression) (locals : ℕ → Option ℕ) (g p : ℕ) (slots : Words) (frames : List Frame) (k : List Entry) : Type 0 where
-    as_operand : (o : Operand) → (q : ℕ) → ValueAt (code_of g) (bounds_at g) (types_at g) a (top g k) o p q → Holds slots (base_of g) (held k)
-        → ValueStack g locals (given_at g a) o q frames k → EvaluatingAt a locals g p slots frames k
-    into_slot : (d q : ℕ) → ExpressionAt (code_of g) (bounds_at g) (types_at g) a d (top g k) p q → Holds slots (base_of g) (held k)
-        → LandsStack g locals (given_at g a) d q frames k → EvaluatingAt a locals g p slots frames k
-    for_effect : (q : ℕ) → DiscardedAt (code_of g) (bounds_at g) (types_at g) a (top g k) p q → Holds slots (base_of g) (held k)
-        → DroppedStack g q frames k → EvaluatingAt a locals g p slots frames k
-    as_right : RightAt a locals g p slots frames k → EvaluatingAt a locals g p slots frames k
-    as_condition : (l r : Operand) → (q : ℕ) → ConditionAt (code_of g) (bounds_at g) (types_at g) a l r (top g k) p q → Holds slots (base_of g) (held k)
-        → ConditionStack g (compared_of a).failing l r q frames k → EvaluatingAt a locals g p slots frames k
+  pub data EvaluatingAt (t : Tables) (a : Expression) (locals : ℕ → Option ℕ) (g p : ℕ) (slots : Words) (frames : List Frame) (k : List Entry) : Type 0 where
+    as_operand : (o : Operand) → (q : ℕ) → ValueAt (code_of g) (bounds_at g) (types_at g) a (top g k) o p q → Holds t slots (base_of g) (held k)
+        → ValueStack g locals (given_at g a) o q frames k → EvaluatingAt t a locals g p slots frames k
+    into_slot : (d q : ℕ) → ExpressionAt (code_of g) (bounds_at g) (types_at g) a d (top g k) p q → Holds t slots (base_of g) (held k)
+        → LandsStack g locals (given_at g a) d q frames k → EvaluatingAt t a locals g p slots frames k
+    for_effect : (q : ℕ) → DiscardedAt (code_of g) (bounds_at g) (types_at g) a (top g k) p q → Holds t slots (base_of g) (held k)
+        → DroppedStack g q frames k → EvaluatingAt t a locals g p slots frames k
+    as_right : RightAt t a locals g p slots frames k → EvaluatingAt t a locals g p slots frames k
+    as_condition : (l r : Operand) → (q : ℕ) → ConditionAt (code_of g) (bounds_at g) (types_at g) a l r (top g k) p q → Holds t slots (base_of g) (held k)
+        → ConditionStack g (compared_of a).failing l r q frames k → EvaluatingAt t a locals g p slots frames k
 
-  abbrev pub FocusAt : Focus → List Entry → (ℕ → Option ℕ) → (g p : ℕ) → Words → List Frame → Type 0
-  FocusAt (Evaluating a) k locals g p slots frames = EvaluatingAt a locals g p slots frames k
-  FocusAt (Locating (Target pointer a t)) k locals g p slots frames =
-      (o : Operand) × (m : ℕ) × ValueAt (code_of g) (bounds_at g) (types_at g) a (top g k) o p m × Holds slots (base_of g) (held k)
-      × ValueStack g locals (given_at g a) o m frames (Needs (Follow pointer (target_of t)) ∷ k)
-  FocusAt (Executing s) k locals g p slots frames =
+  abbrev pub FocusAt : Tables → Focus → List Entry → (ℕ → Option ℕ) → (g p : ℕ) → Words → List Frame → Type 0
+  FocusAt t (Evaluating a) k locals g p slots frames = EvaluatingAt t a locals g p slots frames k
+  FocusAt t (Locating x) k locals g p slots frames =
+      (o : Operand) × (c : ℕ) × (q : ℕ) × PlaceAt (code_of g) (bounds_at g) (types_at g) x o c (top g k) p q × Holds t slots (base_of g) (held k)
+      × PlaceStack g locals o c q frames k
+  FocusAt t (GivenPlace (Thin object offset)) k locals g p slots frames =
+      (o : Operand) × (c : ℕ) × Points t object offset (add_of (operand_word slots o) c) × Holds t slots (base_of g) (held k)
+      × PlaceStack g locals o c p frames k
+  FocusAt t (Executing s) k locals g p slots frames =
       (loop : ℕ) × (q : ℕ) × StatementAt (code_of g) (bounds_at g) (types_at g) s loop (base_of g) p q × StatementStack g loop q frames k
-  FocusAt (Calling callees.Putchar before) k locals g p slots frames =
-      (v : Kinded) × (o : Operand) × (before ≡ v ∷ []) × IsIn v slots o × Holds slots (base_of g) (held k) × PrintsStack g locals o p frames k
-  FocusAt (Calling callee before) k locals g p slots frames =
-      (d : ℕ) × (q : ℕ) × CallAt g callee (words_held before) (top g k) d p q × Holds slots (base_of g) (before ++ held k)
+  FocusAt t (Calling callees.Putchar before) k locals g p slots frames =
+      (v : Kinded) × (o : Operand) × (before ≡ v ∷ []) × IsIn t v slots o × Holds t slots (base_of g) (held k) × PrintsStack g locals o p frames k
+  FocusAt t (Calling callee before) k locals g p slots frames =
+      (d : ℕ) × (q : ℕ) × CallAt g callee (words_held before) (top g k) d p q × Holds t slots (base_of g) (before ++ held k)
       × LandsStack g locals (called_at g callee) d q frames k
-  FocusAt (Entering h arguments) k locals g p slots frames =
+  FocusAt t (Entering h arguments) k locals g p slots frames =
       (m : ℕ) × ItemsAt (code_of g) (bounds_at g) (types_at g) h.body 0 (base_of g) p m × StatementStack g 0 m frames k
-      × HoldsFrom slots 0 arguments × (parameters_at g ≡ h.parameters)
-  FocusAt (Binding number types arguments body) k locals g p slots frames =
+      × HoldsFrom t slots 0 arguments × (parameters_at g ≡ h.parameters)
+  FocusAt t (Binding number types arguments body) k locals g p slots frames =
       (m : ℕ) × (first : List Ty) × ItemsAt (code_of g) (bounds_at g) (types_at g) body 0 (base_of g) p m × StatementStack g 0 m frames k
-      × HoldsFrom slots (words_of_all first) arguments × (parameters_at g ≡ first ++ types) × (length first ≡ number)
-  FocusAt Breaking k locals g p slots frames =
+      × HoldsFrom t slots (words_of_all first) arguments × (parameters_at g ≡ first ++ types) × (length first ≡ number)
+  FocusAt t Breaking k locals g p slots frames =
       (loop : ℕ) × (q : ℕ) × At (code_of g) p (instructions.Jump (break_target loop)) × StatementStack g loop q frames k
-  FocusAt Continuing k locals g p slots frames =
+  FocusAt t Continuing k locals g p slots frames =
       (loop : ℕ) × (q : ℕ) × At (code_of g) p (instructions.Jump (continue_target loop)) × StatementStack g loop q frames k
-  FocusAt (Returning (Some v)) k locals g p slots frames =
-      (loop : ℕ) × (q : ℕ) × (s : ℕ) × At (code_of g) p (instructions.Return s) × Is v.kind v.value slots s × IsReturned g v.kind
+  FocusAt t (Returning (Some v)) k locals g p slots frames =
+      (loop : ℕ) × (q : ℕ) × (s : ℕ) × At (code_of g) p (instructions.Return s) × Is t v.kind v.value slots s × IsReturned g v.kind
       × StatementStack g loop q frames k
-  FocusAt (Returning None) k locals g p slots frames =
+  FocusAt t (Returning None) k locals g p slots frames =
       (loop : ℕ) × (q : ℕ) × (s : ℕ) × At (code_of g) p (instructions.Return s) × StatementStack g loop q frames k
-  FocusAt focus k locals g p slots frames = ⊥
+  FocusAt t focus k locals g p slots frames = ⊥
 
   -- ---- states
 
-  abbrev pub SharedAt : (pages calls : ℕ) → World → Configuration → Type 0
-  SharedAt pages calls w c = Shared pages calls w.regions w.classes w.output w.input c.output c.input c.store (length c.frames)
+  abbrev pub SharedAt : (pages calls : ℕ) → List Entry → Environment → World → Configuration → Type 0
+  SharedAt pages calls k e w c = Shared pages calls w (e.home ∷ homes k) c.output c.input c.store (length c.frames)
 
   -- the data of the running call and of those that wait, where the running one has these slots
-  abbrev pub DataIn : (slots : Words) → List Entry → Environment → World → Configuration → Type 0
-  DataIn slots k e w c = DataAt c.active.function w.objects e.locals (callers k) slots c.globals c.frames
+  abbrev pub DataIn : Tables → (slots : Words) → List Entry → Environment → World → Configuration → Type 0
+  DataIn t slots k e w c = DataAt t c.active.function w.objects e.locals (callers k) slots c.globals c.frames
 
   -- the same, but for the slots of one local, which had other words before
-  abbrev pub DataBut : (n words : ℕ) → List Entry → Environment → World → Configuration → Type 0
-  DataBut n words k e w c = (old : Words) × ((m : ℕ) → Outside n words m → old m ≡ c.active.slots m) × DataIn old k e w c
+  abbrev pub DataBut : Tables → (n words : ℕ) → List Entry → Environment → World → Configuration → Type 0
+  DataBut t n words k e w c = (old : Words) × ((m : ℕ) → Outside n words m → old m ≡ c.active.slots m) × DataIn t old k e w c
 
   abbrev pub GoesOn : (pages calls : ℕ) → Focus → List Entry → Environment → World → Configuration → Type 0
   GoesOn pages calls focus k e w c =
-      SharedAt pages calls w c × DataIn c.active.slots k e w c
-      × FocusAt focus k e.locals c.active.function c.active.next c.active.slots c.frames
+      (shared : SharedAt pages calls k e w c) × DataIn shared.tables c.active.slots k e w c
+      × FocusAt shared.tables focus k e.locals c.active.function c.active.next c.active.slots c.frames
 
   -- where a value stands that is handed on; one that is only tested is the comparison of two operands
-  pub data GivenAt (v : Kinded) (k : List Entry) (e : Environment) (w : World) (c : Configuration) : Type 0 where
-    in_operand : (o : Operand) → DataIn c.active.slots k e w c → IsIn v c.active.slots o
-        → Holds c.active.slots (base_of c.active.function) (held k) → ValueStack c.active.function e.locals v.kind o c.active.next c.frames k → GivenAt v k e w c
-    nowhere : DataIn c.active.slots k e w c → DroppedStack c.active.function c.active.next c.frames k → GivenAt v k e w c
-    ahead : (n : ℕ) → DataBut n (words_of_kind v.kind) k e w c → Is v.kind v.value c.active.slots n
-        → Holds c.active.slots (base_of c.active.function) (held k) → AheadStack c.active.function e.locals v.kind n c.active.next c.frames k → GivenAt v k e w c
-    compared : (failing : Comparison) → (l r : Operand) → DataIn c.active.slots k e w c
+  pub data GivenAt (t : Tables) (v : Kinded) (k : List Entry) (e : Environment) (w : World) (c : Configuration) : Type 0 where
+    in_operand : (o : Operand) → DataIn t c.active.slots k e w c → IsIn t v c.active.slots o
+        → Holds t c.active.slots (base_of c.active.function) (held k) → ValueStack c.active.function e.locals v.kind o c.active.next c.frames k → GivenAt t v k e w c
+    nowhere : DataIn t c.active.slots k e w c → DroppedStack c.active.function c.active.next c.frames k → GivenAt t v k e w c
+    ahead : (n : ℕ) → DataBut t n (words_of_kind v.kind) k e w c → Is t v.kind v.value c.active.slots n
+        → Holds t c.active.slots (base_of c.active.function) (held k) → AheadStack c.active.function e.locals v.kind n c.active.next c.frames k → GivenAt t v k e w c
+    compared : (failing : Comparison) → (l r : Operand) → DataIn t c.active.slots k e w c
         → is_zero v.value ≡ Some (compares failing (operand_word c.active.slots l) (operand_word c.active.slots r))
-        → ConditionStack c.active.function failing l r c.active.next c.frames k → GivenAt v k e w c
-    with_left : DataIn c.active.slots k e w c → ReadyAt v e.locals c.active.function c.active.next c.active.slots c.frames k → GivenAt v k e w c
+        → ConditionStack c.active.function failing l r c.active.next c.frames k → GivenAt t v k e w c
+    with_left : DataIn t c.active.slots k e w c → ReadyAt t v e.locals c.active.function c.active.next c.active.slots c.frames k → GivenAt t v k e w c
 
   -- What goes on without a value: a statement, or what was called without one. Where a value is wanted, the source goes wrong next.
-  pub data ProceedingAt (k : List Entry) (e : Environment) (w : World) (c : Configuration) : Type 0 where
-    behind_statement : (loop : ℕ) → DataIn c.active.slots k e w c → StatementStack c.active.function loop c.active.next c.frames k → ProceedingAt k e w c
-    behind_call : (kind : Kind) → (o : Operand) → DataIn c.active.slots k e w c → ValueStack c.active.function e.locals kind o c.active.next c.frames k → ProceedingAt k e w c
-    behind_wrong : (kind : Kind) → (n : ℕ) → AheadStack c.active.function e.locals kind n c.active.next c.frames k → ProceedingAt k e w c
+  pub data ProceedingAt (t : Tables) (k : List Entry) (e : Environment) (w : World) (c : Configuration) : Type 0 where
+    behind_statement : (loop : ℕ) → DataIn t c.active.slots k e w c → StatementStack c.active.function loop c.active.next c.frames k → ProceedingAt t k e w c
+    behind_call : (kind : Kind) → (o : Operand) → DataIn t c.active.slots k e w c → ValueStack c.active.function e.locals kind o c.active.next c.frames k → ProceedingAt t k e w c
+    behind_wrong : (kind : Kind) → (n : ℕ) → AheadStack c.active.function e.locals kind n c.active.next c.frames k → ProceedingAt t k e w c
 
   -- An exception that nothing catches ends the plain program at once, while the source leaves one entry after the other.
-  abbrev pub Throws : (pages calls : ℕ) → (tag value : ℕ) → List Entry → World → Configuration → Type 0
-  Throws pages calls tag value k w c =
-      SharedAt pages calls w c × (calls_in k ≤ calls) × IsPlainStack k
+  abbrev pub Throws : (pages calls : ℕ) → (tag value : ℕ) → List Entry → Environment → World → Configuration → Type 0
+  Throws pages calls tag value k e w c =
+      (shared : SharedAt pages calls k e w c) × (calls_in k ≤ calls) × IsPlainStack k
       × (o : Operand) × At (code_of c.active.function) c.active.next (instructions.Uncaught tag o) × (operand_word c.active.slots o ≡ value)
 
   abbrev pub Related : (pages calls : ℕ) → Focus → List Entry → Environment → World → Configuration → Type 0
-  Related pages calls (Throwing tag value) k e w c = Throws pages calls tag value k w c
-  Related pages calls (Given v) k e w c = SharedAt pages calls w c × GivenAt v k e w c
-  Related pages calls Proceeding k e w c = SharedAt pages calls w c × ProceedingAt k e w c
+  Related pages calls (Throwing tag value) k e w c = Throws pages calls tag value k e w c
+  Related pages calls (Given v) k e w c = (shared : SharedAt pages calls k e w c) × GivenAt shared.tables v k e w c
+  Related pages calls Proceeding k e w c = (shared : SharedAt pages calls k e w c) × ProceedingAt shared.tables k e w c
   Related pages calls focus k e w c = GoesOn pages calls focus k e w c
 
   abbrev pub Matches : (pages calls : ℕ) → State → plain.State → Type 0

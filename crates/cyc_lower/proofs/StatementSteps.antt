@@ -28,67 +28,54 @@ use Rattle.cyc_lower.proofs.Widths.{HasRoom, Outside}
 use Rattle.cyc_lower.proofs.Moves.{copied_is, copied_elsewhere}
 use Rattle.cyc_lower.specs.Lowering.{operand_of, are_as_wide, converts_there, break_target, results_of, lower_function, lower_program}
 use Rattle.cyc_lower.proofs.Stands.{ExpressionAt, InitialAt, InitialBy, ReturnedAt, ItemsAt}
-use Rattle.cyc_lower.proofs.Relation.{Is, types_in, types_at, starts_at, given_at, returned_at, Holds, held, callers, Shared, DataAt, SharedAt, in_temporary, in_local, ValueStack, AheadStack, StatementStack, LandsStack, Related, EvaluatingAt, as_operand, into_slot, for_effect, as_condition, in_operand, ahead, behind_statement, behind_call, behind_wrong, Below, IsLast, Arrives, in_place, by_jump, code_of, bounds_in, bounds_at, base_of, top}
-use Rattle.cyc_lower.proofs.Data.{height-least, Holds-same, Holds-above, data_declared, data_returned}
+use Rattle.cyc_objects.specs.Tables.{Variable, Tables, with_row, with_handle}
+use Rattle.cyc_objects.specs.Words.{Is}
+use Rattle.cyc_objects.proofs.Values.{Grows-row, Grows-handle}
+use Rattle.cyc_lower.proofs.Sharing.{shared_declared, row_declared, shared_opened, shared_closed, shared_left}
+use Rattle.cyc_lower.proofs.Relation.{types_in, types_at, starts_at, given_at, returned_at, Holds, held, callers, homes, Shared, DataAt, SharedAt, in_temporary, in_local, ValueStack, AheadStack, StatementStack, LandsStack, Related, EvaluatingAt, as_operand, into_slot, for_effect, as_condition, in_operand, ahead, behind_statement, behind_call, behind_wrong, Below, IsLast, Arrives, in_place, by_jump, code_of, bounds_in, bounds_at, base_of, top}
+use Rattle.cyc_lower.proofs.Data.{height-least, Holds-same, Holds-above, data_declared, data_returned, data_grows, held_by_caller}
 use Rattle.cyc_lower.proofs.Values.{int_at}
-use Rattle.cyc_lower.proofs.Accesses.{IsWell, is_declared, is_closed, quiet_opened, quiet_closed, counted_opened, counted_closed}
+use Rattle.cyc_lower.proofs.Accesses.{IsWell, is_declared, is_closed, home_there}
 use Rattle.cyc_lower.proofs.Matched.{IsMatched, silently, by_one, by_two}
 use Rattle.cyc_lower.proofs.Evaluations.{IsStep, sources}
 
 module _ (source : Program) (pages calls : ℕ) where
-  -- ---- regions
-
-  pub shared_opened : (w : World) (c : Configuration) → SharedAt source pages calls w c → SharedAt source pages calls (opened w) c
-  shared_opened w c s = record {
-    same_output = s.same_output;
-    same_input = s.same_input;
-    few_pages = s.few_pages;
-    quiet = quiet_opened w.regions s.quiet;
-    same_sizes = s.same_sizes ∙ sym (counted_opened w.regions);
-    same_classes = s.same_classes;
-    fits = s.fits;
-  }
-
-  pub shared_closed : (w : World) (c : Configuration) (number : ℕ) (r : Region) → slice_get w.regions number ≡ Some r → SharedAt source pages calls w c → SharedAt source pages calls (closed w number r) c
-  shared_closed w c number r there s = record {
-    same_output = s.same_output;
-    same_input = s.same_input;
-    few_pages = s.few_pages;
-    quiet = quiet_closed w.regions number r s.quiet there;
-    same_sizes = s.same_sizes ∙ sym (counted_closed w.regions number r s.quiet there);
-    same_classes = s.same_classes;
-    fits = s.fits;
-  }
+  -- ---- calls
 
   -- one call less waits
-  pub shared_returned : (w : World) (output input : List ℕ) (store : StoreState) (waiting : ℕ) → Shared pages calls w.regions w.classes w.output w.input output input store (suc waiting) → Shared pages calls w.regions w.classes w.output w.input output input store waiting
-  shared_returned w output input store waiting s = record {
+  abbrev pub shared_returned : (w : World) (regions output input : List ℕ) (store : StoreState) (home waiting : ℕ) → Shared pages calls w (home ∷ regions) output input store (suc waiting) → Shared pages calls w regions output input store waiting
+  shared_returned w regions output input store home waiting s = record {
+    tables = s.tables;
     same_output = s.same_output;
     same_input = s.same_input;
+    related = s.related;
+    globals = s.globals;
+    variables = s.variables.1;
     few_pages = s.few_pages;
-    quiet = s.quiet;
-    same_sizes = s.same_sizes;
-    same_classes = s.same_classes;
     fits = omega (arith, s.fits);
   }
 
   -- ---- statements
 
   -- a value that is returned comes to a slot, or is in that of a local
-  returned : (a : Expression) (same : Bool) (locals : ℕ → Option ℕ) (g p : ℕ) (slots : Words) (frames : List Frame) (k : List Entry) (s m : ℕ)
+  returned : (tables : Tables) (a : Expression) (same : Bool) (locals : ℕ → Option ℕ) (g p : ℕ) (slots : Words) (frames : List Frame) (k : List Entry) (s m : ℕ)
       → ReturnedAt (code_of source g) (bounds_at source g) (types_at source g) (if same then operand_of (starts_at source g) a else None)
       (ExpressionAt (code_of source g) (bounds_at source g) (types_at source g) a (top source g k) (top source g k) p m) (top source g k) s p m
-      → Holds slots (base_of source g) (held k) → ValueStack source g locals (given_at source g a) (operands.Slot s) m frames k → EvaluatingAt source a locals g p slots frames k
-  returned a false locals g p slots frames k s m (is, at) holds stack =
+      → Holds tables slots (base_of source g) (held k) → ValueStack source g locals (given_at source g a) (operands.Slot s) m frames k → EvaluatingAt source tables a locals g p slots frames k
+  returned tables a false locals g p slots frames k s m (is, at) holds stack =
       into_slot (top source g k) m at holds (in_temporary (omega arith) (subst (λ x. ValueStack source g locals (given_at source g a) (operands.Slot x) m frames k) is stack))
-  returned (Copy (Local w n) t) true locals g p slots frames k s m (is, end) holds stack = as_operand (operands.Slot s) m (ap operands.Slot is, end) holds stack
-  returned a true locals g p slots frames k s m (is, at) holds stack =
+  returned tables (Copy (Local w n) t) true locals g p slots frames k s m (is, end) holds stack = as_operand (operands.Slot s) m (ap operands.Slot is, end) holds stack
+  returned tables a true locals g p slots frames k s m (is, at) holds stack =
       into_slot (top source g k) m at holds (in_temporary (omega arith) (subst (λ x. ValueStack source g locals (given_at source g a) (operands.Slot x) m frames k) is stack))
 
   pub executing : (s : Statement) (k : List Entry) (e : Environment) (w : World) (c : Configuration) → IsStep source pages calls (Executing s) k e w c
   executing (Block r js) k e w c well (shared, facts, (loop, q, items, stack)) =
-      silently source pages calls (Running (Executing (Block r js)) k e w) (Running Proceeding (Rest js ∷ region_end e w ∷ k) (inside e w) (opened w)) (plain.Running c) refl
-      (shared_opened w c shared, behind_statement loop facts (q, items, stack))
+      silently source pages calls (Running (Executing (Block r js)) k e w) (Running Proceeding (Rest js ∷ region_end e w ∷ k) (inside e w) (opened w)) (plain.Running c) refl (
+        shared_opened source pages calls k e w c shared,
+        behind_statement loop
+            (data_grows shared.tables (with_handle shared.tables None) (Grows-handle shared.tables None) source c.active.function w.objects e.locals (callers k) c.active.slots c.globals c.frames facts)
+            (q, items, stack),
+      )
       (omega arith)
   executing Empty k e w c well (shared, facts, (loop, q, end, stack)) =
       silently source pages calls (Running (Executing Empty) k e w) (Running Proceeding k e w) (plain.Running c) refl
@@ -111,7 +98,7 @@ module _ (source : Program) (pages calls : ℕ) where
       (omega arith)
   executing (typed.Return (Some (Convert from to a))) k e w c well (shared, facts, (loop, q, (s, m, r, at_a, at_to, here, wide, kind_is), stack)) =
       silently source pages calls (Running (Executing (typed.Return (Some (Convert from to a)))) k e w) (Running (Evaluating a) (Needs (ConvertTo from to (target_by a)) ∷ Needs Return ∷ k) e w) (plain.Running c) refl
-      (shared, facts, returned a (are_as_wide from to) e.locals c.active.function c.active.next c.active.slots c.frames (Needs (ConvertTo from to (target_by a)) ∷ Needs Return ∷ k) s m at_a tt (r, at_to, (loop, q, s, refl, here, (wide, kind_is), stack)))
+      (shared, facts, returned shared.tables a (are_as_wide from to) e.locals c.active.function c.active.next c.active.slots c.frames (Needs (ConvertTo from to (target_by a)) ∷ Needs Return ∷ k) s m at_a tt (r, at_to, (loop, q, s, refl, here, (wide, kind_is), stack)))
       (omega arith)
   executing Break k e w c well (shared, facts, (loop, q, here, stack)) =
       silently source pages calls (Running (Executing Break) k e w) (Running Breaking k e w) (plain.Running c) refl
@@ -127,68 +114,70 @@ module _ (source : Program) (pages calls : ℕ) where
 
   -- what a caller has waits behind the call
   abbrev pub Waits : Kind → Environment → List Entry → Frame → List Frame → Type 0
-  Waits kind outer k f rest = Holds f.caller.slots (base_of source f.caller.function) (held k) × LandsStack source f.caller.function outer.locals kind f.result f.caller.next rest k
+  Waits kind outer k f rest = LandsStack source f.caller.function outer.locals kind f.result f.caller.next rest k
 
   -- the caller goes on behind the call, with a temporary written
-  comes_back : (g value results : ℕ) (slots globals : Words) (f : Frame) (frames : List Frame) (k : List Entry) (locals : ℕ → Option ℕ) (outer : Environment) (w : World)
-      → DataAt source g w.objects locals (outer ∷ callers k) slots globals (f ∷ frames)
-      → top source f.caller.function k ≤ f.result → Holds f.caller.slots (base_of source f.caller.function) (held k)
-      → DataAt source f.caller.function w.objects outer.locals (callers k) (copied slots value results f.caller.slots f.result) globals frames
-      × Holds (copied slots value results f.caller.slots f.result) (base_of source f.caller.function) (held k)
-  comes_back g value results slots globals f frames k locals outer w facts least holds =
-      let base = base_of source f.caller.function in (
-        data_returned source g w.objects locals outer (callers k) slots (copied slots value results f.caller.slots f.result) globals f frames
+  comes_back : (t : Tables) (g value results : ℕ) (slots globals : Words) (f : Frame) (frames : List Frame) (k : List Entry) (locals : ℕ → Option ℕ) (outer : Environment) (w : World)
+      → DataAt source t g w.objects locals (record { locals = outer.locals; values = held k } ∷ callers k) slots globals (f ∷ frames)
+      → top source f.caller.function k ≤ f.result
+      → DataAt source t f.caller.function w.objects outer.locals (callers k) (copied slots value results f.caller.slots f.result) globals frames
+      × Holds t (copied slots value results f.caller.slots f.result) (base_of source f.caller.function) (held k)
+  comes_back t g value results slots globals f frames k locals outer w facts least =
+      let base = base_of source f.caller.function in
+      let holds = held_by_caller t source g w.objects locals (record { locals = outer.locals; values = held k }) (callers k) slots globals f frames facts in (
+        data_returned t source g w.objects locals (record { locals = outer.locals; values = held k }) (callers k) slots (copied slots value results f.caller.slots f.result) globals f frames
             (λ n less. copied-below slots f.caller.slots value results f.result n (omega (arith, less, least, height-least base (held k)))) facts,
-        Holds-same f.caller.slots (copied slots value results f.caller.slots f.result) base (held k)
+        Holds-same t f.caller.slots (copied slots value results f.caller.slots f.result) base (held k)
             (λ n less. copied-below slots f.caller.slots value results f.result n (omega (arith, less, least))) holds,
       )
 
   -- without a value
   leaves_call : (focus : Focus) (active : Activation) (frames : List Frame) (globals : Words) (store : StoreState) (output input : List ℕ) (k : List Entry) (e outer : Environment) (w : World) (s : ℕ)
       → step source (Running focus (Caller outer ∷ k) e w) ≡ Running Proceeding k outer w
-      → SharedAt source pages calls w (record { active = active; frames = frames; globals = globals; store = store; output = output; input = input })
-      → DataAt source active.function w.objects e.locals (outer ∷ callers k) active.slots globals frames
+      → (shared : SharedAt source pages calls (Caller outer ∷ k) e w (record { active = active; frames = frames; globals = globals; store = store; output = output; input = input }))
+      → DataAt source shared.tables active.function w.objects e.locals (callers (Caller outer ∷ k)) active.slots globals frames
       → At (code_of source active.function) active.next (instructions.Return s)
       → Below source frames (Waits (returned_at source active.function) outer k)
       → IsMatched source pages calls (Running focus (Caller outer ∷ k) e w) (plain.Running (record { active = active; frames = frames; globals = globals; store = store; output = output; input = input }))
   leaves_call focus active [] globals store output input k e outer w s does shared facts here below = absurd below
-  leaves_call focus active (f ∷ frames) globals store output input k e outer w s does shared facts here (holds, in_temporary least stack) =
+  leaves_call focus active (f ∷ frames) globals store output input k e outer w s does shared facts here (in_temporary least stack) =
       let results = (routine_at (lower_program source) active.function).results in
-      let back = comes_back active.function s results active.slots globals f frames k e.locals outer w facts least holds in
-      by_one source pages calls does shared here (λ choice. (shared_returned w output input store (length frames) shared, behind_call (returned_at source active.function) (operands.Slot f.result) back.0 stack))
-  leaves_call focus active (f ∷ frames) globals store output input k e outer w s does shared facts here (holds, in_local below stack) =
-      by_one source pages calls does shared here (λ choice. (shared_returned w output input store (length frames) shared, behind_wrong (returned_at source active.function) f.result stack))
+      let back = comes_back shared.tables active.function s results active.slots globals f frames k e.locals outer w facts least in
+      by_one source pages calls does shared here (λ choice. (shared_returned w (outer.home ∷ homes k) output input store e.home (length frames) shared, behind_call (returned_at source active.function) (operands.Slot f.result) back.0 stack))
+  leaves_call focus active (f ∷ frames) globals store output input k e outer w s does shared facts here (in_local below stack) =
+      by_one source pages calls does shared here (λ choice. (shared_returned w (outer.home ∷ homes k) output input store e.home (length frames) shared, behind_wrong (returned_at source active.function) f.result stack))
 
   -- with a value
   hands_back : (v : Kinded) (active : Activation) (frames : List Frame) (globals : Words) (store : StoreState) (output input : List ℕ) (k : List Entry) (e outer : Environment) (w : World) (s : ℕ)
-      → SharedAt source pages calls w (record { active = active; frames = frames; globals = globals; store = store; output = output; input = input })
-      → DataAt source active.function w.objects e.locals (outer ∷ callers k) active.slots globals frames
-      → At (code_of source active.function) active.next (instructions.Return s) → Is v.kind v.value active.slots s → (routine_at (lower_program source) active.function).results ≡ words_of_kind v.kind
+      → (shared : SharedAt source pages calls (Caller outer ∷ k) e w (record { active = active; frames = frames; globals = globals; store = store; output = output; input = input }))
+      → DataAt source shared.tables active.function w.objects e.locals (callers (Caller outer ∷ k)) active.slots globals frames
+      → At (code_of source active.function) active.next (instructions.Return s) → Is shared.tables v.kind v.value active.slots s → (routine_at (lower_program source) active.function).results ≡ words_of_kind v.kind
       → Below source frames (Waits v.kind outer k)
       → IsMatched source pages calls (Running (Returning (Some v)) (Caller outer ∷ k) e w) (plain.Running (record { active = active; frames = frames; globals = globals; store = store; output = output; input = input }))
   hands_back v active [] globals store output input k e outer w s shared facts here is wide below = absurd below
-  hands_back v active (f ∷ frames) globals store output input k e outer w s shared facts here is wide (holds, in_temporary least stack) =
+  hands_back v active (f ∷ frames) globals store output input k e outer w s shared facts here is wide (in_temporary least stack) =
       let results = (routine_at (lower_program source) active.function).results in
-      let back = comes_back active.function s results active.slots globals f frames k e.locals outer w facts least holds in
+      let back = comes_back shared.tables active.function s results active.slots globals f frames k e.locals outer w facts least in
       by_one source pages calls refl shared here
       (λ choice. (
-        shared_returned w output input store (length frames) shared,
-        in_operand (operands.Slot f.result) back.0 (copied_is v active.slots f.caller.slots s results f.result (omega (arith, wide)) is) back.1 stack,
+        shared_returned w (outer.home ∷ homes k) output input store e.home (length frames) shared,
+        in_operand (operands.Slot f.result) back.0 (copied_is shared.tables v active.slots f.caller.slots s results f.result (omega (arith, wide)) is) back.1 stack,
       ))
-  hands_back v active (f ∷ frames) globals store output input k e outer w s shared facts here is wide (holds, in_local below stack) =
+  hands_back v active (f ∷ frames) globals store output input k e outer w s shared facts here is wide (in_local below stack) =
       let results = (routine_at (lower_program source) active.function).results in
       let base = base_of source f.caller.function in
       let d = f.result in
+      let holds = held_by_caller shared.tables source active.function w.objects e.locals (record { locals = outer.locals; values = held k }) (callers k) active.slots globals f frames facts in
       let now = copied active.slots s results f.caller.slots d in
       let elsewhere : (n : ℕ) → Outside d (words_of_kind v.kind) n → now n ≡ f.caller.slots n =
       λ n out. copied_elsewhere active.slots f.caller.slots s results d n (subst (λ many. Outside d many n) (sym wide) out) in
       by_one source pages calls refl shared here
       (λ choice. (
-        shared_returned w output input store (length frames) shared,
+        shared_returned w (outer.home ∷ homes k) output input store e.home (length frames) shared,
         ahead d
-            (f.caller.slots, λ n out. sym (elsewhere n out), data_returned source active.function w.objects e.locals outer (callers k) active.slots f.caller.slots globals f frames (λ n less. refl) facts)
-            (copied_is v active.slots f.caller.slots s results d (omega (arith, wide)) is)
-            (Holds-above f.caller.slots now base (held k) (λ n from. elsewhere n (inr (omega (arith, from, below)))) holds)
+            (f.caller.slots, λ n out. sym (elsewhere n out), data_returned shared.tables source active.function w.objects e.locals (record { locals = outer.locals; values = held k }) (callers k) active.slots f.caller.slots globals f frames (λ n less. refl) facts)
+            (copied_is shared.tables v active.slots f.caller.slots s results d (omega (arith, wide)) is)
+            (Holds-above shared.tables f.caller.slots now base (held k) (λ n from. elsewhere n (inr (omega (arith, from, below)))) holds)
             stack,
       ))
 
@@ -213,7 +202,7 @@ module _ (source : Program) (pages calls : ℕ) where
 
   declares : (n : ℕ) (t : Ty) (js : Items) (k : List Entry) (e : Environment) (w : World) (c : Configuration) (loop m q : ℕ)
       → IsWell (step source (Running Proceeding (Rest (MoreItems (Declare n t None) js) ∷ k) e w))
-      → SharedAt source pages calls w c → DataAt source c.active.function w.objects e.locals (callers k) c.active.slots c.globals c.frames
+      → (shared : SharedAt source pages calls k e w c) → DataAt source shared.tables c.active.function w.objects e.locals (callers k) c.active.slots c.globals c.frames
       → n < length (types_at source c.active.function) → c.active.next ≡ m
       → ItemsAt (code_of source c.active.function) (bounds_at source c.active.function) (types_at source c.active.function) js loop (base_of source c.active.function) m q
       → StatementStack source c.active.function loop q c.frames k
@@ -221,17 +210,20 @@ module _ (source : Program) (pages calls : ℕ) where
   declares n t js k e w c loop m q well shared facts few end items stack =
       let g = c.active.function in
       let x = variable e.home (kind_of t) None in
+      let (r, home) = home_there Proceeding n (kind_of t) None (Rest js ∷ k) e w well in
+      let grown = with_row shared.tables Variable in
+      let more = data_grows shared.tables grown (Grows-row shared.tables Variable) source g w.objects e.locals (callers k) c.active.slots c.globals c.frames facts in
       silently source pages calls (Running Proceeding (Rest (MoreItems (Declare n t None) js) ∷ k) e w)
       (Running Proceeding (Rest js ∷ k) (with_local e n (length w.objects)) (made w x)) (plain.Running c)
       (is_declared (region_at w e.home) Proceeding n (kind_of t) None (Rest js ∷ k) e w well) (
-        shared,
-        behind_statement loop (data_declared source g w.objects e (callers k) c.active.slots c.active.slots c.globals c.frames n 0 x few (omega arith) (λ m out. refl) (λ v has. absurd (none-some v has)) facts)
+        shared_declared source pages calls k e w c shared n r (kind_of t) None home,
+        behind_statement loop (data_declared grown source g w.objects e (callers k) c.active.slots c.active.slots c.globals c.frames n 0 x few (omega arith) (row_declared source pages calls k e w c shared) (λ m out. refl) (λ v has. absurd (none-some v has)) more)
             (q, subst (λ p. ItemsAt (code_of source g) (bounds_at source g) (types_at source g) js loop (base_of source g) p q) (sym end) items, stack),
       )
       (omega arith)
 
   joins : (k : List Entry) (e : Environment) (w : World) (c : Configuration) (loop q : ℕ)
-      → SharedAt source pages calls w c → DataAt source c.active.function w.objects e.locals (callers k) c.active.slots c.globals c.frames
+      → (shared : SharedAt source pages calls k e w c) → DataAt source shared.tables c.active.function w.objects e.locals (callers k) c.active.slots c.globals c.frames
       → Arrives source (code_of source c.active.function) c.active.next q → StatementStack source c.active.function loop q c.frames k
       → IsMatched source pages calls (Running Proceeding (Join ∷ k) e w) (plain.Running c)
   joins k e w c loop q shared facts (in_place end) stack =
@@ -244,7 +236,7 @@ module _ (source : Program) (pages calls : ℕ) where
   -- a local gets its initial value: it comes to its slots at once, or is moved there once it is converted
   initial_by : (there : Bool) (n : ℕ) (ty : Ty) (from to : Kind) (a : Expression) (js : Items) (k : List Entry) (e : Environment) (w : World) (c : Configuration) (loop m q : ℕ)
       → converts_there from to ≡ there
-      → SharedAt source pages calls w c → DataAt source c.active.function w.objects e.locals (callers k) c.active.slots c.globals c.frames
+      → (shared : SharedAt source pages calls k e w c) → DataAt source shared.tables c.active.function w.objects e.locals (callers k) c.active.slots c.globals c.frames
       → HasRoom (types_at source c.active.function) n to
       → InitialBy (code_of source c.active.function) (bounds_at source c.active.function) (types_at source c.active.function) there from to a (slot_of (starts_at source c.active.function) n) (base_of source c.active.function) c.active.next m
       → ItemsAt (code_of source c.active.function) (bounds_at source c.active.function) (types_at source c.active.function) js loop (base_of source c.active.function) m q
@@ -257,10 +249,10 @@ module _ (source : Program) (pages calls : ℕ) where
   initial_by false n ty from to a js k e w c loop m q lands shared facts room (o, s, r, at_a, at_to, move, end) items stack =
       let g = c.active.function in
       let rest = subst (λ p. ItemsAt (code_of source g) (bounds_at source g) (types_at source g) js loop (base_of source g) p q) (sym end) items in
-      (shared, facts, sources source pages calls from to a (Needs (ConvertTo from to (target_by a)) ∷ Needs (Initialise n (kind_of ty) js) ∷ k) e w c o s at_a tt (r, at_to, (loop, q, move, room, rest, stack)))
+      (shared, facts, sources source pages calls shared.tables from to a (Needs (ConvertTo from to (target_by a)) ∷ Needs (Initialise n (kind_of ty) js) ∷ k) e w c o s at_a tt (r, at_to, (loop, q, move, room, rest, stack)))
 
   initial : (n : ℕ) (ty : Ty) (from to : Kind) (a : Expression) (js : Items) (k : List Entry) (e : Environment) (w : World) (c : Configuration) (loop m q : ℕ)
-      → SharedAt source pages calls w c → DataAt source c.active.function w.objects e.locals (callers k) c.active.slots c.globals c.frames
+      → (shared : SharedAt source pages calls k e w c) → DataAt source shared.tables c.active.function w.objects e.locals (callers k) c.active.slots c.globals c.frames
       → HasRoom (types_at source c.active.function) n to
       → InitialAt (code_of source c.active.function) (bounds_at source c.active.function) (types_at source c.active.function) (Convert from to a) (slot_of (starts_at source c.active.function) n) (base_of source c.active.function) c.active.next m
       → ItemsAt (code_of source c.active.function) (bounds_at source c.active.function) (types_at source c.active.function) js loop (base_of source c.active.function) m q
@@ -273,7 +265,7 @@ module _ (source : Program) (pages calls : ℕ) where
       (omega arith)
 
   after_statement : (k : List Entry) (e : Environment) (w : World) (c : Configuration) (loop : ℕ) → IsWell (step source (Running Proceeding k e w))
-      → SharedAt source pages calls w c → DataAt source c.active.function w.objects e.locals (callers k) c.active.slots c.globals c.frames
+      → (shared : SharedAt source pages calls k e w c) → DataAt source shared.tables c.active.function w.objects e.locals (callers k) c.active.slots c.globals c.frames
       → StatementStack source c.active.function loop c.active.next c.frames k → IsMatched source pages calls (Running Proceeding k e w) (plain.Running c)
   after_statement (Rest NoItems ∷ k) e w c loop well shared facts (q, end, stack) =
       silently source pages calls (Running Proceeding (Rest NoItems ∷ k) e w) (Running Proceeding k e w) (plain.Running c) refl
@@ -295,7 +287,7 @@ module _ (source : Program) (pages calls : ℕ) where
   after_statement (CloseRegion region home ∷ k) e w c loop well shared facts stack =
       let found = is_closed Proceeding region home k e w well in
       silently source pages calls (Running Proceeding (CloseRegion region home ∷ k) e w) (Running Proceeding k (record e { home = home }) (closed w region found.region)) (plain.Running c) found.gives
-      (shared_closed w c region found.region found.there shared, behind_statement loop facts stack)
+      (shared_closed source pages calls k e w c region home found.region found.there shared, behind_statement loop facts stack)
       (omega arith)
   after_statement (Caller outer ∷ k) e w c loop well shared facts (s, here, below) =
       leaves_call Proceeding c.active c.frames c.globals c.store c.output c.input k e outer w s refl shared facts here below
@@ -303,7 +295,7 @@ module _ (source : Program) (pages calls : ℕ) where
   after_statement k e w c loop well shared facts stack = absurd stack
 
   after_call : (k : List Entry) (e : Environment) (w : World) (c : Configuration) (kind : Kind) (o : Operand) → IsWell (step source (Running Proceeding k e w))
-      → SharedAt source pages calls w c → DataAt source c.active.function w.objects e.locals (callers k) c.active.slots c.globals c.frames
+      → (shared : SharedAt source pages calls k e w c) → DataAt source shared.tables c.active.function w.objects e.locals (callers k) c.active.slots c.globals c.frames
       → ValueStack source c.active.function e.locals kind o c.active.next c.frames k → IsMatched source pages calls (Running Proceeding k e w) (plain.Running c)
   after_call (Needs a ∷ k) e w c kind o well shared facts stack = absurd (well refl)
   after_call (Discard ∷ k) e w c kind o well shared facts (loop, stack) =
@@ -345,7 +337,7 @@ module _ (source : Program) (pages calls : ℕ) where
   breaking (CloseRegion region home ∷ k) e w c well (shared, facts, (loop, q, here, stack)) =
       let found = is_closed Breaking region home k e w well in
       silently source pages calls (Running Breaking (CloseRegion region home ∷ k) e w) (Running Breaking k (record e { home = home }) (closed w region found.region)) (plain.Running c) found.gives
-      (shared_closed w c region found.region found.there shared, facts, (loop, q, here, stack))
+      (shared_closed source pages calls k e w c region home found.region found.there shared, facts, (loop, q, here, stack))
       (omega arith)
   breaking (Caller outer ∷ k) e w c well related = absurd (well refl)
   breaking (NeedsPlace a ∷ k) e w c well (shared, facts, (loop, q, here, stack)) = absurd stack
@@ -368,7 +360,7 @@ module _ (source : Program) (pages calls : ℕ) where
   continuing (CloseRegion region home ∷ k) e w c well (shared, facts, (loop, q, here, stack)) =
       let found = is_closed Continuing region home k e w well in
       silently source pages calls (Running Continuing (CloseRegion region home ∷ k) e w) (Running Continuing k (record e { home = home }) (closed w region found.region)) (plain.Running c) found.gives
-      (shared_closed w c region found.region found.there shared, facts, (loop, q, here, stack))
+      (shared_closed source pages calls k e w c region home found.region found.there shared, facts, (loop, q, here, stack))
       (omega arith)
   continuing (Caller outer ∷ k) e w c well related = absurd (well refl)
   continuing (NeedsPlace a ∷ k) e w c well (shared, facts, (loop, q, here, stack)) = absurd stack
@@ -382,11 +374,11 @@ module _ (source : Program) (pages calls : ℕ) where
   -- `main` returns, and no call waits
   ends_main : (i : Kind) (v : Value) (active : Activation) (frames : List Frame) (globals : Words) (store : StoreState) (output input : List ℕ) (k : List Entry) (e : Environment) (w : World) (s : ℕ)
       → IsWell (step source (Running (Returning (Some (record { kind = i; value = v }))) (Main ∷ k) e w))
-      → SharedAt source pages calls w (record { active = active; frames = frames; globals = globals; store = store; output = output; input = input })
-      → At (code_of source active.function) active.next (instructions.Return s) → Is i v active.slots s → IsLast source frames k
+      → (shared : SharedAt source pages calls (Main ∷ k) e w (record { active = active; frames = frames; globals = globals; store = store; output = output; input = input }))
+      → At (code_of source active.function) active.next (instructions.Return s) → Is shared.tables i v active.slots s → IsLast source frames k
       → IsMatched source pages calls (Running (Returning (Some (record { kind = i; value = v }))) (Main ∷ k) e w) (plain.Running (record { active = active; frames = frames; globals = globals; store = store; output = output; input = input }))
   ends_main i (Int a) active [] globals store output input [] e w s well shared here is last =
-      by_one source pages calls refl shared here (λ choice. (ap (λ x. Returned (signed x)) (int_at i a active.slots s is), shared.same_output))
+      by_one source pages calls refl shared here (λ choice. (ap (λ x. Returned (signed x)) (int_at shared.tables i a active.slots s is), shared.same_output))
   ends_main i (Int a) active [] globals store output input (entry ∷ k) e w s well shared here is last = absurd last
   ends_main i (Int a) active (f ∷ frames) globals store output input k e w s well shared here is last = absurd last
   ends_main i v active frames globals store output input k e w s well shared here is last = absurd (well refl)
@@ -404,7 +396,7 @@ module _ (source : Program) (pages calls : ℕ) where
   returning_none (CloseRegion region home ∷ k) e w c well (shared, facts, (loop, q, s, here, stack)) =
       let found = is_closed (Returning None) region home k e w well in
       silently source pages calls (Running (Returning None) (CloseRegion region home ∷ k) e w) (Running (Returning None) k (record e { home = home }) (closed w region found.region)) (plain.Running c) found.gives
-      (shared_closed w c region found.region found.there shared, facts, (loop, q, s, here, stack))
+      (shared_closed source pages calls k e w c region home found.region found.there shared, facts, (loop, q, s, here, stack))
       (omega arith)
   returning_none (Caller outer ∷ k) e w c well (shared, facts, (loop, q, s, here, (u, last, below))) =
       leaves_call (Returning None) c.active c.frames c.globals c.store c.output c.input k e outer w s refl shared facts here below
@@ -427,7 +419,7 @@ module _ (source : Program) (pages calls : ℕ) where
   returning_some v (CloseRegion region home ∷ k) e w c well (shared, facts, (loop, q, s, here, is, single, stack)) =
       let found = is_closed (Returning (Some v)) region home k e w well in
       silently source pages calls (Running (Returning (Some v)) (CloseRegion region home ∷ k) e w) (Running (Returning (Some v)) k (record e { home = home }) (closed w region found.region)) (plain.Running c) found.gives
-      (shared_closed w c region found.region found.there shared, facts, (loop, q, s, here, is, single, stack))
+      (shared_closed source pages calls k e w c region home found.region found.there shared, facts, (loop, q, s, here, is, single, stack))
       (omega arith)
   returning_some v (Caller outer ∷ k) e w c well (shared, facts, (loop, q, s, here, is, single, (u, last, below))) =
       hands_back v c.active c.frames c.globals c.store c.output c.input k e outer w s shared facts here is (results_at c.active.function ∙ single.0)
@@ -461,10 +453,10 @@ module _ (source : Program) (pages calls : ℕ) where
   throwing tag value (CloseRegion region home ∷ k) e w c well (shared, fits, plain_stack, s, here, is) =
       let found = is_closed (Throwing tag value) region home k e w well in
       silently source pages calls (Running (Throwing tag value) (CloseRegion region home ∷ k) e w) (Running (Throwing tag value) k (record e { home = home }) (closed w region found.region)) (plain.Running c) found.gives
-      (shared_closed w c region found.region found.there shared, fits, plain_stack, s, here, is)
+      (shared_closed source pages calls k e w c region home found.region found.there shared, fits, plain_stack, s, here, is)
       (omega arith)
   throwing tag value (Caller outer ∷ k) e w c well (shared, fits, plain_stack, s, here, is) =
-      silently source pages calls (Running (Throwing tag value) (Caller outer ∷ k) e w) (Running (Throwing tag value) k outer w) (plain.Running c) refl (shared, omega (arith, fits), plain_stack, s, here, is) (omega arith)
+      silently source pages calls (Running (Throwing tag value) (Caller outer ∷ k) e w) (Running (Throwing tag value) k outer w) (plain.Running c) refl (shared_left source pages calls k e outer w c shared, omega (arith, fits), plain_stack, s, here, is) (omega arith)
   throwing tag value (NeedsPlace a ∷ k) e w c well (shared, fits, plain_stack, s, here, is) =
       silently source pages calls (Running (Throwing tag value) (NeedsPlace a ∷ k) e w) (Running (Throwing tag value) k e w) (plain.Running c) refl (shared, fits, plain_stack, s, here, is) (omega arith)
   throwing tag value (CloseLexical region ∷ k) e w c well (shared, fits, plain_stack, s, here, is) = absurd plain_stack

@@ -1,6 +1,6 @@
 -- The steps that hand a value on.
 use Rattle.std.proofs.Common.{◌≡◌, ◌≢◌, ℕ, zero, suc, ◌+◌, ◌<◌, Bool, true, false, not, List, [], ◌∷◌, Option, None, Some, slice_get, refl, sym, ap, subst, ◌∙◌, arith, inl, inr, length}
-use Rattle.std.specs.Prelude.{ℤ, ◌==◌, ◌&&◌, ◌<ℤ◌, ◌≤ℤ◌, int_le, int_lt, if◌then◌else◌}
+use Rattle.std.specs.Prelude.{ℤ, nat_lt, ◌==◌, ◌&&◌, ◌<ℤ◌, ◌≤ℤ◌, int_le, int_lt, if◌then◌else◌}
 use Rattle.std.proofs.lemmas.Int.{ints}
 use Rattle.std.proofs.lemmas.Bool.{eqb-true, false_from_ne_true}
 use Rattle.std.proofs.lemmas.Option.{same_Some, none-some}
@@ -36,12 +36,15 @@ use Rattle.cyc_plain.specs.Step as plain_step
 use Rattle.cyc_plain.proofs.SlotLaws.{put-same}
 use Rattle.cyc_plain.specs.Straight.{At}
 use Rattle.cyc_types.specs.Types.{Ty}
-use Rattle.cyc_meaning.specs.Values.{Value, Int, Null, Thin, Fat, Handle, Key, Operand as Kinded, is_kind, words_of_kind}
-use Rattle.cyc_meaning.specs.Operators.{Gives, Raises, Misfits, has_no_result, binary_word, is_zero, unary_result, truth_result, truth_of, division_by_zero}
-use Rattle.cyc_meaning.specs.Pointers.{takes_kind, followed}
+use Rattle.cyc_meaning.specs.Values.{Value, Int, Null, Thin, Fat, Handle, Key, Operand as Kinded, is_kind, is_thin, words_of_kind}
+use Rattle.cyc_meaning.specs.Operators.{Result, Gives, Raises, Misfits, has_no_result, binary_word, is_zero, unary_result, truth_result, truth_of, division_by_zero, array_bounds}
+use Rattle.cyc_meaning.specs.Pointers.{null_test, takes_kind, followed}
+use Rattle.cyc_meaning.specs.Places.{arrives}
 use Rattle.cyc_meaning.specs.Conversion.{conversion}
-use Rattle.cyc_meaning.specs.State.{World, Environment, with_local, made, variable, written, region_at, Awaiting, ConvertTo, Operate, Chain, Apply, ApplyPointer, Follow, Decide, Store, Pass, Initialise, Choose, Test, Return, Entry, Needs, Discard, Rest, Join, Loop, Focus, Evaluating, Given, Executing, Proceeding, Calling, Returning, Throwing, State, Running}
+use Rattle.cyc_meaning.specs.State.{Region, World, Environment, with_local, made, variable, written, region_at, Awaiting, ConvertTo, Operate, Chain, Apply, ApplyPointer, Follow, Decide, Store, Pass, Initialise, Choose, Test, Return, Entry, Needs, Discard, Rest, Join, Loop, Focus, Evaluating, Given, GivenPlace, Executing, Proceeding, Calling, Returning, Throwing, State, Running}
 use Rattle.cyc_meaning.specs.Step.{leads_to, wrong, object_of, computed, stored_at, declared, passes, tested, awaits_right, chosen, looped, step}
+use Rattle.cyc_meaning.specs.State.{status_of}
+use Rattle.cyc_meaning.specs.SourceMachine.{status_in}
 use Rattle.cyc_lower.specs.Slots.{slot_of}
 use Rattle.cyc_lower.specs.Lowerable.{is_null_test}
 use Rattle.cyc_lower.proofs.Slots.{slot-room, room-inside}
@@ -49,9 +52,16 @@ use Rattle.cyc_lower.proofs.Widths.{kind_positive, same_kind, HasRoom, Outside}
 use Rattle.cyc_lower.proofs.Moves.{moved_slots, moves, put_elsewhere, moved_elsewhere, moved_is}
 use Rattle.cyc_lower.specs.Lowering.{unary_operator, binary_operator, failing_comparison, operand_of, value_slot, next_slot, is_in, jump_if_zero, jump_if_nonzero, move_of, pointer_instruction, converts_there, break_target, lower_program}
 use Rattle.cyc_lower.proofs.Stands.{OperandBy, CopyBy, CopyAt, CheckAt, CheckedAt, OperatorAt, TruthAt, ExpressionAt, OperationsAt}
-use Rattle.cyc_lower.proofs.Relation.{Is, IsIn, with_kind, types_at, starts_at, Holds, held, contents, callers, in_place, by_jump, in_temporary, in_local, drops, leaves, copies, DataIn, SharedAt, StoreAt, to_slot, to_jump, ValueStack, ConditionStack, DroppedStack, AheadStack, LandsStack, HandsOnStack, AppliedStack, ReadyAt, as_operand, into_slot, as_right, in_operand, nowhere, ahead, compared, with_left, behind_statement, Related, Matches, code_of, bounds_at, base_of, top}
-use Rattle.cyc_lower.proofs.Data.{Is-first, height-least, Holds-same, Holds-above, data_above, data_assigned, data_assigned_global, data_declared}
-use Rattle.cyc_lower.proofs.Accesses.{IsWell, is_fitting, is_stored, written_here, written_elsewhere, written_length, is_declared}
+use Rattle.cyc_objects.specs.Tables.{Tables}
+use Rattle.cyc_objects.specs.Words.{Points, IsPartOf, Is}
+use Rattle.cyc_objects.proofs.Pointers.{not-null, part-not-null, thin-null_test, fat-null_test}
+use Rattle.cyc_objects.specs.Tables.{Variable, with_row}
+use Rattle.cyc_objects.proofs.Values.{Grows-row, Is-grows}
+use Rattle.cyc_lower.proofs.Sharing.{shared_declared, row_declared, shared_written}
+use Rattle.cyc_lower.proofs.Relation.{IsWord, IsIn, with_kind, types_at, starts_at, Holds, held, contents, callers, in_place, by_jump, in_temporary, in_local, drops, leaves, copies, DataIn, SharedAt, StoreAt, to_slot, to_jump, ValueStack, ConditionStack, DroppedStack, AheadStack, LandsStack, HandsOnStack, AppliedStack, ReadyAt, as_operand, into_slot, as_right, in_operand, nowhere, ahead, compared, with_left, behind_statement, Related, Matches, code_of, bounds_at, base_of, top}
+use Rattle.cyc_lower.proofs.Data.{IsWord-is, one_word, height-least, Holds-same, Holds-above, data_above, data_assigned, data_assigned_global, data_declared, data_grows}
+use Rattle.cyc_lower.proofs.Accesses.{IsWell, is_fitting, is_stored, written_here, written_elsewhere, written_length, is_declared, home_there}
+use Rattle.cyc_lower.proofs.PlaceWords.{stays}
 use Rattle.cyc_lower.proofs.Weights.{weight}
 use Rattle.cyc_lower.proofs.Relation.{StatementStack}
 use Rattle.cyc_lower.proofs.Matched.{IsMatched, silently, by_one, by_two, by_three, shared_way, shared_within, lands_depth, value_depth, place_depth, lands_plain, value_plain, place_plain}
@@ -64,61 +74,161 @@ of_kind kind v = record { kind = kind; value = v }
 abbrev pub int_of : ℕ → Kinded
 int_of word = of_kind kinds.Int (Int word)
 
--- whether a value is zero is told by its first word
-zero_at : (kind : Kind) (v : Value) (words : Words) (p : ℕ) → Is kind v words p → is_zero v ≡ Some (words p == 0)
-zero_at kinds.Int (Int a) words p is = ap (λ y. Some (y == 0)) (sym is)
-zero_at kinds.Nullable Null words p is = ap (λ y. Some (y == 0)) (sym is)
-zero_at kinds.Fat Null words p is = ap (λ y. Some (y == 0)) (sym is)
-zero_at kind v words p is = absurd is
+-- no fat pointer is what one is thinned to
+not_thinned : (object start index : ℕ) (b : Bool) {many : ℕ} → (let r : Result = if b then Gives (Thin object (start + index)) else Raises array_bounds in r) ≡ Gives (Fat object start many index) → ⊥
+not_thinned object start index true gives = let f : Gives (Thin object (start + index)) ≡ Gives (Fat object start _ index) = gives in cc
+not_thinned object start index false gives = let f : Raises array_bounds ≡ Gives (Fat object start _ index) = gives in cc
 
-pub zero_is : (v : Kinded) (slots : Words) (o : Operand) → IsIn v slots o → is_zero v.value ≡ Some (operand_word slots o == 0)
-zero_is v slots (operands.Slot n) is = zero_at v.kind v.value slots n is
-zero_is v slots (operands.Word w) is = zero_at v.kind v.value (λ (i : ℕ). w) 0 is
+-- what a value says of its words
+module _ (t : Tables) where
+  -- whether a value is zero is told by its first word
+  zero_at : (kind : Kind) (v : Value) (words : Words) (p : ℕ) → (is_zero v ≡ None → ⊥) → Is t kind v words p → is_zero v ≡ Some (words p == 0)
+  zero_at kinds.Int (Int a) words p some is = ap (λ y. Some (y == 0)) (sym is)
+  zero_at kinds.Nullable Null words p some is = ap (λ y. Some (y == 0)) (sym is)
+  zero_at kinds.Nullable (Thin object offset) words p some is = ap Some (sym (false_from_ne_true (words p == 0) (λ h. not-null is (eqb-true (words p) 0 h))))
+  zero_at kinds.NonNull (Thin object offset) words p some is = ap Some (sym (false_from_ne_true (words p == 0) (λ h. not-null is (eqb-true (words p) 0 h))))
+  zero_at kinds.Fat Null words p some is = ap (λ y. Some (y == 0)) (sym is)
+  zero_at kinds.Fat (Fat object start many index) words p some is = ap Some (sym (false_from_ne_true (words p == 0) (λ h. part-not-null is.0 (eqb-true (words p) 0 h))))
+  zero_at kinds.Handle (Handle region) words p some is = absurd (some refl)
+  zero_at kinds.Key (Key region) words p some is = absurd (some refl)
+  zero_at kind v words p some is = absurd is
 
--- an int is its word, and null is 0
-pub int_at : (kind : Kind) (a : ℕ) (words : Words) (p : ℕ) → Is kind (Int a) words p → words p ≡ a
-int_at kinds.Int a words p is = is
-int_at kind a words p is = absurd is
+  -- the words of an operand, which are a value
+  pub in_words : (v : Kinded) (slots : Words) (o : Operand) → IsIn t v slots o → (words : Words) × (p : ℕ) × (words p ≡ operand_word slots o) × Is t v.kind v.value words p
+  in_words v slots (operands.Slot n) is = (slots, n, refl, is)
+  in_words v slots (operands.Word w) is = ((λ (i : ℕ). w), 0, refl, IsWord-is t v.kind v.value w (λ (i : ℕ). w) 0 refl is)
 
-pub int_is : (kind : Kind) (a : ℕ) (slots : Words) (o : Operand) → IsIn (of_kind kind (Int a)) slots o → operand_word slots o ≡ a
-int_is kind a slots (operands.Slot n) is = int_at kind a slots n is
-int_is kind a slots (operands.Word w) is = int_at kind a (λ (i : ℕ). w) 0 is
+  pub zero_is : (v : Kinded) (slots : Words) (o : Operand) → (is_zero v.value ≡ None → ⊥) → IsIn t v slots o → is_zero v.value ≡ Some (operand_word slots o == 0)
+  zero_is v slots o some is =
+      let (words, p, same, is_it) = in_words v slots o is in
+      zero_at v.kind v.value words p some is_it ∙ ap (λ x. Some (x == 0)) same
 
-null_at : (kind : Kind) (words : Words) (p : ℕ) → Is kind Null words p → words p ≡ 0
-null_at kinds.Nullable words p is = is
-null_at kinds.Fat words p is = is
-null_at kind words p is = absurd is
+  -- an int is its word, and null is 0
+  pub int_at : (kind : Kind) (a : ℕ) (words : Words) (p : ℕ) → Is t kind (Int a) words p → words p ≡ a
+  int_at kinds.Int a words p is = is
+  int_at kind a words p is = absurd is
 
-pub null_is : (kind : Kind) (slots : Words) (o : Operand) → IsIn (of_kind kind Null) slots o → operand_word slots o ≡ 0
-null_is kind slots (operands.Slot n) is = null_at kind slots n is
-null_is kind slots (operands.Word w) is = null_at kind (λ (i : ℕ). w) 0 is
+  pub int_is : (kind : Kind) (a : ℕ) (slots : Words) (o : Operand) → IsIn t (of_kind kind (Int a)) slots o → operand_word slots o ≡ a
+  int_is kind a slots o is =
+      let (words, p, same, is_it) = in_words (of_kind kind (Int a)) slots o is in
+      sym same ∙ int_at kind a words p is_it
 
--- the first word of a value
-pub first_word : (v : Kinded) (slots : Words) (o : Operand) → IsIn v slots o → Is v.kind v.value (λ (i : ℕ). operand_word slots o) 0
-first_word v slots (operands.Slot n) is = Is-first v.kind v.value slots (λ (i : ℕ). slots n) n 0 refl is
-first_word v slots (operands.Word w) is = is
+  null_at : (kind : Kind) (words : Words) (p : ℕ) → Is t kind Null words p → words p ≡ 0
+  null_at kinds.Nullable words p is = is
+  null_at kinds.Fat words p is = is
+  null_at kind words p is = absurd is
 
--- a value that is converted without a change keeps its words
+  pub null_is : (kind : Kind) (slots : Words) (o : Operand) → IsIn t (of_kind kind Null) slots o → operand_word slots o ≡ 0
+  null_is kind slots o is =
+      let (words, p, same, is_it) = in_words (of_kind kind Null) slots o is in
+      sym same ∙ null_at kind words p is_it
+
+  -- a value of one word is told by it
+  pub first_word : (v : Kinded) (slots : Words) (o : Operand) → words_of_kind v.kind ≡ 1 → IsIn t v slots o → IsWord t v.kind v.value (operand_word slots o)
+  first_word v slots (operands.Slot n) single is = one_word t v.kind v.value slots n single is
+  first_word v slots (operands.Word w) single is = is
+
+  -- the address of a cell, which is not 0
+  points_at : (kind : Kind) (object offset : ℕ) (words : Words) (p : ℕ) → Is t kind (Thin object offset) words p → Points t object offset (words p)
+  points_at kinds.Nullable object offset words p is = is
+  points_at kinds.NonNull object offset words p is = is
+  points_at kind object offset words p is = absurd is
+
+  pub points_in : (kind : Kind) (object offset : ℕ) (slots : Words) (o : Operand) → IsIn t (of_kind kind (Thin object offset)) slots o → Points t object offset (operand_word slots o)
+  points_in kind object offset slots o is =
+      let (words, p, same, is_it) = in_words (of_kind kind (Thin object offset)) slots o is in
+      subst (Points t object offset) same (points_at kind object offset words p is_it)
+
+  pub not_zero : (kind : Kind) (object offset : ℕ) (slots : Words) (o : Operand) → IsIn t (of_kind kind (Thin object offset)) slots o → (operand_word slots o == 0) ≡ false
+  not_zero kind object offset slots o is =
+      false_from_ne_true (operand_word slots o == 0) (λ h. not-null (points_in kind object offset slots o is) (eqb-true (operand_word slots o) 0 h))
+
+  part_at : (kind : Kind) (object start many index : ℕ) (words : Words) (p : ℕ) → Is t kind (Fat object start many index) words p → Is t kinds.Fat (Fat object start many index) words p
+  part_at kinds.Fat object start many index words p is = is
+  part_at kind object start many index words p is = absurd is
+
+  -- a thin pointer has one word, and a fat one three
+  thin_words : (kind : Kind) (object offset : ℕ) (words : Words) (p : ℕ) → Is t kind (Thin object offset) words p → words_of_kind kind ≡ 1
+  thin_words kinds.Nullable object offset words p is = refl
+  thin_words kinds.NonNull object offset words p is = refl
+  thin_words kind object offset words p is = absurd is
+
+  fat_words : (kind : Kind) (object start many index : ℕ) (words : Words) (p : ℕ) → Is t kind (Fat object start many index) words p → words_of_kind kind ≡ 3
+  fat_words kinds.Fat object start many index words p is = refl
+  fat_words kind object start many index words p is = absurd is
+
+  not_widened : (kind : Kind) (object offset : ℕ) (words : Words) (p : ℕ) → Is t kind (Thin object offset) words p → words_of_kind kind ≡ words_of_kind kinds.Fat → ⊥
+  not_widened kind object offset words p is wide = omega (arith, wide, thin_words kind object offset words p is)
+
+  not_narrowed : (kind : Kind) (object start many index : ℕ) (words : Words) (p : ℕ) → Is t kind (Fat object start many index) words p → words_of_kind kind ≡ 1 → ⊥
+  not_narrowed kind object start many index words p is wide = omega (arith, wide, fat_words kind object start many index words p is)
+
+  -- a thin kind has no fat pointer
+  not_fat : (kind : Kind) (object start many index : ℕ) (words : Words) (p : ℕ) → is_thin kind ≡ true → Is t kind (Fat object start many index) words p → ⊥
+  not_fat kinds.Fat object start many index words p thin is = let f : false ≡ true = thin in cc
+  not_fat kind object start many index words p thin is = is
+
+  -- a pointer is compared with null by its first word
+  null_tested : (negated : Bool) (kind : Kind) (v : Value) (words : Words) (p : ℕ) → (null_test negated v ≡ Misfits → ⊥) → Is t kind v words p
+      → null_test negated v ≡ Gives (Int (truth (if words p == 0 then not negated else negated)))
+  null_tested negated kinds.Nullable v words p some is = thin-null_test t negated kinds.Nullable v words p refl is
+  null_tested negated kinds.NonNull v words p some is = thin-null_test t negated kinds.NonNull v words p refl is
+  null_tested negated kinds.Fat v words p some is = fat-null_test t negated v words p is
+  null_tested negated kinds.Int (Int a) words p some is = absurd (some refl)
+  null_tested negated kinds.Handle (Handle region) words p some is = absurd (some refl)
+  null_tested negated kinds.Key (Key region) words p some is = absurd (some refl)
+  null_tested negated kind v words p some is = absurd is
+
+  handle_at : (kind : Kind) (region : ℕ) (words : Words) (p : ℕ) → Is t kind (Handle region) words p → Is t kinds.Handle (Handle region) words p
+  handle_at kinds.Handle region words p is = is
+  handle_at kind region words p is = absurd is
+
+  key_at : (kind : Kind) (region : ℕ) (words : Words) (p : ℕ) → Is t kind (Key region) words p → Is t kinds.Key (Key region) words p
+  key_at kinds.Key region words p is = is
+  key_at kind region words p is = absurd is
+
+  -- one word is no fat pointer
+  no_fat : (kind : Kind) (v : Value) (w : ℕ) → conversion kinds.Fat v ≡ Gives v → IsWord t kind v w → (v ≡ Null → ⊥) → ⊥
+  no_fat kind Null w gives is other = other refl
+  no_fat kind (Thin object offset) w gives is other = let f : Gives (Fat object offset 1 0) ≡ Gives (Thin object offset) = gives in cc
+  no_fat kinds.Fat (Fat object start many index) w gives is other = is
+  no_fat kind (Fat object start many index) w gives is other = is
+  no_fat kind v w gives is other = let f : Misfits ≡ Gives v = gives in cc
+
+  -- a value that is converted without a change keeps its words
+  kept_at : (from to : Kind) (v : Value) (words : Words) (p : ℕ) → conversion to v ≡ Gives v → Is t from v words p → Is t to v words p
+  kept_at from kinds.Int (Int a) words p gives is = int_at from a words p is
+  kept_at from kinds.Nullable Null words p gives is = null_at from words p is
+  kept_at from kinds.Fat Null words p gives is = null_at from words p is
+  kept_at from kinds.NonNull Null words p gives is = absurd (let f : Raises 1 ≡ Gives Null = gives in cc)
+  kept_at from kinds.Nullable (Thin object offset) words p gives is = points_at from object offset words p is
+  kept_at from kinds.NonNull (Thin object offset) words p gives is = points_at from object offset words p is
+  kept_at from kinds.Fat (Thin object offset) words p gives is = absurd (let f : Gives (Fat object offset 1 0) ≡ Gives (Thin object offset) = gives in cc)
+  kept_at from kinds.Fat (Fat object start many index) words p gives is = part_at from object start many index words p is
+  kept_at from kinds.Nullable (Fat object start many index) words p gives is = absurd (not_thinned object start index (nat_lt index many) gives)
+  kept_at from kinds.NonNull (Fat object start many index) words p gives is = absurd (not_thinned object start index (nat_lt index many) gives)
+  kept_at from kinds.Handle (Handle region) words p gives is = handle_at from region words p is
+  kept_at from kinds.Key (Key region) words p gives is = key_at from region words p is
+  kept_at from to v words p gives is = absurd (let f : Misfits ≡ Gives v = gives in cc)
+
+  kept_word : (from to : Kind) (v : Value) (w : ℕ) → conversion to v ≡ Gives v → IsWord t from v w → IsWord t to v w
+  kept_word from kinds.Fat Null w gives is = kept_at from kinds.Fat Null (λ (i : ℕ). w) 0 gives (IsWord-is t from Null w (λ (i : ℕ). w) 0 refl is)
+  kept_word kinds.Fat kinds.Fat (Fat object start many index) w gives is = absurd is
+  kept_word from kinds.Fat v w gives is = absurd (no_fat from v w gives is (λ same. let f : v ≡ Null = same in cc))
+  kept_word from kinds.Int v w gives is = kept_at from kinds.Int v (λ (i : ℕ). w) 0 gives (IsWord-is t from v w (λ (i : ℕ). w) 0 refl is)
+  kept_word from kinds.Nullable v w gives is = kept_at from kinds.Nullable v (λ (i : ℕ). w) 0 gives (IsWord-is t from v w (λ (i : ℕ). w) 0 refl is)
+  kept_word from kinds.NonNull v w gives is = kept_at from kinds.NonNull v (λ (i : ℕ). w) 0 gives (IsWord-is t from v w (λ (i : ℕ). w) 0 refl is)
+  kept_word from kinds.Handle v w gives is = kept_at from kinds.Handle v (λ (i : ℕ). w) 0 gives (IsWord-is t from v w (λ (i : ℕ). w) 0 refl is)
+  kept_word from kinds.Key v w gives is = kept_at from kinds.Key v (λ (i : ℕ). w) 0 gives (IsWord-is t from v w (λ (i : ℕ). w) 0 refl is)
+
+  kept_in : (from to : Kind) (v : Value) (slots : Words) (o : Operand) → conversion to v ≡ Gives v → IsIn t (of_kind from v) slots o → IsIn t (of_kind to v) slots o
+  kept_in from to v slots (operands.Slot n) gives is = kept_at from to v slots n gives is
+  kept_in from to v slots (operands.Word w) gives is = kept_word from to v w gives is
+
+-- a check that did not hold goes wrong
 first_holds : (a b : Bool) → (a && b) ≡ true → a ≡ true
 first_holds true b holds = refl
 first_holds false b holds = holds
-
-kept_at : (from to : Kind) (v : Value) (words : Words) (p : ℕ) → conversion to v ≡ Gives v → Is from v words p → Is to v words p
-kept_at kinds.Int kinds.Int (Int a) words p gives is = is
-kept_at kinds.Nullable kinds.Nullable Null words p gives is = is
-kept_at kinds.Nullable kinds.Fat Null words p gives is = is
-kept_at kinds.Fat kinds.Nullable Null words p gives is = is
-kept_at kinds.Fat kinds.Fat Null words p gives is = is
-kept_at kinds.Nullable kinds.NonNull Null words p gives is = absurd (let f : Raises 1 ≡ Gives Null = gives in cc)
-kept_at kinds.Fat kinds.NonNull Null words p gives is = absurd (let f : Raises 1 ≡ Gives Null = gives in cc)
-kept_at kinds.Int to (Int a) words p gives is = absurd (let f : Misfits ≡ Gives (Int a) = gives in cc)
-kept_at kinds.Nullable to Null words p gives is = absurd (let f : Misfits ≡ Gives Null = gives in cc)
-kept_at kinds.Fat to Null words p gives is = absurd (let f : Misfits ≡ Gives Null = gives in cc)
-kept_at from to v words p gives is = absurd is
-
-kept_in : (from to : Kind) (v : Value) (slots : Words) (o : Operand) → conversion to v ≡ Gives v → IsIn (of_kind from v) slots o → IsIn (of_kind to v) slots o
-kept_in from to v slots (operands.Slot n) gives is = kept_at from to v slots n gives is
-kept_in from to v slots (operands.Word w) gives is = kept_at from to v (λ (i : ℕ). w) 0 gives is
 
 -- a value that is converted where it is to be has as many words before
 pub as_wide : (from to : Kind) → converts_there from to ≡ true → words_of_kind from ≡ words_of_kind to
@@ -132,55 +242,6 @@ as_wide from kinds.Key quiet = eqb-true _ _ quiet
 goes_wrong : (fits : Bool) (w : World) → IsWell (if fits then wrong w else wrong w) → ⊥
 goes_wrong true w well = well refl
 goes_wrong false w well = well refl
-
-no_pointer_at : (kind : Kind) (object offset : ℕ) (words : Words) (p : ℕ) → Is kind (Thin object offset) words p → ⊥
-no_pointer_at kinds.Int object offset words p is = is
-no_pointer_at kinds.Nullable object offset words p is = is
-no_pointer_at kinds.NonNull object offset words p is = is
-no_pointer_at kinds.Fat object offset words p is = is
-no_pointer_at kinds.Handle object offset words p is = is
-no_pointer_at kinds.Key object offset words p is = is
-
-no_part_at : (kind : Kind) (object start many index : ℕ) (words : Words) (p : ℕ) → Is kind (Fat object start many index) words p → ⊥
-no_part_at kinds.Int object start many index words p is = is
-no_part_at kinds.Nullable object start many index words p is = is
-no_part_at kinds.NonNull object start many index words p is = is
-no_part_at kinds.Fat object start many index words p is = is
-no_part_at kinds.Handle object start many index words p is = is
-no_part_at kinds.Key object start many index words p is = is
-
-no_handle_at : (kind : Kind) (region : ℕ) (words : Words) (p : ℕ) → Is kind (Handle region) words p → ⊥
-no_handle_at kinds.Int region words p is = is
-no_handle_at kinds.Nullable region words p is = is
-no_handle_at kinds.NonNull region words p is = is
-no_handle_at kinds.Fat region words p is = is
-no_handle_at kinds.Handle region words p is = is
-no_handle_at kinds.Key region words p is = is
-
-no_key_at : (kind : Kind) (region : ℕ) (words : Words) (p : ℕ) → Is kind (Key region) words p → ⊥
-no_key_at kinds.Int region words p is = is
-no_key_at kinds.Nullable region words p is = is
-no_key_at kinds.NonNull region words p is = is
-no_key_at kinds.Fat region words p is = is
-no_key_at kinds.Handle region words p is = is
-no_key_at kinds.Key region words p is = is
-
--- no pointer but null is there yet
-no_pointer : (kind : Kind) (object offset : ℕ) (slots : Words) (o : Operand) → IsIn (of_kind kind (Thin object offset)) slots o → ⊥
-no_pointer kind object offset slots (operands.Slot n) is = no_pointer_at kind object offset slots n is
-no_pointer kind object offset slots (operands.Word w) is = no_pointer_at kind object offset (λ (i : ℕ). w) 0 is
-
-no_part : (kind : Kind) (object start many index : ℕ) (slots : Words) (o : Operand) → IsIn (of_kind kind (Fat object start many index)) slots o → ⊥
-no_part kind object start many index slots (operands.Slot n) is = no_part_at kind object start many index slots n is
-no_part kind object start many index slots (operands.Word w) is = no_part_at kind object start many index (λ (i : ℕ). w) 0 is
-
-no_handle : (kind : Kind) (region : ℕ) (slots : Words) (o : Operand) → IsIn (of_kind kind (Handle region)) slots o → ⊥
-no_handle kind region slots (operands.Slot n) is = no_handle_at kind region slots n is
-no_handle kind region slots (operands.Word w) is = no_handle_at kind region (λ (i : ℕ). w) 0 is
-
-no_key : (kind : Kind) (region : ℕ) (slots : Words) (o : Operand) → IsIn (of_kind kind (Key region)) slots o → ⊥
-no_key kind region slots (operands.Slot n) is = no_key_at kind region slots n is
-no_key kind region slots (operands.Word w) is = no_key_at kind region (λ (i : ℕ). w) 0 is
 
 -- ---- comparisons
 
@@ -233,8 +294,8 @@ module _ (source : Program) (pages calls : ℕ) where
 
   -- what is known of a value that stands in an operand
   abbrev pub Stands : Kinded → Operand → List Entry → Environment → World → Configuration → Type 0
-  Stands v o k e w c = SharedAt source pages calls w c × DataIn source c.active.slots k e w c × IsIn v c.active.slots o
-      × Holds c.active.slots (base_of source c.active.function) (held k)
+  Stands v o k e w c = (shared : SharedAt source pages calls k e w c) × DataIn source shared.tables c.active.slots k e w c × IsIn shared.tables v c.active.slots o
+      × Holds shared.tables c.active.slots (base_of source c.active.function) (held k)
 
   abbrev pub GoesBehind : Kinded → List Entry → Environment → World → Configuration → Type 0
   GoesBehind v k e w c = IsMatched source pages calls (Running (Given v) k e w) (plain.Running c)
@@ -248,7 +309,7 @@ module _ (source : Program) (pages calls : ℕ) where
       → c.active.next ≡ q → ValueStack source c.active.function e.locals to o q c.frames k → GoesBehind (of_kind i v) (Needs (ConvertTo from to target) ∷ k) e w c
   kept_value from to target i v o k e w c q gives does (shared, facts, is, holds) end stack =
       silently source pages calls (Running (Given (of_kind i v)) (Needs (ConvertTo from to target) ∷ k) e w) (Running (Given (of_kind to v)) k e w) (plain.Running c) does
-      (shared, in_operand o facts (kept_in i to v c.active.slots o gives is) holds (subst (λ r. ValueStack source c.active.function e.locals to o r c.frames k) (sym end) stack))
+      (shared, in_operand o facts (kept_in shared.tables i to v c.active.slots o gives is) holds (subst (λ r. ValueStack source c.active.function e.locals to o r c.frames k) (sym end) stack))
       (omega arith)
 
   -- a value is converted from its own kind
@@ -257,14 +318,20 @@ module _ (source : Program) (pages calls : ℕ) where
   converts_kind from to target v k e w well =
       ap (λ (b : Bool). if b then computed to (conversion to v.value) k e w else wrong w) (is_fitting (is_kind v.kind from && leads_to w target (followed v.value)) (computed to (conversion to v.value) k e w) w well)
 
+  -- its kind is that one
+  converted_from : (from to : Kind) (target : Option Kind) (v : Kinded) (k : List Entry) (e : Environment) (w : World) → IsWell (step source (Running (Given v) (Needs (ConvertTo from to target) ∷ k) e w)) → v.kind ≡ from
+  converted_from from to target v k e w well =
+      same_kind v.kind from
+      (first_holds (is_kind v.kind from) (leads_to w target (followed v.value)) (is_fitting (is_kind v.kind from && leads_to w target (followed v.value)) (computed to (conversion to v.value) k e w) w well))
+
   converted : (from to : Kind) (target : Option Kind) (i : Kind) (v : Value) (o : Operand) (k : List Entry) (e : Environment) (w : World) (c : Configuration) → IsWell (computed to (conversion to v) k e w)
-      → step source (Running (Given (of_kind i v)) (Needs (ConvertTo from to target) ∷ k) e w) ≡ computed to (conversion to v) k e w → Stands (of_kind i v) o k e w c
+      → step source (Running (Given (of_kind i v)) (Needs (ConvertTo from to target) ∷ k) e w) ≡ computed to (conversion to v) k e w → words_of_kind i ≡ words_of_kind to → Stands (of_kind i v) o k e w c
       → ValueStack source c.active.function e.locals i o c.active.next c.frames (Needs (ConvertTo from to target) ∷ k) → GoesBehind (of_kind i v) (Needs (ConvertTo from to target) ∷ k) e w c
-  converted from kinds.Int target i (Int a) o k e w c well does stands (q, end, stack) = kept_value from kinds.Int target i (Int a) o k e w c q refl does stands end stack
-  converted from kinds.Nullable target i Null o k e w c well does stands (q, end, stack) = kept_value from kinds.Nullable target i Null o k e w c q refl does stands end stack
-  converted from kinds.Fat target i Null o k e w c well does stands (q, end, stack) = kept_value from kinds.Fat target i Null o k e w c q refl does stands end stack
-  converted from kinds.NonNull target i Null o k e w c well does (shared, facts, is, holds) (q, (jump, uncaught, end), stack) =
-      let zero_word = null_is i c.active.slots o is in
+  converted from kinds.Int target i (Int a) o k e w c well does wide stands (q, (same, end), stack) = kept_value from kinds.Int target i (Int a) o k e w c q refl does stands end stack
+  converted from kinds.Nullable target i Null o k e w c well does wide stands (q, (same, end), stack) = kept_value from kinds.Nullable target i Null o k e w c q refl does stands end stack
+  converted from kinds.Fat target i Null o k e w c well does wide stands (q, (same, end), stack) = kept_value from kinds.Fat target i Null o k e w c q refl does stands end stack
+  converted from kinds.NonNull target i Null o k e w c well does wide (shared, facts, is, holds) (q, (same, (jump, uncaught, end)), stack) =
+      let zero_word = null_is shared.tables i c.active.slots o is in
       by_one source pages calls does shared jump
       (λ choice. not_taken (Running (Throwing 1 0) k e w) c (not (operand_word c.active.slots o == 0)) q (ap (λ x. not (x == 0)) zero_word) (
         shared,
@@ -274,43 +341,62 @@ module _ (source : Program) (pages calls : ℕ) where
         uncaught,
         zero_word,
       ))
-  converted from to target i (Thin object offset) o k e w c well does (shared, facts, is, holds) stack = absurd (no_pointer i object offset c.active.slots o is)
-  converted from to target i (Fat object start many index) o k e w c well does (shared, facts, is, holds) stack = absurd (no_part i object start many index c.active.slots o is)
-  converted from to target i (Handle region) o k e w c well does (shared, facts, is, holds) stack = absurd (no_handle i region c.active.slots o is)
-  converted from to target i (Key region) o k e w c well does (shared, facts, is, holds) stack = absurd (no_key i region c.active.slots o is)
-  converted from to target i v o k e w c well does stands stack = absurd (well refl)
+  converted from kinds.Nullable target i (Thin object offset) o k e w c well does wide stands (q, (same, end), stack) = kept_value from kinds.Nullable target i (Thin object offset) o k e w c q refl does stands end stack
+  converted from kinds.NonNull target i (Thin object offset) o k e w c well does wide (shared, facts, is, holds) (q, (same, (jump, uncaught, end)), stack) =
+      by_one source pages calls does shared jump
+      (λ choice. taken (Running (Given (of_kind kinds.NonNull (Thin object offset))) k e w) c (not (operand_word c.active.slots o == 0)) q
+      (ap not (not_zero shared.tables i object offset c.active.slots o is))
+      (shared, in_operand o facts (kept_in shared.tables i kinds.NonNull (Thin object offset) c.active.slots o refl is) holds stack))
+  converted from kinds.Fat target i (Thin object offset) o k e w c well does wide (shared, facts, is, holds) stack =
+      let (words, p, same, is_it) = in_words shared.tables (of_kind i (Thin object offset)) c.active.slots o is in
+      absurd (not_widened shared.tables i object offset words p is_it wide)
+  converted from kinds.Fat target i (Fat object start many index) o k e w c well does wide stands (q, (same, end), stack) =
+      kept_value from kinds.Fat target i (Fat object start many index) o k e w c q refl does stands end stack
+  converted from kinds.Nullable target i (Fat object start many index) o k e w c well does wide (shared, facts, is, holds) stack =
+      let (words, p, same, is_it) = in_words shared.tables (of_kind i (Fat object start many index)) c.active.slots o is in
+      absurd (not_narrowed shared.tables i object start many index words p is_it wide)
+  converted from kinds.NonNull target i (Fat object start many index) o k e w c well does wide (shared, facts, is, holds) stack =
+      let (words, p, same, is_it) = in_words shared.tables (of_kind i (Fat object start many index)) c.active.slots o is in
+      absurd (not_narrowed shared.tables i object start many index words p is_it wide)
+  converted from kinds.Handle target i (Handle region) o k e w c well does wide stands (q, (same, end), stack) = kept_value from kinds.Handle target i (Handle region) o k e w c q refl does stands end stack
+  converted from kinds.Key target i (Key region) o k e w c well does wide stands (q, (same, end), stack) = kept_value from kinds.Key target i (Key region) o k e w c q refl does stands end stack
+  converted from to target i v o k e w c well does wide stands stack = absurd (well refl)
 
   converts : (from to : Kind) (target : Option Kind) (v : Kinded) (o : Operand) (k : List Entry) (e : Environment) (w : World) (c : Configuration)
       → IsWell (step source (Running (Given v) (Needs (ConvertTo from to target) ∷ k) e w)) → Stands v o k e w c
       → ValueStack source c.active.function e.locals v.kind o c.active.next c.frames (Needs (ConvertTo from to target) ∷ k) → GoesBehind v (Needs (ConvertTo from to target) ∷ k) e w c
-  converts from to target v o k e w c well stands stack =
+  converts from to target v o k e w c well stands (q, (wide, at), stack) =
       let does = converts_kind from to target v k e w well in
-      converted from to target v.kind v.value o k e w c (subst IsWell does well) does stands stack
+      converted from to target v.kind v.value o k e w c (subst IsWell does well) does
+      (ap words_of_kind (converted_from from to target v k e w well) ∙ eqb-true (words_of_kind from) (words_of_kind to) wide)
+      stands (q, (wide, at), stack)
 
   -- a conversion that raises nothing, of a value in the slots of a local that is about to get it
-  converted_ahead : (from to i : Kind) (v : Value) (words : Words) (n : ℕ) (k : List Entry) (e : Environment) (w : World)
-      → IsWell (computed to (conversion to v) k e w) → converts_there from to ≡ true → Is i v words n
-      → (computed to (conversion to v) k e w ≡ Running (Given (of_kind to v)) k e w) × Is to v words n
-  converted_ahead from kinds.Int i (Int a) words n k e w well quiet is = (refl, kept_at i kinds.Int (Int a) words n refl is)
-  converted_ahead from kinds.Nullable i Null words n k e w well quiet is = (refl, kept_at i kinds.Nullable Null words n refl is)
-  converted_ahead from kinds.Fat i Null words n k e w well quiet is = (refl, kept_at i kinds.Fat Null words n refl is)
-  converted_ahead from kinds.NonNull i Null words n k e w well quiet is = absurd (let f : false ≡ true = quiet in cc)
-  converted_ahead from to i (Thin object offset) words n k e w well quiet is = absurd (no_pointer i object offset words (operands.Slot n) is)
-  converted_ahead from to i (Fat object start many index) words n k e w well quiet is = absurd (no_part i object start many index words (operands.Slot n) is)
-  converted_ahead from to i (Handle region) words n k e w well quiet is = absurd (no_handle i region words (operands.Slot n) is)
-  converted_ahead from to i (Key region) words n k e w well quiet is = absurd (no_key i region words (operands.Slot n) is)
-  converted_ahead from to i v words n k e w well quiet is = absurd (well refl)
+  converted_ahead : (t : Tables) (from to i : Kind) (v : Value) (words : Words) (n : ℕ) (k : List Entry) (e : Environment) (w : World)
+      → IsWell (computed to (conversion to v) k e w) → converts_there from to ≡ true → words_of_kind i ≡ words_of_kind to → Is t i v words n
+      → (computed to (conversion to v) k e w ≡ Running (Given (of_kind to v)) k e w) × Is t to v words n
+  converted_ahead t from kinds.NonNull i v words n k e w well quiet wide is = absurd (let f : false ≡ true = quiet in cc)
+  converted_ahead t from kinds.Int i (Int a) words n k e w well quiet wide is = (refl, kept_at t i kinds.Int (Int a) words n refl is)
+  converted_ahead t from kinds.Nullable i Null words n k e w well quiet wide is = (refl, kept_at t i kinds.Nullable Null words n refl is)
+  converted_ahead t from kinds.Fat i Null words n k e w well quiet wide is = (refl, kept_at t i kinds.Fat Null words n refl is)
+  converted_ahead t from kinds.Nullable i (Thin object offset) words n k e w well quiet wide is = (refl, kept_at t i kinds.Nullable (Thin object offset) words n refl is)
+  converted_ahead t from kinds.Fat i (Thin object offset) words n k e w well quiet wide is = absurd (not_widened t i object offset words n is wide)
+  converted_ahead t from kinds.Nullable i (Fat object start many index) words n k e w well quiet wide is = absurd (not_narrowed t i object start many index words n is wide)
+  converted_ahead t from kinds.Fat i (Fat object start many index) words n k e w well quiet wide is = (refl, kept_at t i kinds.Fat (Fat object start many index) words n refl is)
+  converted_ahead t from kinds.Handle i (Handle region) words n k e w well quiet wide is = (refl, kept_at t i kinds.Handle (Handle region) words n refl is)
+  converted_ahead t from kinds.Key i (Key region) words n k e w well quiet wide is = (refl, kept_at t i kinds.Key (Key region) words n refl is)
+  converted_ahead t from to i v words n k e w well quiet wide is = absurd (well refl)
 
   -- its kind is the one that it is converted from, and it has as many words behind
-  converts_ahead : (from to : Kind) (target : Option Kind) (v : Kinded) (n : ℕ) (k : List Entry) (e : Environment) (w : World) (c : Configuration)
-      → IsWell (step source (Running (Given v) (Needs (ConvertTo from to target) ∷ k) e w)) → converts_there from to ≡ true → Is v.kind v.value c.active.slots n
-      → (step source (Running (Given v) (Needs (ConvertTo from to target) ∷ k) e w) ≡ Running (Given (of_kind to v.value)) k e w) × Is to v.value c.active.slots n
+  converts_ahead : (t : Tables) (from to : Kind) (target : Option Kind) (v : Kinded) (n : ℕ) (k : List Entry) (e : Environment) (w : World) (c : Configuration)
+      → IsWell (step source (Running (Given v) (Needs (ConvertTo from to target) ∷ k) e w)) → converts_there from to ≡ true → Is t v.kind v.value c.active.slots n
+      → (step source (Running (Given v) (Needs (ConvertTo from to target) ∷ k) e w) ≡ Running (Given (of_kind to v.value)) k e w) × Is t to v.value c.active.slots n
       × (words_of_kind v.kind ≡ words_of_kind to)
-  converts_ahead from to target v n k e w c well quiet is =
+  converts_ahead t from to target v n k e w c well quiet is =
       let does = converts_kind from to target v k e w well in
-      let (goes, now) = converted_ahead from to v.kind v.value c.active.slots n k e w (subst IsWell does well) quiet is in
-      let fits = first_holds (is_kind v.kind from) (leads_to w target (followed v.value)) (is_fitting (is_kind v.kind from && leads_to w target (followed v.value)) (computed to (conversion to v.value) k e w) w well) in
-      (does ∙ goes, now, ap words_of_kind (same_kind v.kind from fits) ∙ as_wide from to quiet)
+      let wide = ap words_of_kind (converted_from from to target v k e w well) ∙ as_wide from to quiet in
+      let (goes, now) = converted_ahead t from to v.kind v.value c.active.slots n k e w (subst IsWell does well) quiet wide is in
+      (does ∙ goes, now, wide)
 
   -- ---- operators
 
@@ -326,31 +412,27 @@ module _ (source : Program) (pages calls : ℕ) where
       let x = operand_word c.active.slots o in
       by_one source pages calls (ap (λ r. computed kinds.Int r k e w) result) shared here
       (λ choice. landed_word source pages calls (plain_operators.unary_result (unary_operator u) a) (plain_operators.unary_result (unary_operator u) x) d k e w c (c.active.next + 1)
-      (ap (plain_operators.unary_result (unary_operator u)) (int_is i a c.active.slots o is)) shared facts holds refl lands)
+      (ap (plain_operators.unary_result (unary_operator u)) (int_is shared.tables i a c.active.slots o is)) shared facts holds refl lands)
 
   operates_value : (u : UnaryOperator) (i : Kind) (v : Value) (o : Operand) (k : List Entry) (e : Environment) (w : World) (c : Configuration)
       → IsWell (step source (Running (Given (of_kind i v)) (Needs (Operate u) ∷ k) e w)) → Stands (of_kind i v) o k e w c
       → OperatesAt u o k e c → GoesBehind (of_kind i v) (Needs (Operate u) ∷ k) e w c
-  operates_value u i (Thin object offset) o k e w c well (shared, facts, is, holds) stack = absurd (no_pointer i object offset c.active.slots o is)
-  operates_value u i (Fat object start many index) o k e w c well (shared, facts, is, holds) stack = absurd (no_part i object start many index c.active.slots o is)
-  operates_value u i (Handle region) o k e w c well (shared, facts, is, holds) stack = absurd (no_handle i region c.active.slots o is)
-  operates_value u i (Key region) o k e w c well (shared, facts, is, holds) stack = absurd (no_key i region c.active.slots o is)
-  operates_value unary.Negate i Null o k e w c well stands stack = absurd (well refl)
-  operates_value unary.Complement i Null o k e w c well stands stack = absurd (well refl)
-  operates_value unary.Not i Null o k e w c well (shared, facts, is, holds) (d, here, lands) =
-      by_one source pages calls refl shared here
-      (λ choice. landed_word source pages calls 1 (truth (operand_word c.active.slots o == 0)) d k e w c (c.active.next + 1) (ap (λ x. truth (x == 0)) (null_is i c.active.slots o is)) shared facts holds refl lands)
+  operates_value unary.Not i v o k e w c well (shared, facts, is, holds) (d, here, lands) =
+      let x = operand_word c.active.slots o in
+      by_one source pages calls
+      (ap (λ z. computed kinds.Int (truth_result z) k e w) (zero_is shared.tables (of_kind i v) c.active.slots o (λ none. well (ap (λ z. status_in (status_of (computed kinds.Int (truth_result z) k e w))) none)) is)) shared here
+      (λ choice. landed_word source pages calls (truth (x == 0)) (truth (x == 0)) d k e w c (c.active.next + 1) refl shared facts holds refl lands)
   operates_value unary.Negate i (Int a) o k e w c well stands stack = operates_word unary.Negate i a o k e w c refl stands stack
   operates_value unary.Complement i (Int a) o k e w c well stands stack = operates_word unary.Complement i a o k e w c refl stands stack
-  operates_value unary.Not i (Int a) o k e w c well stands stack = operates_word unary.Not i a o k e w c refl stands stack
+  operates_value u i v o k e w c well stands stack = absurd (well refl)
 
   -- a condition that is negated is not computed
-  negates : (v : Kinded) (o : Operand) (k : List Entry) (e : Environment) (w : World) (c : Configuration) → Stands v o k e w c
+  negates : (v : Kinded) (o : Operand) (k : List Entry) (e : Environment) (w : World) (c : Configuration) → IsWell (step source (Running (Given v) (Needs (Operate unary.Not) ∷ k) e w)) → Stands v o k e w c
       → ConditionStack source c.active.function comparisons.NotEqual o (operands.Word 0) c.active.next c.frames k → GoesBehind v (Needs (Operate unary.Not) ∷ k) e w c
-  negates v o k e w c (shared, facts, is, holds) stack =
+  negates v o k e w c well (shared, facts, is, holds) stack =
       let x = operand_word c.active.slots o in
       silently source pages calls (Running (Given v) (Needs (Operate unary.Not) ∷ k) e w) (Running (Given (int_of (truth (x == 0)))) k e w) (plain.Running c)
-      (ap (λ z. computed kinds.Int (truth_result z) k e w) (zero_is v c.active.slots o is))
+      (ap (λ z. computed kinds.Int (truth_result z) k e w) (zero_is shared.tables v c.active.slots o (λ none. well (ap (λ z. status_in (status_of (computed kinds.Int (truth_result z) k e w))) none)) is))
       (shared, compared comparisons.NotEqual o (operands.Word 0) facts (ap Some (untrue (x == 0))) stack)
       (omega arith)
 
@@ -358,15 +440,15 @@ module _ (source : Program) (pages calls : ℕ) where
       → IsWell (step source (Running (Given v) (Needs (Operate u) ∷ k) e w)) → Stands v o k e w c
       → ValueStack source c.active.function e.locals v.kind o c.active.next c.frames (Needs (Operate u) ∷ k) → GoesBehind v (Needs (Operate u) ∷ k) e w c
   operates u v o k e w c well stands (to_slot here) = operates_value u v.kind v.value o k e w c well stands here
-  operates u v o k e w c well stands (to_jump (is, stack)) = subst (λ x. GoesBehind v (Needs (Operate x) ∷ k) e w c) (sym is) (negates v o k e w c stands stack)
+  operates u v o k e w c well stands (to_jump (is, stack)) = subst (λ x. GoesBehind v (Needs (Operate x) ∷ k) e w c) (sym is) (negates v o k e w c (subst (λ x. IsWell (step source (Running (Given v) (Needs (Operate x) ∷ k) e w))) is well) stands stack)
 
   -- ---- divisions
 
   -- the division itself, of operands that are these words
   quotient : (u : Operator) (a b : ℕ) (l r : Operand) (d : ℕ) (k : List Entry) (e : Environment) (w : World) (c : Configuration) (q : ℕ)
       → ((x : ℕ) → plain_operators.has_no_result (binary_operator u) x ≡ (x == 0)) → ((x y : ℕ) → plain_operators.binary_result (binary_operator u) x y ≡ binary_word u x y)
-      → (b == 0) ≡ false → SharedAt source pages calls w c → DataIn source c.active.slots k e w c
-      → operand_word c.active.slots l ≡ a → operand_word c.active.slots r ≡ b → Holds c.active.slots (base_of source c.active.function) (held k)
+      → (b == 0) ≡ false → (shared : SharedAt source pages calls k e w c) → DataIn source shared.tables c.active.slots k e w c
+      → operand_word c.active.slots l ≡ a → operand_word c.active.slots r ≡ b → Holds shared.tables c.active.slots (base_of source c.active.function) (held k)
       → c.active.next + 1 ≡ q → LandsStack source c.active.function e.locals kinds.Int d q c.frames k
       → (choice : Choice) → Matches source pages calls (Running (Given (int_of (binary_word u a b))) k e w) (performed (lower_program source) choice c (instructions.Binary (binary_operator u) d l r))
   quotient u a b l r d k e w c q plain_test same nonzero shared facts is_left is holds end lands choice =
@@ -382,8 +464,8 @@ module _ (source : Program) (pages calls : ℕ) where
   tested_divides : (u : Operator) (i j : Kind) (a b : ℕ) (f : Bool) (l r : Operand) (d : ℕ) (k : List Entry) (e : Environment) (w : World) (c : Configuration) (m q : ℕ)
       → ((x : ℕ) → plain_operators.has_no_result (binary_operator u) x ≡ (x == 0)) → ((x : ℕ) → has_no_result u x ≡ (x == 0))
       → ((x y : ℕ) → plain_operators.binary_result (binary_operator u) x y ≡ binary_word u x y) → (b == 0) ≡ f
-      → SharedAt source pages calls w c → DataIn source c.active.slots k e w c
-      → operand_word c.active.slots l ≡ a → operand_word c.active.slots r ≡ b → Holds c.active.slots (base_of source c.active.function) (held k)
+      → (shared : SharedAt source pages calls k e w c) → DataIn source shared.tables c.active.slots k e w c
+      → operand_word c.active.slots l ≡ a → operand_word c.active.slots r ≡ b → Holds shared.tables c.active.slots (base_of source c.active.function) (held k)
       → CheckAt (code_of source c.active.function) (bounds_at source c.active.function) (types_at source c.active.function) division_by_zero r c.active.next m
       → At (code_of source c.active.function) m (instructions.Binary (binary_operator u) d l r) → m + 1 ≡ q
       → LandsStack source c.active.function e.locals kinds.Int d q c.frames k → GoesBehind (of_kind j (Int b)) (Needs (Apply u (of_kind i (Int a))) ∷ k) e w c
@@ -404,8 +486,8 @@ module _ (source : Program) (pages calls : ℕ) where
   divides : (u : Operator) (i j : Kind) (a b : ℕ) (l r : Operand) (d : ℕ) (k : List Entry) (e : Environment) (w : World) (c : Configuration) (q : ℕ)
       → ((x : ℕ) → plain_operators.has_no_result (binary_operator u) x ≡ (x == 0)) → ((x : ℕ) → has_no_result u x ≡ (x == 0))
       → ((x y : ℕ) → plain_operators.binary_result (binary_operator u) x y ≡ binary_word u x y)
-      → SharedAt source pages calls w c → DataIn source c.active.slots k e w c
-      → operand_word c.active.slots l ≡ a → operand_word c.active.slots r ≡ b → Holds c.active.slots (base_of source c.active.function) (held k)
+      → (shared : SharedAt source pages calls k e w c) → DataIn source shared.tables c.active.slots k e w c
+      → operand_word c.active.slots l ≡ a → operand_word c.active.slots r ≡ b → Holds shared.tables c.active.slots (base_of source c.active.function) (held k)
       → CheckedAt (code_of source c.active.function) (bounds_at source c.active.function) (types_at source c.active.function) u d l r c.active.next q
       → LandsStack source c.active.function e.locals kinds.Int d q c.frames k → GoesBehind (of_kind j (Int b)) (Needs (Apply u (of_kind i (Int a))) ∷ k) e w c
   divides u i j a b l (operands.Word (suc n)) d k e w c q plain_test test same shared facts is_left is holds (m, begin, here, end) lands =
@@ -419,8 +501,8 @@ module _ (source : Program) (pages calls : ℕ) where
       tested_divides u i j a b (b == 0) l (operands.Slot n) d k e w c m q plain_test test same refl shared facts is_left is holds check here end lands
 
   computes : (u : Operator) (i j : Kind) (a b : ℕ) (l r : Operand) (d : ℕ) (k : List Entry) (e : Environment) (w : World) (c : Configuration) (q : ℕ)
-      → SharedAt source pages calls w c → DataIn source c.active.slots k e w c
-      → operand_word c.active.slots l ≡ a → operand_word c.active.slots r ≡ b → Holds c.active.slots (base_of source c.active.function) (held k)
+      → (shared : SharedAt source pages calls k e w c) → DataIn source shared.tables c.active.slots k e w c
+      → operand_word c.active.slots l ≡ a → operand_word c.active.slots r ≡ b → Holds shared.tables c.active.slots (base_of source c.active.function) (held k)
       → OperatorAt (code_of source c.active.function) (bounds_at source c.active.function) (types_at source c.active.function) u d l r c.active.next q
       → LandsStack source c.active.function e.locals kinds.Int d q c.frames k → GoesBehind (of_kind j (Int b)) (Needs (Apply u (of_kind i (Int a))) ∷ k) e w c
   computes operators.Divide i j a b l r d k e w c q shared facts is_left is holds here lands =
@@ -437,7 +519,7 @@ module _ (source : Program) (pages calls : ℕ) where
   -- a condition that is a comparison is not computed
   compares_words : (u : Operator) (i j : Kind) (failing : Comparison) (a b : ℕ) (l r : Operand) (k : List Entry) (e : Environment) (w : World) (c : Configuration) → failing_comparison u ≡ Some failing
       → step source (Running (Given (of_kind j (Int b))) (Needs (Apply u (of_kind i (Int a))) ∷ k) e w) ≡ Running (Given (int_of (binary_word u a b))) k e w
-      → SharedAt source pages calls w c → DataIn source c.active.slots k e w c → operand_word c.active.slots l ≡ a → operand_word c.active.slots r ≡ b
+      → (shared : SharedAt source pages calls k e w c) → DataIn source shared.tables c.active.slots k e w c → operand_word c.active.slots l ≡ a → operand_word c.active.slots r ≡ b
       → ConditionStack source c.active.function failing l r c.active.next c.frames k → GoesBehind (of_kind j (Int b)) (Needs (Apply u (of_kind i (Int a))) ∷ k) e w c
   compares_words u i j failing a b l r k e w c is does shared facts is_left is_right stack =
       let x = operand_word c.active.slots l in
@@ -446,7 +528,7 @@ module _ (source : Program) (pages calls : ℕ) where
       (omega arith)
 
   compares_both : (u : Operator) (i j : Kind) (failing : Comparison) (a b : ℕ) (l r : Operand) (k : List Entry) (e : Environment) (w : World) (c : Configuration) → failing_comparison u ≡ Some failing
-      → SharedAt source pages calls w c → DataIn source c.active.slots k e w c → operand_word c.active.slots l ≡ a → operand_word c.active.slots r ≡ b
+      → (shared : SharedAt source pages calls k e w c) → DataIn source shared.tables c.active.slots k e w c → operand_word c.active.slots l ≡ a → operand_word c.active.slots r ≡ b
       → ConditionStack source c.active.function failing l r c.active.next c.frames k → GoesBehind (of_kind j (Int b)) (Needs (Apply u (of_kind i (Int a))) ∷ k) e w c
   compares_both operators.Divide i j failing a b l r k e w c is shared facts is_left is_right stack = absurd (none-some failing is)
   compares_both operators.Remainder i j failing a b l r k e w c is shared facts is_left is_right stack = absurd (none-some failing is)
@@ -455,48 +537,59 @@ module _ (source : Program) (pages calls : ℕ) where
 
   -- both operands are there
   applies_values : (u : Operator) (i j : Kind) (left v : Value) (k : List Entry) (e : Environment) (w : World) (c : Configuration)
-      → IsWell (step source (Running (Given (of_kind j v)) (Needs (Apply u (of_kind i left)) ∷ k) e w)) → SharedAt source pages calls w c → DataIn source c.active.slots k e w c
-      → ReadyAt source (of_kind j v) e.locals c.active.function c.active.next c.active.slots c.frames (Needs (Apply u (of_kind i left)) ∷ k)
+      → IsWell (step source (Running (Given (of_kind j v)) (Needs (Apply u (of_kind i left)) ∷ k) e w)) → (shared : SharedAt source pages calls k e w c) → DataIn source shared.tables c.active.slots k e w c
+      → ReadyAt source shared.tables (of_kind j v) e.locals c.active.function c.active.next c.active.slots c.frames (Needs (Apply u (of_kind i left)) ∷ k)
       → GoesBehind (of_kind j v) (Needs (Apply u (of_kind i left)) ∷ k) e w c
-  applies_values u i j (Int a) (Int b) k e w c well shared facts (l, r, is_left, is, holds, to_slot (d, q, here, lands)) = computes u i j a b l r d k e w c q shared facts (int_is i a c.active.slots l is_left) (int_is j b c.active.slots r is) holds here lands
-  applies_values u i j (Int a) (Int b) k e w c well shared facts (l, r, is_left, is, holds, to_jump (failing, fails, stack)) = compares_both u i j failing a b l r k e w c fails shared facts (int_is i a c.active.slots l is_left) (int_is j b c.active.slots r is) stack
+  applies_values u i j (Int a) (Int b) k e w c well shared facts (l, r, is_left, is, holds, to_slot (d, q, here, lands)) = computes u i j a b l r d k e w c q shared facts (int_is shared.tables i a c.active.slots l is_left) (int_is shared.tables j b c.active.slots r is) holds here lands
+  applies_values u i j (Int a) (Int b) k e w c well shared facts (l, r, is_left, is, holds, to_jump (failing, fails, stack)) = compares_both u i j failing a b l r k e w c fails shared facts (int_is shared.tables i a c.active.slots l is_left) (int_is shared.tables j b c.active.slots r is) stack
   applies_values u i j left v k e w c well shared facts ready = absurd (well refl)
 
   applies : (u : Operator) (left v : Kinded) (k : List Entry) (e : Environment) (w : World) (c : Configuration)
-      → IsWell (step source (Running (Given v) (Needs (Apply u left) ∷ k) e w)) → SharedAt source pages calls w c → DataIn source c.active.slots k e w c
-      → ReadyAt source v e.locals c.active.function c.active.next c.active.slots c.frames (Needs (Apply u left) ∷ k) → GoesBehind v (Needs (Apply u left) ∷ k) e w c
+      → IsWell (step source (Running (Given v) (Needs (Apply u left) ∷ k) e w)) → (shared : SharedAt source pages calls k e w c) → DataIn source shared.tables c.active.slots k e w c
+      → ReadyAt source shared.tables v e.locals c.active.function c.active.next c.active.slots c.frames (Needs (Apply u left) ∷ k) → GoesBehind v (Needs (Apply u left) ∷ k) e w c
   applies u left v k e w c well shared facts ready = applies_values u left.kind v.kind left.value v.value k e w c well shared facts ready
+
+  null_told : (b : Bool) → b ≡ (if b then not false else false)
+  null_told true = refl
+  null_told false = refl
+
+  other_told : (b : Bool) → not b ≡ (if b then not true else true)
+  other_told true = refl
+  other_told false = refl
 
   -- a pointer is compared with null
   compares_null : (u : PointerOperator) (peek : Option ℕ) (i j : Kind) (left v : Value) (d : ℕ) (k : List Entry) (e : Environment) (w : World) (c : Configuration)
       → IsWell (step source (Running (Given (of_kind j v)) (Needs (ApplyPointer peek u (of_kind i left)) ∷ k) e w)) → is_null_test u ≡ true
-      → SharedAt source pages calls w c → DataIn source c.active.slots k e w c
-      → Is i left c.active.slots (top source c.active.function k) → Holds c.active.slots (base_of source c.active.function) (held k)
+      → (shared : SharedAt source pages calls k e w c) → DataIn source shared.tables c.active.slots k e w c
+      → Is shared.tables i left c.active.slots (top source c.active.function k) → Holds shared.tables c.active.slots (base_of source c.active.function) (held k)
       → At (code_of source c.active.function) c.active.next (pointer_instruction u (operands.Slot (top source c.active.function k)) d)
       → LandsStack source c.active.function e.locals kinds.Int d (c.active.next + 1) c.frames k → GoesBehind (of_kind j v) (Needs (ApplyPointer peek u (of_kind i left)) ∷ k) e w c
-  compares_null u peek i j (Thin object offset) v d k e w c well test shared facts is holds here lands = absurd (no_pointer_at i object offset c.active.slots (top source c.active.function k) is)
-  compares_null u peek i j (Fat object start many index) v d k e w c well test shared facts is holds here lands = absurd (no_part_at i object start many index c.active.slots (top source c.active.function k) is)
-  compares_null pointers.ThinIsNull peek i j Null Null d k e w c well test shared facts is holds here lands =
-      by_one source pages calls refl shared here
-      (λ choice. landed_word source pages calls 1 (truth (c.active.slots (top source c.active.function k) == 0)) d k e w c (c.active.next + 1) (ap (λ x. truth (x == 0)) (null_at i c.active.slots (top source c.active.function k) is)) shared facts holds refl lands)
-  compares_null pointers.ThinIsNotNull peek i j Null Null d k e w c well test shared facts is holds here lands =
-      by_one source pages calls refl shared here
-      (λ choice. landed_word source pages calls 0 (truth (not (c.active.slots (top source c.active.function k) == 0))) d k e w c (c.active.next + 1) (ap (λ x. truth (not (x == 0))) (null_at i c.active.slots (top source c.active.function k) is)) shared facts holds refl lands)
-  compares_null pointers.FatIsNull peek i j Null Null d k e w c well test shared facts is holds here lands =
-      by_one source pages calls refl shared here
-      (λ choice. landed_word source pages calls 1 (truth (c.active.slots (top source c.active.function k) == 0)) d k e w c (c.active.next + 1) (ap (λ x. truth (x == 0)) (null_at i c.active.slots (top source c.active.function k) is)) shared facts holds refl lands)
-  compares_null pointers.FatIsNotNull peek i j Null Null d k e w c well test shared facts is holds here lands =
-      by_one source pages calls refl shared here
-      (λ choice. landed_word source pages calls 0 (truth (not (c.active.slots (top source c.active.function k) == 0))) d k e w c (c.active.next + 1) (ap (λ x. truth (not (x == 0))) (null_at i c.active.slots (top source c.active.function k) is)) shared facts holds refl lands)
+  compares_null pointers.ThinIsNull peek i j left Null d k e w c well test shared facts is holds here lands =
+      let x = c.active.slots (top source c.active.function k) in
+      by_one source pages calls
+      (ap (λ r. computed kinds.Int r k e w) (null_tested shared.tables false i left c.active.slots (top source c.active.function k) (λ none. well (ap (λ r. status_in (status_of (computed kinds.Int r k e w))) none)) is)) shared here
+      (λ choice. landed_word source pages calls (truth (if x == 0 then not false else false)) (truth (x == 0)) d k e w c (c.active.next + 1) (ap truth (null_told (x == 0))) shared facts holds refl lands)
+  compares_null pointers.ThinIsNotNull peek i j left Null d k e w c well test shared facts is holds here lands =
+      let x = c.active.slots (top source c.active.function k) in
+      by_one source pages calls
+      (ap (λ r. computed kinds.Int r k e w) (null_tested shared.tables true i left c.active.slots (top source c.active.function k) (λ none. well (ap (λ r. status_in (status_of (computed kinds.Int r k e w))) none)) is)) shared here
+      (λ choice. landed_word source pages calls (truth (if x == 0 then not true else true)) (truth (not (x == 0))) d k e w c (c.active.next + 1) (ap truth (other_told (x == 0))) shared facts holds refl lands)
+  compares_null pointers.FatIsNull peek i j left Null d k e w c well test shared facts is holds here lands =
+      let x = c.active.slots (top source c.active.function k) in
+      by_one source pages calls
+      (ap (λ r. computed kinds.Int r k e w) (null_tested shared.tables false i left c.active.slots (top source c.active.function k) (λ none. well (ap (λ r. status_in (status_of (computed kinds.Int r k e w))) none)) is)) shared here
+      (λ choice. landed_word source pages calls (truth (if x == 0 then not false else false)) (truth (x == 0)) d k e w c (c.active.next + 1) (ap truth (null_told (x == 0))) shared facts holds refl lands)
+  compares_null pointers.FatIsNotNull peek i j left Null d k e w c well test shared facts is holds here lands =
+      let x = c.active.slots (top source c.active.function k) in
+      by_one source pages calls
+      (ap (λ r. computed kinds.Int r k e w) (null_tested shared.tables true i left c.active.slots (top source c.active.function k) (λ none. well (ap (λ r. status_in (status_of (computed kinds.Int r k e w))) none)) is)) shared here
+      (λ choice. landed_word source pages calls (truth (if x == 0 then not true else true)) (truth (not (x == 0))) d k e w c (c.active.next + 1) (ap truth (other_told (x == 0))) shared facts holds refl lands)
   compares_null pointers.AddFat peek i j left v d k e w c well test shared facts is holds here lands = absurd (let f : false ≡ true = test in cc)
   compares_null pointers.SubtractFat peek i j left v d k e w c well test shared facts is holds here lands = absurd (let f : false ≡ true = test in cc)
   compares_null pointers.EqualThin peek i j left v d k e w c well test shared facts is holds here lands = absurd (let f : false ≡ true = test in cc)
   compares_null pointers.NotEqualThin peek i j left v d k e w c well test shared facts is holds here lands = absurd (let f : false ≡ true = test in cc)
   compares_null pointers.NullIs peek i j left v d k e w c well test shared facts is holds here lands = absurd (let f : false ≡ true = test in cc)
   compares_null pointers.NullIsNot peek i j left v d k e w c well test shared facts is holds here lands = absurd (let f : false ≡ true = test in cc)
-  compares_null u peek i j (Int a) Null d k e w c well test shared facts is holds here lands = absurd (well refl)
-  compares_null u peek i j (Handle region) Null d k e w c well test shared facts is holds here lands = absurd (well refl)
-  compares_null u peek i j (Key region) Null d k e w c well test shared facts is holds here lands = absurd (well refl)
   compares_null u peek i j left v d k e w c well test shared facts is holds here lands = absurd (well refl)
 
   -- ---- truth values
@@ -510,8 +603,8 @@ module _ (source : Program) (pages calls : ℕ) where
 
   -- where a word was negated once, a second time gives 0 or 1
   negated_twice : (t d : ℕ) (k : List Entry) (e : Environment) (w : World) (c : Configuration) (q : ℕ) → t ≡ truth (not (c.active.slots (top source c.active.function k) == 0))
-      → SharedAt source pages calls w c → DataIn source c.active.slots k e w c
-      → Holds c.active.slots (base_of source c.active.function) (held k) → c.active.next + 1 + 1 ≡ q → LandsStack source c.active.function e.locals kinds.Int d q c.frames k
+      → (shared : SharedAt source pages calls k e w c) → DataIn source shared.tables c.active.slots k e w c
+      → Holds shared.tables c.active.slots (base_of source c.active.function) (held k) → c.active.next + 1 + 1 ≡ q → LandsStack source c.active.function e.locals kinds.Int d q c.frames k
       → Related source pages calls (Given (int_of t)) k e w
       (advanced (with_slots (negated c k) (put (negated c k).active.slots d (truth ((negated c k).active.slots (top source c.active.function k) == 0)))))
   negated_twice t d k e w c q t_is shared facts holds end lands =
@@ -521,16 +614,16 @@ module _ (source : Program) (pages calls : ℕ) where
       let slots = put c.active.slots free x in
       landed_word source pages calls t (truth (slots free == 0)) d k e w (negated c k) q
       (ap (λ y. truth (y == 0)) (put-same c.active.slots free x) ∙ truth_twice (c.active.slots free == 0) ∙ sym t_is)
-      shared (data_above source c.active.function w.objects e.locals (callers k) c.active.slots slots c.globals c.frames free 1 (height-least base (held k)) (λ m out. put_elsewhere c.active.slots free x 1 m (omega arith) out) facts)
-      (Holds-same c.active.slots slots base (held k) (λ m below. put_elsewhere c.active.slots free x 1 m (omega arith) (inl below)) holds) end lands
+      shared (data_above shared.tables source c.active.function w.objects e.locals (callers k) c.active.slots slots c.globals c.frames free 1 (height-least base (held k)) (λ m out. put_elsewhere c.active.slots free x 1 m (omega arith) out) facts)
+      (Holds-same shared.tables c.active.slots slots base (held k) (λ m below. put_elsewhere c.active.slots free x 1 m (omega arith) (inl below)) holds) end lands
 
-  decides_truth : (v : Kinded) (o : Operand) (k : List Entry) (e : Environment) (w : World) (c : Configuration) → Stands v o k e w c
+  decides_truth : (v : Kinded) (o : Operand) (k : List Entry) (e : Environment) (w : World) (c : Configuration) → IsWell (step source (Running (Given v) (Needs Decide ∷ k) e w)) → Stands v o k e w c
       → ValueStack source c.active.function e.locals v.kind o c.active.next c.frames (Needs Decide ∷ k) → GoesBehind v (Needs Decide ∷ k) e w c
-  decides_truth v o k e w c (shared, facts, is, holds) (d, q, there, (first, second, end), lands) =
+  decides_truth v o k e w c well (shared, facts, is, holds) (d, q, there, (first, second, end), lands) =
       let x = c.active.slots (top source c.active.function k) in
-      let is_x : IsIn v c.active.slots (operands.Slot (top source c.active.function k)) = subst (IsIn v c.active.slots) there is in
+      let is_x : IsIn shared.tables v c.active.slots (operands.Slot (top source c.active.function k)) = subst (IsIn shared.tables v c.active.slots) there is in
       by_two source pages calls (negated c k)
-      (ap (λ z. computed kinds.Int (truth_of z) k e w) (zero_is v c.active.slots (operands.Slot (top source c.active.function k)) is_x)) shared shared first (λ choice. refl) second (λ equal. omega (arith, equal))
+      (ap (λ z. computed kinds.Int (truth_of z) k e w) (zero_is shared.tables v c.active.slots (operands.Slot (top source c.active.function k)) (λ none. well (ap (λ z. status_in (status_of (computed kinds.Int (truth_of z) k e w))) none)) is_x)) shared shared first (λ choice. refl) second (λ equal. omega (arith, equal))
       (λ choice. negated_twice (truth (not (x == 0))) d k e w c q refl shared facts holds end lands)
 
   -- ---- chains
@@ -551,8 +644,8 @@ module _ (source : Program) (pages calls : ℕ) where
       → At (code_of source c.active.function) c.active.next i → ((choice : Choice) → plain_step.performed (lower_program source) choice c i ≡ plain.Running (at c m))
       → ((x : ℕ) → i ≢ instructions.Unary plain_unary.Not x (operands.Slot (top source c.active.function k)))
       → (c.active.slots (top source c.active.function k) == 0) ≡ f
-      → SharedAt source pages calls w c → DataIn source c.active.slots k e w c
-      → Holds c.active.slots (base_of source c.active.function) (held k)
+      → (shared : SharedAt source pages calls k e w c) → DataIn source shared.tables c.active.slots k e w c
+      → Holds shared.tables c.active.slots (base_of source c.active.function) (held k)
       → TruthAt (code_of source c.active.function) (bounds_at source c.active.function) (types_at source c.active.function) (top source c.active.function k) d m r
       → LandsStack source c.active.function e.locals kinds.Int d r c.frames (Needs (Chain os) ∷ k)
       → GoesBehind v (Needs (Chain (ThenTest u b os)) ∷ k) e w c
@@ -561,8 +654,8 @@ module _ (source : Program) (pages calls : ℕ) where
       let free = top source c.active.function k in
       let there = at c m in
       by_three source pages calls there (negated there k) does shared
-      (shared_within source pages calls w there shared) (shared_way source pages calls (Given v) (Needs (Chain (ThenTest u b os)) ∷ k) e w there shared)
-      (shared_within source pages calls w (negated there k) shared) (shared_way source pages calls (Given v) (Needs (Chain (ThenTest u b os)) ∷ k) e w (negated there k) shared)
+      (shared_within source pages calls k e w there shared) (shared_way source pages calls (Given v) (Needs (Chain (ThenTest u b os)) ∷ k) e w there shared)
+      (shared_within source pages calls k e w (negated there k) shared) (shared_way source pages calls (Given v) (Needs (Chain (ThenTest u b os)) ∷ k) e w (negated there k) shared)
       here jumps first (λ choice. refl) second
       (other_place code c.active.next m i (instructions.Unary plain_unary.Not free (operands.Slot free)) here first (other free))
       (other_place code c.active.next (m + 1) i (instructions.Unary plain_unary.Not d (operands.Slot free)) here second (other d)) (λ equal. omega (arith, equal))
@@ -574,28 +667,29 @@ module _ (source : Program) (pages calls : ℕ) where
 
   -- in a place with a test, both ways
   tests : (u : LogicalOperator) (b : Expression) (os : Operations) (v : Kinded) (f : Bool) (k : List Entry) (e : Environment) (w : World) (c : Configuration) (d q : ℕ)
+      → IsWell (step source (Running (Given v) (Needs (Chain (ThenTest u b os)) ∷ k) e w))
       → (c.active.slots (top source c.active.function k) == 0) ≡ f → Stands v (operands.Slot (top source c.active.function k)) k e w c
       → OperationsAt (code_of source c.active.function) (bounds_at source c.active.function) (types_at source c.active.function) (ThenTest u b os) (operands.Slot (top source c.active.function k)) d (top source c.active.function k) c.active.next q
       → LandsStack source c.active.function e.locals kinds.Int d q c.frames k → GoesBehind v (Needs (Chain (ThenTest u b os)) ∷ k) e w c
-  tests logical.AndThen b os v true k e w c d q told (shared, facts, is, holds) (m, r, there, jump, at_b, truths, ops) lands =
-      let does = ap (λ (x : Option Bool). tested x logical.AndThen b os k e w) (zero_is v c.active.slots (operands.Slot (top source c.active.function k)) is ∙ ap Some told) in
+  tests logical.AndThen b os v true k e w c d q well told (shared, facts, is, holds) (m, r, there, jump, at_b, truths, ops) lands =
+      let does = ap (λ (x : Option Bool). tested x logical.AndThen b os k e w) (zero_is shared.tables v c.active.slots (operands.Slot (top source c.active.function k)) (λ none. well (ap (λ x. status_in (status_of (tested x logical.AndThen b os k e w))) none)) is ∙ ap Some told) in
       decided_at_once logical.AndThen b os v true k e w c _ (next_slot os d (top source c.active.function k)) m r does jump (λ choice. ap (λ x. plain_step.branches c x m) told)
       (λ x same. let f : jump_if_zero _ m ≡ instructions.Unary plain_unary.Not x _ = same in cc) told shared facts holds truths
       (chain_lands os c.active.function e.locals d r q c.frames k ops lands)
-  tests logical.AndThen b os v false k e w c d q told (shared, facts, is, holds) (m, r, there, jump, at_b, truths, ops) lands =
+  tests logical.AndThen b os v false k e w c d q well told (shared, facts, is, holds) (m, r, there, jump, at_b, truths, ops) lands =
       let free = top source c.active.function k in
-      let does = ap (λ (x : Option Bool). tested x logical.AndThen b os k e w) (zero_is v c.active.slots (operands.Slot (top source c.active.function k)) is ∙ ap Some told) in
+      let does = ap (λ (x : Option Bool). tested x logical.AndThen b os k e w) (zero_is shared.tables v c.active.slots (operands.Slot (top source c.active.function k)) (λ none. well (ap (λ x. status_in (status_of (tested x logical.AndThen b os k e w))) none)) is ∙ ap Some told) in
       by_one source pages calls does shared jump
       (λ choice. not_taken (Running (Evaluating b) (Needs Decide ∷ Needs (Chain os) ∷ k) e w) c _ m told
       (shared, facts, into_slot free m at_b holds (in_temporary (omega arith) (next_slot os d free, r, refl, truths, chain_lands os c.active.function e.locals d r q c.frames k ops lands))))
-  tests logical.OrElse b os v true k e w c d q told (shared, facts, is, holds) (m, r, there, jump, at_b, truths, ops) lands =
+  tests logical.OrElse b os v true k e w c d q well told (shared, facts, is, holds) (m, r, there, jump, at_b, truths, ops) lands =
       let free = top source c.active.function k in
-      let does = ap (λ (x : Option Bool). tested x logical.OrElse b os k e w) (zero_is v c.active.slots (operands.Slot (top source c.active.function k)) is ∙ ap Some told) in
+      let does = ap (λ (x : Option Bool). tested x logical.OrElse b os k e w) (zero_is shared.tables v c.active.slots (operands.Slot (top source c.active.function k)) (λ none. well (ap (λ x. status_in (status_of (tested x logical.OrElse b os k e w))) none)) is ∙ ap Some told) in
       by_one source pages calls does shared jump
       (λ choice. not_taken (Running (Evaluating b) (Needs Decide ∷ Needs (Chain os) ∷ k) e w) c _ m (ap not told)
       (shared, facts, into_slot free m at_b holds (in_temporary (omega arith) (next_slot os d free, r, refl, truths, chain_lands os c.active.function e.locals d r q c.frames k ops lands))))
-  tests logical.OrElse b os v false k e w c d q told (shared, facts, is, holds) (m, r, there, jump, at_b, truths, ops) lands =
-      let does = ap (λ (x : Option Bool). tested x logical.OrElse b os k e w) (zero_is v c.active.slots (operands.Slot (top source c.active.function k)) is ∙ ap Some told) in
+  tests logical.OrElse b os v false k e w c d q well told (shared, facts, is, holds) (m, r, there, jump, at_b, truths, ops) lands =
+      let does = ap (λ (x : Option Bool). tested x logical.OrElse b os k e w) (zero_is shared.tables v c.active.slots (operands.Slot (top source c.active.function k)) (λ none. well (ap (λ x. status_in (status_of (tested x logical.OrElse b os k e w))) none)) is ∙ ap Some told) in
       decided_at_once logical.OrElse b os v false k e w c _ (next_slot os d (top source c.active.function k)) m r does jump (λ choice. ap (λ x. plain_step.branches c (not x) m) told)
       (λ x same. let f : jump_if_nonzero _ m ≡ instructions.Unary plain_unary.Not x _ = same in cc) told shared facts holds truths
       (chain_lands os c.active.function e.locals d r q c.frames k ops lands)
@@ -640,7 +734,7 @@ module _ (source : Program) (pages calls : ℕ) where
         as_operand r m
             (subst (λ n. OperandBy (code_of source g) (bounds_at source g) (types_at source g) (operand_of starts b) (ExpressionAt (code_of source g) (bounds_at source g) (types_at source g) b (value_slot starts b n) n c.active.next m) (value_slot starts b n) r c.active.next m)
             next at_right)
-            (subst (IsIn v c.active.slots) there is, holds)
+            (subst (IsIn shared.tables v c.active.slots) there is, holds)
             (subst (λ x. AppliedStack source g e.locals u x r m c.frames (Needs (Chain os) ∷ k)) there applied),
       )
       (omega arith)
@@ -658,15 +752,15 @@ module _ (source : Program) (pages calls : ℕ) where
   chains (ThenCompute u b NoOperations) v o k e w c well stands (to_jump (failing, r, q, (is, at_b), stack)) =
       chain_goes_on (operand_of (starts_at source c.active.function) b) u b NoOperations v o k e w c r q well refl stands at_b (to_jump (failing, is, stack))
   chains (ThenTest u b os) v o k e w c well (shared, facts, is, holds) (to_slot (d, q, (m, r, there, jump, at_b, truths, ops), lands)) =
-      tests u b os v (c.active.slots (top source c.active.function k) == 0) k e w c d q refl
-      (shared, facts, subst (IsIn v c.active.slots) there is, holds) (m, r, refl, jump, at_b, truths, ops) lands
+      tests u b os v (c.active.slots (top source c.active.function k) == 0) k e w c d q well refl
+      (shared, facts, subst (IsIn shared.tables v c.active.slots) there is, holds) (m, r, refl, jump, at_b, truths, ops) lands
   chains (ThenPointer u typed.NullPointer os) v o k e w c well (shared, facts, is, holds) (to_slot (d, q, (there, test, here, ops), lands)) =
       let g = c.active.function in
       silently source pages calls (Running (Given v) (Needs (Chain (ThenPointer u typed.NullPointer os)) ∷ k) e w) (Running (Evaluating typed.NullPointer) (Needs (ApplyPointer None u v) ∷ Needs (Chain os) ∷ k) e w) (plain.Running c)
       (awaited (takes_kind u v.kind) (ApplyPointer None u v) typed.NullPointer os k e w well) (
         shared,
         facts,
-        as_operand (operands.Word 0) c.active.next (refl, refl) (subst (IsIn v c.active.slots) there is, holds)
+        as_operand (operands.Word 0) c.active.next (refl, refl) (subst (IsIn shared.tables v c.active.slots) there is, holds)
             (next_slot os d (top source g k), test, here, chain_lands os g e.locals d (c.active.next + 1) q c.frames k ops lands),
       )
       (omega arith)
@@ -697,7 +791,7 @@ module _ (source : Program) (pages calls : ℕ) where
       at_once (landed_there v d k e w c q (subst (λ x. Stands v (operands.Slot x) k e w c) (eqb-true n d same) stands) end lands)
   copied true v (operands.Word n) d k e w c q same stands end lands = absurd (let f : false ≡ true = same in cc)
   copied false v o d k e w c q same (shared, facts, is, holds) (here, end) lands =
-      by_copy (move_of (words_of_kind v.kind) d o) here (λ choice. landed_moved source pages calls v o d k e w c q choice is shared facts holds end lands)
+      by_copy (move_of (words_of_kind v.kind) d o) here (λ choice. landed_moved source pages calls v o d k e w c q choice shared is facts holds end lands)
 
   handed : (v : Kinded) (o : Operand) (k : List Entry) (e : Environment) (w : World) (c : Configuration) (q : ℕ) → c.active.next ≡ q → Stands v o k e w c
       → HandsOnStack source c.active.function e.locals v.kind o q c.frames k → Handed v k e w c
@@ -710,7 +804,7 @@ module _ (source : Program) (pages calls : ℕ) where
 
   -- a step that ends so, behind one instruction or behind none
   hands_behind : {focus : Focus} {before : List Entry} {w0 : World} {i : Instruction} (v : Kinded) (k : List Entry) (e : Environment) (w : World) (c d : Configuration)
-      → step source (Running focus before e w0) ≡ Running (Given v) k e w → SharedAt source pages calls w0 c → SharedAt source pages calls w0 d
+      → step source (Running focus before e w0) ≡ Running (Given v) k e w → SharedAt source pages calls before e w0 c → SharedAt source pages calls before e w0 d
       → At (code_of source c.active.function) c.active.next i → ((choice : Choice) → performed (lower_program source) choice c i ≡ plain.Running d) → c.active.next ≢ d.active.next
       → Handed v k e w d → IsMatched source pages calls (Running focus before e w0) (plain.Running c)
   hands_behind {focus} {before} {w0} {i} v k e w c d does shared shared_d here first other (at_once related) =
@@ -719,7 +813,7 @@ module _ (source : Program) (pages calls : ℕ) where
       by_two source pages calls d does shared shared_d here first at other goes
 
   hands_at_once : (v : Kinded) (before : List Entry) (k : List Entry) (e : Environment) (w0 w : World) (c : Configuration)
-      → step source (Running (Given v) before e w0) ≡ Running (Given v) k e w → SharedAt source pages calls w0 c
+      → step source (Running (Given v) before e w0) ≡ Running (Given v) k e w → SharedAt source pages calls before e w0 c
       → weight (Running (Given v) k e w) < weight (Running (Given v) before e w0) → Handed v k e w c → GoesBehind v before e w0 c
   hands_at_once v before k e w0 w c does shared lighter (at_once related) = silently source pages calls (Running (Given v) before e w0) (Running (Given v) k e w) (plain.Running c) does related lighter
   hands_at_once v before k e w0 w c does shared lighter (by_copy i at goes) = by_one source pages calls does shared at goes
@@ -736,19 +830,19 @@ module _ (source : Program) (pages calls : ℕ) where
       let inside = slot-room (types_at source g) n (facts.2.within n object found).0 in
       let slots = moved_slots c.active.slots words slot o in
       let elsewhere : (m : ℕ) → Outside slot words m → slots m ≡ c.active.slots m = λ m out. moved_elsewhere c.active.slots words slot o m (kind_positive v.kind) out in
-      let moved = moved_is v c.active.slots slot o is in
+      let moved = moved_is shared.tables v c.active.slots slot o is in
       let after : Configuration = advanced (with_slots c slots) in
       let next = written w object 0 stored.at v.value in
       hands_behind v k e next c after stored.gives shared shared here (λ choice. moves (lower_program source) choice c words slot o) (λ same. omega (arith, same))
       (handed v to k e next after q end (
-        shared,
-        data_assigned source g w.objects next.objects e.locals (callers k) c.active.slots slots c.globals c.frames n object v found
+        shared_written source pages calls k e w after shared object stored.at v.value stored.object_there stored.cell_there (facts.2.rows n object found),
+        data_assigned shared.tables source g w.objects next.objects e.locals (callers k) c.active.slots slots c.globals c.frames n object v found
             (written_here w object stored.at v.value stored.object_there stored.cell_there v.kind stored.same) (written_elsewhere w object stored.at v.value stored.object_there stored.cell_there)
             (written_length w object stored.at v.value stored.object_there stored.cell_there) room moved elsewhere facts,
-        subst (IsIn v slots) (sym there) moved,
-        Holds-above c.active.slots slots (base_of source g) (held k) (λ m above. elsewhere m (inr (omega (arith, inside, room, above)))) holds,
+        subst (IsIn shared.tables v slots) (sym there) moved,
+        Holds-above shared.tables c.active.slots slots (base_of source g) (held k) (λ m above. elsewhere m (inr (omega (arith, inside, room, above)))) holds,
       ) hands)
-  stores object v (Global n) o to k e w c q found well (shared, facts, is, holds) (here, end, there, few) hands =
+  stores object v (Global n) o to k e w c q found well (shared, facts, is, holds) (here, end, there, few, single) hands =
       let g = c.active.function in
       let x = operand_word c.active.slots o in
       let stored = is_stored object v (Given v) k e w well in
@@ -757,13 +851,13 @@ module _ (source : Program) (pages calls : ℕ) where
       let next = written w object 0 stored.at v.value in
       hands_behind v k e next c after stored.gives shared shared here (λ choice. refl) (λ equal. omega (arith, equal))
       (handed v to k e next after q end (
-        shared,
-        data_assigned_global source g w.objects next.objects e.locals (callers k) c.active.slots c.globals c.frames n v x
+        shared_written source pages calls k e w after shared object stored.at v.value stored.object_there stored.cell_there (ap (slice_get shared.tables.rows) (sym same) ∙ (facts.4 n (global_there source pages calls g n few)).0),
+        data_assigned_global shared.tables source g w.objects next.objects e.locals (callers k) c.active.slots c.globals c.frames n v x
             (global_there source pages calls g n few)
             (ap (contents next.objects) same ∙ written_here w object stored.at v.value stored.object_there stored.cell_there v.kind stored.same)
             (λ i other. written_elsewhere w object stored.at v.value stored.object_there stored.cell_there i (λ equal. other (equal ∙ sym same)))
-            (written_length w object stored.at v.value stored.object_there stored.cell_there) (first_word v c.active.slots o is) facts,
-        subst (IsIn v c.active.slots) (sym there) is,
+            (written_length w object stored.at v.value stored.object_there stored.cell_there) (first_word shared.tables v c.active.slots o single is) facts,
+        subst (IsIn shared.tables v c.active.slots) (sym there) is,
         holds,
       ) hands)
 
@@ -775,20 +869,20 @@ module _ (source : Program) (pages calls : ℕ) where
       (stores object v l o to k e w c q (sym (object_of_same l e) ∙ found) (subst (λ p. IsWell (stored_at p v (Given v) k e w)) place_is well) stands here hands)
 
   -- the local has the value already
-  catches_up : (object n : ℕ) (old : Words) (v : Kinded) (k : List Entry) (e : Environment) (w : World) (c : Configuration)
-      → e.locals n ≡ Some object → IsWell (stored_at (Thin object 0) v (Given v) k e w) → SharedAt source pages calls w c
-      → ((m : ℕ) → Outside (slot_of (starts_at source c.active.function) n) (words_of_kind v.kind) m → old m ≡ c.active.slots m) → DataIn source old k e w c
+  catches_up : (object n : ℕ) (old : Words) (v : Kinded) (k : List Entry) (e : Environment) (w : World) (c : Configuration) (shared : SharedAt source pages calls k e w c)
+      → e.locals n ≡ Some object → IsWell (stored_at (Thin object 0) v (Given v) k e w)
+      → ((m : ℕ) → Outside (slot_of (starts_at source c.active.function) n) (words_of_kind v.kind) m → old m ≡ c.active.slots m) → DataIn source shared.tables old k e w c
       → HasRoom (types_at source c.active.function) n v.kind
-      → Is v.kind v.value c.active.slots (slot_of (starts_at source c.active.function) n) → Holds c.active.slots (base_of source c.active.function) (held k)
+      → Is shared.tables v.kind v.value c.active.slots (slot_of (starts_at source c.active.function) n) → Holds shared.tables c.active.slots (base_of source c.active.function) (held k)
       → HandsOnStack source c.active.function e.locals v.kind (operands.Slot (slot_of (starts_at source c.active.function) n)) c.active.next c.frames k → GoesBehind v (Needs (Store (Thin object 0)) ∷ k) e w c
-  catches_up object n old v k e w c found well shared same facts room is holds hands =
+  catches_up object n old v k e w c shared found well same facts room is holds hands =
       let g = c.active.function in
       let stored = is_stored object v (Given v) k e w well in
       let next = written w object 0 stored.at v.value in
       hands_at_once v (Needs (Store (Thin object 0)) ∷ k) k e w next c stored.gives shared (omega arith)
       (handed v (operands.Slot (slot_of (starts_at source g) n)) k e next c c.active.next refl (
-        shared,
-        data_assigned source g w.objects next.objects e.locals (callers k) old c.active.slots c.globals c.frames n object v found
+        shared_written source pages calls k e w c shared object stored.at v.value stored.object_there stored.cell_there (facts.2.rows n object found),
+        data_assigned shared.tables source g w.objects next.objects e.locals (callers k) old c.active.slots c.globals c.frames n object v found
             (written_here w object stored.at v.value stored.object_there stored.cell_there v.kind stored.same) (written_elsewhere w object stored.at v.value stored.object_there stored.cell_there)
             (written_length w object stored.at v.value stored.object_there stored.cell_there) room is (λ m out. sym (same m out)) facts,
         is,
@@ -808,12 +902,12 @@ module _ (source : Program) (pages calls : ℕ) where
   hands_on callees.Getchar before cs v o k e w c (shared, facts, is, holds) (d, m, q, all, there, here, call, long, lands) =
       silently source pages calls (Running (Given v) (Needs (Pass callees.Getchar before cs) ∷ k) e w) (passes callees.Getchar (v ∷ before) cs k e w) (plain.Running c) refl
       (passes_related source pages calls callees.Getchar (v ∷ before) cs k e w c d m q all shared facts here call (omega (arith, long))
-      (subst (IsIn v c.active.slots) there is, holds) lands)
+      (subst (IsIn shared.tables v c.active.slots) there is, holds) lands)
       (omega (arith, passes_weight source pages calls callees.Getchar (v ∷ before) cs k e w))
   hands_on (callees.Function n) before cs v o k e w c (shared, facts, is, holds) (d, m, q, all, there, here, call, long, lands) =
       silently source pages calls (Running (Given v) (Needs (Pass (callees.Function n) before cs) ∷ k) e w) (passes (callees.Function n) (v ∷ before) cs k e w) (plain.Running c) refl
       (passes_related source pages calls (callees.Function n) (v ∷ before) cs k e w c d m q all shared facts here call (omega (arith, long))
-      (subst (IsIn v c.active.slots) there is, holds) lands)
+      (subst (IsIn shared.tables v c.active.slots) there is, holds) lands)
       (omega (arith, passes_weight source pages calls (callees.Function n) (v ∷ before) cs k e w))
 
   -- ---- what is done with the value of a whole expression
@@ -827,15 +921,24 @@ module _ (source : Program) (pages calls : ℕ) where
       ap (λ (b : Bool). if b then made_it else wrong w) (is_fitting (is_kind v.kind kind) made_it w well) in
       does ∙ is_declared (region_at w e.home) Proceeding n kind (Some v.value) (Rest js ∷ k) e w (subst IsWell does well)
 
+  -- in a region that is there
+  makes_home : (n : ℕ) (kind : Kind) (js : Items) (v : Kinded) (k : List Entry) (e : Environment) (w : World) → IsWell (step source (Running (Given v) (Needs (Initialise n kind js) ∷ k) e w))
+      → (r : Region) × (slice_get w.regions e.home ≡ Some r)
+  makes_home n kind js v k e w well =
+      let made_it = declared (region_at w e.home) Proceeding n kind (Some v.value) (Rest js ∷ k) e w in
+      let does : step source (Running (Given v) (Needs (Initialise n kind js) ∷ k) e w) ≡ made_it =
+      ap (λ (b : Bool). if b then made_it else wrong w) (is_fitting (is_kind v.kind kind) made_it w well) in
+      home_there Proceeding n kind (Some v.value) (Rest js ∷ k) e w (subst IsWell does well)
+
   -- and holds just that
-  made_value : (n : ℕ) (kind : Kind) (js : Items) (v : Kinded) (k : List Entry) (e : Environment) (w : World) (slots : Words) (slot : ℕ) (types : List Ty)
-      → IsWell (step source (Running (Given v) (Needs (Initialise n kind js) ∷ k) e w)) → HasRoom types n v.kind → Is v.kind v.value slots slot
-      → (u : Kinded) → with_kind kind (Some v.value) ≡ Some u → Is u.kind u.value slots slot × HasRoom types n u.kind
-  made_value n kind js v k e w slots slot types well room is u has =
+  made_value : (t : Tables) (n : ℕ) (kind : Kind) (js : Items) (v : Kinded) (k : List Entry) (e : Environment) (w : World) (slots : Words) (slot : ℕ) (types : List Ty)
+      → IsWell (step source (Running (Given v) (Needs (Initialise n kind js) ∷ k) e w)) → HasRoom types n v.kind → Is t v.kind v.value slots slot
+      → (u : Kinded) → with_kind kind (Some v.value) ≡ Some u → Is t u.kind u.value slots slot × HasRoom types n u.kind
+  made_value t n kind js v k e w slots slot types well room is u has =
       let made_it = declared (region_at w e.home) Proceeding n kind (Some v.value) (Rest js ∷ k) e w in
       let fits = is_fitting (is_kind v.kind kind) made_it w well in
       let u_is : v ≡ u = ap (λ i. of_kind i v.value) (same_kind v.kind kind fits) ∙ same_Some (of_kind kind v.value) u has in
-      subst (λ (x : Kinded). Is x.kind x.value slots slot × HasRoom types n x.kind) u_is (is, room)
+      subst (λ (x : Kinded). Is t x.kind x.value slots slot × HasRoom types n x.kind) u_is (is, room)
 
   initialises : (n : ℕ) (kind : Kind) (js : Items) (v : Kinded) (o : Operand) (k : List Entry) (e : Environment) (w : World) (c : Configuration)
       → IsWell (step source (Running (Given v) (Needs (Initialise n kind js) ∷ k) e w)) → Stands v o (Needs (Initialise n kind js) ∷ k) e w c
@@ -844,33 +947,41 @@ module _ (source : Program) (pages calls : ℕ) where
       let g = c.active.function in
       let words = words_of_kind v.kind in
       let slot = slot_of (starts_at source g) n in
+      let (r, home) = makes_home n kind js v k e w well in
+      let grown = with_row shared.tables Variable in
+      let grows = Grows-row shared.tables Variable in
       let slots = moved_slots c.active.slots words slot o in
       by_one source pages calls (makes_local n kind js v k e w well) shared here
       (λ choice. subst (Matches source pages calls (Running Proceeding (Rest js ∷ k) (with_local e n (length w.objects)) (made w (variable e.home kind (Some v.value))))) (sym (moves (lower_program source) choice c words slot o)) (
-        shared,
+        shared_declared source pages calls k e w (advanced (with_slots c slots)) shared n r kind (Some v.value) home,
         behind_statement loop
-            (data_declared source g w.objects e (callers k) c.active.slots slots c.globals c.frames n words (variable e.home kind (Some v.value)) (room-inside (types_at source g) n v.kind room) room
+            (data_declared grown source g w.objects e (callers k) c.active.slots slots c.globals c.frames n words (variable e.home kind (Some v.value)) (room-inside (types_at source g) n v.kind room) room (row_declared source pages calls k e w c shared)
             (λ m out. moved_elsewhere c.active.slots words slot o m (kind_positive v.kind) out)
-            (made_value n kind js v k e w slots slot (types_at source g) well room (moved_is v c.active.slots slot o is)) facts)
+            (made_value grown n kind js v k e w slots slot (types_at source g) well room (Is-grows grows v.kind v.value slots slot (moved_is shared.tables v c.active.slots slot o is)))
+            (data_grows shared.tables grown grows source g w.objects e.locals (callers k) c.active.slots c.globals c.frames facts))
             (q, items, stack),
       ))
 
-  initialises_ahead : (n : ℕ) (old : Words) (kind : Kind) (js : Items) (v : Kinded) (k : List Entry) (e : Environment) (w : World) (c : Configuration) (loop : ℕ)
-      → IsWell (step source (Running (Given v) (Needs (Initialise n kind js) ∷ k) e w)) → SharedAt source pages calls w c
+  initialises_ahead : (n : ℕ) (old : Words) (kind : Kind) (js : Items) (v : Kinded) (k : List Entry) (e : Environment) (w : World) (c : Configuration) (loop : ℕ) (shared : SharedAt source pages calls k e w c)
+      → IsWell (step source (Running (Given v) (Needs (Initialise n kind js) ∷ k) e w))
       → ((m : ℕ) → Outside (slot_of (starts_at source c.active.function) n) (words_of_kind v.kind) m → old m ≡ c.active.slots m)
-      → DataIn source old (Needs (Initialise n kind js) ∷ k) e w c
-      → HasRoom (types_at source c.active.function) n v.kind → Is v.kind v.value c.active.slots (slot_of (starts_at source c.active.function) n)
+      → DataIn source shared.tables old (Needs (Initialise n kind js) ∷ k) e w c
+      → HasRoom (types_at source c.active.function) n v.kind → Is shared.tables v.kind v.value c.active.slots (slot_of (starts_at source c.active.function) n)
       → StatementStack source c.active.function loop c.active.next c.frames (Rest js ∷ k) → GoesBehind v (Needs (Initialise n kind js) ∷ k) e w c
-  initialises_ahead n old kind js v k e w c loop well shared same facts room is stack =
+  initialises_ahead n old kind js v k e w c loop shared well same facts room is stack =
       let g = c.active.function in
+      let (r, home) = makes_home n kind js v k e w well in
+      let grown = with_row shared.tables Variable in
+      let grows = Grows-row shared.tables Variable in
       let slot = slot_of (starts_at source g) n in
       silently source pages calls (Running (Given v) (Needs (Initialise n kind js) ∷ k) e w)
       (Running Proceeding (Rest js ∷ k) (with_local e n (length w.objects)) (made w (variable e.home kind (Some v.value)))) (plain.Running c)
       (makes_local n kind js v k e w well) (
-        shared,
+        shared_declared source pages calls k e w c shared n r kind (Some v.value) home,
         behind_statement loop
-            (data_declared source g w.objects e (callers k) old c.active.slots c.globals c.frames n (words_of_kind v.kind) (variable e.home kind (Some v.value)) (room-inside (types_at source g) n v.kind room) room
-            (λ m out. sym (same m out)) (made_value n kind js v k e w c.active.slots slot (types_at source g) well room is) facts)
+            (data_declared grown source g w.objects e (callers k) old c.active.slots c.globals c.frames n (words_of_kind v.kind) (variable e.home kind (Some v.value)) (room-inside (types_at source g) n v.kind room) room (row_declared source pages calls k e w c shared)
+            (λ m out. sym (same m out)) (made_value grown n kind js v k e w c.active.slots slot (types_at source g) well room (Is-grows grows v.kind v.value c.active.slots slot is))
+            (data_grows shared.tables grown grows source g w.objects e.locals (callers k) old c.globals c.frames facts))
             stack,
       )
       (omega arith)
@@ -878,7 +989,7 @@ module _ (source : Program) (pages calls : ℕ) where
   -- a condition that has failed or not, by the comparison of two operands
   chooses : (s t : Statement) (v : Kinded) (f : Bool) (failing : Comparison) (l r : Operand) (k : List Entry) (e : Environment) (w : World) (c : Configuration)
       → is_zero v.value ≡ Some f → compares failing (operand_word c.active.slots l) (operand_word c.active.slots r) ≡ f
-      → SharedAt source pages calls w c → DataIn source c.active.slots (Needs (Choose s t) ∷ k) e w c
+      → (shared : SharedAt source pages calls k e w c) → DataIn source shared.tables c.active.slots (Needs (Choose s t) ∷ k) e w c
       → ConditionStack source c.active.function failing l r c.active.next c.frames (Needs (Choose s t) ∷ k) → GoesBehind v (Needs (Choose s t) ∷ k) e w c
   chooses s t v true failing l r k e w c fails told shared facts (loop, m, q, jump, at_s, over, at_t, stack) =
       by_one source pages calls (ap (λ (x : Option Bool). chosen x s t k e w) fails) shared jump
@@ -889,7 +1000,7 @@ module _ (source : Program) (pages calls : ℕ) where
 
   loops : (a : Expression) (s : Statement) (v : Kinded) (f : Bool) (failing : Comparison) (l r : Operand) (k : List Entry) (e : Environment) (w : World) (c : Configuration)
       → is_zero v.value ≡ Some f → compares failing (operand_word c.active.slots l) (operand_word c.active.slots r) ≡ f
-      → SharedAt source pages calls w c → DataIn source c.active.slots (Needs (Test a s) ∷ k) e w c
+      → (shared : SharedAt source pages calls k e w c) → DataIn source shared.tables c.active.slots (Needs (Test a s) ∷ k) e w c
       → ConditionStack source c.active.function failing l r c.active.next c.frames (Needs (Test a s) ∷ k) → GoesBehind v (Needs (Test a s) ∷ k) e w c
   loops a s v true failing l r k e w c fails told shared facts (loop, outer, q, (x, y, m, n, leave, at_a, again, at_body, repeats, after), i, jump, at_s, back, stack) =
       by_two source pages calls (at c (break_target loop)) (ap (λ (z : Option Bool). looped z a s k e w) fails) shared shared
@@ -904,28 +1015,39 @@ module _ (source : Program) (pages calls : ℕ) where
 
   -- ---- all that waits for a value
 
-  -- an access through null raises an exception
-  follows_null : (pointer : Kind) (target : Option Kind) (i : Kind) (v : Value) (o : Operand) (k : List Entry) (e : Environment) (w : World) (c : Configuration)
+  -- an access through null raises an exception, and through another thin pointer its place is found
+  follows : (pointer : Kind) (target : Option Kind) (i : Kind) (v : Value) (o : Operand) (k : List Entry) (e : Environment) (w : World) (c : Configuration)
       → IsWell (step source (Running (Given (of_kind i v)) (Needs (Follow pointer target) ∷ k) e w)) → Stands (of_kind i v) o k e w c
       → ValueStack source c.active.function e.locals i o c.active.next c.frames (Needs (Follow pointer target) ∷ k) → GoesBehind (of_kind i v) (Needs (Follow pointer target) ∷ k) e w c
-  follows_null pointer target i Null o k e w c well (shared, facts, is, holds) (q, (jump, uncaught, end), place) =
-      let zero_word = null_is i c.active.slots o is in
+  follows pointer target i Null o k e w c well (shared, facts, is, holds) (q, thin, (jump, uncaught, end), place) =
+      let zero_word = null_is shared.tables i c.active.slots o is in
       let does : step source (Running (Given (of_kind i Null)) (Needs (Follow pointer target) ∷ k) e w) ≡ Running (Throwing 1 0) k e w
       = ap (λ (b : Bool). if b then Running (Throwing 1 0) k e w else wrong w) (is_fitting (is_kind i pointer && leads_to w target (followed Null)) (Running (Throwing 1 0) k e w) w well) in
       by_one source pages calls does shared jump
       (λ choice. not_taken (Running (Throwing 1 0) k e w) c (not (operand_word c.active.slots o == 0)) q (ap (λ x. not (x == 0)) zero_word) (
         shared,
-        omega (arith, place_depth source c.active.function e.locals o q c.frames k place, shared.fits),
-        place_plain source c.active.function e.locals o q c.frames k place,
+        omega (arith, place_depth source c.active.function e.locals o 0 q c.frames k place, shared.fits),
+        place_plain source c.active.function e.locals o 0 q c.frames k place,
         o,
         uncaught,
         zero_word,
       ))
-  follows_null pointer target i (Thin object offset) o k e w c well (shared, facts, is, holds) stack = absurd (no_pointer i object offset c.active.slots o is)
-  follows_null pointer target i (Fat object start many index) o k e w c well (shared, facts, is, holds) stack = absurd (no_part i object start many index c.active.slots o is)
-  follows_null pointer target i (Int a) o k e w c well stands stack = absurd (goes_wrong (is_kind i pointer && leads_to w target (followed (Int a))) w well)
-  follows_null pointer target i (Handle region) o k e w c well stands stack = absurd (goes_wrong (is_kind i pointer && leads_to w target (followed (Handle region))) w well)
-  follows_null pointer target i (Key region) o k e w c well stands stack = absurd (goes_wrong (is_kind i pointer && leads_to w target (followed (Key region))) w well)
+  follows pointer target i (Thin object offset) o k e w c well (shared, facts, is, holds) (q, thin, (jump, uncaught, end), place) =
+      let there = Running (GivenPlace (Thin object offset)) k e w in
+      let does : step source (Running (Given (of_kind i (Thin object offset))) (Needs (Follow pointer target) ∷ k) e w) ≡ there
+      = ap (λ (b : Bool). if b then there else wrong w) (is_fitting (is_kind i pointer && leads_to w target (followed (Thin object offset))) there w well) in
+      by_one source pages calls does shared jump
+      (λ choice. taken there c (not (operand_word c.active.slots o == 0)) q (ap not (not_zero shared.tables i object offset c.active.slots o is))
+      (shared, facts, (o, 0, stays (points_in shared.tables i object offset c.active.slots o is), holds, place)))
+  follows pointer target i (Fat object start many index) o k e w c well (shared, facts, is, holds) (q, thin, check, place) =
+      let reach = followed (Fat object start many index) in
+      let fits = is_fitting (is_kind i pointer && leads_to w target reach) (arrives reach k e w) w well in
+      let kind : i ≡ pointer = same_kind i pointer (first_holds (is_kind i pointer) (leads_to w target reach) fits) in
+      let (words, p, same, is_it) = in_words shared.tables (of_kind i (Fat object start many index)) c.active.slots o is in
+      absurd (not_fat shared.tables i object start many index words p (ap is_thin kind ∙ thin) is_it)
+  follows pointer target i (Int a) o k e w c well stands stack = absurd (goes_wrong (is_kind i pointer && leads_to w target (followed (Int a))) w well)
+  follows pointer target i (Handle region) o k e w c well stands stack = absurd (goes_wrong (is_kind i pointer && leads_to w target (followed (Handle region))) w well)
+  follows pointer target i (Key region) o k e w c well stands stack = absurd (goes_wrong (is_kind i pointer && leads_to w target (followed (Key region))) w well)
 
   -- where the value stands in an operand
   stands_given : (v : Kinded) (o : Operand) (k : List Entry) (e : Environment) (w : World) (c : Configuration) → IsWell (step source (Running (Given v) k e w)) → Stands v o k e w c
@@ -938,19 +1060,19 @@ module _ (source : Program) (pages calls : ℕ) where
       applies u left v k e w c well shared facts (operands.Slot (top source c.active.function k), o, is_left, is, holds, applied)
   stands_given v o (Needs (ApplyPointer peek u left) ∷ k) e w c well (shared, facts, is, (is_left, holds)) (d, test, here, lands) =
       compares_null u peek left.kind v.kind left.value v.value d k e w c well test shared facts is_left holds here lands
-  stands_given v o (Needs Decide ∷ k) e w c well stands stack = decides_truth v o k e w c stands stack
+  stands_given v o (Needs Decide ∷ k) e w c well stands stack = decides_truth v o k e w c well stands stack
   stands_given v o (Needs (Store place) ∷ k) e w c well stands stack = stores_at place v o k e w c well stands stack
   stands_given v o (Needs (Pass f before cs) ∷ k) e w c well stands stack = hands_on f before cs v o k e w c stands stack
   stands_given v o (Needs (Initialise n kind js) ∷ k) e w c well stands stack = initialises n kind js v o k e w c well stands stack
   stands_given v o (Needs (Choose s t) ∷ k) e w c well (shared, facts, is, holds) stack =
-      chooses s t v (operand_word c.active.slots o == 0) comparisons.Equal o (operands.Word 0) k e w c (zero_is v c.active.slots o is) refl shared facts stack
+      chooses s t v (operand_word c.active.slots o == 0) comparisons.Equal o (operands.Word 0) k e w c (zero_is shared.tables v c.active.slots o (λ none. well (ap (λ x. status_in (status_of (chosen x s t k e w))) none)) is) refl shared facts stack
   stands_given v o (Needs (Test a s) ∷ k) e w c well (shared, facts, is, holds) stack =
-      loops a s v (operand_word c.active.slots o == 0) comparisons.Equal o (operands.Word 0) k e w c (zero_is v c.active.slots o is) refl shared facts stack
+      loops a s v (operand_word c.active.slots o == 0) comparisons.Equal o (operands.Word 0) k e w c (zero_is shared.tables v c.active.slots o (λ none. well (ap (λ x. status_in (status_of (looped x a s k e w))) none)) is) refl shared facts stack
   stands_given v o (Needs Return ∷ k) e w c well (shared, facts, is, holds) (loop, q, s, there, here, single, stack) =
       silently source pages calls (Running (Given v) (Needs Return ∷ k) e w) (Running (Returning (Some v)) k e w) (plain.Running c) refl
-      (shared, facts, (loop, q, s, here, subst (IsIn v c.active.slots) there is, single, stack))
+      (shared, facts, (loop, q, s, here, subst (IsIn shared.tables v c.active.slots) there is, single, stack))
       (omega arith)
-  stands_given v o (Needs (Follow pointer target) ∷ k) e w c well stands stack = follows_null pointer target v.kind v.value o k e w c well stands stack
+  stands_given v o (Needs (Follow pointer target) ∷ k) e w c well stands stack = follows pointer target v.kind v.value o k e w c well stands stack
   stands_given v o (Discard ∷ k) e w c well (shared, facts, is, holds) (loop, stack) =
       silently source pages calls (Running (Given v) (Discard ∷ k) e w) (Running Proceeding k e w) (plain.Running c) refl
       (shared, behind_statement loop facts stack)
@@ -958,7 +1080,7 @@ module _ (source : Program) (pages calls : ℕ) where
   stands_given v o (Needs a ∷ k) e w c well stands stack = absurd stack
   stands_given v o (entry ∷ k) e w c well stands stack = absurd (well refl)
 
-  dropped_given : (v : Kinded) (k : List Entry) (e : Environment) (w : World) (c : Configuration) → SharedAt source pages calls w c → DataIn source c.active.slots k e w c
+  dropped_given : (v : Kinded) (k : List Entry) (e : Environment) (w : World) (c : Configuration) → (shared : SharedAt source pages calls k e w c) → DataIn source shared.tables c.active.slots k e w c
       → DroppedStack source c.active.function c.active.next c.frames k → GoesBehind v k e w c
   dropped_given v (Discard ∷ k) e w c shared facts (loop, stack) =
       silently source pages calls (Running (Given v) (Discard ∷ k) e w) (Running Proceeding k e w) (plain.Running c) refl
@@ -966,12 +1088,12 @@ module _ (source : Program) (pages calls : ℕ) where
       (omega arith)
   dropped_given v k e w c shared facts stack = absurd stack
 
-  ahead_given : (v : Kinded) (n : ℕ) (old : Words) (k : List Entry) (e : Environment) (w : World) (c : Configuration) → IsWell (step source (Running (Given v) k e w)) → SharedAt source pages calls w c
-      → ((m : ℕ) → Outside n (words_of_kind v.kind) m → old m ≡ c.active.slots m) → DataIn source old k e w c
-      → Is v.kind v.value c.active.slots n → Holds c.active.slots (base_of source c.active.function) (held k)
+  ahead_given : (v : Kinded) (n : ℕ) (old : Words) (k : List Entry) (e : Environment) (w : World) (c : Configuration) → IsWell (step source (Running (Given v) k e w)) → (shared : SharedAt source pages calls k e w c)
+      → ((m : ℕ) → Outside n (words_of_kind v.kind) m → old m ≡ c.active.slots m) → DataIn source shared.tables old k e w c
+      → Is shared.tables v.kind v.value c.active.slots n → Holds shared.tables c.active.slots (base_of source c.active.function) (held k)
       → AheadStack source c.active.function e.locals v.kind n c.active.next c.frames k → GoesBehind v k e w c
   ahead_given v n old (Needs (ConvertTo from to target) ∷ k) e w c well shared same facts is holds (quiet, stack) =
-      let (does, now, wide) = converts_ahead from to target v n k e w c well quiet is in
+      let (does, now, wide) = converts_ahead shared.tables from to target v n k e w c well quiet is in
       silently source pages calls (Running (Given v) (Needs (ConvertTo from to target) ∷ k) e w) (Running (Given (of_kind to v.value)) k e w) (plain.Running c) does
       (shared, ahead n (old, subst (λ many. (m : ℕ) → Outside n many m → old m ≡ c.active.slots m) wide same, facts) now holds stack)
       (omega arith)
@@ -981,17 +1103,17 @@ module _ (source : Program) (pages calls : ℕ) where
       (omega arith)
   ahead_given v n old (Needs (Store place) ∷ k) e w c well shared same facts is holds (number, object, place_is, found, there, room, hands) =
       subst (λ p. GoesBehind v (Needs (Store p) ∷ k) e w c) (sym place_is)
-      (catches_up object number old v k e w c found (subst (λ p. IsWell (stored_at p v (Given v) k e w)) place_is well) shared
+      (catches_up object number old v k e w c shared found (subst (λ p. IsWell (stored_at p v (Given v) k e w)) place_is well)
       (subst (λ x. (m : ℕ) → Outside x (words_of_kind v.kind) m → old m ≡ c.active.slots m) (sym there) same) facts room
-      (subst (Is v.kind v.value c.active.slots) (sym there) is) holds
+      (subst (Is shared.tables v.kind v.value c.active.slots) (sym there) is) holds
       (subst (λ x. HandsOnStack source c.active.function e.locals v.kind (operands.Slot x) c.active.next c.frames k) (sym there) hands))
   ahead_given v n old (Needs (Initialise number kind js) ∷ k) e w c well shared same facts is holds (loop, q, there, room, items, stack) =
-      initialises_ahead number old kind js v k e w c loop well shared
+      initialises_ahead number old kind js v k e w c loop shared well
       (subst (λ x. (m : ℕ) → Outside x (words_of_kind v.kind) m → old m ≡ c.active.slots m) (sym there) same) facts
-      room (subst (Is v.kind v.value c.active.slots) (sym there) is) (q, items, stack)
+      room (subst (Is shared.tables v.kind v.value c.active.slots) (sym there) is) (q, items, stack)
   ahead_given v n old k e w c well shared same facts is holds stack = absurd stack
 
-  compared_given : (v : Kinded) (failing : Comparison) (l r : Operand) (k : List Entry) (e : Environment) (w : World) (c : Configuration) → SharedAt source pages calls w c → DataIn source c.active.slots k e w c
+  compared_given : (v : Kinded) (failing : Comparison) (l r : Operand) (k : List Entry) (e : Environment) (w : World) (c : Configuration) → (shared : SharedAt source pages calls k e w c) → DataIn source shared.tables c.active.slots k e w c
       → is_zero v.value ≡ Some (compares failing (operand_word c.active.slots l) (operand_word c.active.slots r))
       → ConditionStack source c.active.function failing l r c.active.next c.frames k → GoesBehind v k e w c
   compared_given v failing l r (Needs (Chain NoOperations) ∷ k) e w c shared facts fails stack =
@@ -1002,8 +1124,8 @@ module _ (source : Program) (pages calls : ℕ) where
   compared_given v failing l r (Needs (Test a s) ∷ k) e w c shared facts fails stack = loops a s v _ failing l r k e w c fails refl shared facts stack
   compared_given v failing l r k e w c shared facts fails stack = absurd stack
 
-  left_given : (v : Kinded) (k : List Entry) (e : Environment) (w : World) (c : Configuration) → IsWell (step source (Running (Given v) k e w)) → SharedAt source pages calls w c → DataIn source c.active.slots k e w c
-      → ReadyAt source v e.locals c.active.function c.active.next c.active.slots c.frames k → GoesBehind v k e w c
+  left_given : (v : Kinded) (k : List Entry) (e : Environment) (w : World) (c : Configuration) → IsWell (step source (Running (Given v) k e w)) → (shared : SharedAt source pages calls k e w c) → DataIn source shared.tables c.active.slots k e w c
+      → ReadyAt source shared.tables v e.locals c.active.function c.active.next c.active.slots c.frames k → GoesBehind v k e w c
   left_given v (Needs (Apply u left) ∷ k) e w c well shared facts ready = applies u left v k e w c well shared facts ready
   left_given v k e w c well shared facts ready = absurd ready
 

@@ -1,0 +1,91 @@
+-- What is shared stays while variables are declared and assigned, and while regions of variables open and close: the tables get a row or an
+-- entry more, and the store is as it was.
+use Rattle.std.proofs.Common.{◌≡◌, ℕ, zero, suc, List, [], ◌∷◌, ◌++◌, length, Option, None, Some, slice_get, refl, sym, ap, ◌∙◌}
+use Rattle.cyc_types.specs.declared.typed.Kind.{Kind}
+use Rattle.cyc_types.specs.TypedTrees.{Program}
+use Rattle.cyc_plain.specs.State.{Configuration}
+use Rattle.cyc_meaning.specs.Values.{Value}
+use Rattle.cyc_meaning.specs.State.{Stack, Region, World, globals_number, Environment, Located, variable, made, written, opened, closed, with_local, Entry, CloseRegion, Caller}
+use Rattle.cyc_meaning.specs.Step.{inside, region_end}
+use Rattle.cyc_objects.specs.Tables.{Variable, Tables, with_row, with_handle}
+use Rattle.cyc_objects.proofs.Values.{Grows-row, Grows-handle}
+use Rattle.cyc_objects.proofs.Variables.{declared, assigned, opened-variables, closed-variables, handle-made}
+use Rattle.cyc_lower.proofs.Relation.{silent, homes, SharedAt}
+use Rattle.cyc_lower.proofs.Data.{append_seam, variables_grow}
+
+module _ (source : Program) (pages calls : ℕ) (k : List Entry) (e : Environment) (w : World) (c : Configuration) (s : SharedAt source pages calls k e w c) where
+  -- a variable is declared
+  abbrev pub shared_declared : (n : ℕ) (r : Region) (kind : Kind) (content : Option Value) → slice_get w.regions e.home ≡ Some r
+      → SharedAt source pages calls k (with_local e n (length w.objects)) (made w (variable e.home kind content)) c
+  shared_declared n r kind content there = record {
+    tables = with_row s.tables Variable;
+    same_output = s.same_output;
+    same_input = s.same_input;
+    related = declared s.related e.home r kind content there s.variables.0;
+    globals = s.globals;
+    variables = variables_grow s.tables (with_row s.tables Variable) (Grows-row s.tables Variable) (e.home ∷ homes k) s.variables;
+    few_pages = s.few_pages;
+    fits = s.fits;
+  }
+
+  -- its row is the last one
+  pub row_declared : slice_get (with_row s.tables Variable).rows (length w.objects) ≡ Some Variable
+  row_declared = ap (slice_get (with_row s.tables Variable).rows) (sym s.related.rows) ∙ append_seam s.tables.rows Variable
+
+  -- a variable is assigned
+  abbrev pub shared_written : (object : ℕ) (at : Located) (v : Value) → slice_get w.objects object ≡ Some at.object → slice_get at.object.cells 0 ≡ Some at.cell
+      → slice_get s.tables.rows object ≡ Some Variable → SharedAt source pages calls k e (written w object 0 at v) c
+  shared_written object at v there cell row = record {
+    tables = s.tables;
+    same_output = s.same_output;
+    same_input = s.same_input;
+    related = assigned s.related object 0 at.object at.cell v there cell row;
+    globals = s.globals;
+    variables = s.variables;
+    few_pages = s.few_pages;
+    fits = s.fits;
+  }
+
+  -- the region of a block opens, and closes at the end of what is then waiting
+  abbrev pub shared_opened : SharedAt source pages calls (region_end e w ∷ k) (inside e w) (opened w) c
+  shared_opened = record {
+    tables = with_handle s.tables None;
+    same_output = s.same_output;
+    same_input = s.same_input;
+    related = opened-variables s.related Stack refl;
+    globals = (Grows-handle s.tables None).handles globals_number None s.globals;
+    variables =
+        let grown = variables_grow s.tables (with_handle s.tables None) (Grows-handle s.tables None) (e.home ∷ homes k) s.variables in
+        let new = handle-made s.related None in
+        (new, (new, grown));
+    few_pages = s.few_pages;
+    fits = s.fits;
+  }
+
+-- the region of a block closes, and its variables go on in that around it
+abbrev pub shared_closed : (source : Program) (pages calls : ℕ) (k : List Entry) (e : Environment) (w : World) (c : Configuration) (number home : ℕ) (r : Region)
+    → slice_get w.regions number ≡ Some r → SharedAt source pages calls (CloseRegion number home ∷ k) e w c → SharedAt source pages calls k (record e { home = home }) (closed w number r) c
+shared_closed source pages calls k e w c number home r there s = record {
+  tables = s.tables;
+  same_output = s.same_output;
+  same_input = s.same_input;
+  related = closed-variables s.related number r there s.variables.1.0;
+  globals = s.globals;
+  variables = s.variables.1.1;
+  few_pages = s.few_pages;
+  fits = s.fits;
+}
+
+-- a call is left by an exception
+abbrev pub shared_left : (source : Program) (pages calls : ℕ) (k : List Entry) (e outer : Environment) (w : World) (c : Configuration) → SharedAt source pages calls (Caller outer ∷ k) e w c
+    → SharedAt source pages calls k outer w c
+shared_left source pages calls k e outer w c s = record {
+  tables = s.tables;
+  same_output = s.same_output;
+  same_input = s.same_input;
+  related = s.related;
+  globals = s.globals;
+  variables = s.variables.1;
+  few_pages = s.few_pages;
+  fits = s.fits;
+}
