@@ -15,6 +15,7 @@ pub mod Bridge
 pub mod Data
 pub mod Sharing
 pub mod Values
+pub mod PointerSteps
 pub mod Evaluations
 pub mod Accesses
 pub mod Branching
