@@ -186,9 +186,22 @@ fat_words marks.Fat is = omega arith
 fat_words marks.Nullable is = absurd (let f : true ≡ false = is in cc)
 fat_words marks.NonNull is = absurd (let f : true ≡ false = is in cc)
 
--- no int is an operand of these operators
-no_int_left : (o : PointerOperator) (c : Context) (right result : ValueType) → PointerOperation c o (Value type_forms.Int) right result → ⊥
-no_int_left o c right result operation = absurd operation
+-- no int is a left operand of these operators
+abbrev IsNoInt : ValueType → Type 0
+IsNoInt (Value type_forms.Int) = ⊥
+IsNoInt v = Unit {0}
+
+no_int_left : (c : Context) (o : PointerOperator) (left right result : ValueType) → PointerOperation c o left right result → IsNoInt left
+no_int_left c o left right result (adds t r other) = tt
+no_int_left c o left right result (subtracts t r other) = tt
+no_int_left c o left right result (equals k l t r s is also live other) = tt
+no_int_left c o left right result (differs k l t r s is also live other) = tt
+no_int_left c o left right result (thin_null k t r is) = tt
+no_int_left c o left right result (thin_there k t r is) = tt
+no_int_left c o left right result (fat_null k t r is) = tt
+no_int_left c o left right result (fat_there k t r is) = tt
+no_int_left c o left right result (null_is k t r) = tt
+no_int_left c o left right result (null_is_not k t r) = tt
 
 -- ---- what a well typed tree has
 
@@ -359,8 +372,8 @@ module _ (b : Numbering) (types : List Ty) where
     fit_next NoOperations c u suits all is = tt
     fit_next (ThenCompute o x os) c u suits (one, all) (is, right, rest) = ((fits x c (Value type_forms.Int) suits one right).1, fit_next os c u suits all rest)
     fit_next (ThenTest o x os) c u suits (one, all) (is, (y, right, tested), rest) = ((looked_fits x c y suits one (λ h. fits x c y suits one h) right).1, fit_next os c u suits all rest)
-    fit_next (ThenPointer o x os) c u suits (test, one, all) (v, w, right, operation, rest) = absurd (no_int_left o c v w operation)
-    fit_next (ThenPointerPeek n o x os) c u suits (test, one, all) (v, w, right, operation, rest) = absurd (no_int_left o c v w operation)
+    fit_next (ThenPointer o x os) c u suits (test, one, all) (v, w, right, operation, rest) = absurd (no_int_left c o (Value type_forms.Int) v w operation)
+    fit_next (ThenPointerPeek n o x os) c u suits (test, one, all) (v, w, right, operation, rest) = absurd (no_int_left c o (Value type_forms.Int) v w operation)
 
   fits_condition : (a : Expression) (c : Context) → Suits c → IsLowerable b a → IsCondition c a → Fits b types a
   fits_condition a c suits numbered (v, well, tested) = (looked_fits a c v suits numbered (λ h. fits a c v suits numbered h) well).1

@@ -19,7 +19,7 @@ use Rattle.cyc_meaning.specs.Values.{Value, Int, Null, Thin, Fat, Handle, Key, O
 use Rattle.cyc_meaning.specs.Operators.{Result, Gives}
 use Rattle.cyc_meaning.specs.Pointers.{null_test, takes_kind}
 use Rattle.cyc_meaning.specs.Objects.{found_object, object_at, both_found, compared}
-use Rattle.cyc_meaning.specs.State.{Object, World, Access, Found, Closed, Missing, InRegion, Unique, is_live, Environment, Chain, ApplyPointer, Entry, Needs, Given, State, Running}
+use Rattle.cyc_meaning.specs.State.{Object, World, Access, Found, Closed, Missing, Owner, InRegion, Unique, is_live, Environment, Chain, ApplyPointer, Entry, Needs, Given, State, Running}
 use Rattle.cyc_meaning.specs.Step.{computed, tells, applies_pointer, step}
 use Rattle.cyc_objects.specs.Tables.{Tables}
 use Rattle.cyc_objects.specs.Words.{Is}
@@ -117,7 +117,7 @@ zero_word word (null_word none) = none
 -- ---- two thin pointers
 
 -- Objects are found without looking at what was printed and read.
-same_live : (w : World) (owner : _) → is_live (silent w) owner ≡ is_live w owner
+same_live : (w : World) (owner : Owner) → is_live (silent w) owner ≡ is_live w owner
 same_live w (InRegion number) = refl
 same_live w (Unique live) = refl
 
