@@ -204,8 +204,7 @@ module _ (code : List Instruction) (b : Numbering) (types : Types) where
         let both = front ++ check in
         let r = p + length both in
         let has_both = has_front code p both _ has in
-        let (here, none) = has_back code p both _ has in
-        (
+        let (here, none) = has_back code p both _ has in (
           o,
           0,
           r,
