@@ -10,7 +10,7 @@ use Rattle.cyc_types.specs.declared.typed.UnaryOperator.TheVariants as unary
 use Rattle.cyc_types.specs.declared.typed.Operator.{Operator}
 use Rattle.cyc_types.specs.declared.typed.Operator.TheVariants as operators
 use Rattle.cyc_types.specs.Types.{Ty, words_of}
-use Rattle.cyc_types.specs.TypedTrees.{Load, Dereference, Target, Lvalue, Local, Global, Expression, Number, NullPointer, Copy, Move, Peek, Call, Unary, Binary, Assign, Converted, Convert, Arguments, NoArguments, MoreArguments, Operations, NoOperations, ThenCompute, ThenTest, ThenPointer, ThenPointerPeek, type_of, Statement, Block, Empty, Evaluate, If, While, Return, Break, Continue, Items, NoItems, MoreItems, Execute, Declare, Signature, Function, Program}
+use Rattle.cyc_types.specs.TypedTrees.{Load, Dereference, Target, Lvalue, Local, Global, Expression, Number, NullPointer, Copy, Call, Unary, Binary, Assign, Converted, Convert, Arguments, NoArguments, MoreArguments, Operations, NoOperations, ThenCompute, ThenTest, ThenPointer, Statement, Block, Empty, Evaluate, If, While, Return, Break, Continue, Items, NoItems, MoreItems, Execute, Declare, Signature, StructType, Function, Program, Move, Peek, ThenPointerPeek, type_of}
 use Rattle.cyc_types.specs.Numbered.{Numbering, argument_count, numbering_of, signatures_of}
 use Rattle.cyc_plain.specs.declared.instruction.Comparison.{Comparison}
 use Rattle.cyc_plain.specs.declared.instruction.Operand.{Operand}
@@ -21,12 +21,12 @@ use Rattle.cyc_plain.specs.Program.{Routine, no_routine, routine_at}
 use Rattle.cyc_plain.specs.Straight.{At, HasAt}
 use Rattle.cyc_plain.proofs.Straight.{has_front, has_back, has_whole}
 use Rattle.cyc_meaning.specs.Values.{kind_of, words_of_kind}
-use Rattle.cyc_meaning.specs.FrameCount.{operand_words, words_of_all}
-use Rattle.cyc_lower.specs.Slots.{starts_of, slot_of}
-use Rattle.cyc_lower.specs.Lowering.{slot_types, converts_there, passed_words, source_of, source_slot, moved_by, move_of, behind_left, pointer_instruction, pointer_code, operand_of, operand_or, code_unless, slot_or, code_unless_slot, left_with, left_of, value_slot, next_slot, slot_with, left_slot, value_operand, converted_operand, printed_operand, jump_if_nonzero, check_code, conversion_code, divisor_code, checked_code, operator_code, truth_code, load_code, low_byte, test_code, is_in, copy_code, expression_code, arguments_code, converted_code, converted_operand_code, printed_code, dereference_code, initial_code, assignment_code, assigned_operand, operations_code, discarded_code, failing_comparison, compared_or, compared_of, first_operand, first_code, second_code, pair_code, condition_code, condition_of, failing_jump, break_target, continue_target, return_code, declaration_code, statement_code, items_code, function_code, first_temporary, results_of, lower_function, lower_program}
-use Rattle.cyc_lower.proofs.Stands.{OperandBy, CheckAt, ConversionAt, DivisorAt, CheckedAt, OperatorAt, LoadAt, DereferenceAt, CopyBy, ExpressionAt, InitialAt, InitialBy, ConvertedAt, ConvertedOperandAt, PrintedAt, ArgumentsAt, OperationsAt, PairAt, ConditionAt, AssignmentAt, DiscardedAt, ReturnedAt, ReturnAt, DeclarationAt, StatementAt, ItemsAt}
+use Rattle.cyc_meaning.specs.FrameCount.{words_of_all, operand_words}
+use Rattle.cyc_lower.specs.Slots.{Types, starts_of, slot_of}
+use Rattle.cyc_lower.specs.Lowering.{types_of, are_as_wide, converts_there, passed_words, source_of, source_slot, moved_by, move_of, pointer_instruction, operand_of, operand_or, code_unless, slot_or, code_unless_slot, left_with, left_of, value_slot, next_slot, slot_with, left_slot, value_operand, converted_operand, printed_operand, jump_if_nonzero, check_code, conversion_code, divisor_code, checked_code, operator_code, truth_code, load_code, low_byte, test_code, is_in, copy_code, expression_code, arguments_code, converted_code, converted_operand_code, printed_code, dereference_code, initial_code, assignment_code, assigned_operand, operations_code, discarded_code, failing_comparison, compared_or, compared_of, first_operand, first_code, second_code, pair_code, condition_code, condition_of, failing_jump, break_target, continue_target, return_code, declaration_code, statement_code, items_code, function_code, first_temporary, results_of, lower_function, lower_program, behind_left, pointer_code}
+use Rattle.cyc_lower.proofs.Stands.{OperandBy, CheckAt, ConversionBy, ConversionAt, DivisorAt, CheckedAt, OperatorAt, LoadAt, CopyBy, ExpressionAt, InitialAt, InitialBy, ConvertedAt, ConvertedOperandAt, PrintedAt, ArgumentsAt, OperationsAt, PairAt, ConditionAt, AssignmentAt, DiscardedAt, ReturnedAt, ReturnAt, DeclarationAt, StatementAt, ItemsAt}
 use Rattle.cyc_lower.proofs.Widths.{kind_of_result, given, passed_kind, type_words}
-use Rattle.cyc_lower.proofs.Fitting.{FitsPlace, FitsCell, Fits, FitsConverted, FitArguments, FitOperations, FitsReturn, FitsInitial, FitsStatement, FitItems, AreFitting, IsFitting}
+use Rattle.cyc_lower.proofs.Fitting.{FitsPlace, FitsStored, FitsCell, Fits, FitsConverted, FitArguments, FitOperations, FitsReturn, FitsInitial, FitsStatement, FitItems, AreFitting, IsFitting}
 use Rattle.cyc_lower.proofs.Values.{as_wide}
 use Rattle.cyc_lower.proofs.Relation.{bounds_in, types_in}
 use Rattle.cyc_lower.proofs.Calls.{FunctionsStand}
@@ -35,7 +35,7 @@ use Rattle.cyc_lower.proofs.Calls.{FunctionsStand}
 cut : (p q : ℕ) (a b : List Instruction) → p + length (a ++ b) ≡ q → p + length a + length b ≡ q
 cut p q a b end = omega (arith, end, length-append a b)
 
-module _ (code : List Instruction) (b : Numbering) (types : List Ty) where
+module _ (code : List Instruction) (b : Numbering) (types : Types) where
   -- ---- operands
 
   -- an operand without code, or code that stands here
@@ -88,9 +88,12 @@ module _ (code : List Instruction) (b : Numbering) (types : List Ty) where
   check_stands : (tag : ℕ) (o : Operand) (p q : ℕ) → p + 2 ≡ q → HasAt code p (check_code tag o p) → CheckAt code b types tag o p q
   check_stands tag o p q end (jump, (uncaught, none)) = (subst (λ t. At code p (jump_if_nonzero o t)) end jump, uncaught, end)
 
-  conversion_stands : (to : Kind) (o : Operand) (p q : ℕ) → p + length (conversion_code to o p) ≡ q → HasAt code p (conversion_code to o p) → ConversionAt code b types to o p q
-  conversion_stands kinds.NonNull o p q end has = check_stands null_exception o p q end has
-  conversion_stands to o p q end has = omega (arith, end)
+  conversion_by : (to : Kind) (o : Operand) (p q : ℕ) → p + length (conversion_code to o p) ≡ q → HasAt code p (conversion_code to o p) → ConversionBy code b types to o p q
+  conversion_by kinds.NonNull o p q end has = check_stands null_exception o p q end has
+  conversion_by to o p q end has = omega (arith, end)
+
+  conversion_stands : (from to : Kind) (o : Operand) (p q : ℕ) → are_as_wide from to ≡ true → p + length (conversion_code to o p) ≡ q → HasAt code p (conversion_code to o p) → ConversionAt code b types from to o p q
+  conversion_stands from to o p q wide end has = (wide, conversion_by to o p q end has)
 
   divisor_stands : (o : Operand) (p q : ℕ) → p + length (divisor_code o p) ≡ q → HasAt code p (divisor_code o p) → DivisorAt code b types o p q
   divisor_stands (operands.Word (suc n)) p q end has = omega (arith, end)
@@ -120,13 +123,13 @@ module _ (code : List Instruction) (b : Numbering) (types : List Ty) where
   words_kept : (from to : Kind) (a : Expression) → from ≡ given b.functions a → converts_there from to ≡ true → words_of_kind (given b.functions a) ≡ words_of_kind to
   words_kept from to a kind lands = ap words_of_kind (sym kind) ∙ as_wide from to lands
 
-  initial_by : (there : Bool) (from to : Kind) (a : Expression) (d t p q : ℕ) → from ≡ given b.functions a → converts_there from to ≡ there
+  initial_by : (there : Bool) (from to : Kind) (a : Expression) (d t p q : ℕ) → from ≡ given b.functions a → are_as_wide from to ≡ true → converts_there from to ≡ there
       → ((slot r : ℕ) → p + length (expression_code (starts_of types) a p slot t) ≡ r → HasAt code p (expression_code (starts_of types) a p slot t) → ExpressionAt code b types a slot t p r)
       → p + length (if there then expression_code (starts_of types) a p d t else moved_by (source_of (starts_of types) (Convert from to a)) (expression_code (starts_of types) a p (source_slot (starts_of types) (Convert from to a) t) t) to (converted_operand (starts_of types) (Convert from to a) t) p d) ≡ q
       → HasAt code p (if there then expression_code (starts_of types) a p d t else moved_by (source_of (starts_of types) (Convert from to a)) (expression_code (starts_of types) a p (source_slot (starts_of types) (Convert from to a) t) t) to (converted_operand (starts_of types) (Convert from to a) t) p d)
       → InitialBy code b types there from to a d t p q
-  initial_by true from to a d t p q kind lands stands end has = (words_kept from to a kind lands, stands d q end has)
-  initial_by false from to a d t p q kind lands stands end has =
+  initial_by true from to a d t p q kind wide lands stands end has = (words_kept from to a kind lands, stands d q end has)
+  initial_by false from to a d t p q kind wide lands stands end has =
       let known = source_of (starts_of types) (Convert from to a) in
       let slot = source_slot (starts_of types) (Convert from to a) t in
       let o = converted_operand (starts_of types) (Convert from to a) t in
@@ -138,7 +141,7 @@ module _ (code : List Instruction) (b : Numbering) (types : List Ty) where
       let r = p + length both in
       let has_both = has_front code p both _ has in
       let (here, none) = has_back code p both _ has in
-      (o, m, r, operand_by known _ inner slot p m refl (has_front code p front conversion has_both) (λ e h. stands slot m e h), conversion_stands to o m r (cut p r front conversion refl) (has_back code p front conversion has_both), here, cut p q both _ end)
+      (o, m, r, operand_by known _ inner slot p m refl (has_front code p front conversion has_both) (λ e h. stands slot m e h), conversion_stands from to o m r wide (cut p r front conversion refl) (has_back code p front conversion has_both), here, cut p q both _ end)
 
   mutual
     expression_stands : (a : Expression) (d t p q : ℕ) → Fits b types a → p + length (expression_code (starts_of types) a p d t) ≡ q → HasAt code p (expression_code (starts_of types) a p d t) → ExpressionAt code b types a d t p q
@@ -180,7 +183,7 @@ module _ (code : List Instruction) (b : Numbering) (types : List Ty) where
         let back = copy_code (passed_words c) o d in
         let m = p + length front in
         (o, m, (refl, room, initial_stands c (slot_of (starts_of types) n) t p m numbered refl (has_front code p front back has)), copy_by (is_in o d) (passed_words c) o d m q (cut p q front back end) (has_back code p front back has))
-    expression_stands (Assign (Global n) c ty) d t p q (few, numbered) end has =
+    expression_stands (Assign (Global n) c ty) d t p q ((few, single), numbered) end has =
         let o = converted_operand (starts_of types) c t in
         let front = converted_operand_code (starts_of types) c p t in
         let both = front ++ instructions.StoreGlobal n o ∷ [] in
@@ -188,12 +191,12 @@ module _ (code : List Instruction) (b : Numbering) (types : List Ty) where
         let m = p + length both in
         let has_both = has_front code p both back has in
         let (here, none) = has_back code p front _ has_both in
-        (o, m, (p + length front, converted_operand_stands c t p (p + length front) numbered refl (has_front code p front _ has_both), few, here, cut p m front _ refl), copy_by (is_in o d) (passed_words c) o d m q (cut p q both back end) (has_back code p both back has))
+        (o, m, (p + length front, converted_operand_stands c t p (p + length front) numbered refl (has_front code p front _ has_both), few, single, here, cut p m front _ refl), copy_by (is_in o d) (passed_words c) o d m q (cut p q both back end) (has_back code p both back has))
     expression_stands (Load x) d t p q numbered end has = dereference_stands x d t p q numbered end has
     expression_stands a d t p q numbered end has = absurd numbered
 
-    dereference_stands : (x : Dereference) (d t p q : ℕ) → FitsCell b types x → p + length (dereference_code (starts_of types) x p d t) ≡ q → HasAt code p (dereference_code (starts_of types) x p d t) → DereferenceAt code b types x d t p q
-    dereference_stands (Target k a ty) d t p q numbered end has =
+    dereference_stands : (x : Dereference) (d t p q : ℕ) → FitsCell b types x → p + length (dereference_code (starts_of types) x p d t) ≡ q → HasAt code p (dereference_code (starts_of types) x p d t) → ExpressionAt code b types (Load x) d t p q
+    dereference_stands (Target k a ty) d t p q (thin, single, numbered) end has =
         let slot = value_slot (starts_of types) a t in
         let o = value_operand (starts_of types) a t in
         let inner = expression_code (starts_of types) a p slot t in
@@ -203,29 +206,42 @@ module _ (code : List Instruction) (b : Numbering) (types : List Ty) where
         let both = front ++ check in
         let r = p + length both in
         let has_both = has_front code p both _ has in
-        let (here, none) = has_back code p both _ has in
-        (o, m, r, operand_by (operand_of (starts_of types) a) _ inner slot p m refl (has_front code p front check has_both) (λ e h. expression_stands a slot t p m numbered e h), check_stands null_exception o m r (cut p r front check refl) (has_back code p front check has_both), here, cut p q both _ end)
+        let (here, none) = has_back code p both _ has in (
+          o,
+          0,
+          r,
+          (
+            m,
+            operand_by (operand_of (starts_of types) a) _ inner slot p m refl (has_front code p front check has_both) (λ e h. expression_stands a slot t p m numbered e h),
+            thin,
+            check_stands null_exception o m r (cut p r front check refl) (has_back code p front check has_both),
+            refl,
+          ),
+          single,
+          here,
+          cut p q both _ end,
+        )
     dereference_stands x d t p q numbered end has = absurd numbered
 
     initial_stands : (c : Converted) (d t p q : ℕ) → FitsConverted b types c → p + length (initial_code (starts_of types) c p d t) ≡ q → HasAt code p (initial_code (starts_of types) c p d t) → InitialAt code b types c d t p q
-    initial_stands (Convert from to a) d t p q (kind, numbered) end has =
-        initial_by (converts_there from to) from to a d t p q kind refl (λ slot r e h. expression_stands a slot t p r numbered e h) end has
+    initial_stands (Convert from to a) d t p q (kind, wide, numbered) end has =
+        initial_by (converts_there from to) from to a d t p q kind wide refl (λ slot r e h. expression_stands a slot t p r numbered e h) end has
 
     converted_stands : (c : Converted) (t p q : ℕ) → FitsConverted b types c → p + length (converted_code (starts_of types) c p t) ≡ q → HasAt code p (converted_code (starts_of types) c p t) → ConvertedAt code b types c t p q
-    converted_stands (Convert from to a) t p q (kind, numbered) end has =
+    converted_stands (Convert from to a) t p q (kind, wide, numbered) end has =
         let front = expression_code (starts_of types) a p t t in
         let back = conversion_code to (operands.Slot t) (p + length front) in
-        (p + length front, expression_stands a t t p (p + length front) numbered refl (has_front code p front back has), conversion_stands to (operands.Slot t) (p + length front) q (cut p q front back end) (has_back code p front back has))
+        (p + length front, expression_stands a t t p (p + length front) numbered refl (has_front code p front back has), conversion_stands from to (operands.Slot t) (p + length front) q wide (cut p q front back end) (has_back code p front back has))
 
     converted_operand_stands : (c : Converted) (t p q : ℕ) → FitsConverted b types c → p + length (converted_operand_code (starts_of types) c p t) ≡ q → HasAt code p (converted_operand_code (starts_of types) c p t) → ConvertedOperandAt code b types c t (converted_operand (starts_of types) c t) p q
-    converted_operand_stands (Convert from to a) t p q (kind, numbered) end has =
+    converted_operand_stands (Convert from to a) t p q (kind, wide, numbered) end has =
         let slot = source_slot (starts_of types) (Convert from to a) t in
         let known = source_of (starts_of types) (Convert from to a) in
         let inner = expression_code (starts_of types) a p slot t in
         let front = code_unless known inner in
         let m = p + length front in
         let back = conversion_code to (converted_operand (starts_of types) (Convert from to a) t) m in
-        (m, operand_by known _ inner slot p m refl (has_front code p front back has) (λ e h. expression_stands a slot t p m numbered e h), conversion_stands to (converted_operand (starts_of types) (Convert from to a) t) m q (cut p q front back end) (has_back code p front back has))
+        (m, operand_by known _ inner slot p m refl (has_front code p front back has) (λ e h. expression_stands a slot t p m numbered e h), conversion_stands from to (converted_operand (starts_of types) (Convert from to a) t) m q wide (cut p q front back end) (has_back code p front back has))
 
     printed_stands : (cs : Arguments) (o : Operand) (t p q : ℕ) → argument_count cs ≡ 1 → FitArguments b types cs → p + length (printed_code (starts_of types) cs p t) ≡ q → HasAt code p (printed_code (starts_of types) cs p t) → PrintedAt code b types cs t (printed_operand (starts_of types) cs o t) p q
     printed_stands NoArguments o t p q single numbered end has = absurd (omega (arith, single))
@@ -315,12 +331,12 @@ module _ (code : List Instruction) (b : Numbering) (types : List Ty) where
               (operations_stand os (operands.Slot next) d t (p + length both) q (words_of ty) ty rest (next_left os d t) (cut p q both back end) (has_back code p both back has)),
         )
 
-  assignment_stands : (l : Lvalue) (c : Converted) (t p q : ℕ) → FitsPlace b types l (passed_kind c) → FitsConverted b types c → p + length (assignment_code (starts_of types) l c p t) ≡ q → HasAt code p (assignment_code (starts_of types) l c p t) → AssignmentAt code b types l c (assigned_operand (starts_of types) l c t) t p q
+  assignment_stands : (l : Lvalue) (c : Converted) (t p q : ℕ) → FitsStored b types l (passed_kind c) → FitsConverted b types c → p + length (assignment_code (starts_of types) l c p t) ≡ q → HasAt code p (assignment_code (starts_of types) l c p t) → AssignmentAt code b types l c (assigned_operand (starts_of types) l c t) t p q
   assignment_stands (Local w n) c t p q (few, room) numbered end has = (refl, room, initial_stands c (slot_of (starts_of types) n) t p q numbered end has)
-  assignment_stands (Global n) c t p q few numbered end has =
+  assignment_stands (Global n) c t p q (few, single) numbered end has =
       let front = converted_operand_code (starts_of types) c p t in
       let (here, none) = has_back code p front _ has in
-      (p + length front, converted_operand_stands c t p (p + length front) numbered refl (has_front code p front _ has), few, here, cut p q front _ end)
+      (p + length front, converted_operand_stands c t p (p + length front) numbered refl (has_front code p front _ has), few, single, here, cut p q front _ end)
 
   discarded_stands : (a : Expression) (t p q : ℕ) → Fits b types a → p + length (discarded_code (starts_of types) a p t) ≡ q → HasAt code p (discarded_code (starts_of types) a p t) → DiscardedAt code b types a t p q
   discarded_stands (Call callees.Putchar cs ty) t p q (s, signature, many, passed, result, numbered) end has =
@@ -385,12 +401,13 @@ module _ (code : List Instruction) (b : Numbering) (types : List Ty) where
       let r = p + length both in
       let has_both = has_front code p both _ has in
       let (here, none) = has_back code p both _ has in
+      let (from_is, wide, fitting) = returns_numbered b.result (Convert from to a) numbered in
       let (words, kind) = returns_kind b.result (Convert from to a) numbered in (
         s,
         m,
         r,
-        returned_by known _ inner t p m refl (has_front code p front conversion has_both) (λ e h. expression_stands a t t p m (returns_numbered b.result (Convert from to a) numbered).1 e h),
-        conversion_stands to (operands.Slot s) m r (cut p r front conversion refl) (has_back code p front conversion has_both),
+        returned_by known _ inner t p m refl (has_front code p front conversion has_both) (λ e h. expression_stands a t t p m fitting e h),
+        conversion_stands from to (operands.Slot s) m r wide (cut p r front conversion refl) (has_back code p front conversion has_both),
         here,
         words,
         kind,
@@ -475,35 +492,36 @@ module _ (code : List Instruction) (b : Numbering) (types : List Ty) where
 
 -- ---- functions
 
-fitting_function : (globals : ℕ) (signatures : List Signature) (hs : List Function) (n : ℕ) (h : Function) → AreFitting globals signatures hs → slice_get hs n ≡ Some h → FitItems (numbering_of globals signatures h) (slot_types h) false h.body
-fitting_function globals signatures [] n h numbered there = absurd (none-some h there)
-fitting_function globals signatures (g ∷ hs) zero h (first, rest) there =
-    subst (λ (f : Function). FitItems (numbering_of globals signatures f) (slot_types f) false f.body) (same_Some g h there) first
-fitting_function globals signatures (g ∷ hs) (suc n) h (first, rest) there = fitting_function globals signatures hs n h rest there
+fitting_function : (structs : List StructType) (globals : ℕ) (signatures : List Signature) (hs : List Function) (n : ℕ) (h : Function) → AreFitting structs globals signatures hs → slice_get hs n ≡ Some h
+    → FitItems (numbering_of globals signatures h) (types_of structs h) false h.body
+fitting_function structs globals signatures [] n h numbered there = absurd (none-some h there)
+fitting_function structs globals signatures (g ∷ hs) zero h (first, rest) there =
+    subst (λ (f : Function). FitItems (numbering_of globals signatures f) (types_of structs f) false f.body) (same_Some g h there) first
+fitting_function structs globals signatures (g ∷ hs) (suc n) h (first, rest) there = fitting_function structs globals signatures hs n h rest there
 
 module _ (source : Program) where
   -- each function is lowered by itself
-  pub routine_there : (n : ℕ) (h : Function) → slice_get source.functions n ≡ Some h → routine_at (lower_program source) n ≡ lower_function h
-  routine_there n h there = get_or_from_slice_get (map lower_function source.functions) n (lower_function h) no_routine (slice_get-map lower_function source.functions n ∙ ap (option_map lower_function) there)
+  pub routine_there : (n : ℕ) (h : Function) → slice_get source.functions n ≡ Some h → routine_at (lower_program source) n ≡ lower_function source.structs h
+  routine_there n h there = get_or_from_slice_get (map (lower_function source.structs) source.functions) n (lower_function source.structs h) no_routine (slice_get-map (lower_function source.structs) source.functions n ∙ ap (option_map (lower_function source.structs)) there)
 
   -- the code of a function, with its body at the beginning and a return behind it
   abbrev BodyStands : Function → List Instruction → Option Function → Type 0
   BodyStands h code o =
-      (m : ℕ) × ItemsAt code (bounds_in source o) (types_in source o) h.body 0 (words_of_all (types_in source o)) 0 m
-      × At code m (instructions.Return (words_of_all (types_in source o)))
+      (m : ℕ) × ItemsAt code (bounds_in source o) (types_in source o) h.body 0 (words_of_all (types_in source o).locals) 0 m
+      × At code m (instructions.Return (words_of_all (types_in source o).locals))
 
-  body_stands : (h : Function) → FitItems (bounds_in source (Some h)) (slot_types h) false h.body → BodyStands h (function_code h) (Some h)
+  body_stands : (h : Function) → FitItems (bounds_in source (Some h)) (types_of source.structs h) false h.body → BodyStands h (function_code source.structs h) (Some h)
   body_stands h numbered =
       let d = first_temporary h in
-      let starts = starts_of (slot_types h) in
+      let starts = starts_of (types_of source.structs h) in
       let body = items_code starts h.body 0 0 d in
       let end = instructions.Return d ∷ [] in
       let has = has_whole (body ++ end) in
       let (here, none) = has_back (body ++ end) 0 body end has in
-      (0 + length body, items_stand (body ++ end) (bounds_in source (Some h)) (slot_types h) h.body false 0 d 0 (0 + length body) numbered refl (has_front (body ++ end) 0 body end has), here)
+      (0 + length body, items_stand (body ++ end) (bounds_in source (Some h)) (types_of source.structs h) h.body false 0 d 0 (0 + length body) numbered refl (has_front (body ++ end) 0 body end has), here)
 
   pub functions_stand : (pages calls : ℕ) → IsFitting source → FunctionsStand source pages calls
   functions_stand pages calls numbered n h there =
       subst (λ (code : List Instruction). BodyStands h code (slice_get source.functions n)) (sym (ap (λ (r : Routine). r.code) (routine_there n h there)))
-      (subst (λ (o : Option Function). BodyStands h (function_code h) o) (sym there)
-      (body_stands h (fitting_function (length source.globals) (signatures_of source.functions) source.functions n h numbered.functions there)))
+      (subst (λ (o : Option Function). BodyStands h (function_code source.structs h) o) (sym there)
+      (body_stands h (fitting_function source.structs (length source.globals) (signatures_of source.functions) source.functions n h numbered.functions there)))

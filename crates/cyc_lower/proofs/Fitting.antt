@@ -15,26 +15,31 @@ use Rattle.cyc_types.specs.declared.typed.PointerOperator.{PointerOperator}
 use Rattle.cyc_types.specs.declared.typed.PointerOperator.TheVariants as pointers
 use Rattle.cyc_types.specs.Types.{Ty, words_of, words_of_mark, substituted_ty, ValueType, Void, Value, result_type}
 use Rattle.cyc_types.specs.Types as type_forms
-use Rattle.cyc_types.specs.TypedTrees.{Load, Store, New, Dereference, Target, Member, Element, type_of_place, type_of, Lvalue, Local, Global, Expression, Number, NullPointer, HeapRegion, Counter, Copy, Move, Peek, AddressOf, AddressOfCell, NumberOfElements, FreeUnique, FreeKey, Call, Unary, Binary, Assign, Converted, Convert, Arguments, NoArguments, MoreArguments, Operations, NoOperations, ThenCompute, ThenTest, ThenPointer, ThenPointerPeek, Statement, Block, Empty, Evaluate, If, While, Return, Break, Continue, Items, NoItems, MoreItems, Execute, Declare, Signature, Function, Program}
+use Rattle.cyc_types.specs.TypedTrees.{Load, Dereference, Target, Lvalue, Local, Global, Expression, Number, NullPointer, Copy, Peek, Call, Unary, Binary, Assign, Converted, Convert, Arguments, NoArguments, MoreArguments, Operations, NoOperations, ThenCompute, ThenTest, ThenPointer, Statement, Block, Empty, Evaluate, If, While, Return, Break, Continue, Items, NoItems, MoreItems, Execute, Declare, Signature, StructType, Function, Program, Store, New, Member, Element, type_of_place, type_of, HeapRegion, Counter, Move, AddressOf, AddressOfCell, NumberOfElements, FreeUnique, FreeKey, ThenPointerPeek}
 use Rattle.cyc_types.specs.typing.Scopes.{signature_of_ints}
 use Rattle.cyc_types.specs.typing.Tests as tests
 use Rattle.cyc_types.specs.typing.Expressions.{instantiated}
 use Rattle.cyc_types.specs.typing.WellTyped.{Context, PointerOperation, adds, subtracts, equals, differs, thin_null, thin_there, fat_null, fat_there, null_is, null_is_not, IsCallee, Converts, IsPeek, WellTyped, IsCell, IsConverted, ArePassed, IsChain, IsCondition, IsReturned, IsInitial, WellTypedStatement, WellTypedItems, behind, in_block, in_body, with_local, body_context, AreWellTypedFunctions, AreWellTypedGlobals, IsWellTypedProgram}
 use Rattle.cyc_types.specs.Numbered.{Numbering, signatures_of, IsSignature, argument_count, numbering_of}
-use Rattle.cyc_lower.specs.Lowerable.{is_comparison, IsLowerable, IsLowerableConverted, AreLowerableArguments, AreLowerableOperations, IsLowerableReturn, IsLowerableInitial, IsLowerableStatement, AreLowerableItems, AreLowerableFunctions, IsLowerableProgram}
-use Rattle.cyc_meaning.specs.Values.{kind_of, words_of_kind}
-use Rattle.cyc_meaning.specs.FrameCount.{result_words, operand_words, words_of_all}
-use Rattle.cyc_lower.specs.Lowering.{slot_types, left_kind, passed_words, all_passed, results_of}
+use Rattle.cyc_lower.specs.Lowerable.{IsLowerable, IsLowerableConverted, AreLowerableArguments, AreLowerableOperations, IsLowerableReturn, IsLowerableInitial, IsLowerableStatement, AreLowerableItems, AreLowerableFunctions, IsLowerableProgram, is_comparison}
+use Rattle.cyc_meaning.specs.Values.{kind_of, is_thin, words_of_kind}
+use Rattle.cyc_meaning.specs.FrameCount.{result_words, words_of_all, operand_words}
+use Rattle.cyc_lower.specs.Slots.{Types}
+use Rattle.cyc_lower.specs.Lowering.{types_of, are_as_wide, passed_words, all_passed, results_of, left_kind}
 use Rattle.cyc_lower.proofs.Widths.{kind_of_result, result_kind, called_kind, given, passed_kind, type_words, HasRoom}
 use Rattle.cyc_lower.proofs.Slots.{words-there, words_positive}
 
 -- ---- what is asked
 
-module _ (b : Numbering) (types : List Ty) where
-  -- a variable with room for a value of a kind; a global has one word yet
+module _ (b : Numbering) (types : Types) where
+  -- a variable that is read as a value of a kind, and one that such a value is stored in: a global has one word yet
   abbrev pub FitsPlace : Lvalue → Kind → Type 0
   FitsPlace (Local p n) kind = (n < b.locals) × HasRoom types n kind
   FitsPlace (Global n) kind = n < b.globals
+
+  abbrev pub FitsStored : Lvalue → Kind → Type 0
+  FitsStored (Local p n) kind = (n < b.locals) × HasRoom types n kind
+  FitsStored (Global n) kind = (n < b.globals) × (words_of_kind kind ≡ 1)
 
   abbrev mutual
     pub Fits : Expression → Type 0
@@ -48,16 +53,16 @@ module _ (b : Numbering) (types : List Ty) where
         × (results_of s.result ≤ result_words t) × FitArguments cs
     Fits (Unary o a) = Fits a
     Fits (Binary a os t) = Fits a × FitOperations (operand_words (type_of a)) t os
-    Fits (Assign l c t) = FitsPlace l (passed_kind c) × FitsConverted c
+    Fits (Assign l c t) = FitsStored l (passed_kind c) × FitsConverted c
     Fits (Load x) = FitsCell x
     Fits a = ⊥
 
     pub FitsCell : Dereference → Type 0
-    FitsCell (Target k a t) = Fits a
+    FitsCell (Target k a t) = (is_thin k ≡ true) × (words_of t ≡ 1) × Fits a
     FitsCell x = ⊥
 
     pub FitsConverted : Converted → Type 0
-    FitsConverted (Convert from to a) = (from ≡ given b.functions a) × Fits a
+    FitsConverted (Convert from to a) = (from ≡ given b.functions a) × (are_as_wide from to ≡ true) × Fits a
 
     pub FitArguments : Arguments → Type 0
     FitArguments NoArguments = Unit {0}
@@ -99,12 +104,12 @@ module _ (b : Numbering) (types : List Ty) where
     FitItems l (MoreItems (Declare n t v) js) = (n < b.locals) × FitsInitial n v × FitItems l js
     FitItems l js = ⊥
 
-abbrev pub AreFitting : ℕ → List Signature → List Function → Type 0
-AreFitting globals functions [] = Unit {0}
-AreFitting globals functions (h ∷ hs) = FitItems (numbering_of globals functions h) (slot_types h) false h.body × AreFitting globals functions hs
+abbrev pub AreFitting : List StructType → ℕ → List Signature → List Function → Type 0
+AreFitting structs globals functions [] = Unit {0}
+AreFitting structs globals functions (h ∷ hs) = FitItems (numbering_of globals functions h) (types_of structs h) false h.body × AreFitting structs globals functions hs
 
 pub record IsFitting (p : Program) : Type 0 where
-  pub functions : AreFitting (length p.globals) (signatures_of p.functions) p.functions
+  pub functions : AreFitting p.structs (length p.globals) (signatures_of p.functions) p.functions
   pub globals : AreWellTypedGlobals p.globals
   pub main : slice_get (signatures_of p.functions) p.main ≡ Some (signature_of_ints [])
 
@@ -205,16 +210,16 @@ no_int_left c o left right result (null_is_not k t r) = tt
 
 -- ---- what a well typed tree has
 
-module _ (b : Numbering) (types : List Ty) where
+module _ (b : Numbering) (types : Types) where
   -- a place in the function with these bounds and these types of locals
   record Suits (c : Context) : Type 0 where
     functions : c.functions ≡ b.functions
-    variables : c.variables ≡ types
+    variables : c.variables ≡ types.locals
     result : c.result ≡ b.result
 
   room_in : (c : Context) (n : ℕ) (t : Ty) (kind : Kind) → Suits c → slice_get c.variables n ≡ Some t → kind ≡ kind_of t → HasRoom types n kind
   room_in c n t kind suits at same =
-      omega (arith, words-there types n t (ap (λ (ts : List Ty). slice_get ts n) (sym suits.variables) ∙ at), type_words t, ap words_of_kind same)
+      omega (arith, words-there types.locals n t (ap (λ (ts : List Ty). slice_get ts n) (sym suits.variables) ∙ at), type_words t, ap words_of_kind same)
 
   same_signature : (f : Callee) (c : Context) (s u : Signature) → Suits c → IsCallee c f s → IsSignature b f u → s ≡ u
   same_signature callees.Putchar c s u suits is also = is ∙ sym also
@@ -338,20 +343,20 @@ module _ (b : Numbering) (types : List Ty) where
     fits (Assign (Local p n) d u) c v suits (few, numbered) (t, r, (m, place, home, there), converted, u_is, is) =
         let (kind, fitting) = fits_converted d c t suits numbered converted in
         (assigned_given (Local p n) d u t v kind (is ∙ u_is), ((few, room_in c n t (passed_kind d) suits there kind), fitting))
-    fits (Assign (Global n) d u) c v suits (few, numbered) (t, r, (home, there), converted, u_is, is) =
+    fits (Assign (Global n) d u) c v suits ((few, single), numbered) (t, r, (home, there), converted, u_is, is) =
         let (kind, fitting) = fits_converted d c t suits numbered converted in
-        (assigned_given (Global n) d u t v kind (is ∙ u_is), (few, fitting))
-    fits (Load (Target k a t)) c v suits numbered (u, r, (m, well, live, kind, same), flat, shared, is) = (
+        (assigned_given (Global n) d u t v kind (is ∙ u_is), ((few, sym (passed_is d) ∙ single), fitting))
+    fits (Load (Target k a t)) c v suits (thin, single, numbered) (u, r, (m, well, live, kind, same), flat, shared, is) = (
       subst (IsGiven (kind_of t)) (sym (is ∙ ap Value same)) refl,
-      (looked_fits a c (Value (type_forms.Pointer m t r)) suits numbered (λ h. fits a c (Value (type_forms.Pointer m t r)) suits numbered h) well).1,
+      (thin, single, (looked_fits a c (Value (type_forms.Pointer m t r)) suits numbered (λ h. fits a c (Value (type_forms.Pointer m t r)) suits numbered h) well).1),
     )
     fits (Load x) c v suits numbered well = absurd numbered
     fits a c v suits numbered well = absurd numbered
 
     fits_converted : (d : Converted) (c : Context) (t : Ty) → Suits c → IsLowerableConverted b d → IsConverted c d t → (passed_kind d ≡ kind_of t) × FitsConverted b types d
-    fits_converted (Convert from to a) c t suits numbered (v, well, converts, from_is, to_is) =
+    fits_converted (Convert from to a) c t suits (wide, numbered) (v, well, converts, from_is, to_is) =
         let (kind, fitting) = fits a c v suits numbered well in
-        (to_is ∙ sym (kinds_same t), (from_given v converts from_is kind, fitting))
+        (to_is ∙ sym (kinds_same t), (from_given v converts from_is kind, wide, fitting))
       where
         from_given : (w : ValueType) → Converts c w t → from ≡ tests.kind_of_value w → IsGiven (given b.functions a) w → from ≡ given b.functions a
         from_given Void can is kind = absurd can
@@ -421,15 +426,15 @@ module _ (b : Numbering) (types : List Ty) where
     )
     fit_items js l c suits numbered well = absurd numbered
 
-  pub body_fits : (js : Items) (c : Context) → c.functions ≡ b.functions → c.variables ≡ types → c.result ≡ b.result → AreLowerableItems b false js → WellTypedItems c js → FitItems b types false js
+  pub body_fits : (js : Items) (c : Context) → c.functions ≡ b.functions → c.variables ≡ types.locals → c.result ≡ b.result → AreLowerableItems b false js → WellTypedItems c js → FitItems b types false js
   body_fits js c functions variables result numbered well = fit_items js false c (record { functions = functions; variables = variables; result = result }) numbered well
 
 -- ---- programs
 
-functions_fit : (p : Program) (hs : List Function) → AreLowerableFunctions (length p.globals) (signatures_of p.functions) hs → AreWellTypedFunctions p hs → AreFitting (length p.globals) (signatures_of p.functions) hs
+functions_fit : (p : Program) (hs : List Function) → AreLowerableFunctions (length p.globals) (signatures_of p.functions) hs → AreWellTypedFunctions p hs → AreFitting p.structs (length p.globals) (signatures_of p.functions) hs
 functions_fit p [] numbered well = tt
 functions_fit p (h ∷ hs) (one, all) (well, rest) =
-    (body_fits (numbering_of (length p.globals) (signatures_of p.functions) h) (slot_types h) h.body (body_context p h) refl refl refl one well.body, functions_fit p hs all rest)
+    (body_fits (numbering_of (length p.globals) (signatures_of p.functions) h) (types_of p.structs h) h.body (body_context p h) refl refl refl one well.body, functions_fit p hs all rest)
 
 pub is_fitting_program : (p : Program) → IsLowerableProgram p → IsWellTypedProgram p → IsFitting p
 is_fitting_program p numbered well = record {

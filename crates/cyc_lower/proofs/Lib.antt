@@ -14,6 +14,8 @@ pub mod Fitting
 pub mod Bridge
 pub mod Data
 pub mod Sharing
+pub mod PlaceWords
+pub mod PlaceSteps
 pub mod Values
 pub mod PointerSteps
 pub mod Evaluations

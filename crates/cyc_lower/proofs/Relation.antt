@@ -1,5 +1,6 @@
 -- What a state of the source and one of the plain program have in common while the one is matched by the other.
 use Rattle.std.proofs.Common.{◌≡◌, ℕ, suc, ◌+◌, ◌≤◌, ◌<◌, true, List, [], ◌∷◌, ◌++◌, length, Option, None, Some, slice_get}
+use Rattle.cyc_words.specs.Word.{add_of}
 use Rattle.cyc_types.specs.declared.typed.Kind.{Kind}
 use Rattle.cyc_types.specs.declared.typed.Kind.TheVariants as kinds
 use Rattle.cyc_types.specs.declared.typed.Callee.{Callee}
@@ -7,11 +8,11 @@ use Rattle.cyc_types.specs.declared.typed.UnaryOperator.TheVariants as unary
 use Rattle.cyc_types.specs.declared.typed.Operator.{Operator}
 use Rattle.cyc_types.specs.declared.typed.Callee.TheVariants as callees
 use Rattle.cyc_types.specs.Types.{Ty}
-use Rattle.cyc_types.specs.TypedTrees.{Target, Lvalue, Local, Global, Expression, NoArguments, NoOperations, Statement, Function, Program}
+use Rattle.cyc_types.specs.TypedTrees.{Lvalue, Local, Global, Expression, NoArguments, NoOperations, Statement, Function, Program}
 use Rattle.cyc_types.specs.Numbered.{Numbering, numbering_of, signatures_of}
 use Rattle.cyc_store.specs.State.{StoreState, demand}
 use Rattle.cyc_objects.specs.Tables.{Variable, Tables}
-use Rattle.cyc_objects.specs.Words.{Is}
+use Rattle.cyc_objects.specs.Words.{Points, Is}
 use Rattle.cyc_objects.specs.Related as objects
 use Rattle.cyc_plain.specs.declared.instruction.Comparison.{Comparison}
 use Rattle.cyc_plain.specs.declared.instruction.Comparison.TheVariants as comparisons
@@ -25,16 +26,16 @@ use Rattle.cyc_plain.specs.State.{Words, Frame, Configuration}
 use Rattle.cyc_plain.specs.Step.{operand_word}
 use Rattle.cyc_plain.specs.State as plain
 use Rattle.cyc_plain.specs.Straight.{At}
-use Rattle.cyc_meaning.specs.Values.{Value, Int, Null, Thin, Operand as Kinded, Cell, words_of_kind}
-use Rattle.cyc_meaning.specs.State.{Object, World, globals_number, Environment, ConvertTo, Operate, Chain, Apply, ApplyPointer, Follow, LoadFrom, Decide, Store, Pass, Initialise, Choose, Test, Return, Entry, Needs, NeedsPlace, Discard, Rest, Join, Loop, CloseRegion, CloseLexical, EndLoan, Handler, Caller, Main, calls_in, Focus, Evaluating, Locating, Given, Executing, Proceeding, Calling, Entering, Binding, Breaking, Continuing, Returning, Throwing, State, Running, Ended}
-use Rattle.cyc_meaning.specs.Step.{target_of, object_of}
+use Rattle.cyc_meaning.specs.Values.{Value, Int, Null, Thin, Operand as Kinded, Cell, is_thin, words_of_kind}
+use Rattle.cyc_meaning.specs.State.{Object, World, globals_number, Environment, ConvertTo, Operate, Chain, Apply, ApplyPointer, Follow, LoadFrom, Decide, Store, Pass, Initialise, Choose, Test, Return, Entry, Needs, NeedsPlace, Discard, Rest, Join, Loop, CloseRegion, CloseLexical, EndLoan, Handler, Caller, Main, calls_in, Focus, Evaluating, Locating, Given, GivenPlace, Executing, Proceeding, Calling, Entering, Binding, Breaking, Continuing, Returning, Throwing, State, Running, Ended}
+use Rattle.cyc_meaning.specs.Step.{object_of}
 use Rattle.cyc_meaning.specs.Operators.{null_exception, is_zero}
 use Rattle.cyc_meaning.specs.FrameCount.{words_of_all}
-use Rattle.cyc_lower.specs.Slots.{starts_of, slot_of}
+use Rattle.cyc_lower.specs.Slots.{Types, Starts, starts_of, slot_of}
 use Rattle.cyc_lower.specs.Lowerable.{is_comparison}
-use Rattle.cyc_lower.specs.Lowering.{slot_types, unary_operator, failing_comparison, operand_of, move_of, pointer_instruction, low_byte, converts_there, all_passed, compared_of, break_target, continue_target, results_of, lower_program}
+use Rattle.cyc_lower.specs.Lowering.{types_of, unary_operator, failing_comparison, operand_of, move_of, pointer_instruction, low_byte, converts_there, all_passed, compared_of, break_target, continue_target, results_of, lower_program}
 use Rattle.cyc_lower.proofs.Widths.{kind_of_result, given, called_kind, HasRoom, Outside}
-use Rattle.cyc_lower.proofs.Stands.{CheckAt, ConversionAt, OperatorAt, TruthAt, CopyAt, ExpressionAt, ArgumentsAt, OperationsAt, ValueAt, ConditionAt, FailingAt, ComparesAt, DiscardedAt, StatementAt, ItemsAt}
+use Rattle.cyc_lower.proofs.Stands.{CheckAt, ConversionAt, PlaceAt, OperatorAt, TruthAt, CopyAt, ExpressionAt, ArgumentsAt, OperationsAt, ValueAt, ConditionAt, FailingAt, ComparesAt, DiscardedAt, StatementAt, ItemsAt}
 
 -- ---- values in slots
 
@@ -106,8 +107,8 @@ contents objects number = content_of (slice_get objects number)
 
 -- The locals of a call, which have these types and whose objects are all from `low` on and below `high`: the slots of each have what
 -- it holds, and there is room for it.
-pub record LocalsHold (t : Tables) (types : List Ty) (objects : List Object) (locals : ℕ → Option ℕ) (low high : ℕ) (slots : Words) : Type 0 where
-  pub within : (number object : ℕ) → locals number ≡ Some object → (number < length types) × (low ≤ object) × (object < high)
+pub record LocalsHold (t : Tables) (types : Types) (objects : List Object) (locals : ℕ → Option ℕ) (low high : ℕ) (slots : Words) : Type 0 where
+  pub within : (number object : ℕ) → locals number ≡ Some object → (number < length types.locals) × (low ≤ object) × (object < high)
   pub apart : (number other object : ℕ) → locals number ≡ Some object → locals other ≡ Some object → number ≡ other
   pub rows : (number object : ℕ) → locals number ≡ Some object → slice_get t.rows object ≡ Some Variable
   pub holds : (number object : ℕ) (v : Kinded) → locals number ≡ Some object → contents objects object ≡ Some v
@@ -180,15 +181,15 @@ module _ (source : Program) where
   abbrev pub bounds_at : ℕ → Numbering
   bounds_at g = bounds_in (slice_get source.functions g)
 
-  -- the types of its locals, and their first slots
-  abbrev pub types_in : Option Function → List Ty
-  types_in None = []
-  types_in (Some h) = slot_types h
+  -- the types of its locals with the structs, and their first slots
+  abbrev pub types_in : Option Function → Types
+  types_in None = record { locals = []; structs = source.structs }
+  types_in (Some h) = types_of source.structs h
 
-  abbrev pub types_at : ℕ → List Ty
+  abbrev pub types_at : ℕ → Types
   types_at g = types_in (slice_get source.functions g)
 
-  abbrev pub starts_at : ℕ → List ℕ
+  abbrev pub starts_at : ℕ → Starts
   starts_at g = starts_of (types_at g)
 
   abbrev pub parameters_in : Option Function → List Ty
@@ -200,7 +201,7 @@ module _ (source : Program) where
 
   -- the first slot behind the locals
   abbrev pub base_of : ℕ → ℕ
-  base_of g = words_of_all (types_at g)
+  base_of g = words_of_all (types_at g).locals
 
   -- the kind of what an expression gives in a function, of what is called there, and of what the function itself returns
   abbrev pub given_at : ℕ → Expression → Kind
@@ -319,7 +320,7 @@ module _ (source : Program) where
     pub ValueStack : (g : ℕ) → (ℕ → Option ℕ) → Kind → Operand → (p : ℕ) → List Frame → List Entry → Type 0
     ValueStack g locals kind o p frames [] = ⊥
     ValueStack g locals kind o p frames (Needs (ConvertTo from to target) ∷ k) =
-        (q : ℕ) × ConversionAt (code_of g) (bounds_at g) (types_at g) to o p q × ValueStack g locals to o q frames k
+        (q : ℕ) × ConversionAt (code_of g) (bounds_at g) (types_at g) from to o p q × ValueStack g locals to o q frames k
     ValueStack g locals kind o p frames (Needs (Operate operator) ∷ k) =
         Yields ((d : ℕ) × At (code_of g) p (instructions.Unary (unary_operator operator) d o)
         × Lands (base_of g) (top g k) d 1 (ValueStack g locals kinds.Int (operands.Slot d) (p + 1) frames k) (AheadStack g locals kinds.Int d (p + 1) frames k))
@@ -363,16 +364,16 @@ module _ (source : Program) where
         (loop : ℕ) × (q : ℕ) × (s : ℕ) × (o ≡ operands.Slot s) × At (code_of g) p (instructions.Return s) × IsReturned g kind
         × StatementStack g loop q frames k
     ValueStack g locals kind o p frames (Needs (Follow pointer target) ∷ k) =
-        (q : ℕ) × CheckAt (code_of g) (bounds_at g) (types_at g) null_exception o p q × PlaceStack g locals o q frames k
+        (q : ℕ) × (is_thin pointer ≡ true) × CheckAt (code_of g) (bounds_at g) (types_at g) null_exception o p q × PlaceStack g locals o 0 q frames k
     ValueStack g locals kind o p frames (Discard ∷ k) = (loop : ℕ) × StatementStack g loop p frames k
     ValueStack g locals kind o p frames (entry ∷ k) = ⊥
 
-    -- the same for a place, whose address stands in an operand
-    pub PlaceStack : (g : ℕ) → (ℕ → Option ℕ) → Operand → (p : ℕ) → List Frame → List Entry → Type 0
-    PlaceStack g locals o p frames (NeedsPlace (LoadFrom cell) ∷ k) =
-        (d : ℕ) × At (code_of g) p (instructions.Load d o 0)
+    -- the same for a place, whose address is the word of an operand and so many bytes more
+    pub PlaceStack : (g : ℕ) → (ℕ → Option ℕ) → Operand → (c p : ℕ) → List Frame → List Entry → Type 0
+    PlaceStack g locals o c p frames (NeedsPlace (LoadFrom cell) ∷ k) =
+        (d : ℕ) × At (code_of g) p (instructions.Load d o c) × (words_of_kind cell ≡ 1)
         × Lands (base_of g) (top g k) d (words_of_kind cell) (ValueStack g locals cell (operands.Slot d) (p + 1) frames k) (AheadStack g locals cell d (p + 1) frames k)
-    PlaceStack g locals o p frames k = ⊥
+    PlaceStack g locals o c p frames k = ⊥
 
     -- the same for a condition, which fails where this comparison holds
     pub ConditionStack : (g : ℕ) → Comparison → (l r : Operand) → (p : ℕ) → List Frame → List Entry → Type 0
@@ -466,9 +467,12 @@ module _ (source : Program) where
 
   abbrev pub FocusAt : Tables → Focus → List Entry → (ℕ → Option ℕ) → (g p : ℕ) → Words → List Frame → Type 0
   FocusAt t (Evaluating a) k locals g p slots frames = EvaluatingAt t a locals g p slots frames k
-  FocusAt t (Locating (Target pointer a ty)) k locals g p slots frames =
-      (o : Operand) × (m : ℕ) × ValueAt (code_of g) (bounds_at g) (types_at g) a (top g k) o p m × Holds t slots (base_of g) (held k)
-      × ValueStack g locals (given_at g a) o m frames (Needs (Follow pointer (target_of ty)) ∷ k)
+  FocusAt t (Locating x) k locals g p slots frames =
+      (o : Operand) × (c : ℕ) × (q : ℕ) × PlaceAt (code_of g) (bounds_at g) (types_at g) x o c (top g k) p q × Holds t slots (base_of g) (held k)
+      × PlaceStack g locals o c q frames k
+  FocusAt t (GivenPlace (Thin object offset)) k locals g p slots frames =
+      (o : Operand) × (c : ℕ) × Points t object offset (add_of (operand_word slots o) c) × Holds t slots (base_of g) (held k)
+      × PlaceStack g locals o c p frames k
   FocusAt t (Executing s) k locals g p slots frames =
       (loop : ℕ) × (q : ℕ) × StatementAt (code_of g) (bounds_at g) (types_at g) s loop (base_of g) p q × StatementStack g loop q frames k
   FocusAt t (Calling callees.Putchar before) k locals g p slots frames =

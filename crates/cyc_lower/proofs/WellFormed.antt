@@ -12,7 +12,7 @@ use Rattle.cyc_types.specs.declared.typed.PointerOperator.{PointerOperator}
 use Rattle.cyc_types.specs.declared.typed.LogicalOperator.{LogicalOperator}
 use Rattle.cyc_types.specs.declared.typed.LogicalOperator.TheVariants as logical
 use Rattle.cyc_types.specs.Types.{Ty, words_of, ValueType, Void, Null, Value}
-use Rattle.cyc_types.specs.TypedTrees.{Load, Dereference, Target, type_of_place, Lvalue, Local, Global, Expression, Number, NullPointer, Copy, Move, Peek, Call, Unary, Binary, Assign, Converted, Convert, Arguments, NoArguments, MoreArguments, Operations, NoOperations, ThenCompute, ThenTest, ThenPointer, ThenPointerPeek, type_of, Statement, Block, Empty, Evaluate, If, While, Return, Break, Continue, Items, NoItems, MoreItems, Execute, Declare, GlobalVariable, Signature, Function, Program}
+use Rattle.cyc_types.specs.TypedTrees.{Load, Dereference, Target, type_of_place, Lvalue, Local, Global, Expression, Number, NullPointer, Copy, Call, Unary, Binary, Assign, Converted, Convert, Arguments, NoArguments, MoreArguments, Operations, NoOperations, ThenCompute, ThenTest, ThenPointer, type_of, Statement, Block, Empty, Evaluate, If, While, Return, Break, Continue, Items, NoItems, MoreItems, Execute, Declare, GlobalVariable, Signature, StructType, Function, Program, Move, Peek, ThenPointerPeek}
 use Rattle.cyc_types.specs.typing.WellTyped.{signature_of}
 use Rattle.cyc_types.specs.Numbered.{Numbering, signatures_of, numbering_of}
 use Rattle.cyc_plain.specs.declared.instruction.Comparison.{Comparison}
@@ -29,10 +29,10 @@ use Rattle.std.proofs.lemmas.Bool.{eqb-true}
 use Rattle.cyc_meaning.specs.Operators.{null_exception, division_by_zero}
 use Rattle.cyc_meaning.specs.Values.{kind_of, words_of_kind}
 use Rattle.cyc_meaning.specs.FrameCount.{result_words, operand_words, converted_words, argument_words, expression_need, dereference_need, converted_need, arguments_need, operations_need, initial_need, statement_need, items_need, words_of_all}
-use Rattle.cyc_lower.specs.Slots.{starts_of, slot_of}
-use Rattle.cyc_lower.specs.Lowering.{slot_types, spare_slots, are_as_wide, converts_there, passed_words, all_passed, source_of, source_slot, moved_by, move_of, pointer_operator, left_kind, behind_left, first_words_by, pointer_instruction, pointer_code, unary_operator, binary_operator, operand_of, operand_or, code_unless, slot_or, code_unless_slot, left_with, left_of, value_slot, next_slot, slot_with, left_slot, value_operand, converted_operand, printed_operand, check_code, conversion_code, divisor_code, checked_code, operator_code, truth_code, load_code, low_byte, test_code, is_in, copy_code, expression_code, arguments_code, converted_code, converted_operand_code, printed_code, dereference_code, initial_code, assignment_code, operations_code, discarded_code, failing_comparison, compared_or, first_operand, first_code, second_code, pair_code, condition_code, condition_of, failing_jump, break_target, continue_target, return_code, declaration_code, statement_code, items_code, first_temporary, results_of, lower_function, lower_global, lower_program}
+use Rattle.cyc_lower.specs.Slots.{starts_of, slot_of, Types}
+use Rattle.cyc_lower.specs.Lowering.{types_of, spare_slots, are_as_wide, converts_there, passed_words, all_passed, source_of, source_slot, moved_by, move_of, unary_operator, binary_operator, operand_of, operand_or, code_unless, slot_or, code_unless_slot, left_with, left_of, value_slot, next_slot, slot_with, left_slot, value_operand, converted_operand, printed_operand, check_code, conversion_code, divisor_code, checked_code, operator_code, truth_code, load_code, low_byte, test_code, is_in, copy_code, expression_code, arguments_code, converted_code, converted_operand_code, printed_code, dereference_code, initial_code, assignment_code, operations_code, discarded_code, failing_comparison, compared_or, first_operand, first_code, second_code, pair_code, condition_code, condition_of, failing_jump, break_target, continue_target, return_code, declaration_code, statement_code, items_code, first_temporary, results_of, lower_function, lower_global, lower_program, pointer_operator, left_kind, behind_left, first_words_by, pointer_instruction, pointer_code}
 use Rattle.cyc_lower.proofs.Widths.{kind_positive, kind_few, type_words, kind_of_result, result_kind, given, passed_kind, words_in}
-use Rattle.cyc_lower.proofs.Fitting.{FitsPlace, FitsCell, Fits, FitsConverted, FitArguments, FitOperations, FitsReturn, FitsInitial, FitsStatement, FitItems, AreFitting, IsFitting}
+use Rattle.cyc_lower.proofs.Fitting.{FitsPlace, FitsStored, FitsCell, Fits, FitsConverted, FitArguments, FitOperations, FitsReturn, FitsInitial, FitsStatement, FitItems, AreFitting, IsFitting}
 use Rattle.cyc_lower.proofs.Values.{as_wide}
 use Rattle.cyc_lower.proofs.Slots.{words_positive, slot-room, slot_types-many, slots-few}
 
@@ -95,7 +95,7 @@ record IsKnown (program : PlainProgram) (n : ℕ) (s : Signature) : Type 0 where
   pub parameters : (routine_at program n).parameters ≡ words_of_all s.parameters
   pub results : (routine_at program n).results ≡ results_of s.result
 
-module _ (program : PlainProgram) (r : Routine) (b : Numbering) (types : List Ty) (locals : (n : ℕ) → n < b.locals → slot_of (starts_of types) n + words_in types n ≤ r.slots) (globals : b.globals ≡ length program.globals) (known : (n : ℕ) (s : Signature) → slice_get b.functions n ≡ Some s → IsKnown program n s) (results : r.results ≡ results_of b.result) where
+module _ (program : PlainProgram) (r : Routine) (b : Numbering) (types : Types) (locals : (n : ℕ) → n < b.locals → slot_of (starts_of types) n + words_in types.locals n ≤ r.slots) (globals : b.globals ≡ length program.globals) (known : (n : ℕ) (s : Signature) → slice_get b.functions n ≡ Some s → IsKnown program n s) (results : r.results ≡ results_of b.result) where
   abbrev AreIn : List Instruction → Type 0
   AreIn code = AllByRecursion (IsInRange program r) code
 
@@ -169,14 +169,14 @@ module _ (program : PlainProgram) (r : Routine) (b : Numbering) (types : List Ty
   -- a value that is converted has room before and after
   source_fits : (from to : Kind) (a : Expression) (t : ℕ) → FitsConverted b types (Convert from to a) → t + converted_words (Convert from to a) ≤ r.slots
       → source_slot (starts_of types) (Convert from to a) t + words_of_kind (kind_at a) ≤ r.slots
-  source_fits from to a t (kind, numbered) few = by (are_as_wide from to)
+  source_fits from to a t (kind, wide, numbered) few = by (are_as_wide from to)
     where
       by : (same : Bool) → (if same then value_slot (starts_of types) a t else t) + words_of_kind (kind_at a) ≤ r.slots
       by true = slot_fits a t numbered (omega (arith, few, ap words_of_kind kind))
       by false = omega (arith, few, ap words_of_kind kind)
 
   converted_room : (c : Converted) (t : ℕ) → FitsConverted b types c → t + converted_words c ≤ r.slots → HasOperand (converted_operand (starts_of types) c t) (words_of_kind (passed_kind c))
-  converted_room (Convert from to a) t (kind, numbered) few = by (are_as_wide from to) refl
+  converted_room (Convert from to a) t (kind, wide, numbered) few = by (are_as_wide from to) refl
     where
       by : (same : Bool) → are_as_wide from to ≡ same
           → HasOperand (operand_or (if same then operand_of (starts_of types) a else None) (if same then value_slot (starts_of types) a t else t)) (words_of_kind to)
@@ -311,12 +311,12 @@ module _ (program : PlainProgram) (r : Routine) (b : Numbering) (types : List Ty
       (unless_in (operand_of (starts_of types) a) inner p (omega (arith, short, length-append operand back)) (λ less. computed slot (slot_fits a u numbered free) less))
       (pointer_in (pointer_operator o) l m d room inside (value_in a u numbered free), tt)
 
-  initial_by : (there : Bool) (from to : Kind) (a : Expression) (p d t : ℕ) → from ≡ kind_at a → Fits b types a → d + words_of_kind to ≤ r.slots → t + converted_words (Convert from to a) ≤ r.slots → converts_there from to ≡ there
+  initial_by : (there : Bool) (from to : Kind) (a : Expression) (p d t : ℕ) → from ≡ kind_at a → are_as_wide from to ≡ true → Fits b types a → d + words_of_kind to ≤ r.slots → t + converted_words (Convert from to a) ≤ r.slots → converts_there from to ≡ there
       → ((slot : ℕ) → slot + words_of_kind (kind_at a) ≤ r.slots → p + length (expression_code (starts_of types) a p slot t) < length r.code → AreIn (expression_code (starts_of types) a p slot t))
       → p + length (if there then expression_code (starts_of types) a p d t else moved_by (source_of (starts_of types) (Convert from to a)) (expression_code (starts_of types) a p (source_slot (starts_of types) (Convert from to a) t) t) to (converted_operand (starts_of types) (Convert from to a) t) p d) < length r.code
       → AreIn (if there then expression_code (starts_of types) a p d t else moved_by (source_of (starts_of types) (Convert from to a)) (expression_code (starts_of types) a p (source_slot (starts_of types) (Convert from to a) t) t) to (converted_operand (starts_of types) (Convert from to a) t) p d)
-  initial_by true from to a p d t kind numbered room free lands inside short = inside d (omega (arith, room, ap words_of_kind kind, as_wide from to lands)) short
-  initial_by false from to a p d t kind numbered room free lands inside short =
+  initial_by true from to a p d t kind wide numbered room free lands inside short = inside d (omega (arith, room, ap words_of_kind kind, as_wide from to lands)) short
+  initial_by false from to a p d t kind wide numbered room free lands inside short =
       let c = Convert from to a in
       let known = source_of (starts_of types) c in
       let slot = source_slot (starts_of types) c t in
@@ -328,8 +328,8 @@ module _ (program : PlainProgram) (r : Routine) (b : Numbering) (types : List Ty
       let long = length-append (front ++ conversion) move in
       let long_front = length-append front conversion in
       append (front ++ conversion) move
-      (append front conversion (unless_in known inner p (omega (arith, short, long, long_front)) (λ less. inside slot (source_fits from to a t (kind, numbered) free) less))
-      (conversion_in to o (p + length front) (converted_value_in c t (kind, numbered) free) (omega (arith, short, long, long_front)))) (move_in to d o room (converted_room c t (kind, numbered) free), tt)
+      (append front conversion (unless_in known inner p (omega (arith, short, long, long_front)) (λ less. inside slot (source_fits from to a t (kind, wide, numbered) free) less))
+      (conversion_in to o (p + length front) (converted_value_in c t (kind, wide, numbered) free) (omega (arith, short, long, long_front)))) (move_in to d o room (converted_room c t (kind, wide, numbered) free), tt)
 
   mutual
     expression_in : (a : Expression) (p d t : ℕ) → Fits b types a → d + words_of_kind (kind_at a) ≤ r.slots → t + expression_need a ≤ r.slots → p + length (expression_code (starts_of types) a p d t) < length r.code → AreIn (expression_code (starts_of types) a p d t)
@@ -388,7 +388,7 @@ module _ (program : PlainProgram) (r : Routine) (b : Numbering) (types : List Ty
         let there : slot_of (starts_of types) n + words_of_kind (passed_kind c) ≤ r.slots = omega (arith, locals n within, own) in
         append front back (initial_in c p (slot_of (starts_of types) n) t numbered there (omega (arith, few)) (omega (arith, few)) (omega (arith, short, length-append front back)))
         (copy_in (is_in o d) c o d there (omega (arith, room, ap words_of_kind (assigned_kind (Local w n) c ty))))
-    expression_in (Assign (Global n) c ty) p d t (within, numbered) room few short =
+    expression_in (Assign (Global n) c ty) p d t ((within, single), numbered) room few short =
         let o = converted_operand (starts_of types) c t in
         let front = converted_operand_code (starts_of types) c p t in
         let store = instructions.StoreGlobal n o ∷ [] in
@@ -400,7 +400,7 @@ module _ (program : PlainProgram) (r : Routine) (b : Numbering) (types : List Ty
     expression_in a p d t numbered room few short = absurd numbered
 
     dereference_in : (x : Dereference) (p d t : ℕ) → FitsCell b types x → d < r.slots → t + dereference_need x (words_of (type_of_place x)) ≤ r.slots → p + length (dereference_code (starts_of types) x p d t) < length r.code → AreIn (dereference_code (starts_of types) x p d t)
-    dereference_in (Target k a ty) p d t numbered room few short =
+    dereference_in (Target k a ty) p d t (thin, single, numbered) room few short =
         let slot = value_slot (starts_of types) a t in
         let o = value_operand (starts_of types) a t in
         let inner = expression_code (starts_of types) a p slot t in
@@ -417,18 +417,18 @@ module _ (program : PlainProgram) (r : Routine) (b : Numbering) (types : List Ty
     dereference_in x p d t numbered room few short = absurd numbered
 
     initial_in : (c : Converted) (p d t : ℕ) → FitsConverted b types c → d + words_of_kind (passed_kind c) ≤ r.slots → t + converted_words c ≤ r.slots → t + converted_need c ≤ r.slots → p + length (initial_code (starts_of types) c p d t) < length r.code → AreIn (initial_code (starts_of types) c p d t)
-    initial_in (Convert from to a) p d t (kind, numbered) room free few short =
-        initial_by (converts_there from to) from to a p d t kind numbered room free refl (λ slot fits less. expression_in a p slot t numbered fits few less) short
+    initial_in (Convert from to a) p d t (kind, wide, numbered) room free few short =
+        initial_by (converts_there from to) from to a p d t kind wide numbered room free refl (λ slot fits less. expression_in a p slot t numbered fits few less) short
 
     converted_in : (c : Converted) (p t : ℕ) → FitsConverted b types c → t + converted_words c ≤ r.slots → t + converted_need c ≤ r.slots → p + length (converted_code (starts_of types) c p t) < length r.code → AreIn (converted_code (starts_of types) c p t)
-    converted_in (Convert from to a) p t (kind, numbered) room few short =
+    converted_in (Convert from to a) p t (kind, wide, numbered) room few short =
         let front = expression_code (starts_of types) a p t t in
         let back = conversion_code to (operands.Slot t) (p + length front) in
         append front back (expression_in a p t t numbered (omega (arith, room, ap words_of_kind kind)) few (omega (arith, short, length-append front back)))
         (conversion_in to (operands.Slot t) (p + length front) (omega (arith, room, kind_positive to)) (omega (arith, short, length-append front back)))
 
     converted_operand_in : (c : Converted) (p t : ℕ) → FitsConverted b types c → t + converted_words c ≤ r.slots → t + converted_need c ≤ r.slots → p + length (converted_operand_code (starts_of types) c p t) < length r.code → AreIn (converted_operand_code (starts_of types) c p t)
-    converted_operand_in (Convert from to a) p t (kind, numbered) room few short =
+    converted_operand_in (Convert from to a) p t (kind, wide, numbered) room few short =
         let known = source_of (starts_of types) (Convert from to a) in
         let slot = source_slot (starts_of types) (Convert from to a) t in
         let o = converted_operand (starts_of types) (Convert from to a) t in
@@ -436,8 +436,8 @@ module _ (program : PlainProgram) (r : Routine) (b : Numbering) (types : List Ty
         let front = code_unless known inner in
         let back = conversion_code to o (p + length front) in
         append front back
-        (unless_in known inner p (omega (arith, short, length-append front back)) (λ less. expression_in a p slot t numbered (source_fits from to a t (kind, numbered) room) few less))
-        (conversion_in to o (p + length front) (converted_value_in (Convert from to a) t (kind, numbered) room) (omega (arith, short, length-append front back)))
+        (unless_in known inner p (omega (arith, short, length-append front back)) (λ less. expression_in a p slot t numbered (source_fits from to a t (kind, wide, numbered) room) few less))
+        (conversion_in to o (p + length front) (converted_value_in (Convert from to a) t (kind, wide, numbered) room) (omega (arith, short, length-append front back)))
 
     -- the arguments of `putchar`, which all are evaluated with the same temporaries
     printed_in : (cs : Arguments) (p t first before : ℕ) → FitArguments b types cs → t + argument_words cs ≤ r.slots → t ≤ first + before → first + arguments_need cs before ≤ r.slots → p + length (printed_code (starts_of types) cs p t) < length r.code → AreIn (printed_code (starts_of types) cs p t)
@@ -512,9 +512,9 @@ module _ (program : PlainProgram) (r : Routine) (b : Numbering) (types : List Ty
         (right_in o a ty p l next t left numbered wide next_few inside (omega (arith, few)) (omega (arith, short, long)) (λ slot fits less. expression_in a p slot (behind_left o t) numbered fits (omega (arith, few, wide)) less))
         (operations_in os ty (p + length front) (operands.Slot next) d t (words_of ty) rest room next_few (words_positive ty) (omega (arith, few)) (omega (arith, short, long)))
 
-  assignment_in : (l : Lvalue) (c : Converted) (p t : ℕ) → FitsPlace b types l (passed_kind c) → FitsConverted b types c → t + converted_words c ≤ r.slots → t + converted_need c ≤ r.slots → p + length (assignment_code (starts_of types) l c p t) < length r.code → AreIn (assignment_code (starts_of types) l c p t)
+  assignment_in : (l : Lvalue) (c : Converted) (p t : ℕ) → FitsStored b types l (passed_kind c) → FitsConverted b types c → t + converted_words c ≤ r.slots → t + converted_need c ≤ r.slots → p + length (assignment_code (starts_of types) l c p t) < length r.code → AreIn (assignment_code (starts_of types) l c p t)
   assignment_in (Local w n) c p t (within, own) numbered free few short = initial_in c p (slot_of (starts_of types) n) t numbered (omega (arith, locals n within, own)) free few short
-  assignment_in (Global n) c p t within numbered free few short =
+  assignment_in (Global n) c p t (within, single) numbered free few short =
       let front = converted_operand_code (starts_of types) c p t in
       let store = instructions.StoreGlobal n (converted_operand (starts_of types) c t) ∷ [] in
       append front store (converted_operand_in c p t numbered free few (omega (arith, short, length-append front store))) ((omega (arith, within, globals), converted_value_in c t numbered free), tt)
@@ -591,7 +591,7 @@ module _ (program : PlainProgram) (r : Routine) (b : Numbering) (types : List Ty
     where
       value_of : (result : Option Ty) → FitsReturn b types result (Some (Convert from to a)) → (results_of result ≡ words_of_kind to) × (from ≡ kind_at a) × Fits b types a
       value_of None numbered = absurd numbered
-      value_of (Some ty) (same, (kind, numbered)) = (sym (type_words ty) ∙ ap words_of_kind (sym same), kind, numbered)
+      value_of (Some ty) (same, (kind, wide, numbered)) = (sym (type_words ty) ∙ ap words_of_kind (sym same), kind, numbered)
 
       slot_there : (known : Option Operand) → HasOperand (operand_or known t) (words_of_kind to) → slot_or known t + words_of_kind to ≤ r.slots
       slot_there (Some (operands.Slot n)) inside = inside
@@ -675,16 +675,16 @@ module _ (program : PlainProgram) (r : Routine) (b : Numbering) (types : List Ty
 
 -- ---- functions
 
-signatures_known : (hs : List Function) (n : ℕ) (s : Signature) → slice_get (signatures_of hs) n ≡ Some s
-    → (n < length (map lower_function hs))
-    × ((slice_index_or (map lower_function hs) n no_routine).parameters ≡ words_of_all s.parameters)
-    × ((slice_index_or (map lower_function hs) n no_routine).results ≡ results_of s.result)
-signatures_known [] n s there = absurd (none-some s there)
-signatures_known (h ∷ hs) zero s there =
+signatures_known : (structs : List StructType) (hs : List Function) (n : ℕ) (s : Signature) → slice_get (signatures_of hs) n ≡ Some s
+    → (n < length (map (lower_function structs) hs))
+    × ((slice_index_or (map (lower_function structs) hs) n no_routine).parameters ≡ words_of_all s.parameters)
+    × ((slice_index_or (map (lower_function structs) hs) n no_routine).results ≡ results_of s.result)
+signatures_known structs [] n s there = absurd (none-some s there)
+signatures_known structs (h ∷ hs) zero s there =
     let same : signature_of h ≡ s = same_Some (signature_of h) s there in
     (omega arith, ap (λ (x : Signature). words_of_all x.parameters) same, ap (λ (x : Signature). results_of x.result) same)
-signatures_known (h ∷ hs) (suc n) s there =
-    let (few, parameters, results) = signatures_known hs n s there in (omega (arith, few), parameters, results)
+signatures_known structs (h ∷ hs) (suc n) s there =
+    let (few, parameters, results) = signatures_known structs hs n s there in (omega (arith, few), parameters, results)
 
 pub globals_counted : (gs : List GlobalVariable) → length gs ≡ length (map lower_global gs)
 globals_counted [] = refl
@@ -693,15 +693,15 @@ globals_counted (g ∷ gs) = ap suc (globals_counted gs)
 module _ (source : Program) (is_fitting : IsFitting source) where
   known_functions : (n : ℕ) (s : Signature) → slice_get (signatures_of source.functions) n ≡ Some s → IsKnown (lower_program source) n s
   known_functions n s there =
-      let (few, parameters, results) = signatures_known source.functions n s there in
+      let (few, parameters, results) = signatures_known source.structs source.functions n s there in
       record { there = few; parameters = parameters; results = results }
 
-  function_well : (h : Function) → FitItems (numbering_of (length source.globals) (signatures_of source.functions) h) (slot_types h) false h.body → IsRoutine (lower_program source) (lower_function h)
+  function_well : (h : Function) → FitItems (numbering_of (length source.globals) (signatures_of source.functions) h) (types_of source.structs h) false h.body → IsRoutine (lower_program source) (lower_function source.structs h)
   function_well h numbered_body =
       let d = first_temporary h in
-      let r = lower_function h in
+      let r = lower_function source.structs h in
       let b = numbering_of (length source.globals) (signatures_of source.functions) h in
-      let types = slot_types h in
+      let types = types_of source.structs h in
       let starts = starts_of types in
       let body = items_code starts h.body 0 0 d in
       let end = instructions.Return d ∷ [] in
@@ -718,7 +718,7 @@ module _ (source : Program) (is_fitting : IsFitting source) where
         last = subst (λ (o : Option Instruction). IsSomeAnd o (λ i. leaves i ≡ true)) (sym (last_of body (instructions.Return d))) refl;
       }
 
-  functions_well : (hs : List Function) → AreFitting (length source.globals) (signatures_of source.functions) hs → AllByRecursion (IsRoutine (lower_program source)) (map lower_function hs)
+  functions_well : (hs : List Function) → AreFitting source.structs (length source.globals) (signatures_of source.functions) hs → AllByRecursion (IsRoutine (lower_program source)) (map (lower_function source.structs) hs)
   functions_well [] numbered_all = tt
   functions_well (h ∷ hs) (first, rest) = (function_well h first, functions_well hs rest)
 
@@ -726,7 +726,7 @@ module _ (source : Program) (is_fitting : IsFitting source) where
   well_formed few =
       let main = known_functions source.main _ is_fitting.main in
       record {
-        functions = all_of (IsRoutine (lower_program source)) (map lower_function source.functions) (functions_well source.functions is_fitting.functions);
+        functions = all_of (IsRoutine (lower_program source)) (map (lower_function source.structs) source.functions) (functions_well source.functions is_fitting.functions);
         main = main.there;
         main_parameters = main.parameters;
         main_results = main.results;

@@ -3,10 +3,12 @@
 use Rattle.std.specs.Prelude.{◌≡◌, ℕ, ◌<◌, Bool, true, false, List, [], ◌∷◌, Option, Some, None, length, slice_get}
 use Rattle.cyc_types.specs.declared.typed.PointerOperator.{PointerOperator}
 use Rattle.cyc_types.specs.declared.typed.PointerOperator.TheVariants as pointers
-use Rattle.cyc_types.specs.Types.{Ty}
-use Rattle.cyc_types.specs.TypedTrees.{Load, Dereference, Target, Local, Expression, Number, NullPointer, Copy, Move, Peek, Call, Unary, Binary, Assign, Converted, Convert, Arguments, NoArguments, MoreArguments, Operations, NoOperations, ThenCompute, ThenTest, ThenPointer, ThenPointerPeek, Statement, Block, Empty, Evaluate, If, While, Return, Break, Continue, Items, NoItems, MoreItems, Execute, Declare, Signature, Function, Program}
+use Rattle.cyc_types.specs.Types.{Ty, words_of}
+use Rattle.cyc_types.specs.TypedTrees.{Load, Dereference, Target, Lvalue, Local, Global, Expression, Number, NullPointer, Copy, Call, Unary, Binary, Assign, Converted, Convert, Arguments, NoArguments, MoreArguments, Operations, NoOperations, ThenCompute, ThenTest, ThenPointer, Statement, Block, Empty, Evaluate, If, While, Return, Break, Continue, Items, NoItems, MoreItems, Execute, Declare, Signature, Function, Program, Move, Peek, ThenPointerPeek}
 use Rattle.cyc_types.specs.typing.Scopes.{signature_of_ints}
 use Rattle.cyc_types.specs.Numbered.{Numbering, IsSignature, IsWithin, argument_count, numbering_of, signatures_of}
+use Rattle.cyc_meaning.specs.Values.{is_thin}
+use Rattle.cyc_lower.specs.Lowering.{are_as_wide, passed_words}
 
 -- pointers are compared, with one another or with `NULL`
 abbrev pub is_comparison : PointerOperator → Bool
@@ -14,6 +16,12 @@ is_comparison pointers.AddFat = false
 is_comparison pointers.SubtractFat = false
 is_comparison o = true
 
+-- a value of so many words has a place in a variable: a global has one word yet
+abbrev pub HasPlace : Numbering → Lvalue → (words : ℕ) → Type 0
+HasPlace b (Local p n) words = n < b.locals
+HasPlace b (Global n) words = (n < b.globals) × (words ≡ 1)
+
+-- Conversions keep the number of words yet, and the cells that pointers lead to have one.
 abbrev mutual
   pub IsLowerable : Numbering → Expression → Type 0
   IsLowerable b (Number n) = Unit {0}
@@ -24,16 +32,16 @@ abbrev mutual
   IsLowerable b (Call f cs t) = (s : Signature) × IsSignature b f s × (argument_count cs ≡ length s.parameters) × AreLowerableArguments b cs
   IsLowerable b (Unary o a) = IsLowerable b a
   IsLowerable b (Binary a os t) = IsLowerable b a × AreLowerableOperations b os
-  IsLowerable b (Assign l c t) = IsWithin b l × IsLowerableConverted b c
+  IsLowerable b (Assign l c t) = HasPlace b l (passed_words c) × IsLowerableConverted b c
   IsLowerable b (Load x) = IsLowerableCell b x
   IsLowerable b a = ⊥
 
   pub IsLowerableCell : Numbering → Dereference → Type 0
-  IsLowerableCell b (Target k a t) = IsLowerable b a
+  IsLowerableCell b (Target k a t) = (is_thin k ≡ true) × (words_of t ≡ 1) × IsLowerable b a
   IsLowerableCell b x = ⊥
 
   pub IsLowerableConverted : Numbering → Converted → Type 0
-  IsLowerableConverted b (Convert from to a) = IsLowerable b a
+  IsLowerableConverted b (Convert from to a) = (are_as_wide from to ≡ true) × IsLowerable b a
 
   pub AreLowerableArguments : Numbering → Arguments → Type 0
   AreLowerableArguments b NoArguments = Unit {0}
