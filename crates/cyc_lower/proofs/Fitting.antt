@@ -293,6 +293,7 @@ module _ (b : Numbering) (types : Types) where
     fits NullPointer c v suits numbered is = (subst (IsGiven kinds.Nullable) (sym is) refl, tt)
     fits (Copy (Local p n) t) c v suits few (there, stays, is) = (subst (IsGiven (kind_of t)) (sym is) refl, (few, room_in c n t (kind_of t) suits there.1 refl))
     fits (Move p n t) c v suits few (there, moved, is) = (subst (IsGiven (kind_of t)) (sym is) refl, (few, room_in c n t (kind_of t) suits there.1 refl))
+    fits (Peek p n t) c v suits few well = absurd well
     fits (Copy (Global n) t) c v suits few (there, stays, is) = (subst (IsGiven (kind_of t)) (sym is) refl, few)
     fits (Call f cs u) c v suits (s, signature, many, numbered) (s', m, callee, long, regions, passed, live, outliving, u_is, v_is) =
         let agree = same_signature f c s' s suits callee signature in

@@ -12,7 +12,7 @@ use Rattle.cyc_types.specs.declared.typed.PointerOperator.{PointerOperator}
 use Rattle.cyc_types.specs.declared.typed.PointerOperator.TheVariants as pointers
 use Rattle.cyc_types.specs.declared.typed.LogicalOperator.{LogicalOperator}
 use Rattle.cyc_types.specs.declared.typed.LogicalOperator.TheVariants as logical
-use Rattle.cyc_types.specs.TypedTrees.{Load, Dereference, Target, Member, Element, Lvalue, Local, Global, Expression, Number, Copy, Call, Unary, Binary, Assign, Converted, Convert, Arguments, NoArguments, MoreArguments, Operations, NoOperations, ThenCompute, ThenTest, ThenPointer, ThenPointerPeek, Statement, Block, Empty, Evaluate, If, While, Return, Break, Continue, Items, NoItems, MoreItems, Execute, Declare, StructType, Function}
+use Rattle.cyc_types.specs.TypedTrees.{Load, Dereference, Target, Member, Element, Lvalue, Local, Global, Expression, Number, Copy, Move, Peek, Call, Unary, Binary, Assign, Converted, Convert, Arguments, NoArguments, MoreArguments, Operations, NoOperations, ThenCompute, ThenTest, ThenPointer, ThenPointerPeek, Statement, Block, Empty, Evaluate, If, While, Return, Break, Continue, Items, NoItems, MoreItems, Execute, Declare, StructType, Function}
 use Rattle.cyc_types.specs.Types.{Ty, words_of}
 use Rattle.cyc_types.proofs.WeightLemmas.{some_token}
 use Rattle.cyc_types.specs.Weight.{expression_weight, dereference_weight, converted_weight, arguments_weight, more_arguments_weight, operations_weight, else_weight, statement_weight, items_weight, function_weight}
