@@ -451,14 +451,14 @@ impl Emitter {
     #[cycle(expression)]
     fn lower_pointer_operation(
         &mut self,
-        starts: &[usize],
+        starts: &Starts,
         operator: PointerOperator,
         operand: &Expr,
         left: Operand,
         slot: usize,
         free: usize,
     ) -> Result<(), AllocError>
-        ensures { Appends result self.old self.new (pointer_operation_code starts.now operator (view_expression operand.now) (length self.old.code.items) left slot free) }
+        ensures { Appends result self.old self.new (pointer_operation_code (view_starts starts.now) operator (view_expression operand.now) (length self.old.code.items) left slot free) }
     {
         let behind = slot_behind(free, left_kind(operator))?;
         let right = self.lower_operand(starts, operand, behind)?;
