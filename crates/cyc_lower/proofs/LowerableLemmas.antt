@@ -42,7 +42,7 @@ module _ (b : Numbering) where
     lowerable a numbered = absurd numbered
 
     lowerable_converted : (c : Converted) → IsNumberedConverted b c → IsLowerableConverted b c
-    lowerable_converted (Convert from to a) (numbered, narrow) = ((narrow_converted b (Convert from to a) (numbered, narrow)).0, lowerable a numbered)
+    lowerable_converted (Convert from to a) (numbered, built_from, built_to) = ((narrow_converted b (Convert from to a) (numbered, built_from, built_to)).0, lowerable a numbered)
 
     lowerable_arguments : (cs : Arguments) → AreNumberedArguments b cs → AreLowerableArguments b cs
     lowerable_arguments NoArguments numbered = tt
