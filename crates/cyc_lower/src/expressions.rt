@@ -442,7 +442,9 @@ impl Emitter {
                 starts, *operator, operand, left, slot, free,
             ),
             Operation::PointerPeek {
-                operator, operand, ..
+                operator,
+                operand,
+                ..
             } => self.lower_pointer_operation(starts, *operator, operand, left, slot, free),
         }
     }
