@@ -10,7 +10,7 @@ use Rattle.cyc_types.specs.declared.typed.UnaryOperator.TheVariants as unary
 use Rattle.cyc_types.specs.declared.typed.Operator.{Operator}
 use Rattle.cyc_types.specs.declared.typed.Operator.TheVariants as operators
 use Rattle.cyc_types.specs.Types.{Ty, words_of}
-use Rattle.cyc_types.specs.TypedTrees.{Load, Dereference, Target, Lvalue, Local, Global, Expression, Number, NullPointer, Copy, Call, Unary, Binary, Assign, Converted, Convert, Arguments, NoArguments, MoreArguments, Operations, NoOperations, ThenCompute, ThenTest, ThenPointer, Statement, Block, Empty, Evaluate, If, While, Return, Break, Continue, Items, NoItems, MoreItems, Execute, Declare, Signature, Function, Program}
+use Rattle.cyc_types.specs.TypedTrees.{Load, Dereference, Target, Lvalue, Local, Global, Expression, Number, NullPointer, Copy, Call, Unary, Binary, Assign, Converted, Convert, Arguments, NoArguments, MoreArguments, Operations, NoOperations, ThenCompute, ThenTest, ThenPointer, Statement, Block, Empty, Evaluate, If, While, Return, Break, Continue, Items, NoItems, MoreItems, Execute, Declare, Signature, StructType, Function, Program, Move, Peek, ThenPointerPeek, type_of}
 use Rattle.cyc_types.specs.Numbered.{Numbering, argument_count, numbering_of, signatures_of}
 use Rattle.cyc_plain.specs.declared.instruction.Comparison.{Comparison}
 use Rattle.cyc_plain.specs.declared.instruction.Operand.{Operand}
@@ -21,9 +21,9 @@ use Rattle.cyc_plain.specs.Program.{Routine, no_routine, routine_at}
 use Rattle.cyc_plain.specs.Straight.{At, HasAt}
 use Rattle.cyc_plain.proofs.Straight.{has_front, has_back, has_whole}
 use Rattle.cyc_meaning.specs.Values.{kind_of, words_of_kind}
-use Rattle.cyc_meaning.specs.FrameCount.{words_of_all}
-use Rattle.cyc_lower.specs.Slots.{starts_of, slot_of}
-use Rattle.cyc_lower.specs.Lowering.{slot_types, are_as_wide, converts_there, passed_words, source_of, source_slot, moved_by, move_of, pointer_instruction, operand_of, operand_or, code_unless, slot_or, code_unless_slot, left_with, left_of, value_slot, next_slot, slot_with, left_slot, value_operand, converted_operand, printed_operand, jump_if_nonzero, check_code, conversion_code, divisor_code, checked_code, operator_code, truth_code, load_code, low_byte, test_code, is_in, copy_code, expression_code, arguments_code, converted_code, converted_operand_code, printed_code, dereference_code, initial_code, assignment_code, assigned_operand, operations_code, discarded_code, failing_comparison, compared_or, compared_of, first_operand, first_code, second_code, pair_code, condition_code, condition_of, failing_jump, break_target, continue_target, return_code, declaration_code, statement_code, items_code, function_code, first_temporary, results_of, lower_function, lower_program}
+use Rattle.cyc_meaning.specs.FrameCount.{words_of_all, operand_words}
+use Rattle.cyc_lower.specs.Slots.{Types, starts_of, slot_of}
+use Rattle.cyc_lower.specs.Lowering.{types_of, are_as_wide, converts_there, passed_words, source_of, source_slot, moved_by, move_of, pointer_instruction, operand_of, operand_or, code_unless, slot_or, code_unless_slot, left_with, left_of, value_slot, next_slot, slot_with, left_slot, value_operand, converted_operand, printed_operand, jump_if_nonzero, check_code, conversion_code, divisor_code, checked_code, operator_code, truth_code, load_code, low_byte, test_code, is_in, copy_code, expression_code, arguments_code, converted_code, converted_operand_code, printed_code, dereference_code, initial_code, assignment_code, assigned_operand, operations_code, discarded_code, failing_comparison, compared_or, compared_of, first_operand, first_code, second_code, pair_code, condition_code, condition_of, failing_jump, break_target, continue_target, return_code, declaration_code, statement_code, items_code, function_code, first_temporary, results_of, lower_function, lower_program, behind_left, pointer_code}
 use Rattle.cyc_lower.proofs.Stands.{OperandBy, CheckAt, ConversionBy, ConversionAt, DivisorAt, CheckedAt, OperatorAt, LoadAt, CopyBy, ExpressionAt, InitialAt, InitialBy, ConvertedAt, ConvertedOperandAt, PrintedAt, ArgumentsAt, OperationsAt, PairAt, ConditionAt, AssignmentAt, DiscardedAt, ReturnedAt, ReturnAt, DeclarationAt, StatementAt, ItemsAt}
 use Rattle.cyc_lower.proofs.Widths.{kind_of_result, given, passed_kind, type_words}
 use Rattle.cyc_lower.proofs.Fitting.{FitsPlace, FitsStored, FitsCell, Fits, FitsConverted, FitArguments, FitOperations, FitsReturn, FitsInitial, FitsStatement, FitItems, AreFitting, IsFitting}
@@ -35,7 +35,7 @@ use Rattle.cyc_lower.proofs.Calls.{FunctionsStand}
 cut : (p q : ℕ) (a b : List Instruction) → p + length (a ++ b) ≡ q → p + length a + length b ≡ q
 cut p q a b end = omega (arith, end, length-append a b)
 
-module _ (code : List Instruction) (b : Numbering) (types : List Ty) where
+module _ (code : List Instruction) (b : Numbering) (types : Types) where
   -- ---- operands
 
   -- an operand without code, or code that stands here
@@ -148,6 +148,8 @@ module _ (code : List Instruction) (b : Numbering) (types : List Ty) where
     expression_stands (Number n) d t p q numbered end (here, none) = (here, end)
     expression_stands NullPointer d t p q numbered end (here, none) = (here, end)
     expression_stands (Copy l ty) d t p q numbered end has = load_stands l (kind_of ty) (words_of ty) d p q numbered end has
+    expression_stands (Move w n ty) d t p q numbered end has = load_stands (Local w n) (kind_of ty) (words_of ty) d p q numbered end has
+    expression_stands (Peek w n ty) d t p q numbered end has = load_stands (Local w n) (kind_of ty) (words_of ty) d p q numbered end has
     expression_stands (Call callees.Putchar cs ty) d t p q (s, signature, many, passed, result, numbered) end has =
         let front = printed_code (starts_of types) cs p t in
         let (write, (low, none)) = has_back code p front _ has in
@@ -174,7 +176,7 @@ module _ (code : List Instruction) (b : Numbering) (types : List Ty) where
         let m = p + length front in
         let l = operand_or (left_of (starts_of types) a os) (left_slot (starts_of types) a os d t) in
         let back = operations_code (starts_of types) os m l d t in
-        (l, m, operand_by (left_of (starts_of types) a os) _ inner (left_slot (starts_of types) a os d t) p m refl (has_front code p front back has) (λ e h. expression_stands a (left_slot (starts_of types) a os d t) t p m numbered e h), operations_stand os l d t m q rest (first_left a os d t) (cut p q front back end) (has_back code p front back has))
+        (l, m, operand_by (left_of (starts_of types) a os) _ inner (left_slot (starts_of types) a os d t) p m refl (has_front code p front back has) (λ e h. expression_stands a (left_slot (starts_of types) a os d t) t p m numbered e h), operations_stand os l d t m q (operand_words (type_of a)) ty rest (first_left a os d t) (cut p q front back end) (has_back code p front back has))
     expression_stands (Assign (Local w n) c ty) d t p q ((few, room), numbered) end has =
         let o = operands.Slot (slot_of (starts_of types) n) in
         let front = initial_code (starts_of types) c p (slot_of (starts_of types) n) t in
@@ -255,9 +257,9 @@ module _ (code : List Instruction) (b : Numbering) (types : List Ty) where
         let back = arguments_code (starts_of types) cs (p + length front) (t + passed_words c) in
         (p + length front, converted_stands c t p (p + length front) numbered refl (has_front code p front back has), arguments_stand cs (t + passed_words c) (p + length front) q rest (cut p q front back end) (has_back code p front back has))
 
-    operations_stand : (os : Operations) (l : Operand) (d t p q : ℕ) → FitOperations b types os → IsLeft os l d t → p + length (operations_code (starts_of types) os p l d t) ≡ q → HasAt code p (operations_code (starts_of types) os p l d t) → OperationsAt code b types os l d t p q
-    operations_stand NoOperations l d t p q numbered left end has = (left, omega (arith, end))
-    operations_stand (ThenCompute o a os) l d t p q (numbered, rest) left end has =
+    operations_stand : (os : Operations) (l : Operand) (d t p q left : ℕ) (ty : Ty) → FitOperations b types left ty os → IsLeft os l d t → p + length (operations_code (starts_of types) os p l d t) ≡ q → HasAt code p (operations_code (starts_of types) os p l d t) → OperationsAt code b types os l d t p q
+    operations_stand NoOperations l d t p q words ty numbered left end has = (left, omega (arith, end))
+    operations_stand (ThenCompute o a os) l d t p q words ty (numbered, rest) left end has =
         let inner = expression_code (starts_of types) a p (value_slot (starts_of types) a (suc t)) (suc t) in
         let operand = code_unless (operand_of (starts_of types) a) inner in
         let r = value_operand (starts_of types) a (suc t) in
@@ -272,9 +274,9 @@ module _ (code : List Instruction) (b : Numbering) (types : List Ty) where
           s,
           right_by (operand_of (starts_of types) a) (l ≡ operands.Slot t) _ inner (value_slot (starts_of types) a (suc t)) p m left refl (has_front code p operand operator front_has) (λ e h. expression_stands a (value_slot (starts_of types) a (suc t)) (suc t) p m numbered e h),
           operator_stands o l r next m s (cut p s operand operator refl) (has_back code p operand operator front_has),
-          operations_stand os (operands.Slot next) d t s q rest (next_left os d t) (cut p q (operand ++ operator) back end) (has_back code p (operand ++ operator) back has),
+          operations_stand os (operands.Slot next) d t s q (words_of ty) ty rest (next_left os d t) (cut p q (operand ++ operator) back end) (has_back code p (operand ++ operator) back has),
         )
-    operations_stand (ThenTest o a os) l d t p q (numbered, rest) left end has =
+    operations_stand (ThenTest o a os) l d t p q words ty (numbered, rest) left end has =
         let operand = expression_code (starts_of types) a (p + 1) t t in
         let next = next_slot os d t in
         let front = test_code o operand p next t in
@@ -288,12 +290,46 @@ module _ (code : List Instruction) (b : Numbering) (types : List Ty) where
           jump,
           expression_stands a t t (p + 1) (p + 1 + length operand) numbered refl (has_front code (p + 1) operand (truth_code t next) inner),
           (first, second, omega (arith, long)),
-          operations_stand os (operands.Slot next) d t (p + length front) q rest (next_left os d t) (cut p q front back end) (has_back code p front back has),
+          operations_stand os (operands.Slot next) d t (p + length front) q (words_of ty) ty rest (next_left os d t) (cut p q front back end) (has_back code p front back has),
         )
-    operations_stand (ThenPointer o NullPointer os) l d t p q (test, rest) left end (here, has) =
+    operations_stand (ThenPointer o a os) l d t p q words ty (test, wide, numbered, rest) left end has =
+        let inner = expression_code (starts_of types) a p (value_slot (starts_of types) a (behind_left o t)) (behind_left o t) in
         let next = next_slot os d t in
-        (left, test, subst (λ x. At code p (pointer_instruction o x next)) left here, operations_stand os (operands.Slot next) d t (p + 1) q rest (next_left os d t) (omega (arith, end)) has)
-    operations_stand os l d t p q numbered is end has = absurd numbered
+        let r = value_operand (starts_of types) a (behind_left o t) in
+        let front = code_unless (operand_of (starts_of types) a) inner in
+        let m = p + length front in
+        let both = pointer_code o l r front next in
+        let back = operations_code (starts_of types) os (p + length both) (operands.Slot next) d t in
+        let (here, none) = has_back code p front _ (has_front code p both back has) in
+        let long : p + length both ≡ m + 1 = sym (cut p (p + length both) front (pointer_instruction o l r next ∷ []) refl) in (
+          r,
+          m,
+          left,
+          test,
+          operand_by (operand_of (starts_of types) a) _ inner (value_slot (starts_of types) a (behind_left o t)) p m refl (has_front code p front _ (has_front code p both back has)) (λ e h. expression_stands a (value_slot (starts_of types) a (behind_left o t)) (behind_left o t) p m numbered e h),
+          subst (λ x. At code m (pointer_instruction o x r next)) left here,
+          subst (λ n. OperationsAt code b types os (operands.Slot next) d t n q) long
+              (operations_stand os (operands.Slot next) d t (p + length both) q (words_of ty) ty rest (next_left os d t) (cut p q both back end) (has_back code p both back has)),
+        )
+    operations_stand (ThenPointerPeek n o a os) l d t p q words ty (test, wide, numbered, rest) left end has =
+        let inner = expression_code (starts_of types) a p (value_slot (starts_of types) a (behind_left o t)) (behind_left o t) in
+        let next = next_slot os d t in
+        let r = value_operand (starts_of types) a (behind_left o t) in
+        let front = code_unless (operand_of (starts_of types) a) inner in
+        let m = p + length front in
+        let both = pointer_code o l r front next in
+        let back = operations_code (starts_of types) os (p + length both) (operands.Slot next) d t in
+        let (here, none) = has_back code p front _ (has_front code p both back has) in
+        let long : p + length both ≡ m + 1 = sym (cut p (p + length both) front (pointer_instruction o l r next ∷ []) refl) in (
+          r,
+          m,
+          left,
+          test,
+          operand_by (operand_of (starts_of types) a) _ inner (value_slot (starts_of types) a (behind_left o t)) p m refl (has_front code p front _ (has_front code p both back has)) (λ e h. expression_stands a (value_slot (starts_of types) a (behind_left o t)) (behind_left o t) p m numbered e h),
+          subst (λ x. At code m (pointer_instruction o x r next)) left here,
+          subst (λ n. OperationsAt code b types os (operands.Slot next) d t n q) long
+              (operations_stand os (operands.Slot next) d t (p + length both) q (words_of ty) ty rest (next_left os d t) (cut p q both back end) (has_back code p both back has)),
+        )
 
   assignment_stands : (l : Lvalue) (c : Converted) (t p q : ℕ) → FitsStored b types l (passed_kind c) → FitsConverted b types c → p + length (assignment_code (starts_of types) l c p t) ≡ q → HasAt code p (assignment_code (starts_of types) l c p t) → AssignmentAt code b types l c (assigned_operand (starts_of types) l c t) t p q
   assignment_stands (Local w n) c t p q (few, room) numbered end has = (refl, room, initial_stands c (slot_of (starts_of types) n) t p q numbered end has)
@@ -456,35 +492,36 @@ module _ (code : List Instruction) (b : Numbering) (types : List Ty) where
 
 -- ---- functions
 
-fitting_function : (globals : ℕ) (signatures : List Signature) (hs : List Function) (n : ℕ) (h : Function) → AreFitting globals signatures hs → slice_get hs n ≡ Some h → FitItems (numbering_of globals signatures h) (slot_types h) false h.body
-fitting_function globals signatures [] n h numbered there = absurd (none-some h there)
-fitting_function globals signatures (g ∷ hs) zero h (first, rest) there =
-    subst (λ (f : Function). FitItems (numbering_of globals signatures f) (slot_types f) false f.body) (same_Some g h there) first
-fitting_function globals signatures (g ∷ hs) (suc n) h (first, rest) there = fitting_function globals signatures hs n h rest there
+fitting_function : (structs : List StructType) (globals : ℕ) (signatures : List Signature) (hs : List Function) (n : ℕ) (h : Function) → AreFitting structs globals signatures hs → slice_get hs n ≡ Some h
+    → FitItems (numbering_of globals signatures h) (types_of structs h) false h.body
+fitting_function structs globals signatures [] n h numbered there = absurd (none-some h there)
+fitting_function structs globals signatures (g ∷ hs) zero h (first, rest) there =
+    subst (λ (f : Function). FitItems (numbering_of globals signatures f) (types_of structs f) false f.body) (same_Some g h there) first
+fitting_function structs globals signatures (g ∷ hs) (suc n) h (first, rest) there = fitting_function structs globals signatures hs n h rest there
 
 module _ (source : Program) where
   -- each function is lowered by itself
-  pub routine_there : (n : ℕ) (h : Function) → slice_get source.functions n ≡ Some h → routine_at (lower_program source) n ≡ lower_function h
-  routine_there n h there = get_or_from_slice_get (map lower_function source.functions) n (lower_function h) no_routine (slice_get-map lower_function source.functions n ∙ ap (option_map lower_function) there)
+  pub routine_there : (n : ℕ) (h : Function) → slice_get source.functions n ≡ Some h → routine_at (lower_program source) n ≡ lower_function source.structs h
+  routine_there n h there = get_or_from_slice_get (map (lower_function source.structs) source.functions) n (lower_function source.structs h) no_routine (slice_get-map (lower_function source.structs) source.functions n ∙ ap (option_map (lower_function source.structs)) there)
 
   -- the code of a function, with its body at the beginning and a return behind it
   abbrev BodyStands : Function → List Instruction → Option Function → Type 0
   BodyStands h code o =
-      (m : ℕ) × ItemsAt code (bounds_in source o) (types_in source o) h.body 0 (words_of_all (types_in source o)) 0 m
-      × At code m (instructions.Return (words_of_all (types_in source o)))
+      (m : ℕ) × ItemsAt code (bounds_in source o) (types_in source o) h.body 0 (words_of_all (types_in source o).locals) 0 m
+      × At code m (instructions.Return (words_of_all (types_in source o).locals))
 
-  body_stands : (h : Function) → FitItems (bounds_in source (Some h)) (slot_types h) false h.body → BodyStands h (function_code h) (Some h)
+  body_stands : (h : Function) → FitItems (bounds_in source (Some h)) (types_of source.structs h) false h.body → BodyStands h (function_code source.structs h) (Some h)
   body_stands h numbered =
       let d = first_temporary h in
-      let starts = starts_of (slot_types h) in
+      let starts = starts_of (types_of source.structs h) in
       let body = items_code starts h.body 0 0 d in
       let end = instructions.Return d ∷ [] in
       let has = has_whole (body ++ end) in
       let (here, none) = has_back (body ++ end) 0 body end has in
-      (0 + length body, items_stand (body ++ end) (bounds_in source (Some h)) (slot_types h) h.body false 0 d 0 (0 + length body) numbered refl (has_front (body ++ end) 0 body end has), here)
+      (0 + length body, items_stand (body ++ end) (bounds_in source (Some h)) (types_of source.structs h) h.body false 0 d 0 (0 + length body) numbered refl (has_front (body ++ end) 0 body end has), here)
 
   pub functions_stand : (pages calls : ℕ) → IsFitting source → FunctionsStand source pages calls
   functions_stand pages calls numbered n h there =
       subst (λ (code : List Instruction). BodyStands h code (slice_get source.functions n)) (sym (ap (λ (r : Routine). r.code) (routine_there n h there)))
-      (subst (λ (o : Option Function). BodyStands h (function_code h) o) (sym there)
-      (body_stands h (fitting_function (length source.globals) (signatures_of source.functions) source.functions n h numbered.functions there)))
+      (subst (λ (o : Option Function). BodyStands h (function_code source.structs h) o) (sym there)
+      (body_stands h (fitting_function source.structs (length source.globals) (signatures_of source.functions) source.functions n h numbered.functions there)))

@@ -17,6 +17,7 @@ pub mod Sharing
 pub mod PlaceWords
 pub mod PlaceSteps
 pub mod Values
+pub mod PointerSteps
 pub mod Evaluations
 pub mod Accesses
 pub mod Branching

@@ -2,13 +2,15 @@
 -- tree of a text.
 use Rattle.std.specs.Prelude.{List, [], ◌∷◌, Option, None, Some}
 use Rattle.cyc_words.specs.Word.{IsWord}
-use Rattle.cyc_types.specs.TypedTrees.{Load, Dereference, Target, Expression, Number, NullPointer, Copy, Call, Unary, Binary, Assign, Converted, Convert, Arguments, NoArguments, MoreArguments, Operations, NoOperations, ThenCompute, ThenTest, ThenPointer, Statement, Block, Empty, Evaluate, If, While, Return, Break, Continue, Items, NoItems, MoreItems, Execute, Declare, Constant, Word, Null, GlobalVariable, Function, Program}
+use Rattle.cyc_types.specs.TypedTrees.{Load, Dereference, Target, Expression, Number, NullPointer, Copy, Move, Peek, Call, Unary, Binary, Assign, Converted, Convert, Arguments, NoArguments, MoreArguments, Operations, NoOperations, ThenCompute, ThenTest, ThenPointer, ThenPointerPeek, Statement, Block, Empty, Evaluate, If, While, Return, Break, Continue, Items, NoItems, MoreItems, Execute, Declare, Constant, Word, Null, GlobalVariable, Function, Program}
 
 abbrev mutual
   pub IsOfWords : Expression → Type 0
   IsOfWords (Number n) = IsWord n
   IsOfWords NullPointer = Unit {0}
   IsOfWords (Copy l t) = Unit {0}
+  IsOfWords (Move p n t) = Unit {0}
+  IsOfWords (Peek p n t) = Unit {0}
   IsOfWords (Call f cs t) = AreOfWordsArguments cs
   IsOfWords (Unary o a) = IsOfWords a
   IsOfWords (Binary a os t) = IsOfWords a × AreOfWordsOperations os
@@ -32,7 +34,7 @@ abbrev mutual
   AreOfWordsOperations (ThenCompute o a os) = IsOfWords a × AreOfWordsOperations os
   AreOfWordsOperations (ThenTest o a os) = IsOfWords a × AreOfWordsOperations os
   AreOfWordsOperations (ThenPointer o a os) = IsOfWords a × AreOfWordsOperations os
-  AreOfWordsOperations os = ⊥
+  AreOfWordsOperations (ThenPointerPeek n o a os) = IsOfWords a × AreOfWordsOperations os
 
 abbrev pub IsOfWordsInitial : Option Converted → Type 0
 IsOfWordsInitial None = Unit {0}
